@@ -1,0 +1,3 @@
+pub mod BitLaws
+pub mod Modulo
+pub mod WordLaws

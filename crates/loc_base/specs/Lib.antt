@@ -1,0 +1,3 @@
+pub mod Bits
+pub mod Name
+pub mod Word
