@@ -1,0 +1,14 @@
+-- Counts of faults and of calls. A count never falls, and one at its last value counts as having risen.
+use Rattle.std.specs.Prelude.{ℕ, ◌+◌, ◌<◌, ◌≤◌, min}
+
+-- the last value of a count
+abbrev pub last_count : ℕ
+last_count = 18446744073709551615
+
+-- a count rose from one value to another: it is greater, or it stands at its last value
+abbrev pub Rose : ℕ → ℕ → Type 0
+Rose old new = (old ≤ new) × (new < last_count → old < new)
+
+-- one more, but for the last value of a count
+abbrev pub one_more : ℕ → ℕ
+one_more count = min (count + 1) last_count

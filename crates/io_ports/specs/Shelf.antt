@@ -1,0 +1,45 @@
+-- What the answers of a shelf say: of its count of faults, of the text that is loaded, and of the text that is written.
+-- A text under a name is `None` where there is none.
+use Rattle.std.specs.Prelude.{◌≡◌, ℕ, ◌<◌, ◌≤◌, ◌⊎◌, List, [], ◌++◌, length, take, Option, Some, unwrap_or, IsSomeAnd, Result, Ok, Err}
+use Rattle.io_ports.specs.Faults.{Rose}
+use Rattle.io_ports.specs.declared.errors.LoadErr.{LoadErr}
+use Rattle.io_ports.specs.declared.errors.LoadErr.TheVariants as load
+use Rattle.io_ports.specs.declared.errors.PutErr.{PutErr}
+use Rattle.io_ports.specs.declared.errors.PutErr.TheVariants as put
+
+-- the cause of an answer of `load`: only a failure raises the count of faults, and it does
+abbrev pub LoadCause : ℕ → ℕ → Result (List ℕ) LoadErr → Type 0
+LoadCause old new (Ok _) = new ≡ old
+LoadCause old new (Err load.TooBig) = new ≡ old
+LoadCause old new (Err load.Failed) = Rose old new
+LoadCause old new (Err load.NoMemory) = new ≡ old
+
+-- the answer of `load` of a text with a limit: the text where it is within the limit, and too big only where it isn't
+abbrev pub Loads : Option (List ℕ) → ℕ → Result (List ℕ) LoadErr → Type 0
+Loads text limit (Ok bytes) = (text ≡ Some bytes) × (length bytes ≤ limit)
+Loads text limit (Err load.TooBig) = IsSomeAnd text (λ bytes. limit < length bytes)
+Loads text limit (Err load.Failed) = Unit {0}
+Loads text limit (Err load.NoMemory) = Unit {0}
+
+-- the cause of an answer of `begin` and `put`
+abbrev pub PutCause : {X : Type 0} → ℕ → ℕ → Result X PutErr → Type 0
+PutCause old new (Ok _) = new ≡ old
+PutCause old new (Err put.Failed) = Rose old new
+PutCause old new (Err put.NoMemory) = new ≡ old
+
+-- the written text after `begin`: empty; after a failure as before or empty
+abbrev pub Begins : {X : Type 0} → Option (List ℕ) → Option (List ℕ) → Result X PutErr → Type 0
+Begins old new (Ok _) = new ≡ Some []
+Begins old new (Err put.Failed) = (new ≡ old) ⊎ (new ≡ Some [])
+Begins old new (Err put.NoMemory) = new ≡ old
+
+-- a front of a piece was appended to a text
+pub record AppendsFront (piece old new : List ℕ) : Type 0 where
+  pub count : ℕ
+  pub is : new ≡ old ++ take count piece
+
+-- the written text after `put` of a piece: longer by the piece; after a failure by a front of it
+abbrev pub Appends : {X : Type 0} → List ℕ → Option (List ℕ) → Option (List ℕ) → Result X PutErr → Type 0
+Appends piece old new (Ok _) = new ≡ Some (unwrap_or old [] ++ piece)
+Appends piece old new (Err put.Failed) = IsSomeAnd new (AppendsFront piece (unwrap_or old []))
+Appends piece old new (Err put.NoMemory) = new ≡ old

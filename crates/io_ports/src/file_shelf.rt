@@ -1,0 +1,138 @@
+ghost use Rattle.std.specs.Prelude.{◌≡◌, ◌≤◌, length, IfOk};
+ghost use Rattle.io_ports.specs.Shelf.{PutCause};
+
+use crate::errors::{LoadErr, PutErr};
+use crate::shelf::Shelf;
+use crate::transfer::{read_text, write_piece};
+use loc_base::Bytes;
+use std::alloc::Global;
+use std::fs;
+use std::fs::OpenOptions;
+use std::rt::Files;
+
+/// The files of the system as a shelf. It tells no text, and counts its failures from 0.
+///
+/// `load` reads the file of that name. `begin` makes that file or empties it, and keeps it open; `put` writes to its
+/// end. A text that was begun stays open until another one is begun or written, and closing it answers nothing: what
+/// the system first reports then isn't seen.
+#[derive(Drop)]
+pub struct FileShelf<'a, R: Files> {
+    rt: &'a R,
+    alloc: Global,
+    open: Option<OpenText<R::File>>,
+    faults: u64,
+}
+
+/// A file that is open for writing at its end.
+#[derive(Drop)]
+struct OpenText<F> {
+    name: String,
+    file: F,
+}
+
+impl<'a, R: Files> FileShelf<'a, R> {
+    /// The shelf of the runtime's files. It takes no memory.
+    pub fn new(rt: &'a R, alloc: Global) -> FileShelf<'a, R>
+        ensures { ⟦<FileShelf<'a, R> as Shelf>⟧.faults result ≡ 0 }
+    {
+        FileShelf {
+            rt,
+            alloc,
+            open: None,
+            faults: 0,
+        }
+    }
+}
+
+fn load<R: Files>(rt: &R, alloc: Global, name: &str, limit: u64) -> Result<Bytes, LoadErr>
+    ensures { IfOk result (λ text. length text ≤ limit) }
+{
+    let mut file = fs::open(rt, name).map_err(|_| LoadErr::Failed)?;
+    read_text(alloc, &mut file, limit)
+}
+
+/// Opens the file of a name for writing: empty, which makes it where there is none, or at its end.
+fn open_text<R: Files>(
+    rt: &R,
+    alloc: Global,
+    name: &str,
+    empty: bool,
+) -> Result<OpenText<R::File>, PutErr> {
+    let name = String::from_str(alloc, name)?;
+    let mut how = OpenOptions::new();
+    if empty {
+        how.write(true).create(true).truncate(true);
+    } else {
+        how.append(true);
+    }
+    let file = how.open(rt, name.as_str()).map_err(|_| PutErr::Failed)?;
+    Ok(OpenText { name, file })
+}
+
+impl<'a, R: Files> FileShelf<'a, R> {
+    /// Empties the text under a name and keeps it open.
+    fn empty(&mut self, name: &str) -> Result<(), PutErr>
+        ensures { self.new.faults ≡ self.old.faults }
+    {
+        let text = open_text(self.rt, self.alloc, name, true)?;
+        self.open = Some(text);
+        Ok(())
+    }
+
+    /// Writes a piece to the end of the text under a name.
+    fn append(&mut self, name: &str, piece: &[u8]) -> Result<(), PutErr>
+        ensures { self.new.faults ≡ self.old.faults }
+    {
+        let mut text = match self.open.take() {
+            Some(text) if text.name.as_str() == name => text,
+            _ => open_text(self.rt, self.alloc, name, false)?,
+        };
+        let taken = write_piece(&mut text.file, piece);
+        self.open = Some(text);
+        if taken { Ok(()) } else { Err(PutErr::Failed) }
+    }
+
+    /// Counts a failed answer of `begin` or `put`.
+    fn counted(&mut self, answer: Result<(), PutErr>) -> Result<(), PutErr>
+        ensures same { result ≡ answer }
+        ensures cause { PutCause self.old.faults self.new.faults result }
+    {
+        if answer == Err(PutErr::Failed) {
+            self.faults = self.faults.saturating_add(1);
+        }
+        answer
+    }
+}
+
+impl<R: Files> Shelf for FileShelf<'_, R> {
+    ghost use Rattle.std.specs.Prelude.{false, None};
+
+    ghost tells = { λ _. false };
+
+    ghost texts = { λ _ _. None };
+
+    ghost written = { λ _ _. None };
+
+    ghost faults = { λ shelf. shelf.faults };
+
+    fn load(&mut self, alloc: Global, name: &str, limit: u64) -> Result<Bytes, LoadErr> {
+        let answer = load(self.rt, alloc, name, limit);
+        if let Err(LoadErr::Failed) = answer {
+            self.faults = self.faults.saturating_add(1);
+        }
+        answer
+    }
+
+    fn begin(&mut self, name: &str) -> Result<(), PutErr> {
+        let answer = self.empty(name);
+        self.counted(answer)
+    }
+
+    fn put(&mut self, name: &str, piece: &[u8]) -> Result<(), PutErr> {
+        let answer = self.append(name, piece);
+        self.counted(answer)
+    }
+}
+
+#[cfg(test)]
+mod tests;

@@ -1,0 +1,132 @@
+ghost use Rattle.std.specs.Prelude.{◌≡◌, ◌≢◌, ◌≤◌, ◌↔◌, ◌⊎◌, ℕ, List, length, None, IsSome, IfOk, IsErrOf, option_copied};
+ghost use Rattle.std.specs.List.Sorted.{IsPermutation};
+ghost use Rattle.io_ports.specs.Shelf.{LoadCause, Loads, PutCause, Begins, Appends};
+ghost use Rattle.io_ports.specs.Texts.{text_of};
+
+use crate::errors::{LoadErr, PutErr};
+use crate::fault_plan::FaultPlan;
+use crate::numbers::Numbers;
+use crate::shelf::Shelf;
+use crate::texts::Texts;
+use loc_base::Bytes;
+use std::alloc::Global;
+
+/// A shelf in memory. It tells its texts, and fails exactly at the calls that it was told to and at absent names.
+#[derive(Drop)]
+pub struct MemShelf {
+    texts: Texts,
+    written: Texts,
+    plan: FaultPlan,
+}
+
+impl MemShelf {
+    ghost use Rattle.io_ports.specs.MemShelf.{texts_of, written_of, faults_of, calls_of, failing_calls};
+
+    /// The shelf with these texts. The numbers name the calls that are to fail, counted from 0, in any order. It takes
+    /// no memory.
+    pub fn new(alloc: Global, texts: Texts, fails: Numbers) -> MemShelf
+        ensures texts { texts_of result ≡ text_of texts }
+        ensures written { (name : List ℕ) → written_of result name ≡ None }
+        ensures fails { IsPermutation fails (failing_calls result) }
+        ensures calls { calls_of result ≡ 0 }
+        ensures faults { faults_of result ≡ 0 }
+    {
+        MemShelf {
+            texts,
+            written: Texts::new(alloc),
+            plan: FaultPlan::new(fails),
+        }
+    }
+
+    /// The written text under a name, and `None` exactly where no `begin` of it answered `Ok` and none left it empty.
+    pub fn text(&self, name: &str) -> Option<&Bytes>
+        ensures { option_copied result ≡ written_of self.now name.now }
+    {
+        self.written.get(name)
+    }
+
+    /// How many calls failed.
+    pub fn faults(&self) -> u64
+        ensures { result ≡ faults_of self.now }
+    {
+        self.plan.faults()
+    }
+}
+
+impl Shelf for MemShelf {
+    ghost use Rattle.std.specs.Prelude.{true};
+    ghost use Rattle.io_ports.specs.MemShelf.{texts_of, written_of, faults_of, IsToFail, CountsCall};
+
+    ghost tells = { λ _. true };
+
+    ghost texts = { texts_of };
+
+    ghost written = { written_of };
+
+    ghost faults = { faults_of };
+
+    fn load(&mut self, alloc: Global, name: &str, limit: u64) -> Result<Bytes, LoadErr>
+        ensures texts { texts_of self.new ≡ texts_of self.old }
+        ensures written { written_of self.new ≡ written_of self.old }
+        ensures text { Loads (texts_of self.old name.now) limit result }
+        ensures limit { IfOk result (λ text. length text ≤ limit) }
+        ensures cause { LoadCause (faults_of self.old) (faults_of self.new) result }
+
+        // It fails exactly where it was told to and at an absent name.
+        ensures failed { IsErrOf result LoadErr.Failed ↔ (IsToFail self.old ⊎ (texts_of self.old name.now ≡ None)) }
+        ensures counted { CountsCall self.old self.new }
+    {
+        if self.plan.call_fails() {
+            return Err(LoadErr::Failed);
+        }
+        let Some(text) = self.texts.get(name) else {
+            self.plan.fault();
+            return Err(LoadErr::Failed);
+        };
+        if text.len() as u64 > limit {
+            return Err(LoadErr::TooBig);
+        }
+        let copy = Bytes::copy_of(alloc, text.as_slice())?;
+        Ok(copy)
+    }
+
+    fn begin(&mut self, name: &str) -> Result<(), PutErr>
+        ensures texts { texts_of self.new ≡ texts_of self.old }
+        ensures text { Begins (written_of self.old name.now) (written_of self.new name.now) result }
+        ensures others { (other : List ℕ) → other ≢ name.now → written_of self.new other ≡ written_of self.old other }
+        ensures cause { PutCause (faults_of self.old) (faults_of self.new) result }
+
+        // It fails exactly where it was told to.
+        ensures failed { IsErrOf result PutErr.Failed ↔ IsToFail self.old }
+        ensures counted { CountsCall self.old self.new }
+    {
+        if self.plan.call_fails() {
+            return Err(PutErr::Failed);
+        }
+        self.written.clear(name)?;
+        Ok(())
+    }
+
+    /// A call that is to fail appends the first half of the piece, where there is memory for it.
+    fn put(&mut self, name: &str, piece: &[u8]) -> Result<(), PutErr>
+        requires begun { IsSome (written_of self.old name.now) }
+        ensures texts { texts_of self.new ≡ texts_of self.old }
+        ensures text { Appends piece.now (written_of self.old name.now) (written_of self.new name.now) result }
+        ensures others { (other : List ℕ) → other ≢ name.now → written_of self.new other ≡ written_of self.old other }
+        ensures cause { PutCause (faults_of self.old) (faults_of self.new) result }
+
+        // It fails exactly where it was told to.
+        ensures failed { IsErrOf result PutErr.Failed ↔ IsToFail self.old }
+        ensures counted { CountsCall self.old self.new }
+    {
+        if self.plan.call_fails() {
+            let _ = self.written.append(name, &piece[..piece.len() / 2]);
+            return Err(PutErr::Failed);
+        }
+        self.written.append(name, piece)?;
+        Ok(())
+    }
+}
+
+#[cfg(test)]
+mod tests;

@@ -1,0 +1,81 @@
+use super::*;
+use std::test::Fail;
+
+/// A shelf with the texts `a`, which is `abcd`, and `b`, which is empty, and with calls that are to fail.
+fn shelf(alloc: Global, fails: &[u64]) -> Result<MemShelf, Fail> {
+    let mut texts = Texts::new(alloc);
+    texts.add("a", Bytes::copy_of(alloc, b"abcd")?)?;
+    texts.add("b", Bytes::new(alloc))?;
+    texts.add("a", Bytes::copy_of(alloc, b"later")?)?;
+    let mut numbers = Numbers::new(alloc);
+    for number in fails {
+        numbers.push(*number)?;
+    }
+    Ok(MemShelf::new(alloc, texts, numbers))
+}
+
+#[test]
+fn the_first_text_of_a_name_counts(rt: HostRuntime) -> Result<(), Fail> {
+    let mut shelf = shelf(rt.alloc(), &[])?;
+    let text = shelf.load(rt.alloc(), "a", 4)?;
+    assert_eq!(rt; text.as_slice(), b"abcd".as_slice());
+    let text = shelf.load(rt.alloc(), "b", 0)?;
+    assert!(rt; text.is_empty());
+    Ok(())
+}
+
+#[test]
+fn a_text_over_the_limit_is_too_big_and_no_fault(rt: HostRuntime) -> Result<(), Fail> {
+    let mut shelf = shelf(rt.alloc(), &[])?;
+    assert!(rt; matches!(shelf.load(rt.alloc(), "a", 3), Err(LoadErr::TooBig)));
+    assert_eq!(rt; shelf.faults(), 0);
+    Ok(())
+}
+
+#[test]
+fn an_absent_name_fails_and_is_a_fault(rt: HostRuntime) -> Result<(), Fail> {
+    let mut shelf = shelf(rt.alloc(), &[])?;
+    assert!(rt; matches!(shelf.load(rt.alloc(), "c", 100), Err(LoadErr::Failed)));
+    assert_eq!(rt; shelf.faults(), 1);
+    Ok(())
+}
+
+#[test]
+fn calls_fail_by_their_numbers(rt: HostRuntime) -> Result<(), Fail> {
+    let mut shelf = shelf(rt.alloc(), &[3, 0])?;
+    assert!(rt; matches!(shelf.load(rt.alloc(), "a", 9), Err(LoadErr::Failed)));
+    assert!(rt; shelf.load(rt.alloc(), "a", 9).is_ok());
+    assert_eq!(rt; shelf.begin("log"), Ok(()));
+    assert_eq!(rt; shelf.begin("log"), Err(PutErr::Failed));
+    assert_eq!(rt; shelf.begin("log"), Ok(()));
+    assert_eq!(rt; shelf.faults(), 2);
+    Ok(())
+}
+
+#[test]
+fn pieces_are_appended_and_begin_empties(rt: HostRuntime) -> Result<(), Fail> {
+    let mut shelf = shelf(rt.alloc(), &[])?;
+    shelf.begin("log")?;
+    shelf.put("log", b"one")?;
+    shelf.put("log", b"two")?;
+    let text = shelf.text("log").expect(&rt, "a begun text");
+    assert_eq!(rt; text.as_slice(), b"onetwo".as_slice());
+    shelf.begin("log")?;
+    assert!(rt; shelf.text("log").is_some_and(Bytes::is_empty));
+    assert!(rt; shelf.text("a").is_none());
+    Ok(())
+}
+
+#[test]
+fn a_put_that_fails_leaves_a_front(rt: HostRuntime) -> Result<(), Fail> {
+    let mut shelf = shelf(rt.alloc(), &[2])?;
+    shelf.begin("log")?;
+    shelf.put("log", b"one")?;
+    assert_eq!(rt; shelf.put("log", b"twos"), Err(PutErr::Failed));
+    assert_eq!(rt;
+        shelf.text("log").map(Bytes::as_slice),
+        Some(b"onetw".as_slice())
+    );
+    assert_eq!(rt; shelf.faults(), 1);
+    Ok(())
+}

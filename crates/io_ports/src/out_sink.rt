@@ -1,0 +1,53 @@
+ghost use Rattle.std.specs.Prelude.{◌≡◌};
+
+use crate::errors::SinkFault;
+use crate::sink::Sink;
+use crate::transfer::write_piece;
+use std::io;
+
+/// Standard output as a sink. It tells no text, and counts its failures from 0.
+#[derive(Drop)]
+pub struct OutSink<'a, P: Print> {
+    rt: &'a P,
+    faults: u64,
+}
+
+impl<'a, P: Print> OutSink<'a, P> {
+    /// The sink of the runtime's standard output. It takes no memory.
+    pub fn new(rt: &'a P) -> OutSink<'a, P>
+        ensures { ⟦<OutSink<'a, P> as Sink>⟧.faults result ≡ 0 }
+    {
+        OutSink { rt, faults: 0 }
+    }
+}
+
+impl<P: Print> Sink for OutSink<'_, P> {
+    ghost use Rattle.std.specs.Prelude.{false, []};
+
+    ghost tells = { λ _. false };
+
+    ghost written = { λ _. [] };
+
+    ghost faults = { λ sink. sink.faults };
+
+    fn put(&mut self, piece: &[u8]) -> Result<(), SinkFault> {
+        if write_piece(&mut io::writer(self.rt), piece) {
+            return Ok(());
+        }
+        self.faults = self.faults.saturating_add(1);
+        Err(SinkFault::Failed)
+    }
+}
+
+#[cfg(test)]
+mod tests {
+    use super::*;
+
+    #[test]
+    fn standard_output_takes_a_piece(rt: HostRuntime) {
+        let mut sink = OutSink::new(&rt);
+        assert_eq!(rt; sink.put(b"a piece on standard output\n"), Ok(()));
+        assert_eq!(rt; sink.put(b""), Ok(()));
+        assert_eq!(rt; sink.faults, 0);
+    }
+}
