@@ -1,0 +1,141 @@
+-- Which bits an expression, a statement and a driver read (IEEE 1364-2005, 9.7.5 for what a combinational block
+-- follows), which drivers depend on each other, and in which orders none depends on a later one.
+use Rattle.std.specs.Prelude.{ℕ, ◌≡◌, ◌≢◌, ◌<◌, ◌==◌, Bool, true, false, not, ◌&&◌, ◌||◌, nat_lt, IsTrue, List, length, slice_get, Some, All, AllPairs, Contains}
+use Rattle.std.specs.List.{list_any}
+use Rattle.design_core.specs.declared.signal.Signal.{Signal}
+use Rattle.design_core.specs.declared.expression.Typed.{Typed}
+use Rattle.design_core.specs.declared.expression.Node.{Node, Row_of-Typed, end_of-Typed, more_of-Typed}
+use Rattle.design_core.specs.declared.expression.Node.TheVariants.{Const, Whole, Slice, Pick', Word', Unary', Binary', Choose', Join', Repeat', Resize'}
+use Rattle.design_core.specs.declared.statement.Part.{Part}
+use Rattle.design_core.specs.declared.statement.Part.TheVariants as part
+use Rattle.design_core.specs.declared.statement.Stmt.{Stmt, Row_of-Stmt, end_of-Stmt, more_of-Stmt, Row_of-CaseItem, end_of-CaseItem, more_of-CaseItem}
+use Rattle.design_core.specs.declared.statement.Stmt.TheVariants.{Nothing, Block', If', Case', Set}
+use Rattle.design_core.specs.declared.driver.Driver.{Driver}
+use Rattle.design_core.specs.declared.driver.Driver.TheVariants.{Cont, Comb}
+use Rattle.design_core.specs.declared.design.Design.{Design}
+use Rattle.design_core.specs.Valuation.{Valuation, width_at}
+use Rattle.design_core.specs.Pick.{may_pick, must_pick}
+use Rattle.design_core.specs.FullCase.{is_full}
+use Rattle.design_core.specs.Drives.{is_among, driver_drives}
+
+-- two valuations agree on the bits that pass a test
+pub record AgreeOn (test : ℕ → ℕ → Bool) (V W : Valuation) : Type 0 where
+  pub same : (s b : ℕ) → IsTrue (test s b) → V s b ≡ W s b
+
+-- whether a node of a width reads a bit: a select by a constant reads its bits alone, one by a variable index all bits of
+-- its signal, and a word of an array at a variable address its bits of all words
+abbrev mutual
+  pub node_reads : List Signal → ℕ → ℕ → ℕ → Node → Bool
+  node_reads signals s b width (Const _) = false
+  node_reads signals s b width (Whole signal) = s == signal && nat_lt b width
+  node_reads signals s b width (Slice signal from size) = s == signal && is_among from size b
+  node_reads signals s b width (Pick' signal _ index_width signed index offsets) =
+      (s == signal && may_pick signals signal index_width signed index offsets.items b) || node_reads signals s b index_width index
+  node_reads signals s b width (Word' first count _ _ index_width _ index from size) =
+      (is_among first count s && is_among from size b) || node_reads signals s b index_width index
+  node_reads signals s b width (Unary' _ _ arg_width _ arg) = node_reads signals s b arg_width arg
+  node_reads signals s b width (Binary' _ _ left_width _ left _ right_width _ right) =
+      node_reads signals s b left_width left || node_reads signals s b right_width right
+  node_reads signals s b width (Choose' _ cond_width _ cond _ true_width _ on_true _ false_width _ on_false) =
+      node_reads signals s b cond_width cond
+      || (node_reads signals s b true_width on_true || node_reads signals s b false_width on_false)
+  node_reads signals s b width (Join' _ parts) = parts_read signals s b parts
+  node_reads signals s b width (Repeat' _ _ part_width _ part) = node_reads signals s b part_width part
+  node_reads signals s b width (Resize' _ arg_width _ arg) = node_reads signals s b arg_width arg
+
+  -- whether some part of a concatenation reads a bit
+  pub parts_read : {shape : _} → List Signal → ℕ → ℕ → Row_of-Typed shape → Bool
+  parts_read signals s b end_of-Typed = false
+  parts_read signals s b (more_of-Typed width _ node rest) = node_reads signals s b width node || parts_read signals s b rest
+
+-- whether an expression reads a bit
+abbrev pub reads : List Signal → ℕ → ℕ → Typed → Bool
+reads signals s b e = node_reads signals s b e.width e.node
+
+-- whether a part of a left side reads a bit: its index does
+abbrev pub part_reads : List Signal → ℕ → ℕ → Part → Bool
+part_reads signals s b (part.Whole _) = false
+part_reads signals s b (part.Slice _ _ _) = false
+part_reads signals s b (part.Pick _ index _) = reads signals s b index
+part_reads signals s b (part.Word _ _ _ index _ _) = reads signals s b index
+
+-- whether a part of a left side surely assigns a bit: not where a variable index names it
+abbrev pub part_assigns : List Signal → ℕ → ℕ → Part → Bool
+part_assigns signals s b (part.Whole signal) = s == signal && nat_lt b (width_at signals signal)
+part_assigns signals s b (part.Slice signal from width) = s == signal && is_among from width b
+part_assigns signals s b (part.Pick signal index offsets) =
+    s == signal && must_pick signals signal index.width index.signed index.node offsets.items b
+part_assigns signals s b (part.Word _ _ _ _ _ _) = false
+
+abbrev pub is_nothing : Stmt → Bool
+is_nothing Nothing = true
+is_nothing (Block' _ _) = false
+is_nothing (If' _ _ _ _ _) = false
+is_nothing (Case' _ _ _ _ _ _) = false
+is_nothing (Set _ _ _ _) = false
+
+-- whether a statement assigns a bit by `=` on each of its paths; where a case has no statement for other values of its
+-- subject, and takes an item for each of them, no path takes none
+abbrev mutual
+  pub assigns : List Signal → ℕ → ℕ → Stmt → Bool
+  assigns signals s b Nothing = false
+  assigns signals s b (Block' _ statements) = some_assigns signals s b statements
+  assigns signals s b (If' _ _ on_true _ on_false) = assigns signals s b on_true && assigns signals s b on_false
+  assigns signals s b (Case' subject _ items _ other _) =
+      all_assign signals s b items && ((is_nothing other && is_full signals subject items) || assigns signals s b other)
+  assigns signals s b (Set _ target _ later) = not later && list_any (part_assigns signals s b) target.parts.items
+
+  pub some_assigns : {shape : _} → List Signal → ℕ → ℕ → Row_of-Stmt shape → Bool
+  some_assigns signals s b end_of-Stmt = false
+  some_assigns signals s b (more_of-Stmt statement rest) = assigns signals s b statement || some_assigns signals s b rest
+
+  pub all_assign : {shape : _} → List Signal → ℕ → ℕ → Row_of-CaseItem shape → Bool
+  all_assign signals s b end_of-CaseItem = true
+  all_assign signals s b (more_of-CaseItem _ body rest) = assigns signals s b body && all_assign signals s b rest
+
+-- whether some path of a statement reads a bit before it has surely assigned it
+abbrev mutual
+  pub statement_reads : List Signal → ℕ → ℕ → Stmt → Bool
+  statement_reads signals s b Nothing = false
+  statement_reads signals s b (Block' _ statements) = statements_read signals s b statements
+  statement_reads signals s b (If' cond _ on_true _ on_false) =
+      reads signals s b cond || (statement_reads signals s b on_true || statement_reads signals s b on_false)
+  statement_reads signals s b (Case' subject _ items _ other _) =
+      reads signals s b subject || (items_read signals s b items || statement_reads signals s b other)
+  statement_reads signals s b (Set _ target value _) =
+      reads signals s b value || list_any (part_reads signals s b) target.parts.items
+
+  pub statements_read : {shape : _} → List Signal → ℕ → ℕ → Row_of-Stmt shape → Bool
+  statements_read signals s b end_of-Stmt = false
+  statements_read signals s b (more_of-Stmt statement rest) =
+      statement_reads signals s b statement || (not (assigns signals s b statement) && statements_read signals s b rest)
+
+  pub items_read : {shape : _} → List Signal → ℕ → ℕ → Row_of-CaseItem shape → Bool
+  items_read signals s b end_of-CaseItem = false
+  items_read signals s b (more_of-CaseItem labels body rest) =
+      list_any (λ label. reads signals s b label.value) labels.items
+      || (statement_reads signals s b body || items_read signals s b rest)
+
+-- whether a driver reads a bit
+abbrev pub driver_reads : List Signal → ℕ → ℕ → Driver → Bool
+driver_reads signals s b (Cont target value _ _) = reads signals s b value || list_any (part_reads signals s b) target.parts.items
+driver_reads signals s b (Comb body _) = statement_reads signals s b body
+
+-- one driver depends on another, or on itself: it reads a bit that the other drives
+pub record Depends (d : Design) (i j : ℕ) : Type 0 where
+  pub reader : Driver
+  pub source : Driver
+  pub is_reader : slice_get d.drivers.items i ≡ Some reader
+  pub is_source : slice_get d.drivers.items j ≡ Some source
+  pub signal : ℕ
+  pub position : ℕ
+  pub read : IsTrue (driver_reads d.signals.items signal position reader)
+  pub driven : IsTrue (driver_drives d.signals.items signal position source)
+
+-- an order of all drivers, by their numbers, in which none depends on itself or on a later one
+pub record IsOrder (d : Design) (order : List ℕ) : Type 0 where
+  pub numbers : All (λ i. i < length d.drivers.items) order
+  pub complete : (i : ℕ) → i < length d.drivers.items → Contains order i
+  pub distinct : AllPairs (λ i j. i ≢ j) order
+  pub not_itself : All (λ i. ¬ Depends d i i) order
+  pub not_later : AllPairs (λ i j. ¬ Depends d i j) order

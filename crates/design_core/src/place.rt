@@ -1,0 +1,38 @@
+use loc_base::Name;
+
+/// Where a value is assigned.
+#[derive(Clone, Copy, Debug, PartialEq, Eq)]
+pub enum PlaceKind {
+    /// A continuous assignment.
+    Assign,
+    /// A procedural assignment, after loops are unrolled.
+    Step,
+    /// An output of a gate.
+    Gate,
+    /// An output port connection of a module instance.
+    PortOut,
+    /// An AND of an AIGER file.
+    And,
+}
+
+/// A place: one assignment of the elaborated design, whose value a suspect set may choose in each cycle.
+#[derive(Debug, Drop)]
+pub struct Place {
+    pub kind: PlaceKind,
+    /// The width of the left side in bits, 1 to 128.
+    pub width: u8,
+    /// The number of the place's first token in the text.
+    pub site: u32,
+    /// The number of the first token of the item that the place stands in.
+    pub home: u32,
+    /// For a gate or an output connection, the least place of the same copy of the gate or module instance; else 0.
+    pub copy: u32,
+    /// The line of the place's first token, from 1.
+    pub line: u32,
+    /// The module whose text the place stands in.
+    pub module: Name,
+    /// The path of the gate or instance itself, else of the scope.
+    pub path: Name,
+    /// The first signal, from the left, that the left side names; for an array, that of its least address.
+    pub signal: u32,
+}

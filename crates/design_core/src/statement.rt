@@ -1,0 +1,74 @@
+use crate::expression::Typed;
+use loc_base::Bits;
+
+/// One part of a left side (IEEE 1364-2005, 6.1 and 9.2). The fields are those of the nodes of the same names.
+#[derive(Debug, Drop)]
+pub enum Part {
+    Whole(u32),
+    Slice {
+        signal: u32,
+        from: u8,
+        width: u8,
+    },
+    Pick {
+        signal: u32,
+        index: Typed,
+        offsets: Vec<i32>,
+    },
+    Word {
+        first: u32,
+        count: u32,
+        low: i32,
+        index: Typed,
+        from: u8,
+        width: u8,
+    },
+}
+
+/// A left side: its parts from the left.
+#[derive(Debug, Drop)]
+pub struct Target {
+    pub parts: Vec<Part>,
+}
+
+/// A label of a case item. `wild` has a 1 for each bit that is not compared.
+#[derive(Debug, Drop)]
+pub struct Label {
+    pub value: Typed,
+    pub wild: Bits,
+}
+
+/// The labels of a case item and the statement for them.
+#[cycle(statement)]
+#[derive(Debug, Drop)]
+pub struct CaseItem {
+    pub labels: Vec<Label>,
+    pub body: Stmt,
+}
+
+/// A statement (IEEE 1364-2005, clause 9), its loops unrolled.
+#[cycle(statement)]
+#[derive(Debug, Drop)]
+pub enum Stmt {
+    Nothing,
+    Block(Vec<Stmt>),
+    If {
+        cond: Typed,
+        yes: Box<Stmt>,
+        no: Box<Stmt>,
+    },
+    /// The first item with a label that is equal to the subject, else `other`. `wild` is true for `casez`.
+    Case {
+        subject: Typed,
+        items: Vec<CaseItem>,
+        other: Box<Stmt>,
+        wild: bool,
+    },
+    /// A procedural assignment: `<=` where `later` is true, else `=`.
+    Set {
+        place: u32,
+        target: Target,
+        value: Typed,
+        later: bool,
+    },
+}
