@@ -1,0 +1,13 @@
+pub mod Fronts
+pub mod NumberRows
+pub mod DirectiveRows
+pub mod PieceRows
+pub mod SymbolRows
+pub mod LiteralRows
+pub mod ConditionalRows
+pub mod MacroRows
+pub mod TextRows
+pub mod DefinitionRows
+pub mod CommandRows
+pub mod ReadingLaws
+pub mod Unique

@@ -1,0 +1,15 @@
+pub mod Bytes
+pub mod Words
+pub mod Symbols
+pub mod Numbers
+pub mod Literals
+pub mod Directives
+pub mod Pieces
+pub mod Lexeme
+pub mod Text
+pub mod Conditionals
+pub mod Acts
+pub mod Tokens
+pub mod Longest
+pub mod Entries
+pub mod Outcomes

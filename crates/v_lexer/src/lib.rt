@@ -1,0 +1,23 @@
+//! The tokens of a Verilog text (IEEE 1364-2005, clauses 3 and 19), with its compiler directives carried out.
+#![tactic(auto)]
+
+mod bytes;
+mod commands;
+mod comments;
+mod conditionals;
+mod definitions;
+mod directives;
+mod literals;
+mod macros;
+mod numbers;
+mod pieces;
+mod position;
+mod reader;
+mod state;
+mod symbols;
+#[cfg(test)]
+mod tests;
+pub mod types;
+mod words;
+
+pub use reader::{one_outcome, tokens};

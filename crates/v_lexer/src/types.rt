@@ -1,0 +1,8 @@
+//! Tokens, their kinds, and the refusals.
+mod refusal;
+mod token;
+mod token_list;
+
+pub use refusal::LexErr;
+pub use token::{Token, TokenKind};
+pub use token_list::Tokens;

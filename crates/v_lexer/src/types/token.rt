@@ -1,0 +1,43 @@
+use loc_base::{Bytes, Span};
+use std::marker::Model;
+
+/// What a token is (IEEE 1364-2005, 3.1).
+#[derive(Clone, Copy, Debug, PartialEq, Eq)]
+pub enum TokenKind {
+    /// A simple or an escaped identifier.
+    Name,
+    /// A reserved word.
+    Word,
+    /// The name of a system function.
+    System,
+    /// An operator or a mark of punctuation.
+    Symbol,
+    /// A number without wildcard digits.
+    Number,
+    /// A number with wildcard digits, as the labels of a `casez` have.
+    Wild,
+}
+
+/// A token and where it stands.
+#[derive(Debug, Drop)]
+pub struct Token {
+    pub kind: TokenKind,
+    /// Where its bytes stand in the text, or the macro's use that stands for it.
+    pub span: Span,
+    /// The line of the span's first byte, counted from 1.
+    pub line: u32,
+    /// Its bytes. Those of an escaped identifier are the ones behind the backslash.
+    pub text: Bytes,
+}
+
+impl Model for Token {
+    ghost use Rattle.v_lexer.specs.Lexeme.{Lexeme};
+
+    ghost Value = { Lexeme };
+
+    ghost use Rattle.v_lexer.specs.Text.{IsTokenText};
+
+    ghost view = { λ t. record { kind = t.kind; span = t.span; line = t.line; text = t.text } };
+
+    ghost invariant = { λ t. IsTokenText t.kind t.text };
+}
