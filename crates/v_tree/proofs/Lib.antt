@@ -1,0 +1,10 @@
+pub mod MarkLemmas
+pub mod PlaceLemmas
+pub mod ClassLemmas
+pub mod StepLemmas
+pub mod BindLemmas
+pub mod SoundLemmas
+pub mod CompleteLemmas
+pub mod SteadyLemmas
+pub mod WholeLemmas
+pub mod PublicLemmas

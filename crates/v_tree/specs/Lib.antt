@@ -1,0 +1,10 @@
+pub mod Marks
+pub mod Sites
+pub mod Operators
+pub mod Tree
+pub mod Depth
+pub mod Expressions
+pub mod Faults
+pub mod Reading
+pub mod Found
+pub mod Answers

@@ -1,0 +1,65 @@
+//! Modules and the whole text (IEEE 1364-2005, 12.1 and A.1).
+use crate::declaration::{Identifier, Range};
+use crate::expression::Expr;
+use crate::item::{Direction, Item, NetKind, ParameterType};
+use crate::site::Site;
+use loc_base::Name;
+
+/// A parameter of a module's header.
+#[derive(Debug, Drop)]
+pub struct HeaderParameter {
+    pub site: Site,
+    /// Whether the word `parameter` stands before it.
+    pub opens: bool,
+    pub type_of: ParameterType,
+    pub name: Name,
+    pub value: Expr,
+}
+
+/// A port that a module's header declares.
+#[derive(Debug, Drop)]
+pub enum Port {
+    /// `output reg signed [7:0] name = value`
+    Declared {
+        site: Site,
+        direction: Direction,
+        net: Option<NetKind>,
+        signed: bool,
+        range: Option<Range>,
+        name: Name,
+        value: Option<Expr>,
+    },
+    /// `name = value`, with the direction and the type of the port before.
+    Same {
+        site: Site,
+        name: Name,
+        value: Option<Expr>,
+    },
+}
+
+/// The ports of a module's header.
+#[derive(Debug, Drop)]
+pub enum Ports {
+    /// No list, or an empty one.
+    None,
+    /// Names, which items declare.
+    Names { names: Vec<Identifier> },
+    /// Declarations.
+    Declared { ports: Vec<Port> },
+}
+
+/// A module.
+#[derive(Debug, Drop)]
+pub struct Module {
+    pub site: Site,
+    pub name: Name,
+    pub parameters: Vec<HeaderParameter>,
+    pub ports: Ports,
+    pub items: Vec<Item>,
+}
+
+/// The modules of a text, in its order.
+#[derive(Debug, Drop)]
+pub struct SourceTree {
+    pub modules: Vec<Module>,
+}
