@@ -1,0 +1,8 @@
+pub mod Literal
+pub mod Rows
+pub mod Steps
+pub mod Satisfaction
+pub mod Resolution
+pub mod Acceptance
+pub mod Progress
+pub mod Counted
