@@ -1,0 +1,10 @@
+pub mod Lists
+pub mod Levels
+pub mod Truth
+pub mod Changes
+pub mod LayoutLemmas
+pub mod Fields
+pub mod Back
+pub mod BackFields
+pub mod Looks
+pub mod RoundLemmas

@@ -1,0 +1,4 @@
+pub mod Values
+pub mod TrailState
+pub mod Layout
+pub mod Rounds

@@ -1,0 +1,155 @@
+ghost use Rattle.std.specs.Prelude.{◌≡◌, ℕ, ◌+◌, ◌-◌, ◌^◌, ◌<◌, ◌≤◌, ◌↔◌, [], ◌∷◌, ◌++◌, length, IfOk, OnOk, OnErr, IfSome, IfNone, slice_get, IsTrue};
+ghost use Rattle.std.specs.Option.{option_map};
+ghost use Rattle.clause_base.specs.Literal.{IsWithin};
+ghost use Rattle.clause_base.specs.Acceptance.{numbered};
+ghost use Rattle.trail_core.specs.Values.{IsVariable};
+ghost use Rattle.trail_core.specs.TrailState.{TrailState, IsTrail, IsNumber, MayAdd, with_clause, values_of, level_in, reason_in, entry_of};
+
+mod append;
+mod back;
+mod propagate;
+
+use crate::entry::Entry;
+use clause_base::{Clause, Lit};
+use loc_base::NoMemory;
+use std::alloc::Global;
+use std::marker::Model;
+
+/// The true literals in the order in which they became true, over clauses numbered from 1.
+///
+/// Contracts see it as its number of variables, its clauses, its entries and its decision level.
+#[derive(Drop)]
+pub struct Trail {
+    alloc: Global,
+    clauses: Vec<Clause>,
+    /// The entry of each variable, at the variable less 1.
+    assigned: Vec<Option<Entry>>,
+    /// The true literals, in order.
+    entries: Vec<Entry>,
+    /// The place of each level's decision, from level 1.
+    starts: Vec<u32>,
+}
+
+impl Model for Trail {
+    ghost use Rattle.trail_core.specs.TrailState.{TrailState};
+
+    ghost Value = { TrailState };
+
+    ghost use Rattle.trail_core.specs.Layout.{state_of, IsLaidOut};
+
+    ghost view = { state_of };
+
+    ghost invariant = { IsLaidOut };
+}
+
+impl Trail {
+    /// A trail with no clause and no true literal, over the variables 1 to `vars`.
+    pub fn new(alloc: Global, vars: u32) -> Result<Trail, NoMemory>
+        ensures empty { IfOk result (λ t. t ≡ record { vars = vars; clauses = []; entries = []; level = 0 }) }
+        ensures trail { IfOk result IsTrail }
+    {
+        let size = vars as usize;
+        let assigned = vec![in alloc; None; size]?;
+        let entries = Vec::with_capacity(alloc, size)?;
+        let starts = Vec::with_capacity(alloc, size)?;
+        Ok(Trail {
+            alloc,
+            clauses: Vec::new(alloc),
+            assigned,
+            entries,
+            starts,
+        })
+    }
+
+    /// Adds a copy of a clause and gives its number, the first being 1. Unchanged after `NoMemory`.
+    pub fn add_clause(&mut self, c: &Clause) -> Result<u32, NoMemory>
+        requires room { length self.old.clauses + 1 < 2 ^ 32 }
+        requires within { IsWithin self.old.vars c.now }
+        requires may { MayAdd self.old c.now }
+        ensures number { IfOk result (λ n. n ≡ length self.old.clauses + 1) }
+        ensures ok { OnOk result (self.new ≡ with_clause self.old c.now) }
+        ensures err { OnErr result (self.new ≡ self.old) }
+        ensures trail { IsTrail self.new }
+    {
+        let copy = Clause::new(self.alloc, c.literals())?;
+        self.clauses.push(copy)?;
+        Ok(self.clauses.len() as u32)
+    }
+
+    /// The clause of that number.
+    pub fn clause(&self, number: u32) -> &Clause
+        requires { IsNumber self.now.clauses number }
+        ensures value { result.now ≡ numbered self.now.clauses number }
+        ensures within { IsWithin self.now.vars result.now }
+    {
+        &self.clauses[number as usize - 1]
+    }
+
+    /// The number of variables.
+    pub fn vars(&self) -> u32
+        ensures { result ≡ self.now.vars }
+    {
+        self.assigned.len() as u32
+    }
+
+    /// The number of true literals.
+    pub fn len(&self) -> u32
+        ensures { result ≡ length self.now.entries }
+    {
+        self.entries.len() as u32
+    }
+
+    /// Whether no literal is true.
+    pub fn is_empty(&self) -> bool
+        ensures { IsTrue result ↔ (self.now.entries ≡ []) }
+    {
+        self.entries.is_empty()
+    }
+
+    /// The present decision level.
+    pub fn level(&self) -> u32
+        ensures { result ≡ self.now.level }
+    {
+        self.starts.len() as u32
+    }
+
+    /// The true literal at a place, counted from 0; none past the last.
+    pub fn at(&self, place: u32) -> Option<Lit>
+        ensures { result ≡ option_map (λ e. e.lit) (slice_get self.now.entries place) }
+    {
+        self.entries.get(place as usize).map(|e| e.lit)
+    }
+
+    /// The value of a variable; none where it is unassigned.
+    pub fn value(&self, var: u32) -> Option<bool>
+        requires { IsVariable self.now.vars var }
+        ensures { result ≡ values_of self.now.entries var }
+    {
+        self.entry(var).map(|e| !e.lit.negated)
+    }
+
+    /// The clause that made the variable's literal true, whose other literals became false before it; none for a
+    /// decided or unassigned variable.
+    pub fn reason(&self, var: u32) -> Option<u32>
+        requires { IsVariable self.now.vars var }
+        ensures { result ≡ reason_in self.now.entries var }
+    {
+        self.entry(var)?.reason
+    }
+
+    /// The decision level at which the variable's literal became true; none where it is unassigned.
+    pub fn level_of(&self, var: u32) -> Option<u32>
+        requires { IsVariable self.now.vars var }
+        ensures { result ≡ level_in self.now.entries var }
+    {
+        self.entry(var).map(|e| e.decision_level)
+    }
+
+    /// The entry of a variable.
+    fn entry(&self, var: u32) -> Option<Entry>
+        requires { IsVariable self.now.vars var }
+        ensures { result ≡ entry_of self.now.entries var }
+    {
+        self.assigned[var as usize - 1]
+    }
+}
