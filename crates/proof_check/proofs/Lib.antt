@@ -1,0 +1,15 @@
+pub mod Chained
+pub mod Checked
+pub mod Cuts
+pub mod Decimals
+pub mod Digests
+pub mod Increasing
+pub mod Lexed
+pub mod Merged
+pub mod Reading
+pub mod Seen
+pub mod Spelling
+pub mod StepLines
+pub mod Struck
+pub mod Texts
+pub mod Written

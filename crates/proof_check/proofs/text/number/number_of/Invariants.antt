@@ -1,0 +1,10 @@
+use Rattle.std.proofs.Common.{◌≡◌, ◌≤◌, take}
+use Rattle.std.specs.Str.Parse.{digits_value, AllDigits}
+use Rattle.proof_check.proofs.text.number.number_of.Given as goal
+
+abbrev pub invariant-loop-digit : goal.invariant-loop-digit
+invariant-loop-digit l = record {
+  value : l.value ≡ digits_value 10 (take l.digit-index l.word);
+  digits : AllDigits 10 (take l.digit-index l.word);
+  small : l.value ≤ l.most;
+}

@@ -1,0 +1,10 @@
+pub mod Marks
+pub mod Merging
+pub mod Chain
+pub mod Text
+pub mod Words
+pub mod Pieces
+pub mod Room
+pub mod Took
+pub mod Lines
+pub mod Errors
