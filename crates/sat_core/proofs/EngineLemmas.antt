@@ -1,0 +1,53 @@
+-- What a step of learning leaves.
+use Rattle.std.proofs.Common.{◌≡◌, ℕ, ◌+◌, ◌<◌, ◌≤◌, Bool, false, Result, Ok, Err, List, [], ◌∷◌, ◌++◌, length, take, refl, sym, ap, ◌∙◌, subst, map, arith}
+use Rattle.std.specs.Result.{is_err, OnOk, OnErr}
+use Rattle.std.proofs.lemmas.Bool.{false≢true}
+use Rattle.clause_base.specs.declared.literal.Lit.{Lit}
+use Rattle.clause_base.specs.Literal.{IsWithin, AreWithin}
+use Rattle.clause_base.specs.Steps.{step_at, no_step}
+use Rattle.clause_base.specs.Acceptance.{clauses_of}
+use Rattle.clause_base.proofs.Accepted.{clauses_of-more}
+use Rattle.std.proofs.lemmas.List.{get_or-map, length-map}
+use Rattle.clause_base.specs.declared.log.Step.{Step}
+use Rattle.clause_base.specs.declared.log.StepKind.TheVariants.{Learned as learned_kind}
+use Rattle.trail_core.specs.TrailState.{TrailState, IsTrail, MayAdd, with_clause, back_at}
+use Rattle.sat_core.specs.Derivation.{Learns}
+use Rattle.sat_core.specs.declared.engine.Engine.{Engine}
+use Rattle.sat_core.specs.Engines.{LearnsStep, Learned, KeptLog, same, step, KeepsPace}
+use Rattle.sat_core.proofs.FreshLemmas.{Learns-fresh}
+
+pub LearnsStep-from : (t : TrailState) (marks : List Bool) (literals : List Lit) (chain : List ℕ) (old new : List Step) → IsTrail t → 1 ≤ t.level → Learns t marks literals chain → new ≡ old ++ record { kind = learned_kind; clause = literals; chain = chain } ∷ [] → LearnsStep t old new literals chain
+LearnsStep-from t marks literals chain old new h p r e = record {
+  step = e;
+  accepted = r.accepted;
+  fresh = Learns-fresh t marks literals chain h p r;
+  distinct = r.distinct;
+  within = r.within;
+}
+
+-- the clause may be added where the trail stands, as the calls give them
+pub may_add : (t back : TrailState) (level : ℕ) (literals clause : List Lit) → back ≡ back_at t level → clause ≡ literals → MayAdd (back_at t level) literals → MayAdd back clause
+may_add t back level literals clause p q m = subst (λ s. MayAdd s clause) (sym p) (subst (MayAdd (back_at t level)) (sym q) m)
+
+-- the trail with the clause
+pub trail_after : (t back after : TrailState) (level : ℕ) (literals clause : List Lit) → back ≡ back_at t level → clause ≡ literals → after ≡ with_clause back clause → after ≡ with_clause (back_at t level) literals
+trail_after t back after level literals clause p q e = e ∙ (ap (λ s. with_clause s clause) p ∙ ap (with_clause (back_at t level)) q)
+
+pub on_ok_at : {T E : Type 0} (r : Result T E) (P : Type 0) → is_err r ≡ false → OnOk r P → P
+on_ok_at (Ok x) P h p = p
+on_ok_at (Err e) P h p = absurd (false≢true (sym h))
+
+pub on_err_from : {T E : Type 0} (r : Result T E) (P : Type 0) → P → OnErr r P
+on_err_from (Ok x) P p = tt
+on_err_from (Err e) P p = p
+
+-- the clause of a step is over the variables
+pub step_within : (vars vars' : ℕ) (log : List Step) (place : ℕ) (clause found : List Lit) → AreWithin vars (map (λ (s : Step). s.clause) log) → place < length log → vars' ≡ vars → clause ≡ found → found ≡ (step_at log place).clause → IsWithin vars' clause
+step_within vars vars' log place clause found h l e p q =
+    subst (λ v. IsWithin v clause) (sym e) (subst (IsWithin vars) (sym (p ∙ (q ∙ sym (get_or-map (λ (s : Step). s.clause) log place no_step [] l)))) (h place [] (omega (arith, length-map log (λ (s : Step). s.clause), l))))
+
+-- one more step is known
+pub KeepsPace-more : (old now after : Engine) (log : List Step) (clause found : List Lit) → KeepsPace old now log → now.known < length log → clause ≡ found → found ≡ (step_at log now.known).clause → after.trail.clauses ≡ now.trail.clauses ++ clause ∷ [] → after.known ≡ now.known + 1 → KeepsPace old after log
+KeepsPace-more old now after log clause found h l p q c k form e =
+    c ∙ (ap (λ cs. cs ++ clause ∷ []) (h form e) ∙ (ap (λ x. clauses_of form (take now.known log) ++ x ∷ []) (p ∙ q)
+    ∙ (sym (clauses_of-more form log now.known l) ∙ ap (λ n. clauses_of form (take n log)) (sym k))))

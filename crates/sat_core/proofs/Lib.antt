@@ -1,0 +1,15 @@
+pub mod Sets
+pub mod Marks
+pub mod Tracking
+pub mod TakingIn
+pub mod Resolving
+pub mod Learning
+pub mod FreshLemmas
+pub mod Unmarking
+pub mod BackLevel
+pub mod EngineLemmas
+pub mod Refuting
+pub mod Entailment
+pub mod Greatest
+pub mod OrderLemmas
+pub mod Chosen
