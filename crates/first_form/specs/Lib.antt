@@ -1,0 +1,11 @@
+pub mod Circles
+pub mod Combinational
+pub mod Dump
+pub mod Formula
+pub mod Meaning
+pub mod Names
+pub mod Netlists
+pub mod NumberTable
+pub mod Orders
+pub mod Shape
+pub mod Walks
