@@ -1,0 +1,14 @@
+pub mod Chosen
+pub mod Rising
+pub mod Ordered
+pub mod Settled
+pub mod OneCycle
+pub mod Cycles
+pub mod Choices
+pub mod Masked
+pub mod Numbers
+pub mod Assigning
+pub mod Sampling
+pub mod Settling
+pub mod Expected
+pub mod Trying

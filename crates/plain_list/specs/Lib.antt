@@ -1,0 +1,4 @@
+pub mod Candidates
+pub mod Network
+pub mod Trial
+pub mod Rightness
