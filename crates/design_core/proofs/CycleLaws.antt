@@ -81,7 +81,7 @@ list_any-found test (x ∷ xs) passes = at (or_cases (test x) (list_any test xs)
     at (inr later) behind = let (y, member, passes) = behind later in (y, Contains-later x xs y member, passes)
 
 -- two tests that all elements of a list answer alike
-list_any-alike : {X : Type 0} (p q : X → Bool) (xs : List X) → ((x : X) → Contains xs x → p x ≡ q x) → list_any p xs ≡ list_any q xs
+pub list_any-alike : {X : Type 0} (p q : X → Bool) (xs : List X) → ((x : X) → Contains xs x → p x ≡ q x) → list_any p xs ≡ list_any q xs
 list_any-alike p q [] same = refl
 list_any-alike p q (x ∷ xs) same =
     let here : p x ≡ q x = same x (Contains-first x xs) in
@@ -89,10 +89,10 @@ list_any-alike p q (x ∷ xs) same =
     cc
 
 -- places of lists
-Contains-at : {X : Type 0} (xs : List X) (k : ℕ) (x : X) → slice_get xs k ≡ Some x → Contains xs x
+pub Contains-at : {X : Type 0} (xs : List X) (k : ℕ) (x : X) → slice_get xs k ≡ Some x → Contains xs x
 Contains-at xs k x at = (k, slice_get_within xs k x at, get_or_from_slice_get xs k x x at)
 
-Contains-place : {X : Type 0} (xs : List X) (x : X) → Contains xs x → (k : ℕ) × (slice_get xs k ≡ Some x)
+pub Contains-place : {X : Type 0} (xs : List X) (x : X) → Contains xs x → (k : ℕ) × (slice_get xs k ≡ Some x)
 Contains-place xs x (k, below, at) = (k, slice_get-get_or xs k x below ∙ ap Some at)
 
 -- two cycles with the same samples, states and choice
@@ -109,7 +109,7 @@ input-same : (d : Design) (V W : Valuation) (t : Two d V W) (s b : ℕ) → is_l
 input-same d V W t s b listed = t.one.input s b listed ∙ sym (t.other.input s b listed)
 
 -- a reset's signal is listed
-reset-listed : (d : Design) (block : Clocked) (r : Reset) → block.reset ≡ Some r → clocked_fits d block ≡ true → is_listed d r.signal ≡ true
+pub reset-listed : (d : Design) (block : Clocked) (r : Reset) → block.reset ≡ Some r → clocked_fits d block ≡ true → is_listed d r.signal ≡ true
 reset-listed d block r e fits =
     let fit = and_parts (statement_fits d.signals.items d.places.items block.body) (option_map_or (reset_fits d) block.reset true) fits in
     let here : reset_fits d r ≡ true = sym (ap (λ o. option_map_or (reset_fits d) o true) e) ∙ fit.1 in
@@ -133,7 +133,7 @@ active-same d V W well t block member = at block.reset refl
         ∙ sym (ap (λ o. option_map_or (λ (r : Reset). if r.level then W r.signal 0 else not (W r.signal 0)) o false) e)
 
 -- a block that is active has a reset
-active-reset : (V : Valuation) (block : Clocked) → is_active V block ≡ true → (r : Reset) × (block.reset ≡ Some r)
+pub active-reset : (V : Valuation) (block : Clocked) → is_active V block ≡ true → (r : Reset) × (block.reset ≡ Some r)
 active-reset V block active = at block.reset refl active
   where
     at : (o : Option Reset) → block.reset ≡ o → option_map_or (λ (r : Reset). if r.level then V r.signal 0 else not (V r.signal 0)) o false ≡ true
@@ -187,7 +187,7 @@ Some-same : {X : Type 0} {x y : X} → Some x ≡ Some y → x ≡ y
 Some-same e = cc
 
 -- a driver that another depends on stands before it
-earlier : (d : Design) (order : List ℕ) → IsOrder d order → (k l i j : ℕ) → slice_get order k ≡ Some i → slice_get order l ≡ Some j → Depends d i j → l < k
+pub earlier : (d : Design) (order : List ℕ) → IsOrder d order → (k l i j : ℕ) → slice_get order k ≡ Some i → slice_get order l ≡ Some j → Depends d i j → l < k
 earlier d order h k l i j at_k at_l depends = at (cases_order l k)
   where
     at : (l ≡ k) ⊎ ((l < k) ⊎ (k < l)) → l < k
@@ -243,7 +243,7 @@ bits-same d order V W well h t =
     before.same l i driver s b (slice_get_within order l i at_l) at_l at_i drives)))
 
 -- an element that fails a test that none passes
-list_any-none : {X : Type 0} (test : X → Bool) (xs : List X) (x : X) → Contains xs x → list_any test xs ≡ false → test x ≡ false
+pub list_any-none : {X : Type 0} (test : X → Bool) (xs : List X) (x : X) → Contains xs x → list_any test xs ≡ false → test x ≡ false
 list_any-none test [] x member none = absurd (Contains-empty x member)
 list_any-none test (y ∷ ys) x member none =
     at (Contains-cons y ys x member) (λ later. list_any-none test ys x later (or_parts (test y) (list_any test ys) none).1)
@@ -252,7 +252,7 @@ list_any-none test (y ∷ ys) x member none =
     at (inl same) behind = ap test (sym same) ∙ (or_parts (test y) (list_any test ys) none).0
     at (inr later) behind = behind later
 
-first-false : (x y : Bool) → (x && y) ≡ false → y ≡ true → x ≡ false
+pub first-false : (x y : Bool) → (x && y) ≡ false → y ≡ true → x ≡ false
 first-false true y none is = absurd (both_ways y none is)
 first-false false y none is = refl
 

@@ -45,10 +45,10 @@ unfolding number
 one V s = one_bit (V s 0)
 
 -- ---- held-register: always @(posedge clk) q <= q; the clock is signal 0, and q signal 1
-abbrev held_block : Any → Clocked
+abbrev pub held_block : Any → Clocked
 held_block any = record { reset = None; body = stmt.Set 0 (target any 1) (whole 1 1) true }
 
-abbrev held : Any → Design
+abbrev pub held : Any → Design
 held any = record {
   signals = vec any (scalar any kind.Input ∷ scalar any kind.Reg ∷ []) (lit< tt);
   drivers = vec any [] (lit< tt);

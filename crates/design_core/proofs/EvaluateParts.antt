@@ -19,12 +19,12 @@ joined-list signals V left end_of-Typed = refl
 joined-list signals V left (more_of-Typed width signed node rest) =
     joined-list signals V (left * 2 ^ width + node_value signals V width node) rest
 
-fits-list : {shape : _} (signals : List Signal) (row : Row_of-Typed shape)
+pub fits-list : {shape : _} (signals : List Signal) (row : Row_of-Typed shape)
     → parts_fit signals row ≡ list_all (typed_fits signals) (items-the_row-Typed shape row)
 fits-list signals end_of-Typed = refl
 fits-list signals (more_of-Typed width signed node rest) = ap (λ b. node_fits signals width node && b) (fits-list signals rest)
 
-width-list : {shape : _} (row : Row_of-Typed shape) → joined_width row ≡ parts_sum (items-the_row-Typed shape row)
+pub width-list : {shape : _} (row : Row_of-Typed shape) → joined_width row ≡ parts_sum (items-the_row-Typed shape row)
 width-list end_of-Typed = refl
 width-list (more_of-Typed width signed node rest) = ap (λ n. width + n) (width-list rest)
 

@@ -60,7 +60,7 @@ items-list signals choice subject (more_of-CaseItem labels body rest) m other =
     first true e = refl
     first false e = e
 
-items-fits : {shape : _} (signals : List Signal) (places : List Place) (width : ℕ) (row : Row_of-CaseItem shape)
+pub items-fits : {shape : _} (signals : List Signal) (places : List Place) (width : ℕ) (row : Row_of-CaseItem shape)
     → items_fit signals places width row ≡ list_all (item_fits signals places width) (items-the_row-CaseItem shape row)
 items-fits signals places width end_of-CaseItem = refl
 items-fits signals places width (more_of-CaseItem labels body rest) =

@@ -94,12 +94,12 @@ chosen_bit f s p old new = elim (cases_lt p f) [
     bare_twice false = refl
 
 -- ---- valuations
-slice_get-set_same : {X : Type 0} (xs : List X) (i : ℕ) (y : X) → i < length xs → slice_get (set xs i y) i ≡ Some y
+pub slice_get-set_same : {X : Type 0} (xs : List X) (i : ℕ) (y : X) → i < length xs → slice_get (set xs i y) i ≡ Some y
 slice_get-set_same [] i y h = absurd (omega arith)
 slice_get-set_same (x ∷ xs) zero y h = refl
 slice_get-set_same (x ∷ xs) (suc i) y h = slice_get-set_same xs i y (omega arith)
 
-slice_get-set_other : {X : Type 0} (xs : List X) (i j : ℕ) (y : X) → j ≢ i → slice_get (set xs i y) j ≡ slice_get xs j
+pub slice_get-set_other : {X : Type 0} (xs : List X) (i j : ℕ) (y : X) → j ≢ i → slice_get (set xs i y) j ≡ slice_get xs j
 slice_get-set_other [] i j y h = refl
 slice_get-set_other (x ∷ xs) zero zero y h = absurd (h refl)
 slice_get-set_other (x ∷ xs) zero (suc j) y h = refl

@@ -5,6 +5,11 @@ pub mod EvaluateSelect
 pub mod EvaluateParts
 pub mod EvaluateStatement
 pub mod EvaluateStore
+pub mod EvaluateDrives
+pub mod EvaluateSweep
+pub mod EvaluateAgree
+pub mod EvaluateSamples
+pub mod EvaluateHolds
 pub mod EvaluateValue
 pub mod ValueAgrees
 pub mod Lists
@@ -17,6 +22,14 @@ pub mod ValueRange
 pub mod FullCaseLaws
 pub mod StatementAgrees
 pub mod CycleLaws
+pub mod EvaluateCheck
+pub mod EvaluateSteps
+pub mod EvaluateUnique
+pub mod EvaluateMasked
+pub mod EvaluateOutputs
+pub mod EvaluateRun
+pub mod EvaluateFits
 pub mod RunLaws
 pub mod EvaluateExamples
 pub mod EvaluateCycleExamples
+pub mod EvaluateCycleFound

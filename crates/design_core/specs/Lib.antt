@@ -17,3 +17,5 @@ pub mod Reads
 pub mod Laws
 pub mod Words
 pub mod Evaluate
+pub mod EvaluateCycle
+pub mod Given

@@ -46,7 +46,7 @@ fn place_within(places: u32, distance: i64) -> Option<u32>
 }
 
 /// How far an index lies from the one declared rightmost.
-fn distance_of(left: i32, right: i32, index: i64) -> i64
+pub(crate) fn distance_of(left: i32, right: i32, index: i64) -> i64
     requires low { neg_ℤ (pos (2 ^ 41)) ≤ℤ index }
     requires high { index ≤ℤ pos (2 ^ 41) }
     ensures { result ≡ distance_of left right index }
@@ -105,7 +105,7 @@ fn picks(declared: &Signal, word: Bits, index: Bits, signed: bool, offset: i32) 
 
 /// A number of `b` bits with one more above them.
 #[tactic(auto, using(crate::proofs::EvaluateNumber::power_fits))]
-fn with_next(value: u128, b: usize, holds: bool) -> u128
+pub(crate) fn with_next(value: u128, b: usize, holds: bool) -> u128
     requires place { b < 128 }
     requires below { value < 2 ^ b }
     ensures { result ≡ value + (if holds then 2 ^ b else 0) }
