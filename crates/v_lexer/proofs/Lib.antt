@@ -11,3 +11,4 @@ pub mod DefinitionRows
 pub mod CommandRows
 pub mod ReadingLaws
 pub mod Unique
+pub mod Counted

@@ -20,4 +20,4 @@ mod tests;
 pub mod types;
 mod words;
 
-pub use reader::{one_outcome, tokens};
+pub use reader::{few_tokens, one_outcome, tokens};

@@ -129,3 +129,8 @@ pub fn tokens(alloc: Global, text: &[u8]) -> Result<Tokens, LexErr>
 pub fn one_outcome()
     ensures { (text : List ℕ) (a b : Result (List Lexeme) LexErr) → HasOutcome text a → HasOutcome text b → a ≡ b }
 {}
+
+/// A text has 2,000,000 tokens at most. It takes no time.
+pub fn few_tokens()
+    ensures { (text : List ℕ) (tokens : List Lexeme) → HasTokens text tokens → length tokens ≤ 2000000 }
+{}
