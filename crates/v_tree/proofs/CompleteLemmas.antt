@@ -22,10 +22,10 @@ use Rattle.v_tree.proofs.PlaceLemmas.{binary_inside, marked_inside}
 use Rattle.v_tree.proofs.StepLemmas.{whole_over, operand_over, below_less, strength_most, climb_more, climb_same, chain_more}
 use Rattle.v_tree.proofs.SoundLemmas.{none_some, some_one, forward, strength_least, never}
 
-step : {A B : Type 0} (r : Result A Fault) (x : A) (f : A → Result B Fault) (y : Result B Fault) → r ≡ good x → f x ≡ y → (r >>= f) ≡ y
+pub step : {A B : Type 0} (r : Result A Fault) (x : A) (f : A → Result B Fault) (y : Result B Fault) → r ≡ good x → f x ≡ y → (r >>= f) ≡ y
 step r x f y e h = ap (λ q. q >>= f) e ∙ h
 
-lower-of : (d a : ℕ) → d ≢ 0 → lower d a ≡ Ok (d - 1)
+pub lower-of : (d a : ℕ) → d ≢ 0 → lower d a ≡ Ok (d - 1)
 lower-of d a h = let no : (d == 0) ≡ false = ne_eqb d 0 h in rw no refl
 
 above-of : (room used a : ℕ) → used < room → above room used a ≡ Ok (room - 1)
@@ -43,7 +43,7 @@ pub is_false : (b : Bool) → (b ≡ true → ⊥) → b ≡ false
 is_false true h = absurd (h refl)
 is_false false h = refl
 
-apart_of : (m n : Mark) → m ≢ n → same m n ≡ false
+pub apart_of : (m n : Mark) → m ≢ n → same m n ≡ false
 apart_of m n h = is_false (same m n) (λ e. h (same_true m n e))
 
 pub finish : {A : Type 0} (node : Site → A) (t : List Lexeme) (a b c : ℕ) (s : Site) → b ≡ c → s ≡ site t a b → good {A = A × ℕ} (node (site t a c), c) ≡ good {A = A × ℕ} (node s, b)
@@ -53,7 +53,7 @@ finish {A} node t a b c s e h =
     one ∙ two
 
 -- a mark at which an expression ends
-ends_by : (t : List Lexeme) (e : Tree) (b : ℕ) (m : Mark) → mark_at t b ≡ m → binary_of m ≡ None → same m marks.Question ≡ false → same m marks.OpenBracket ≡ false → Ends t e b
+pub ends_by : (t : List Lexeme) (e : Tree) (b : ℕ) (m : Mark) → mark_at t b ≡ m → binary_of m ≡ None → same m marks.Question ≡ false → same m marks.OpenBracket ≡ false → Ends t e b
 ends_by t e b m is op question bracket = record {
   no_operator = ap binary_of is ∙ op;
   no_question = λ h. never (sym (same_of m marks.Question (sym is ∙ h)) ∙ question);
@@ -268,7 +268,7 @@ repeat_reads t s count x xs ch ih more d room a b (m, n, o, i, p, (k, j, js), c,
     (step (expect t marks.CloseBrace n) (n + 1) _ _ (expect-of t marks.CloseBrace n c) (step (expect t marks.CloseBrace (n + 1)) (n + 1 + 1) _ _ (expect-of t marks.CloseBrace (n + 1) f)
     (finish (λ q. repeat q count (tree x xs)) t a b (n + 1 + 1) s e z))))))))
 
-abbrev CompleteSelect : List Lexeme → Selection → Type 0
+abbrev pub CompleteSelect : List Lexeme → Selection → Type 0
 CompleteSelect t x = (d room a b : ℕ) → IsSelect t x a b → nesting_of_select x ≤ d → levels_of_select x ≤ room → select_at t d (below t d).whole room a ≡ Ok (x, b)
 
 bit_reads : (t : List Lexeme) (s : Site) (index : Tree) → Complete t index → CompleteSelect t (bit s index)
@@ -294,7 +294,7 @@ part_reads t s kind left right lh rh d room a b (m, k, o, i, p, j, c, e, z) n l 
     (ap (λ q. behind_at t w (room - 1) a left m q) p ∙ step (w (room - 1) (m + 1)) (right, k) _ _ second
     (step (expect t marks.CloseBracket k) (k + 1) _ _ (expect-of t marks.CloseBracket k c) (finish (λ q. part q kind left right) t a b (k + 1) s e z)))))
 
-abbrev CompleteSelects : List Lexeme → Selections → Type 0
+abbrev pub CompleteSelects : List Lexeme → Selections → Type 0
 CompleteSelects t xs = (d room n a b : ℕ) → AreSelects t xs a b → how_many xs ≤ n → nesting_of_selects xs ≤ d → levels_of_selects xs ≤ room
     → (how_many xs < n → mark_at t b ≢ marks.OpenBracket) → selects_at t d (below t d).whole room n a ≡ Ok (xs, b)
 
@@ -304,7 +304,7 @@ none_selects t d room zero a b e k n l stops = ap (λ q. good {A = Selections ×
 none_selects t d room (suc f) a b e k n l stops =
     else_of _ _ _ _ (apart_of _ _ (λ h. stops (omega arith) (ap (mark_at t) e ∙ h))) (ap (λ q. good {A = Selections × ℕ} (no_select, q)) (sym e))
 
-select_mark : (t : List Lexeme) (x : Selection) (a b : ℕ) → IsSelect t x a b → mark_at t a ≡ marks.OpenBracket
+pub select_mark : (t : List Lexeme) (x : Selection) (a b : ℕ) → IsSelect t x a b → mark_at t a ≡ marks.OpenBracket
 select_mark t (bit s index) a b (m, o, i, c, e, z) = o
 select_mark t (part s k l r) a b (m, n, o, i, p, j, c, e, z) = o
 
@@ -405,10 +405,10 @@ mutual
   complete_more t no_tree = none_more t
   complete_more t (tree x xs) = one_more t x xs (complete t x) (complete_more t xs)
 
-  complete_select : (t : List Lexeme) (x : Selection) → CompleteSelect t x
+  pub complete_select : (t : List Lexeme) (x : Selection) → CompleteSelect t x
   complete_select t (bit s index) = bit_reads t s index (complete t index)
   complete_select t (part s kind left right) = part_reads t s kind left right (complete t left) (complete t right)
 
-  complete_selects : (t : List Lexeme) (xs : Selections) → CompleteSelects t xs
+  pub complete_selects : (t : List Lexeme) (xs : Selections) → CompleteSelects t xs
   complete_selects t no_select = none_selects t
   complete_selects t (select x xs) = one_select t x xs (complete_select t x) (complete_selects t xs)

@@ -6,5 +6,6 @@ pub mod BindLemmas
 pub mod SoundLemmas
 pub mod CompleteLemmas
 pub mod SteadyLemmas
+pub mod SelectLemmas
 pub mod WholeLemmas
 pub mod PublicLemmas

@@ -172,10 +172,10 @@ braces-sound t d w under room a x b o e =
           }
     ]
 
-record SoundSelect (t : List Lexeme) (d room : ℕ) (x : Selection) (a b : ℕ) : Type 0 where
-  spelled : IsSelect t x a b
-  nests : nesting_of_select x ≤ d
-  rises : levels_of_select x ≤ room
+pub record SoundSelect (t : List Lexeme) (d room : ℕ) (x : Selection) (a b : ℕ) : Type 0 where
+  pub spelled : IsSelect t x a b
+  pub nests : nesting_of_select x ≤ d
+  pub rises : levels_of_select x ≤ room
 
 behind-sound : (t : List Lexeme) (d : ℕ) (w : Reader) (n : ℕ) → n + 1 ≡ d → SoundReader t n w → (room a less : ℕ) → less + 1 ≡ room → (left : Tree) (m : ℕ)
     → mark_at t a ≡ marks.OpenBracket → Sound t n less left (a + 1) m → (k : Option PartKind) → part_of (mark_at t m) ≡ k → (x : Selection) (b : ℕ)
@@ -194,7 +194,7 @@ behind-sound t d w n low under room a less fewer left m o s (Some kind) is x b e
     from_ok (λ x b. SoundSelect t d room x a b) _ _ _ _ k.2
     record { spelled = (m, j.0.1, o, s.spelled, is, z.spelled, c.0, c.1, refl); nests = omega (arith, low, s.nests, z.nests); rises = omega (arith, fewer, s.rises, z.rises) }
 
-select-sound : (t : List Lexeme) (d : ℕ) (w : Reader) → ((n : ℕ) → n + 1 ≡ d → SoundReader t n w) → (room a : ℕ) (x : Selection) (b : ℕ)
+pub select-sound : (t : List Lexeme) (d : ℕ) (w : Reader) → ((n : ℕ) → n + 1 ≡ d → SoundReader t n w) → (room a : ℕ) (x : Selection) (b : ℕ)
     → mark_at t a ≡ marks.OpenBracket → select_at t d w room a ≡ Ok (x, b) → SoundSelect t d room x a b
 unfolding select_at
 select-sound t d w under room a x b o e =
@@ -207,17 +207,17 @@ select-sound t d w under room a x b o e =
     behind-sound t d w i.0 low (under i.0 low) room a r.0 less j.0.0 j.0.1 o s (part_of (mark_at t j.0.1)) refl x b j.2
 
 -- at most so many selects; where fewer were found, no [ follows
-record SoundSelects (t : List Lexeme) (d room n : ℕ) (xs : Selections) (a b : ℕ) : Type 0 where
-  spelled : AreSelects t xs a b
-  count : how_many xs ≤ n
-  nests : nesting_of_selects xs ≤ d
-  rises : levels_of_selects xs ≤ room
-  stops : how_many xs < n → mark_at t b ≢ marks.OpenBracket
+pub record SoundSelects (t : List Lexeme) (d room n : ℕ) (xs : Selections) (a b : ℕ) : Type 0 where
+  pub spelled : AreSelects t xs a b
+  pub count : how_many xs ≤ n
+  pub nests : nesting_of_selects xs ≤ d
+  pub rises : levels_of_selects xs ≤ room
+  pub stops : how_many xs < n → mark_at t b ≢ marks.OpenBracket
 
 pub not_mark : (m n : Mark) → same m n ≡ false → m ≢ n
 not_mark m n e is = never (sym (same_of m n is) ∙ e)
 
-selects-sound : (t : List Lexeme) (d : ℕ) (w : Reader) → ((n : ℕ) → n + 1 ≡ d → SoundReader t n w) → (room n a : ℕ) (xs : Selections) (b : ℕ)
+pub selects-sound : (t : List Lexeme) (d : ℕ) (w : Reader) → ((n : ℕ) → n + 1 ≡ d → SoundReader t n w) → (room n a : ℕ) (xs : Selections) (b : ℕ)
     → selects_at t d w room n a ≡ Ok (xs, b) → SoundSelects t d room n xs a b
 unfolding selects_at
 selects-sound t d w under room zero a xs b e =

@@ -47,14 +47,14 @@ pick_le : (b : Bool) (n : ℕ) → n ≤ (if b then n + 1 else n)
 pick_le true n = omega arith
 pick_le false n = omega arith
 
-told_more : (t : List Lexeme) (n : ℕ) → n ≤ told_by t n
+pub told_more : (t : List Lexeme) (n : ℕ) → n ≤ told_by t n
 told_more t n = pick_le (same (mark_at t n) marks.Wild) n
 
-reach_more : {A : Type 0} (t : List Lexeme) (base a : ℕ) (o : Read A) → Ahead t base a o → a ≤ reach t o
+pub reach_more : {A : Type 0} (t : List Lexeme) (base a : ℕ) (o : Read A) → Ahead t base a o → a ≤ reach t o
 reach_more t base a (Ok x) h = h.0
 reach_more t base a (Err f) h = let k = told_more t (fault_place f) in omega (arith, h.0, k)
 
-begins_less : (t u : List Lexeme) (m n : ℕ) → m ≤ n → Begins t u n → Begins t u m
+pub begins_less : (t u : List Lexeme) (m n : ℕ) → m ≤ n → Begins t u n → Begins t u m
 begins_less t u m n h b i k = b i (omega (arith, h, k))
 
 pub mark_kept : (t u : List Lexeme) (n i : ℕ) → Begins t u n → i ≤ n → mark_at u i ≡ mark_at t i
@@ -77,14 +77,14 @@ site_kept t u n a b h k l =
     let line : line_at u a ≡ line_at t a = ap line_in (h a k) in
     cc
 
-ahead_from : {A : Type 0} (t : List Lexeme) (base a b : ℕ) (o : Read A) → a ≤ b → Ahead t base b o → Ahead t base a o
+pub ahead_from : {A : Type 0} (t : List Lexeme) (base a b : ℕ) (o : Read A) → a ≤ b → Ahead t base b o → Ahead t base a o
 ahead_from t base a b (Ok x) h k = (omega (arith, h, k.0), k.1)
 ahead_from t base a b (Err f) h k = (omega (arith, h, k.0), k.1, k.2)
 
-from_before : {A : Type 0} (base : ℕ) (t u : List Lexeme) (a b : ℕ) (o p : Read A) → a ≤ b → Steady base t u b o p → Steady base t u a o p
+pub from_before : {A : Type 0} (base : ℕ) (t u : List Lexeme) (a b : ℕ) (o p : Read A) → a ≤ b → Steady base t u b o p → Steady base t u a o p
 from_before base t u a b o p h s = record { ahead = ahead_from t base a b o h s.ahead; same_read = s.same_read }
 
-st_bind : {A B : Type 0} (base : ℕ) (t u : List Lexeme) (a : ℕ) (o p : Read A) (f g : A × ℕ → Read B) → Steady base t u a o p
+pub st_bind : {A B : Type 0} (base : ℕ) (t u : List Lexeme) (a : ℕ) (o p : Read A) (f g : A × ℕ → Read B) → Steady base t u a o p
     → ((x : A × ℕ) → a ≤ x.1 → x.1 ≤ length t → o ≡ good x → Steady base t u x.1 (f x) (g x)) → Steady base t u a (o >>= f) (p >>= g)
 st_bind base t u a (Err e) p f g s h = record { ahead = s.ahead; same_read = λ b. ap (λ q. q >>= g) (s.same_read b) }
 st_bind base t u a (Ok x) p f g s h =
@@ -94,7 +94,7 @@ st_bind base t u a (Ok x) p f g s h =
       same_read = λ b. ap (λ q. q >>= g) (s.same_read (begins_less t u x.1 _ (reach_more t base x.1 (f x) r.ahead) b)) ∙ r.same_read b;
     }
 
-st_ok : {A : Type 0} (base : ℕ) (t u : List Lexeme) (a b : ℕ) (x y : A) → a ≤ b → b ≤ length t → (Begins t u b → y ≡ x) → Steady base t u a (good (x, b)) (good (y, b))
+pub st_ok : {A : Type 0} (base : ℕ) (t u : List Lexeme) (a b : ℕ) (x y : A) → a ≤ b → b ≤ length t → (Begins t u b → y ≡ x) → Steady base t u a (good (x, b)) (good (y, b))
 st_ok {A} base t u a b x y h k e = record { ahead = (h, k); same_read = λ g. ap (λ v. good {A = A × ℕ} (v, b)) (e g) }
 
 placed_if : (b c : Bool) (a : ℕ) → fault_place (if b then Unsupported a else if c then Unsupported a else Unexpected a) ≡ a
@@ -116,14 +116,14 @@ not_deep_if false false a e = true_false (sym e)
 not_deep : (m : Mark) (a : ℕ) → is_deep (fault_of_mark m a) ≡ true → ⊥
 not_deep m a e = not_deep_if (same m marks.Refused) (same m marks.Wild) a e
 
-fair_place : (t : List Lexeme) (base a : ℕ) → Fair t base (no_place t a)
+pub fair_place : (t : List Lexeme) (base a : ℕ) → Fair t base (no_place t a)
 unfolding no_place
 fair_place t base a = record {
   refused = λ h. fair_refused (mark_at t a) a (ap (mark_at t) (sym (placed (mark_at t a) a)) ∙ h);
   deep = λ h. absurd (not_deep (mark_at t a) a h);
 }
 
-st_no_place : {A : Type 0} (base : ℕ) (t u : List Lexeme) (a : ℕ) → a ≤ length t → Steady {A = A} base t u a (bad (no_place t a)) (bad (no_place u a))
+pub st_no_place : {A : Type 0} (base : ℕ) (t u : List Lexeme) (a : ℕ) → a ≤ length t → Steady {A = A} base t u a (bad (no_place t a)) (bad (no_place u a))
 unfolding no_place
 st_no_place base t u a h =
     let at : fault_place (no_place t a) ≡ a = placed (mark_at t a) a in
@@ -154,7 +154,7 @@ expect_case base t u m a f g some h k n is true e =
 expect_case base t u m a f g some h k n is false e = st_no_place base t u a h
 
 -- a step that takes a token of that mark
-st_expect : {B : Type 0} (base : ℕ) (t u : List Lexeme) (m : Mark) (a : ℕ) (f g : ℕ → Read B) → m ≢ marks.Nothing → a ≤ length t
+pub st_expect : {B : Type 0} (base : ℕ) (t u : List Lexeme) (m : Mark) (a : ℕ) (f g : ℕ → Read B) → m ≢ marks.Nothing → a ≤ length t
     → (mark_at t a ≡ m → a + 1 ≤ length t → Steady base t u (a + 1) (f (a + 1)) (g (a + 1))) → Steady base t u a (expect t m a >>= f) (expect u m a >>= g)
 unfolding expect
 st_expect base t u m a f g some h k =
@@ -170,7 +170,7 @@ lower_case base t u d a f g h allowed room k true e =
 lower_case base t u d a f g h allowed room k false e = k (λ z. true_false (sym (eq-eqb d 0 z) ∙ e))
 
 -- one more construct opens at a
-st_lower : {B : Type 0} (base : ℕ) (t u : List Lexeme) (d a : ℕ) (f g : ℕ → Read B) → a ≤ length t → mark_at t a ≢ marks.Refused → base + 256 ≤ a + d
+pub st_lower : {B : Type 0} (base : ℕ) (t u : List Lexeme) (d a : ℕ) (f g : ℕ → Read B) → a ≤ length t → mark_at t a ≢ marks.Refused → base + 256 ≤ a + d
     → (d ≢ 0 → Steady base t u a (f (d - 1)) (g (d - 1))) → Steady base t u a (lower d a >>= f) (lower d a >>= g)
 st_lower base t u d a f g h allowed room k = lower_case base t u d a f g h allowed room k (d == 0) refl
 
@@ -189,13 +189,13 @@ st_above base t u room used a f g h allowed far k = above_case base t u room use
 pub not_by : (m n : Mark) → same m n ≡ false → m ≢ n
 not_by m n e h = true_false (sym (same_of m n h) ∙ e)
 
-allowed_by : (t : List Lexeme) (a : ℕ) (m : Mark) → mark_at t a ≡ m → same m marks.Refused ≡ false → mark_at t a ≢ marks.Refused
+pub allowed_by : (t : List Lexeme) (a : ℕ) (m : Mark) → mark_at t a ≡ m → same m marks.Refused ≡ false → mark_at t a ≢ marks.Refused
 allowed_by t a m is e h = not_by m marks.Refused e (sym is ∙ h)
 
 abbrev pub SteadyReader : ℕ → List Lexeme → List Lexeme → ℕ → Reader → Reader → Type 0
 SteadyReader base t u d r s = (room a : ℕ) → a ≤ length t → base + 256 ≤ a + d → base + 4096 ≤ a + room → Steady base t u a (r room a) (s room a)
 
-abbrev SteadyUnder : ℕ → List Lexeme → List Lexeme → ℕ → Reader → Reader → Type 0
+abbrev pub SteadyUnder : ℕ → List Lexeme → List Lexeme → ℕ → Reader → Reader → Type 0
 SteadyUnder base t u d r s = (n : ℕ) → n + 1 ≡ d → SteadyReader base t u n r s
 
 -- what is read behind the token at a
@@ -349,7 +349,7 @@ st_behind base t u n r s under less a left m before h deep far (Some kind) is =
     st_expect base t u marks.CloseBracket y.1 _ _ (not_by marks.CloseBracket marks.Nothing refl) le (λ one in_one.
     st_ok base t u (y.1 + 1) (y.1 + 1) _ _ (omega arith) in_one (λ b. ap (λ z. part z kind left y.0) (site_kept t u _ a (y.1 + 1) b (omega (arith, before, ge)) (omega arith)))))
 
-st_select : (base : ℕ) (t u : List Lexeme) (d : ℕ) (r s : Reader) → SteadyUnder base t u d r s → Moves r → (room a : ℕ) → a < length t → mark_at t a ≡ marks.OpenBracket → base + 256 ≤ a + d → base + 4096 ≤ a + room
+pub st_select : (base : ℕ) (t u : List Lexeme) (d : ℕ) (r s : Reader) → SteadyUnder base t u d r s → Moves r → (room a : ℕ) → a < length t → mark_at t a ≡ marks.OpenBracket → base + 256 ≤ a + d → base + 4096 ≤ a + room
     → Steady base t u a (select_at t d r room a) (select_at u d s room a)
 unfolding select_at
 st_select base t u d r s under moves room a h m deep far =
@@ -363,10 +363,10 @@ st_select base t u d r s under moves room a h m deep far =
     let past = moves (room - 1) (a + 1) x eq in
     st_behind base t u (d - 1) r s inner (room - 1) a x.0 x.1 (omega (arith, ge)) le (omega (arith, deep, some, past)) (omega (arith, far, much, past)) (part_of k) (ap part_of is)))))
 
-abbrev SelectsClaim : ℕ → List Lexeme → List Lexeme → ℕ → Reader → Reader → ℕ → ℕ → Type 0
+abbrev pub SelectsClaim : ℕ → List Lexeme → List Lexeme → ℕ → Reader → Reader → ℕ → ℕ → Type 0
 SelectsClaim base t u d r s room n = (a : ℕ) → a ≤ length t → base + 256 ≤ a + d → base + 4096 ≤ a + room → Steady base t u a (selects_at t d r room n a) (selects_at u d s room n a)
 
-st_selects : (base : ℕ) (t u : List Lexeme) (d : ℕ) (r s : Reader) → SteadyUnder base t u d r s → Moves r → (room n : ℕ) → SelectsClaim base t u d r s room n
+pub st_selects : (base : ℕ) (t u : List Lexeme) (d : ℕ) (r s : Reader) → SteadyUnder base t u d r s → Moves r → (room n : ℕ) → SelectsClaim base t u d r s room n
 unfolding selects_at
 st_selects base t u d r s under moves room zero a h deep far = st_ok base t u a a _ _ (omega arith) h (λ b. refl)
 st_selects base t u d r s under moves room (suc n) a h deep far =
@@ -548,7 +548,7 @@ pub record SteadyReaders (base : ℕ) (t u : List Lexeme) (d : ℕ) : Type 0 whe
   pub operands : SteadyReader base t u d (readers t d).operand (readers u d).operand
   pub wholes : SteadyReader base t u d (readers t d).whole (readers u d).whole
 
-below_moves : (t : List Lexeme) (d : ℕ) → Moves (below t d).whole
+pub below_moves : (t : List Lexeme) (d : ℕ) → Moves (below t d).whole
 below_moves t zero = shut_moves
 below_moves t (suc d) = λ room a x e. forward t x.0 a x.1 ((sound_readers t d).wholes room a x.0 x.1 e).sound.spelled
 

@@ -43,7 +43,7 @@ whole_sound t d a x b e =
     ]
 
 -- no expression begins with a number with wildcard digits
-begins_plain : (t : List Lexeme) (e : Tree) (a b : ℕ) → IsExpr t e a b → mark_at t a ≢ marks.Wild
+pub begins_plain : (t : List Lexeme) (e : Tree) (a b : ℕ) → IsExpr t e a b → mark_at t a ≢ marks.Wild
 begins_plain t (number s text) a b (m, x, e, z) h = not_by marks.Number marks.Wild refl (sym m ∙ h)
 begins_plain t (wild s text) a b h is = absurd h
 begins_plain t (name s text selects) a b (m, x, ss, c, z) h = not_by marks.Name marks.Wild refl (sym m ∙ h)
@@ -78,10 +78,10 @@ whole_complete t d a e b is =
 told_wild : (t : List Lexeme) (a : ℕ) → mark_at t a ≡ marks.Wild → told_by t a ≡ a + 1
 told_wild t a is = then_of _ _ _ _ (same_of _ _ is) refl
 
-wild_fair : (t : List Lexeme) (base a : ℕ) → mark_at t a ≡ marks.Wild → Fair t base (Unsupported a)
+pub wild_fair : (t : List Lexeme) (base a : ℕ) → mark_at t a ≡ marks.Wild → Fair t base (Unsupported a)
 wild_fair t base a is = record { refused = λ _. refl; deep = λ h. absurd (true_false (sym h)) }
 
-wild_bad : (base : ℕ) (t u : List Lexeme) (a : ℕ) (p : Read Tree) → a < length t → mark_at t a ≡ marks.Wild → (Begins t u (a + 1) → p ≡ bad (Unsupported a)) → Steady base t u a (bad (Unsupported a)) p
+pub wild_bad : (base : ℕ) (t u : List Lexeme) (a : ℕ) (p : Read Tree) → a < length t → mark_at t a ≡ marks.Wild → (Begins t u (a + 1) → p ≡ bad (Unsupported a)) → Steady base t u a (bad (Unsupported a)) p
 wild_bad base t u a p h is k = record { ahead = (omega arith, omega (arith, h), wild_fair t base a is); same_read = λ b. k (subst (Begins t u) (told_wild t a is) b) }
 
 wild_case : (base : ℕ) (t u : List Lexeme) (a : ℕ) → a < length t → mark_at t a ≡ marks.Wild → (q : Option Binary) → binary_of (mark_at t (a + 1)) ≡ q → (c : Bool) → same (mark_at t (a + 1)) marks.Question ≡ c
@@ -103,7 +103,7 @@ wild_case base t u a h is None next false e =
           ∙ ap (λ v. good {A = Tree × ℕ} (wild (site t a (a + 1)) v, a + 1)) (text_kept t u (a + 1) a b (omega arith)));
     }
 
-st_whole_expression : (base : ℕ) (t u : List Lexeme) (d a : ℕ) → a ≤ length t → base + 256 ≤ a + d → base ≤ a → Steady base t u a (whole_expression t d a) (whole_expression u d a)
+pub st_whole_expression : (base : ℕ) (t u : List Lexeme) (d a : ℕ) → a ≤ length t → base + 256 ≤ a + d → base ≤ a → Steady base t u a (whole_expression t d a) (whole_expression u d a)
 unfolding whole_expression
 st_whole_expression base t u d a h deep far =
     st_look base t u a (λ k. if same k marks.Wild then wild_at t a (binary_of (mark_at t (a + 1))) else (readers t d).whole 4096 a)

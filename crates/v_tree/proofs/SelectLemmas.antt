@@ -1,0 +1,30 @@
+-- Selects of their own: what reading finds, and that it looks no farther than the token behind them.
+use Rattle.std.proofs.Common.{◌≡◌, ℕ, ◌+◌, ◌∙◌, List, Ok, ap, sym, subst}
+use Rattle.v_lexer.specs.Lexeme.{Lexeme}
+use Rattle.v_tree.specs.Tree.{Tree, Selection, Selections}
+use Rattle.v_tree.specs.Reading.{Reader, Readers, readers, below, select_at, selects_at}
+use Rattle.v_tree.specs.declared.mark.Mark.TheVariants as marks
+use Rattle.v_tree.specs.Marks.{mark_at}
+use Rattle.v_tree.proofs.StepLemmas.{below_less}
+use Rattle.v_tree.proofs.SoundLemmas.{Sound, SoundReader, SoundSelect, SoundSelects, sound_readers, select-sound, selects-sound}
+use Rattle.v_tree.proofs.SteadyLemmas.{SteadyReader, SteadyUnder, SelectsClaim, steady_readers, st_selects, below_moves}
+
+sound_within : (t : List Lexeme) (d n : ℕ) → n + 1 ≡ d → SoundReader t n (below t d).whole
+sound_within t d n e room a x b is =
+    let read : (readers t n).whole room a ≡ Ok (x, b) = sym (ap (λ (r : Readers). r.whole room a) (below_less t d n e)) ∙ is in
+    ((sound_readers t n).wholes room a x b read).sound
+
+pub selects_found : (t : List Lexeme) (d room n a : ℕ) (xs : Selections) (b : ℕ) → selects_at t d (below t d).whole room n a ≡ Ok (xs, b) → SoundSelects t d room n xs a b
+selects_found t d room n a xs b e = selects-sound t d (below t d).whole (sound_within t d) room n a xs b e
+
+pub select_found : (t : List Lexeme) (d room a : ℕ) (x : Selection) (b : ℕ) → mark_at t a ≡ marks.OpenBracket → select_at t d (below t d).whole room a ≡ Ok (x, b) → SoundSelect t d room x a b
+select_found t d room a x b m e = select-sound t d (below t d).whole (sound_within t d) room a x b m e
+
+steady_within : (base : ℕ) (t u : List Lexeme) (d : ℕ) → SteadyUnder base t u d (below t d).whole (below u d).whole
+steady_within base t u d n e =
+    let here : SteadyReader base t u n (readers t n).whole (readers u n).whole = (steady_readers base t u n).wholes in
+    subst (λ (r : Readers). SteadyReader base t u n r.whole (below u d).whole) (sym (below_less t d n e))
+    (subst (λ (r : Readers). SteadyReader base t u n (readers t n).whole r.whole) (sym (below_less u d n e)) here)
+
+pub steady_selects : (base : ℕ) (t u : List Lexeme) (d room n : ℕ) → SelectsClaim base t u d (below t d).whole (below u d).whole room n
+steady_selects base t u d room n = st_selects base t u d (below t d).whole (below u d).whole (steady_within base t u d) (below_moves t d) room n
