@@ -1,19 +1,19 @@
 -- The level to which the trail goes back, where a learned clause is unit.
-use Rattle.std.proofs.Common.{◌≡◌, ◌≢◌, ℕ, ◌+◌, ◌-◌, ◌<◌, ◌≤◌, max, cond, ltb, Bool, true, false, ◌||◌, eqb, leb, List, [], ◌∷◌, ◌++◌, length, get_or, take, Option, Some, None, refl, sym, ap, ◌∙◌, subst, arith, ◌⊎◌, inl, inr, ⊎_elim}
+use Rattle.std.proofs.Common.{◌≡◌, ◌≢◌, ℕ, ◌+◌, ◌-◌, ◌<◌, ◌≤◌, max, cond, ltb, Bool, true, false, eqb, leb, List, [], ◌∷◌, ◌++◌, length, get_or, take, Option, Some, None, refl, sym, ap, ◌∙◌, subst, arith, ◌⊎◌, inl, inr, ⊎_elim}
 use Rattle.std.specs.Prelude.{unwrap_or}
 use Rattle.std.specs.Ordering.{nat_cmp, ord_max, is_lt}
 use Rattle.std.specs.declared.cmp.Ordering.TheVariants.{Equal, Greater}
 use Rattle.std.specs.Option.{option_map}
 use Rattle.std.proofs.lemmas.Option.{same_Some}
-use Rattle.std.proofs.lemmas.Bool.{false≢true, both_ways, cases_eq, cases_lt, or_cases, or_left, or_right, le-leb, eq-eqb, lt-ltb, le-ltb}
+use Rattle.std.proofs.lemmas.Bool.{false≢true, both_ways, cases_lt, or_cases, or_left, or_right, le-leb, eq-eqb, lt-ltb, le-ltb}
 use Rattle.std.proofs.lemmas.List.{take_at, take_all, take_more, length_push}
 use Rattle.clause_base.specs.declared.literal.Lit.{Lit}
 use Rattle.clause_base.specs.Literal.{same_lit, has}
 use Rattle.clause_base.proofs.Sets.{same_lit-true, same_lit_itself, has-push}
 use Rattle.trail_core.specs.declared.entry.Entry.{Entry}
-use Rattle.trail_core.specs.Values.{IsFalseIn, IsUnit}
+use Rattle.trail_core.specs.Values.{IsUnit}
 use Rattle.trail_core.specs.TrailState.{TrailState, IsTrail, MayAdd, at_start, asserting, back_at, entry_of, values_of, level_in, up_to}
-use Rattle.trail_core.proofs.Truth.{IsMapped, mapped}
+use Rattle.trail_core.proofs.Truth.{mapped}
 use Rattle.trail_core.proofs.Changes.{unassigned_below}
 use Rattle.sat_core.specs.Derivation.{has_level, is_present, Learns}
 use Rattle.sat_core.proofs.Learning.{find-filter, value_below}

@@ -1,5 +1,5 @@
 -- What a step of learning leaves.
-use Rattle.std.proofs.Common.{◌≡◌, ℕ, ◌+◌, ◌<◌, ◌≤◌, Bool, false, Result, Ok, Err, List, [], ◌∷◌, ◌++◌, length, take, refl, sym, ap, ◌∙◌, subst, map, arith}
+use Rattle.std.proofs.Common.{◌≡◌, ℕ, ◌+◌, ◌<◌, ◌≤◌, Bool, false, Result, Ok, Err, List, [], ◌∷◌, ◌++◌, length, take, sym, ap, ◌∙◌, subst, map, arith}
 use Rattle.std.specs.Result.{is_err, OnOk, OnErr}
 use Rattle.std.proofs.lemmas.Bool.{false≢true}
 use Rattle.clause_base.specs.declared.literal.Lit.{Lit}
@@ -13,7 +13,7 @@ use Rattle.clause_base.specs.declared.log.StepKind.TheVariants.{Learned as learn
 use Rattle.trail_core.specs.TrailState.{TrailState, IsTrail, MayAdd, with_clause, back_at}
 use Rattle.sat_core.specs.Derivation.{Learns}
 use Rattle.sat_core.specs.declared.engine.Engine.{Engine}
-use Rattle.sat_core.specs.Engines.{LearnsStep, Learned, KeptLog, same, step, KeepsPace}
+use Rattle.sat_core.specs.Engines.{LearnsStep, KeepsPace}
 use Rattle.sat_core.proofs.FreshLemmas.{Learns-fresh}
 
 pub LearnsStep-from : (t : TrailState) (marks : List Bool) (literals : List Lit) (chain : List ℕ) (old new : List Step) → IsTrail t → 1 ≤ t.level → Learns t marks literals chain → new ≡ old ++ record { kind = learned_kind; clause = literals; chain = chain } ∷ [] → LearnsStep t old new literals chain
@@ -51,3 +51,7 @@ pub KeepsPace-more : (old now after : Engine) (log : List Step) (clause found : 
 KeepsPace-more old now after log clause found h l p q c k form e =
     c ∙ (ap (λ cs. cs ++ clause ∷ []) (h form e) ∙ (ap (λ x. clauses_of form (take now.known log) ++ x ∷ []) (p ∙ q)
     ∙ (sym (clauses_of-more form log now.known l) ∙ ap (λ n. clauses_of form (take n log)) (sym k))))
+
+pub on_ok_map : {T E : Type 0} (r : Result T E) (P Q : Type 0) → (P → Q) → OnOk r P → OnOk r Q
+on_ok_map (Ok x) P Q f p = f p
+on_ok_map (Err e) P Q f p = tt

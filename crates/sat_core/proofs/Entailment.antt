@@ -1,19 +1,18 @@
 -- An assignment that satisfies the clauses and agrees with the decisions agrees with all that propagation made true.
-use Rattle.std.proofs.Common.{◌≡◌, ◌≢◌, ℕ, zero, suc, ◌+◌, ◌-◌, ◌<◌, ◌≤◌, Bool, true, false, not, cond, ◌||◌, eqb, List, [], ◌∷◌, length, get_or, take, Option, Some, None, refl, sym, ap, ◌∙◌, subst, arith, ◌⊎◌, inl, inr, ⊎_elim}
-use Rattle.std.specs.Prelude.{is_none, IsTrue}
-use Rattle.std.specs.Option.{option_map}
-use Rattle.std.proofs.lemmas.Bool.{false≢true, both_ways, cases_Bool, cases_eq, cases_lt, eqb-true, or_cases, or_left, or_right}
+use Rattle.std.proofs.Common.{◌≡◌, ℕ, zero, suc, ◌<◌, ◌≤◌, Bool, true, false, not, cond, eqb, List, [], ◌∷◌, length, get_or, take, Option, Some, None, refl, sym, ap, ◌∙◌, subst, arith, ◌⊎◌, inl, inr, ⊎_elim}
+use Rattle.std.specs.Prelude.{is_none}
+use Rattle.std.proofs.lemmas.Bool.{false≢true, both_ways, cases_eq, cases_lt, eqb-true, or_cases, or_left, or_right}
 use Rattle.std.proofs.lemmas.List.{get_or-take, length-take-le}
 use Rattle.clause_base.specs.declared.literal.Lit.{Lit}
 use Rattle.clause_base.specs.Literal.{opposite, same_lit, has, has_distinct_variables}
-use Rattle.clause_base.specs.Satisfaction.{value_of, is_satisfied, SatisfiesClause, Satisfies}
+use Rattle.clause_base.specs.Satisfaction.{value_of, is_satisfied}
 use Rattle.clause_base.specs.Acceptance.{numbered}
 use Rattle.clause_base.proofs.Sets.{lit_ext, same_lit_itself, has-IsConsistent}
 use Rattle.trail_core.specs.declared.entry.Entry.{Entry}
 use Rattle.trail_core.specs.Values.{IsFalseIn}
 use Rattle.trail_core.specs.TrailState.{TrailState, IsTrail, IsNumber, entry_of, values_of, is_decision}
-use Rattle.trail_core.proofs.Lists.{IsFound, find_found}
-use Rattle.trail_core.proofs.Truth.{IsMapped, mapped}
+use Rattle.trail_core.proofs.Lists.{find_found}
+use Rattle.trail_core.proofs.Truth.{mapped}
 use Rattle.sat_core.proofs.Resolving.{no_entry}
 
 -- a satisfied clause has a true literal
@@ -50,7 +49,7 @@ false_agrees assignment es l a f y =
     signs_differ m.value.lit.negated (assignment l.var) (ap (λ w. cond m.value.lit.negated (not (assignment w)) (assignment w)) (sym v) ∙ t) s
 
 -- two literals of one variable in a clause of distinct variables are one
-one_literal : (clause : List Lit) (l m : Lit) → has_distinct_variables clause ≡ true → has clause l ≡ true → has clause m ≡ true → l.var ≡ m.var → l ≡ m
+pub one_literal : (clause : List Lit) (l m : Lit) → has_distinct_variables clause ≡ true → has clause l ≡ true → has clause m ≡ true → l.var ≡ m.var → l ≡ m
 one_literal clause l m h p q e = ⊎_elim
     (λ s. lit_ext l m e s)
     (λ s. absurd (both_ways (has clause (opposite l)) (has-IsConsistent clause h l p) (subst (λ x. has clause x ≡ true) (lit_ext m (opposite l) (sym e) s) q)))

@@ -1,23 +1,21 @@
 -- A learned clause tells unit propagation something new, and may be added where it is unit.
-use Rattle.std.proofs.Common.{◌≡◌, ◌≢◌, ℕ, ◌+◌, ◌-◌, ◌<◌, ◌≤◌, Bool, true, false, not, ◌&&◌, ◌||◌, eqb, List, [], ◌∷◌, ◌++◌, length, get_or, Option, Some, None, refl, sym, ap, ◌∙◌, subst, arith, ◌⊎◌, inl, inr, ⊎_elim}
-use Rattle.std.specs.List.{All}
+use Rattle.std.proofs.Common.{◌≡◌, ℕ, ◌+◌, ◌-◌, ◌<◌, ◌≤◌, Bool, true, false, not, ◌&&◌, List, [], length, get_or, Some, None, sym, ap, ◌∙◌, subst, arith, inl, inr, ⊎_elim}
 use Rattle.std.specs.Option.{option_map}
 use Rattle.std.proofs.lemmas.List.{get_or_default}
-use Rattle.std.proofs.lemmas.Bool.{false≢true, both_ways, cases_Bool, cases_eq, cases_lt, eqb-true, eq-eqb, ne_eqb, and_parts, or_cases, or_right, false_from_ne_true}
+use Rattle.std.proofs.lemmas.Bool.{both_ways, cases_eq, cases_lt, eq-eqb, ne_eqb, or_cases, or_right, false_from_ne_true}
 use Rattle.clause_base.specs.declared.literal.Lit.{Lit}
 use Rattle.clause_base.specs.Literal.{opposite, same_lit, same_sign, has}
-use Rattle.clause_base.specs.Progress.{IsConsistent, IsAtRest, TellsOf, IsFresh}
-use Rattle.clause_base.specs.Acceptance.{numbered}
+use Rattle.clause_base.specs.Progress.{IsConsistent, IsAtRest, IsFresh}
 use Rattle.clause_base.proofs.Sets.{same_lit-true, same_lit_itself, has-push, opposite-opposite}
 use Rattle.trail_core.specs.declared.entry.Entry.{Entry}
-use Rattle.trail_core.specs.Values.{Values, IsVariable, IsTrueIn, IsFalseIn, IsUnit, Rests, satisfied, open_at_two}
-use Rattle.trail_core.specs.TrailState.{TrailState, IsTrail, IsNumber, AllRest, MayAdd, at_start, asserting, back_at, entry_of, values_of, level_in, up_to, decisions}
-use Rattle.trail_core.proofs.Truth.{IsMapped, mapped}
+use Rattle.trail_core.specs.Values.{Values, IsFalseIn, Rests, satisfied, open_at_two}
+use Rattle.trail_core.specs.TrailState.{TrailState, IsTrail, entry_of, values_of, level_in, up_to, decisions}
+use Rattle.trail_core.proofs.Truth.{mapped}
 use Rattle.trail_core.proofs.Levels.{level_le_all}
 use Rattle.trail_core.proofs.Changes.{unassigned_below}
 use Rattle.sat_core.specs.Derivation.{has_sign, is_false, has_level, is_present, Learns}
 use Rattle.sat_core.proofs.Sets.{is_false-true, is_false_from, not_both}
-use Rattle.sat_core.proofs.Tracking.{IsEntryAt, entry_at, is_present-false}
+use Rattle.sat_core.proofs.Tracking.{entry_at}
 use Rattle.sat_core.proofs.Learning.{value_below}
 
 -- the true literals, as a set

@@ -1,11 +1,9 @@
 -- A trail with no unassigned variable gives the lexicographically greatest values of the preferred variables.
-use Rattle.std.proofs.Common.{◌≡◌, ◌≢◌, ℕ, suc, ◌+◌, ◌-◌, ◌<◌, ◌≤◌, Bool, true, false, not, cond, eqb, leb, List, [], ◌∷◌, ◌++◌, map, length, get_or, take, Option, Some, None, refl, sym, ap, ◌∙◌, subst, arith, ◌⊎◌, inl, inr, ⊎_elim, All}
-use Rattle.std.specs.Prelude.{is_some, IsTrue}
-use Rattle.std.specs.List.{filter}
+use Rattle.std.proofs.Common.{◌≡◌, ℕ, ◌+◌, ◌-◌, ◌<◌, ◌≤◌, Bool, true, false, not, cond, eqb, leb, List, length, get_or, take, Option, Some, None, refl, sym, ap, ◌∙◌, subst, arith, inl, inr}
+use Rattle.std.specs.Prelude.{is_some}
 use Rattle.std.specs.Option.{option_map}
 use Rattle.std.proofs.lemmas.Option.{same_Some}
-use Rattle.std.proofs.lemmas.Bool.{false≢true, both_ways, cases_lt, leb-true, eqb-true}
-use Rattle.std.proofs.lemmas.List.{get_or_append_left, get_or-append_right, get_or-map, length-append, length-map}
+use Rattle.std.proofs.lemmas.Bool.{false≢true, cases_lt, leb-true}
 use Rattle.std.proofs.lemmas.List.Elements.{filter_passes}
 use Rattle.std.proofs.lemmas.List.Sums.{count_by_more_yes}
 use Rattle.clause_base.specs.declared.literal.Lit.{Lit}
@@ -14,13 +12,13 @@ use Rattle.clause_base.specs.Satisfaction.{value_of, is_satisfied}
 use Rattle.clause_base.specs.Acceptance.{numbered}
 use Rattle.trail_core.specs.declared.entry.Entry.{Entry}
 use Rattle.trail_core.specs.TrailState.{TrailState, IsTrail, IsNumber, entry_of, values_of, level_in, up_to, is_decision, decisions}
-use Rattle.trail_core.proofs.Lists.{IsFound, find_found, find-take_some}
+use Rattle.trail_core.proofs.Lists.{find_found, find-take_some}
 use Rattle.trail_core.proofs.Levels.{level_le, level_le_all, up_to_front}
-use Rattle.trail_core.proofs.Truth.{IsMapped, mapped}
+use Rattle.trail_core.proofs.Truth.{mapped}
 use Rattle.sat_core.specs.Choices.{choice_at, no_literal, AreChosen}
 use Rattle.sat_core.proofs.OrderLemmas.{choice_assume, choice_prefer}
-use Rattle.sat_core.proofs.Tracking.{IsEntryAt, entry_at}
-use Rattle.sat_core.proofs.Resolving.{no_entry, true_at, level_at}
+use Rattle.sat_core.proofs.Tracking.{entry_at}
+use Rattle.sat_core.proofs.Resolving.{no_entry, true_at}
 use Rattle.sat_core.proofs.Entailment.{agrees_to}
 
 -- a value up to a level has a level up to it

@@ -1,17 +1,17 @@
 -- The start and the end of the analysis of a conflict.
-use Rattle.std.proofs.Common.{◌≡◌, ◌≢◌, ℕ, zero, suc, ◌+◌, ◌-◌, ◌<◌, ◌≤◌, Bool, true, false, not, cond, ◌&&◌, ◌||◌, leb, eqb, List, [], ◌∷◌, ◌++◌, length, get_or, set, take, Option, Some, None, refl, sym, ap, ◌∙◌, subst, arith, ◌⊎◌, inl, inr, ⊎_elim}
+use Rattle.std.proofs.Common.{◌≡◌, ℕ, ◌+◌, ◌-◌, ◌<◌, ◌≤◌, Bool, true, false, not, cond, ◌&&◌, ◌||◌, leb, eqb, List, [], ◌∷◌, ◌++◌, length, get_or, Option, Some, None, refl, sym, ap, ◌∙◌, subst, arith, ◌⊎◌, inl, inr, ⊎_elim}
 use Rattle.std.specs.Prelude.{is_some, slice_get}
-use Rattle.std.specs.List.{count_by, find, filter, All}
+use Rattle.std.specs.List.{count_by, find, filter}
 use Rattle.std.specs.Option.{option_map}
-use Rattle.std.proofs.lemmas.Bool.{false≢true, both_ways, cases_Bool, cases_eq, cases_lt, eqb-true, eqb-false, eq-eqb, ne_eqb, le-leb, and_parts, and_from, or_cases, false_from_ne_true, not-true}
+use Rattle.std.proofs.lemmas.Bool.{false≢true, both_ways, cases_Bool, cases_eq, cases_lt, eq-eqb, ne_eqb, le-leb, and_parts, and_from, false_from_ne_true, not-true}
 use Rattle.std.proofs.lemmas.Option.{same_Some, slice_get-get_or}
 use Rattle.std.proofs.lemmas.List.Sums.{sum_by-cons, count_by_more_yes, get_or-le-sum_by, sum_by-take-le}
 use Rattle.clause_base.specs.declared.literal.Lit.{Lit}
-use Rattle.clause_base.specs.Literal.{opposite, same_lit, has, has_variable, has_distinct_variables, IsWithin}
-use Rattle.clause_base.specs.Acceptance.{numbered, IsAcceptedChain}
+use Rattle.clause_base.specs.Literal.{opposite, same_lit, has, has_variable, IsWithin}
+use Rattle.clause_base.specs.Acceptance.{numbered}
 use Rattle.clause_base.proofs.Sets.{has-push, has_variable-has}
 use Rattle.trail_core.specs.declared.entry.Entry.{Entry}
-use Rattle.trail_core.specs.Values.{Values, IsVariable, IsTrueIn, IsFalseIn, IsFalsified, Rests, satisfied, open_at_two}
+use Rattle.trail_core.specs.Values.{IsVariable, IsTrueIn, IsFalseIn, IsFalsified, Rests, satisfied, open_at_two}
 use Rattle.trail_core.specs.TrailState.{TrailState, IsTrail, IsNumber, entry_of, values_of, level_in, up_to, decisions}
 use Rattle.trail_core.proofs.Lists.{count_by-take-le}
 use Rattle.trail_core.proofs.Levels.{level_le_all}
@@ -19,9 +19,8 @@ use Rattle.trail_core.proofs.Truth.{IsMapped, mapped, values-up_to_some}
 use Rattle.trail_core.proofs.Looks.{has_at}
 use Rattle.sat_core.specs.Derivation.{is_false, marked, set_of, has_level, is_present, counts, MarksOthers, Tracks, Resolved, IsOnlyPresent, Derives, IsClean, Learns}
 use Rattle.sat_core.proofs.Sets.{is_false-true, is_false_from, not_both, falsified_set, Derives-start, Derives-done}
-use Rattle.sat_core.proofs.Marks.{count_agree}
 use Rattle.sat_core.proofs.Tracking.{IsEntryAt, entry_at, false_same, same_lit_other, distinct_push, has_level-true}
-use Rattle.sat_core.proofs.Resolving.{valued_variable, kept_literal, kept_variable, weight_one, no_entry, true_at, level_at, level_is_present, last_level, place_left}
+use Rattle.sat_core.proofs.Resolving.{valued_variable, kept_variable, weight_one, no_entry, true_at, level_is_present, last_level, place_left}
 
 -- what is found and passes a test is found among those that pass it
 pub find-filter : {X : Type 0} (p q : X → Bool) (xs : List X) (y : X) → find p xs ≡ Some y → q y ≡ true → find p (filter q xs) ≡ Some y

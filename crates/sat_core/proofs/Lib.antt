@@ -13,3 +13,10 @@ pub mod Entailment
 pub mod Greatest
 pub mod OrderLemmas
 pub mod Chosen
+pub mod Denying
+pub mod Growing
+pub mod SearchLemmas
+pub mod GreatestModel
+pub mod Assumptions
+pub mod SolverLemmas
+pub mod FreshBound

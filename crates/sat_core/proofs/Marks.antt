@@ -1,19 +1,14 @@
 -- Marking variables one by one.
-use Rattle.std.proofs.Common.{◌≡◌, ◌≢◌, ℕ, zero, suc, ◌+◌, ◌-◌, ◌<◌, ◌≤◌, Bool, true, false, not, cond, ◌&&◌, ◌||◌, eqb, List, [], ◌∷◌, ◌++◌, length, get_or, set, take, Option, Some, None, refl, sym, ap, ◌∙◌, subst, arith, ◌⊎◌, inl, inr, ⊎_elim}
-use Rattle.std.specs.List.{count_by, All}
-use Rattle.std.specs.Option.{option_map}
-use Rattle.std.proofs.lemmas.Bool.{false≢true, both_ways, cases_Bool, cases_eq, eqb-true, eqb-false, eq-eqb, ne_eqb, and_parts, and_from, or_cases, false_from_ne_true, not_from_false}
+use Rattle.std.proofs.Common.{◌≡◌, ℕ, zero, suc, ◌+◌, ◌-◌, ◌<◌, ◌≤◌, Bool, true, false, not, cond, ◌&&◌, ◌||◌, eqb, List, [], ◌∷◌, ◌++◌, length, get_or, set, take, refl, sym, ap, ◌∙◌, subst, arith, ◌⊎◌, inl, inr, ⊎_elim}
+use Rattle.std.specs.List.{count_by}
+use Rattle.std.proofs.lemmas.Bool.{cases_Bool, cases_eq, eqb-true, eq-eqb, ne_eqb}
 use Rattle.std.proofs.lemmas.List.{get_or-set_same, get_or-set_other, length-set, take_more, take_all}
 use Rattle.std.proofs.lemmas.List.Sums.{sum_by-cons}
 use Rattle.clause_base.specs.declared.literal.Lit.{Lit}
-use Rattle.clause_base.specs.Literal.{same_lit, same_sign, has, has_variable, has_distinct_variables, IsWithin}
-use Rattle.clause_base.proofs.Sets.{same_lit-true, has-push, has_variable-push, has_variable-has}
-use Rattle.trail_core.specs.declared.entry.Entry.{Entry}
-use Rattle.trail_core.specs.Values.{Values, IsVariable, IsFalseIn}
-use Rattle.trail_core.specs.TrailState.{TrailState, IsTrail, entry_of, values_of, level_in}
-use Rattle.trail_core.proofs.Lists.{IsFound, find_found}
-use Rattle.trail_core.proofs.Truth.{IsMapped, mapped, values-take_some}
-use Rattle.sat_core.specs.Derivation.{has_sign, is_false, marked, set_of, MarksOthers, has_level, is_present, counts, Tracks}
+use Rattle.clause_base.specs.Literal.{has_variable}
+use Rattle.clause_base.proofs.Sets.{has_variable-push}
+use Rattle.trail_core.specs.Values.{IsVariable}
+use Rattle.sat_core.specs.Derivation.{marked, MarksOthers}
 
 -- the marked variable
 pub marked-set_same : (marks : List Bool) (v : ℕ) (b : Bool) → IsVariable (length marks) v → marked (set marks (v - 1) b) v ≡ b

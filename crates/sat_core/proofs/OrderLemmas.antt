@@ -1,11 +1,11 @@
 -- Going over the order of decisions.
-use Rattle.std.proofs.Common.{◌≡◌, ℕ, ◌+◌, ◌-◌, ◌<◌, ◌≤◌, Bool, true, false, not, ltb, List, length, get_or, Option, Some, None, refl, sym, ap, ◌∙◌, subst, arith, ◌⊎◌, inl, inr, ⊎_elim, All}
+use Rattle.std.proofs.Common.{◌≡◌, ℕ, ◌+◌, ◌-◌, ◌<◌, ◌≤◌, Bool, true, false, not, ltb, List, length, get_or, Some, refl, sym, ap, ◌∙◌, subst, arith, inl, inr, All}
 use Rattle.std.specs.Prelude.{is_some}
 use Rattle.std.specs.Bool.{beq}
 use Rattle.std.proofs.lemmas.Bool.{cases_lt, false≢true, lt-ltb, le-ltb}
 use Rattle.clause_base.specs.declared.literal.Lit.{Lit}
 use Rattle.clause_base.specs.Literal.{IsWithin, has, positive, negative}
-use Rattle.trail_core.specs.Values.{Values, IsVariable, IsTrueIn, IsFalseIn}
+use Rattle.trail_core.specs.Values.{Values, IsVariable}
 use Rattle.trail_core.specs.TrailState.{TrailState, values_of}
 use Rattle.trail_core.proofs.Looks.{has_at}
 use Rattle.sat_core.specs.Choices.{choice_at, no_literal, IsPassed, PassedTo}

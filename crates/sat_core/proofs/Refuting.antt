@@ -1,19 +1,18 @@
 -- Resolving with the reasons of all marked literals, from the last place down.
-use Rattle.std.proofs.Common.{◌≡◌, ℕ, ◌+◌, ◌-◌, ◌<◌, ◌≤◌, Bool, true, false, not, ◌&&◌, ◌||◌, eqb, List, [], ◌∷◌, ◌++◌, map, length, get_or, set, Option, Some, None, refl, sym, ap, ◌∙◌, subst, arith, ◌⊎◌, inl, inr, ⊎_elim}
-use Rattle.std.specs.Prelude.{is_none, is_some}
-use Rattle.std.specs.List.{All}
-use Rattle.std.proofs.lemmas.Bool.{both_ways, cases_lt, eq-eqb, and_parts, or_cases}
+use Rattle.std.proofs.Common.{◌≡◌, ℕ, ◌+◌, ◌-◌, ◌<◌, ◌≤◌, Bool, true, false, not, ◌&&◌, ◌||◌, eqb, List, [], ◌∷◌, ◌++◌, map, length, get_or, set, Option, Some, None, refl, sym, ap, ◌∙◌, subst, arith, inl, inr, ⊎_elim}
+use Rattle.std.specs.Prelude.{is_none}
+use Rattle.std.proofs.lemmas.Bool.{both_ways, cases_lt, eq-eqb, and_parts, or_cases, false_from_ne_true}
 use Rattle.std.proofs.lemmas.List.{get_or_default, map_push, append_assoc, append-nil}
 use Rattle.std.proofs.lemmas.List.Elements.{All-push, All-nil}
 use Rattle.clause_base.specs.declared.literal.Lit.{Lit}
-use Rattle.clause_base.specs.Literal.{has, has_variable}
+use Rattle.clause_base.specs.Literal.{has_variable}
 use Rattle.clause_base.specs.Acceptance.{numbered}
 use Rattle.clause_base.specs.Resolution.{Gives}
 use Rattle.trail_core.specs.declared.entry.Entry.{Entry}
 use Rattle.trail_core.specs.Values.{IsVariable}
-use Rattle.trail_core.specs.TrailState.{TrailState, IsTrail, IsNumber, values_of, reason_in, is_decision}
-use Rattle.sat_core.specs.Derivation.{marked, set_of, MarksOthers, Replaces, RefutesAt, kept, replaced, Refutes, IsForced}
-use Rattle.sat_core.proofs.Sets.{Gives-push, Gives-same, resolve_set, resolve_clash}
+use Rattle.trail_core.specs.TrailState.{TrailState, IsTrail, values_of, reason_in, is_decision}
+use Rattle.sat_core.specs.Derivation.{marked, set_of, MarksOthers, Replaces, RefutesAt, kept, replaced, Refutes, IsUnmarkedFrom}
+use Rattle.sat_core.proofs.Sets.{Gives-push, resolve_set, resolve_clash}
 use Rattle.sat_core.proofs.Resolving.{no_entry, reason_at, forced_at, reason_before, Replaces-from, ReplacesAt-from}
 
 pub Refutes-start : (t : TrailState) (marks : List Bool) (chain : List ℕ) → Refutes t marks marks chain chain (length t.entries)
@@ -24,6 +23,8 @@ Refutes-start t marks chain = record {
   numbers = All-nil (λ n. (1 ≤ n) × (n ≤ length t.clauses));
   gives = λ l. refl;
   above = λ i d low k. absurd (omega (arith, low, k));
+  without = λ i d l u. All-nil (λ n. has_variable (numbered t.clauses n) (get_or t.entries i d).lit.var ≡ false);
+  unmarked = λ i l u. u;
 }
 
 -- one step down
@@ -39,6 +40,8 @@ Refutes-step t old marks after before chain next place h size l r (kept p q s) =
         | inl b ↦ r.above i d (omega (arith, b)) k y
         | inr b ↦ let e : place ≡ i = omega arith in subst (λ j. marked marks (get_or t.entries j d).lit.var ≡ true → is_decision (get_or t.entries j d) ≡ true) e (s d) y
       ];
+      without = r.without;
+      unmarked = r.unmarked;
     })
 Refutes-step t old marks after before chain next place h size l r (replaced n q m p e) =
     let f = forced_at t place no_entry n h l (q no_entry) in
@@ -56,8 +59,16 @@ Refutes-step t old marks after before chain next place h size l r (replaced n q 
         | inl b ↦ r.above i d (omega (arith, b)) k (still i d b k here y)
         | inr b ↦ let w : i ≡ place = omega arith in absurd (both_ways (marked after (get_or t.entries i d).lit.var) (subst (λ j. marked after (get_or t.entries j d).lit.var ≡ false) (sym w) (gone d here)) y)
       ];
+      without = λ i d k u. All-push (λ j. has_variable (numbered t.clauses j) (get_or t.entries i d).lit.var ≡ false) r.added n (r.without i d k u) (reason_before t place i d n h l (q d) (below i k u) k);
+      unmarked = λ i k u j d low w. false_from_ne_true (marked after (get_or t.entries j d).lit.var) (λ y. both_ways (marked marks (get_or t.entries j d).lit.var) (r.unmarked i k u j d low w) (still j d (omega (arith, low, below i k u)) w here y));
     }
   where
+    below : (i : ℕ) → i < length t.entries → IsUnmarkedFrom t old i → place < i
+    below i k u = elim (cases_lt place i) [
+      | inl b ↦ b
+      | inr b ↦ absurd (both_ways (marked marks (get_or t.entries place no_entry).lit.var) (r.unmarked i k u place no_entry b l) (m no_entry))
+    ]
+
     gone : (d : Entry) → length marks ≡ t.vars → marked after (get_or t.entries place d).lit.var ≡ false
     gone d here =
         let v = (h.justified place d l).variable in

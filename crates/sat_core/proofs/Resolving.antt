@@ -1,26 +1,26 @@
 -- Resolving with the reason of the marked literal that became true last.
-use Rattle.std.proofs.Common.{◌≡◌, ◌≢◌, ℕ, zero, suc, ◌+◌, ◌-◌, ◌<◌, ◌≤◌, Bool, true, false, not, cond, ◌&&◌, ◌||◌, eqb, List, [], ◌∷◌, ◌++◌, length, get_or, set, take, Option, Some, None, refl, sym, ap, ◌∙◌, subst, arith, ◌⊎◌, inl, inr, ⊎_elim}
+use Rattle.std.proofs.Common.{◌≡◌, ℕ, zero, suc, ◌+◌, ◌-◌, ◌<◌, ◌≤◌, Bool, true, false, not, cond, ◌&&◌, ◌||◌, eqb, List, [], ◌∷◌, length, get_or, set, take, Option, Some, None, refl, sym, ap, ◌∙◌, subst, arith, ◌⊎◌, inl, inr, ⊎_elim}
 use Rattle.std.specs.Prelude.{is_none, is_some, slice_get}
 use Rattle.std.proofs.lemmas.Option.{same_Some, slice_get-get_or}
-use Rattle.std.specs.List.{count_by, find}
+use Rattle.std.specs.List.{count_by}
 use Rattle.std.specs.Option.{option_map, option_and_then}
-use Rattle.std.proofs.lemmas.Bool.{false≢true, both_ways, cases_Bool, cases_eq, cases_lt, eqb-true, eqb-false, eq-eqb, ne_eqb, and_parts, and_from, or_cases, false_from_ne_true, not_from_false, not-true}
-use Rattle.std.proofs.lemmas.List.{get_or-take, get_or-set_same, get_or-set_other, length-take-le, length-set, take-take, get_or_default}
+use Rattle.std.proofs.lemmas.Bool.{false≢true, both_ways, cases_Bool, cases_eq, cases_lt, eqb-true, eq-eqb, ne_eqb, and_parts, and_from, false_from_ne_true, not-true}
+use Rattle.std.proofs.lemmas.List.{length-set, take-take, get_or_default}
 use Rattle.std.proofs.lemmas.List.Sums.{sum_by-cons, count_by_more_yes, get_or-le-sum_by}
 use Rattle.clause_base.specs.declared.literal.Lit.{Lit}
-use Rattle.clause_base.specs.Literal.{opposite, same_lit, same_sign, has, has_variable, has_distinct_variables}
-use Rattle.clause_base.proofs.Sets.{has_either, has_variable-has}
+use Rattle.clause_base.specs.Literal.{opposite, has, has_variable}
+use Rattle.clause_base.proofs.Sets.{has_either}
 use Rattle.clause_base.specs.Acceptance.{numbered}
 use Rattle.trail_core.specs.declared.entry.Entry.{Entry}
-use Rattle.trail_core.specs.Values.{Values, IsVariable, IsTrueIn, IsFalseIn, IsUnit}
-use Rattle.trail_core.specs.TrailState.{TrailState, IsTrail, IsNumber, IsReason, IsJustified, entry_of, values_of, level_in, reason_in, decisions, is_decision}
-use Rattle.trail_core.proofs.Lists.{IsFound, find_found, find_none, find-take_some, count_by-take-le}
+use Rattle.trail_core.specs.Values.{IsVariable, IsTrueIn}
+use Rattle.trail_core.specs.TrailState.{TrailState, IsTrail, IsNumber, entry_of, values_of, level_in, reason_in, decisions, is_decision}
+use Rattle.trail_core.proofs.Lists.{find_none, count_by-take-le}
 use Rattle.trail_core.proofs.Levels.{level_le, level_le_all}
-use Rattle.trail_core.proofs.Truth.{IsMapped, mapped, mapped_none, values-take_some}
-use Rattle.sat_core.specs.Derivation.{has_sign, is_false, marked, set_of, has_level, is_present, counts, MarksOthers, Tracks, Replaces, Resolved, IsForced, IsOnlyPresent, Derives}
+use Rattle.trail_core.proofs.Truth.{mapped, values-take_some}
+use Rattle.sat_core.specs.Derivation.{has_sign, is_false, marked, set_of, has_level, is_present, counts, MarksOthers, Tracks, Replaces, Resolved, IsForced, Derives}
 use Rattle.sat_core.proofs.Sets.{ReplacesAt, is_false-true}
-use Rattle.sat_core.proofs.Marks.{marked-set_same, marked-set_other, count_agree, count_one_more}
-use Rattle.sat_core.proofs.Tracking.{IsEntryAt, entry_at, other_place, entries_differ, no_zero}
+use Rattle.sat_core.proofs.Marks.{marked-set_same, marked-set_other, count_one_more}
+use Rattle.sat_core.proofs.Tracking.{entry_at, other_place, entries_differ, no_zero}
 
 -- an element that passes
 pub record IsAmong {X : Type 0} (p : X → Bool) (xs : List X) : Type 0 where

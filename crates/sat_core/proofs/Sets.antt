@@ -1,7 +1,6 @@
 -- One step of resolution on a marked set.
-use Rattle.std.proofs.Common.{◌≡◌, ◌≢◌, ℕ, ◌+◌, ◌-◌, ◌<◌, ◌≤◌, Bool, true, false, not, ◌&&◌, ◌||◌, eqb, List, [], ◌∷◌, ◌++◌, map, length, Option, Some, None, refl, sym, ap, ◌∙◌, subst, arith, ◌⊎◌, inl, inr, ⊎_elim}
-use Rattle.std.specs.List.{All}
-use Rattle.std.proofs.lemmas.Bool.{false≢true, both_ways, cases_Bool, cases_eq, eqb-true, eqb-false, eq-eqb, and_parts, and_from, or_cases, or_left, or_right, false_from_ne_true}
+use Rattle.std.proofs.Common.{◌≡◌, ◌≢◌, ℕ, ◌≤◌, Bool, true, false, not, ◌&&◌, ◌||◌, eqb, List, [], ◌∷◌, ◌++◌, map, length, Option, Some, None, refl, sym, ap, ◌∙◌, subst, ⊎_elim}
+use Rattle.std.proofs.lemmas.Bool.{false≢true, both_ways, cases_eq, eqb-false, and_parts, and_from, or_cases, false_from_ne_true}
 use Rattle.std.proofs.lemmas.List.{map_push}
 use Rattle.std.proofs.lemmas.List.Elements.{All-push, All-nil, All-cons}
 use Rattle.clause_base.specs.declared.literal.Lit.{Lit}
@@ -10,7 +9,7 @@ use Rattle.clause_base.specs.Resolution.{clashes, IsOnlyClash, resolvent, Gives,
 use Rattle.clause_base.specs.Acceptance.{numbered, IsAcceptedChain}
 use Rattle.clause_base.proofs.Sets.{opposite-opposite, has_variable-has, has_either}
 use Rattle.clause_base.proofs.Soundness.{clashes_by}
-use Rattle.trail_core.specs.Values.{Values, IsTrueIn, IsFalseIn}
+use Rattle.trail_core.specs.Values.{Values, IsFalseIn}
 use Rattle.sat_core.specs.Derivation.{has_sign, is_false, marked, set_of, ChainGives, Derives, IsForced}
 
 same_sign-true : (a b : Bool) → same_sign a b ≡ true → a ≡ b
@@ -100,7 +99,7 @@ resolve_clash marks values clause x f m = (
       (or_cases (set_of marks values (positive w) && has clause (negative w)) (set_of marks values (negative w) && has clause (positive w)) h),
 )
 
-clashes_same : (a b : Lit → Bool) (c : List Lit) (v : ℕ) → ((l : Lit) → a l ≡ b l) → clashes a (has c) v ≡ clashes b (has c) v
+pub clashes_same : (a b : Lit → Bool) (c : List Lit) (v : ℕ) → ((l : Lit) → a l ≡ b l) → clashes a (has c) v ≡ clashes b (has c) v
 clashes_same a b c v e = ap (λ p. (p && has c (negative v)) || (a (negative v) && has c (positive v))) (e (positive v)) ∙ ap (λ n. (b (positive v) && has c (negative v)) || (n && has c (positive v))) (e (negative v))
 
 -- one clause more at the end

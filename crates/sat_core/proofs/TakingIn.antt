@@ -1,5 +1,5 @@
 -- Taking the literals of a clause in, one by one.
-use Rattle.std.proofs.Common.{◌≡◌, ◌≢◌, ℕ, ◌+◌, ◌-◌, ◌<◌, ◌≤◌, Bool, true, false, List, [], ◌∷◌, ◌++◌, length, get_or, set, take, refl, sym, ap, ◌∙◌, subst, arith, ◌⊎◌, inl, inr}
+use Rattle.std.proofs.Common.{◌≡◌, ℕ, ◌+◌, ◌-◌, ◌<◌, true, List, [], length, get_or, set, take, refl, sym, ◌∙◌, subst, ◌⊎◌}
 use Rattle.clause_base.specs.declared.literal.Lit.{Lit}
 use Rattle.trail_core.specs.Values.{IsVariable}
 use Rattle.trail_core.specs.TrailState.{TrailState}

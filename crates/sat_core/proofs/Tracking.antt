@@ -1,19 +1,19 @@
 -- What marking a false literal keeps.
-use Rattle.std.proofs.Common.{◌≡◌, ◌≢◌, ℕ, ◌+◌, ◌-◌, ◌<◌, ◌≤◌, ◌^◌, Bool, true, false, not, ◌&&◌, ◌||◌, eqb, List, [], ◌∷◌, ◌++◌, length, get_or, set, take, Option, Some, None, refl, sym, ap, ◌∙◌, subst, arith, ◌⊎◌, inl, inr, ⊎_elim}
+use Rattle.std.proofs.Common.{◌≡◌, ℕ, ◌+◌, ◌-◌, ◌<◌, ◌≤◌, ◌^◌, Bool, true, false, not, ◌&&◌, ◌||◌, eqb, List, [], ◌∷◌, ◌++◌, length, get_or, set, take, Option, Some, None, refl, sym, ap, ◌∙◌, subst, arith, ◌⊎◌, inl, inr, ⊎_elim}
 use Rattle.std.specs.Prelude.{is_some}
-use Rattle.std.specs.List.{count_by, find}
+use Rattle.std.specs.List.{count_by}
 use Rattle.std.specs.Option.{option_map, option_eq}
-use Rattle.std.proofs.lemmas.Bool.{false≢true, both_ways, cases_Bool, cases_eq, cases_lt, eqb-true, eqb-false, eq-eqb, ne_eqb, and_parts, and_from, or_cases, false_from_ne_true, not_from_false, not-true, or_parts, or_from}
+use Rattle.std.proofs.lemmas.Bool.{false≢true, both_ways, cases_eq, cases_lt, eqb-true, eqb-false, eq-eqb, ne_eqb, and_parts, and_from, or_cases, false_from_ne_true, not_from_false, not-true, or_parts, or_from}
 use Rattle.std.proofs.lemmas.List.{get_or-take, get_or-set_same, get_or-set_other, length-take-le, length-set}
 use Rattle.std.proofs.lemmas.List.Sums.{count_by-le-length}
 use Rattle.clause_base.specs.declared.literal.Lit.{Lit}
 use Rattle.clause_base.specs.Literal.{same_lit, same_sign, has, has_variable, has_distinct_variables}
-use Rattle.clause_base.proofs.Sets.{same_lit-true, has-push, has_variable-push, has_variable-has}
+use Rattle.clause_base.proofs.Sets.{has-push, has_variable-push}
 use Rattle.trail_core.specs.declared.entry.Entry.{Entry}
 use Rattle.trail_core.specs.Values.{Values, IsVariable, IsFalseIn}
 use Rattle.trail_core.specs.TrailState.{TrailState, IsTrail, entry_of, values_of, level_in}
-use Rattle.trail_core.proofs.Lists.{IsFound, find_found, find_none}
-use Rattle.trail_core.proofs.Truth.{IsMapped, mapped, mapped_none}
+use Rattle.trail_core.proofs.Lists.{find_found, find_none}
+use Rattle.trail_core.proofs.Truth.{mapped, mapped_none}
 use Rattle.sat_core.specs.Derivation.{has_sign, is_false, marked, set_of, has_level, is_present, counts, Tracks}
 use Rattle.sat_core.proofs.Marks.{marked-set_same, marked-set_other, count_agree, count_one_more}
 

@@ -1,5 +1,5 @@
 -- The order of decisions, and which decisions a trail has.
-use Rattle.std.specs.Prelude.{◌≡◌, ℕ, ◌+◌, ◌-◌, ◌<◌, ◌≤◌, Bool, true, false, is_some, nat_lt, if◌then◌else◌, List, length, slice_index, slice_index_or}
+use Rattle.std.specs.Prelude.{◌≡◌, ℕ, ◌+◌, ◌-◌, ◌<◌, true, false, is_some, nat_lt, if◌then◌else◌, List, length, slice_index, slice_index_or}
 use Rattle.clause_base.specs.declared.literal.Lit.{Lit}
 use Rattle.clause_base.specs.Literal.{positive, negative, has}
 use Rattle.trail_core.specs.declared.entry.Entry.{Entry}

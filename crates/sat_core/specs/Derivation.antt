@@ -1,12 +1,12 @@
 -- Sets of false literals, marked by their variables, and the chains that give them.
-use Rattle.std.specs.Prelude.{◌≡◌, ◌≢◌, ℕ, ◌-◌, ◌<◌, ◌≤◌, Bool, true, false, not, ◌&&◌, ◌||◌, ◌==◌, is_some, ◌++◌, count_by, Option, Some, None, List, [], ◌∷◌, map, length, slice_index_or, All}
+use Rattle.std.specs.Prelude.{◌≡◌, ◌≢◌, ℕ, ◌-◌, ◌<◌, ◌≤◌, Bool, true, false, not, ◌&&◌, ◌||◌, ◌==◌, is_some, ◌++◌, ◌⊎◌, count_by, filter, Option, Some, None, List, [], ◌∷◌, map, length, slice_index_or, All}
 use Rattle.clause_base.specs.declared.literal.Lit.{Lit}
-use Rattle.clause_base.specs.Literal.{same_sign, has, has_variable, has_distinct_variables, IsWithin}
+use Rattle.clause_base.specs.Literal.{same_sign, opposite, has, has_variable, has_distinct_variables, IsWithin}
 use Rattle.clause_base.specs.Resolution.{Gives}
 use Rattle.clause_base.specs.Acceptance.{numbered, IsAcceptedChain}
 use Rattle.trail_core.specs.declared.entry.Entry.{Entry}
 use Rattle.trail_core.specs.Values.{Values, IsTrueIn, IsFalseIn}
-use Rattle.trail_core.specs.TrailState.{TrailState, values_of, level_in, is_decision}
+use Rattle.trail_core.specs.TrailState.{TrailState, IsNumber, values_of, level_in, is_decision}
 
 -- there is a sign, and it is this one
 abbrev pub has_sign : Option Bool → Bool → Bool
@@ -123,6 +123,14 @@ pub data RefutesAt (t : TrailState) (old new : List Bool) (before after : List �
   kept : new ≡ old → after ≡ before → ((d : Entry) → marked old (slice_index_or t.entries place d).lit.var ≡ true → is_decision (slice_index_or t.entries place d) ≡ true) → RefutesAt t old new before after place
   replaced : (n : ℕ) → ((d : Entry) → (slice_index_or t.entries place d).reason ≡ Some n) → ((d : Entry) → marked old (slice_index_or t.entries place d).lit.var ≡ true) → ((d : Entry) → Replaces old new (numbered t.clauses n) (slice_index_or t.entries place d).lit.var) → after ≡ before ++ n ∷ [] → RefutesAt t old new before after place
 
+-- no entry from the place on is of a marked variable
+abbrev pub IsUnmarkedFrom : TrailState → List Bool → ℕ → Type 0
+IsUnmarkedFrom t marks place = (i : ℕ) (d : Entry) → place ≤ i → i < length t.entries → marked marks (slice_index_or t.entries i d).lit.var ≡ false
+
+-- none of the clauses with the numbers has a literal of the variable
+abbrev pub AreWithout : List (List Lit) → List ℕ → ℕ → Type 0
+AreWithout clauses numbers v = All (λ n. has_variable (numbered clauses n) v ≡ false) numbers
+
 -- the chain grew by clauses that, resolved in turn with the old set, give the new one
 pub record Refutes (t : TrailState) (old new : List Bool) (before after : List ℕ) (place : ℕ) : Type 0 where
   pub size : length new ≡ length old
@@ -131,3 +139,40 @@ pub record Refutes (t : TrailState) (old new : List Bool) (before after : List �
   pub numbers : All (λ n. (1 ≤ n) × (n ≤ length t.clauses)) added
   pub gives : Gives (set_of old (values_of t.entries)) (map (numbered t.clauses) added) (set_of new (values_of t.entries))
   pub above : (i : ℕ) (d : Entry) → place ≤ i → i < length t.entries → marked new (slice_index_or t.entries i d).lit.var ≡ true → is_decision (slice_index_or t.entries i d) ≡ true
+  -- an entry from which on no variable was marked stays so, and its variable is in none of the clauses
+  pub without : (i : ℕ) (d : Entry) → i < length t.entries → IsUnmarkedFrom t old i → AreWithout t.clauses added (slice_index_or t.entries i d).lit.var
+  pub unmarked : (i : ℕ) → i < length t.entries → IsUnmarkedFrom t old i → IsUnmarkedFrom t new i
+
+-- the opposites of the entries of marked variables
+abbrev pub opposites_of : List Bool → List Entry → List Lit
+opposites_of marks entries = map (λ e. opposite e.lit) (filter (λ e. marked marks e.lit.var) entries)
+
+-- the variable's entry, from which on no entry is of a marked variable
+pub record IsPast (t : TrailState) (marks : List Bool) (v : ℕ) : Type 0 where
+  pub place : ℕ
+  pub within : place < length t.entries
+  pub variable : (d : Entry) → (slice_index_or t.entries place d).lit.var ≡ v
+  pub unmarked : IsUnmarkedFrom t marks place
+
+-- the chain is of one clause, whose literals are the head's, which stay, and those of the marked set
+pub record Starts (t : TrailState) (head : List Lit) (marks : List Bool) (chain : List ℕ) : Type 0 where
+  pub clause : ℕ
+  pub is : chain ≡ clause ∷ []
+  pub number : IsNumber t.clauses clause
+  pub set : (l : Lit) → has (numbered t.clauses clause) l ≡ (has head l || set_of marks (values_of t.entries) l)
+  pub past : (l : Lit) → has head l ≡ true → IsPast t marks l.var
+  pub distinct : has_distinct_variables head ≡ true
+
+-- the literal is the opposite of a decision
+pub record IsDenied (t : TrailState) (l : Lit) : Type 0 where
+  pub place : ℕ
+  pub within : place < length t.entries
+  pub decision : (d : Entry) → is_decision (slice_index_or t.entries place d) ≡ true
+  pub is : (d : Entry) → opposite (slice_index_or t.entries place d).lit ≡ l
+
+-- the chain gives the clause, whose literals but for the head's are opposites of decisions
+pub record Denies (t : TrailState) (head literals : List Lit) (chain : List ℕ) : Type 0 where
+  pub accepted : IsAcceptedChain t.clauses chain literals
+  pub distinct : has_distinct_variables literals ≡ true
+  pub within : IsWithin t.vars literals
+  pub denied : (l : Lit) → has literals l ≡ true → (has head l ≡ true) ⊎ IsDenied t l

@@ -4,3 +4,6 @@ pub mod Derivation
 pub mod Analyses
 pub mod Engines
 pub mod Choices
+pub mod Searching
+pub mod Calls
+pub mod Bound

@@ -1,9 +1,9 @@
 ghost use Rattle.std.specs.Prelude.{◌≡◌, ◌+◌, ◌-◌, ◌<◌, false, true, length, slice_set, OnOk, OnErr, IfOk, ◌≤◌, ◌++◌, ◌∷◌, [], Some, IsTrue};
 ghost use Rattle.clause_base.specs.Literal.{IsWithin, has, has_distinct_variables};
 ghost use Rattle.clause_base.specs.Acceptance.{numbered};
-ghost use Rattle.trail_core.specs.Values.{IsVariable, IsFalseIn, IsFalsified};
-ghost use Rattle.trail_core.specs.TrailState.{IsTrail, IsNumber, MayAdd, back_at, values_of, level_in};
-ghost use Rattle.sat_core.specs.Derivation.{marked, set_of, MarksOthers, Tracks, AreFalse, IsForced, Replaces, Derives, Resolved, IsOnlyPresent, Learns, AreOf, Unmarks, IsClean, RefutesAt, Refutes};
+ghost use Rattle.trail_core.specs.Values.{IsVariable, IsTrueIn, IsFalseIn, IsFalsified};
+ghost use Rattle.trail_core.specs.TrailState.{IsTrail, IsNumber, MayAdd, back_at, values_of, level_in, reason_in};
+ghost use Rattle.sat_core.specs.Derivation.{marked, set_of, MarksOthers, Tracks, AreFalse, IsForced, Replaces, Derives, Resolved, IsOnlyPresent, Learns, AreOf, Unmarks, IsClean, RefutesAt, Refutes, opposites_of, Starts, Denies};
 
 use clause_base::{Clause, Lit, Log, StepKind};
 use loc_base::NoMemory;
@@ -59,9 +59,82 @@ impl Analysis {
         Ok(())
     }
 
+    /// Derives a clause of opposites of decisions from a clause whose literals are all false.
+    pub(crate) fn close(&mut self, trail: &Trail, conflict: u32) -> Result<(), NoMemory>
+        requires trail { IsTrail trail.now }
+        requires size { length self.old.marked.items ≡ trail.now.vars }
+        requires empty { IsEmpty self.old }
+        requires number { IsNumber trail.now.clauses conflict }
+        requires conflict { IsFalsified (values_of trail.now.entries) (numbered trail.now.clauses conflict) }
+        ensures size { length self.new.marked.items ≡ length self.old.marked.items }
+        ensures denies { OnOk result (Denies trail.now [] self.new.literals.items self.new.chain.items) }
+    {
+        self.begin(trail, conflict, 0)?;
+        self.finish(trail)
+    }
+
+    /// Derives a clause of a true literal and opposites of decisions from the literal's reason.
+    pub(crate) fn contradict(&mut self, trail: &Trail, l: Lit, reason: u32) -> Result<(), NoMemory>
+        requires trail { IsTrail trail.now }
+        requires size { length self.old.marked.items ≡ trail.now.vars }
+        requires empty { IsEmpty self.old }
+        requires truth { IsTrueIn (values_of trail.now.entries) l }
+        requires reason { reason_in trail.now.entries l.var ≡ Some reason }
+        ensures size { length self.new.marked.items ≡ length self.old.marked.items }
+        ensures denies { OnOk result (Denies trail.now (l ∷ []) self.new.literals.items self.new.chain.items) }
+    {
+        self.literals.push(l)?;
+        self.begin(trail, reason, l.var)?;
+        self.finish(trail)
+    }
+
+    /// Begins with the clause of a number, whose literals are in the set, but for that of one variable.
+    fn begin(&mut self, trail: &Trail, number: u32, skip: u32) -> Result<(), NoMemory>
+        requires trail { IsTrail trail.now }
+        requires size { length self.old.marked.items ≡ trail.now.vars }
+        requires number { IsNumber trail.now.clauses number }
+        ensures size { length self.new.marked.items ≡ length self.old.marked.items }
+        ensures literals { self.new.literals ≡ self.old.literals }
+        ensures chain { OnOk result (self.new.chain.items ≡ self.old.chain.items ++ number ∷ []) }
+        ensures marks { OnOk result (MarksOthers self.old.marked.items self.new.marked.items (numbered trail.now.clauses number) skip) }
+    {
+        self.chain.push(number)?;
+        mark_others(&mut self.marked, trail.clause(number).literals(), skip);
+        Ok(())
+    }
+
+    /// Resolves the set until only opposites of decisions are left, and takes these into the clause.
+    fn finish(&mut self, trail: &Trail) -> Result<(), NoMemory>
+        requires trail { IsTrail trail.now }
+        requires size { length self.old.marked.items ≡ trail.now.vars }
+        requires starts { Starts trail.now self.old.literals.items self.old.marked.items self.old.chain.items }
+        ensures size { length self.new.marked.items ≡ length self.old.marked.items }
+        ensures denies { OnOk result (Denies trail.now self.old.literals.items self.new.literals.items self.new.chain.items) }
+    {
+        self.refute(trail)?;
+        self.collect(trail)
+    }
+
+    /// Takes the opposites of the true literals whose variables are marked into the clause.
+    fn collect(&mut self, trail: &Trail) -> Result<(), NoMemory>
+        requires trail { IsTrail trail.now }
+        requires size { length self.old.marked.items ≡ trail.now.vars }
+        ensures set { self.new.marked ≡ self.old.marked }
+        ensures chain { self.new.chain ≡ self.old.chain }
+        ensures literals { OnOk result (self.new.literals.items ≡ self.old.literals.items ++ opposites_of self.old.marked.items trail.now.entries) }
+    {
+        for place in 0..trail.len() {
+            let l = trail.at(place).unwrap();
+            if self.is_marked(l.var) {
+                self.literals.push(l.opposite())?;
+            }
+        }
+        Ok(())
+    }
+
     /// Resolves the set with the reasons of its literals from the last place down, until only the opposites of
     /// decisions are left.
-    pub(crate) fn refute(&mut self, trail: &Trail) -> Result<(), NoMemory>
+    fn refute(&mut self, trail: &Trail) -> Result<(), NoMemory>
         requires trail { IsTrail trail.now }
         requires size { length self.old.marked.items ≡ trail.now.vars }
         ensures size { length self.new.marked.items ≡ length self.old.marked.items }

@@ -1,6 +1,11 @@
+ghost use Rattle.std.specs.Prelude.{◌≡◌, length};
+ghost use Rattle.trail_core.specs.TrailState.{IsTrail};
+ghost use Rattle.sat_core.specs.Searching.{IsModelOf};
+
 use crate::analysis::Analysis;
 use crate::budget::Budget;
 use crate::order::{Choice, choose};
+use crate::verdict::Verdict;
 use clause_base::{Clause, Lit, Log, StepKind};
 use loc_base::NoMemory;
 use std::alloc::Global;
@@ -16,20 +21,65 @@ pub(crate) struct Engine {
     pub(crate) preferred: Vec<u32>,
     /// For each decision level, from 1, where its decision stands in the order of decisions.
     pub(crate) chosen: Vec<usize>,
-    /// The number of steps of the log whose clauses the trail has.
+    /// The number of the form's clauses, which are the trail's first.
+    pub(crate) form_len: usize,
+    /// The number of steps of the log whose clauses the trail has, after the form's.
     pub(crate) known: usize,
+    /// The values of the variables in the last model, at the variable less 1.
+    pub(crate) model: Vec<bool>,
 }
 
 impl Engine {
-    ghost use Rattle.std.specs.Prelude.{◌≡◌, ◌+◌, ◌^◌, ◌<◌, ◌≤◌, length, OnOk, OnErr, All, map, ◌++◌, ◌∷◌, []};
-    ghost use Rattle.clause_base.specs.Literal.{IsWithin, AreWithin};
-    ghost use Rattle.trail_core.specs.Values.{IsVariable, IsUnassignedIn};
-    ghost use Rattle.trail_core.specs.TrailState.{AllRest, with_decision};
-    ghost use Rattle.sat_core.specs.Choices.{AreChosen, ChoiceGives};
+    ghost use Rattle.std.specs.Prelude.{◌≡◌, ◌+◌, ◌^◌, ◌<◌, ◌≤◌, length, IsTrue, IsSome, IfOk, OnOk, OnErr, All, map, ◌++◌, ◌∷◌, []};
+    ghost use Rattle.clause_base.specs.Literal.{IsWithin, AreWithin, has_distinct_variables, opposite};
     ghost use Rattle.clause_base.specs.Acceptance.{numbered};
-    ghost use Rattle.trail_core.specs.Values.{IsFalsified};
-    ghost use Rattle.trail_core.specs.TrailState.{IsTrail, IsNumber, values_of};
-    ghost use Rattle.sat_core.specs.Engines.{IsFit, LearnsStep, Learned, KeptLog, KeepsPace};
+    ghost use Rattle.trail_core.specs.Values.{IsVariable, IsUnassignedIn, IsFalseIn, IsFalsified};
+    ghost use Rattle.trail_core.specs.TrailState.{AllRest, IsNumber, values_of, reason_in, with_decision};
+    ghost use Rattle.sat_core.specs.Outcome.{Says, closings};
+    ghost use Rattle.sat_core.specs.Choices.{AreChosen, ChoiceGives};
+    ghost use Rattle.sat_core.specs.Engines.{IsFit, Learned, KeptLog, KeepsPace};
+    ghost use Rattle.sat_core.specs.Searching.{form_of, state_of, IsReady, IsUnderWay, IsAtStart, Keeps, Grows, DerivesStep, ExtendGives, StepGives, closings_at};
+
+    /// Searches for a model under assumptions, or for a clause of negated assumptions, while units are left.
+    pub(crate) fn search(
+        &mut self,
+        assume: &[Lit],
+        log: &mut Log,
+        budget: &mut Budget,
+    ) -> Result<Verdict, NoMemory>
+        requires ready { IsReady self.old log.old }
+        requires assume { IsWithin self.old.trail.vars assume.now }
+        requires distinct { IsTrue (has_distinct_variables assume.now) }
+        requires small { length assume.now ≤ 2 ^ 32 }
+        requires room { self.old.form_len + length log.old + budget.old + 1 < 2 ^ 32 }
+        ensures ready { IsReady self.new log.new }
+        ensures keeps { Keeps self.old self.new }
+        ensures grows { Grows (form_of self.old) log.old log.new budget.old budget.new (closings result) }
+        ensures says { IfOk result (Says (state_of self.new log.new) assume.now budget.new) }
+    {
+        if budget.left() == 0 {
+            return Ok(Verdict::Spent);
+        }
+        self.start(log)?;
+        loop {
+            if let Some(verdict) = self.advance(assume, log, budget)? {
+                return Ok(verdict);
+            }
+        }
+    }
+
+    /// Goes back to level 0, and gives the trail the clauses of the log that it lacks.
+    fn start(&mut self, log: &Log) -> Result<(), NoMemory>
+        requires ready { IsReady self.old log.now }
+        requires room { self.old.form_len + length log.now < 2 ^ 32 }
+        ensures ready { IsReady self.new log.now }
+        ensures keeps { Keeps self.old self.new }
+        ensures ok { OnOk result (IsAtStart self.new log.now) }
+    {
+        self.chosen.truncate(0);
+        self.trail.back_to(0);
+        self.catch_up(log)
+    }
 
     /// Adds the clauses of the log that the trail lacks, at level 0. After `NoMemory` some of them were added.
     fn catch_up(&mut self, log: &Log) -> Result<(), NoMemory>
@@ -45,7 +95,10 @@ impl Engine {
         ensures known { self.new.known ≤ length log.now }
         ensures entries { self.new.trail.entries ≡ self.old.trail.entries }
         ensures vars { self.new.trail.vars ≡ self.old.trail.vars }
+        ensures chosen { self.new.chosen ≡ self.old.chosen }
         ensures preferred { self.new.preferred ≡ self.old.preferred }
+        ensures form_len { self.new.form_len ≡ self.old.form_len }
+        ensures model { self.new.model ≡ self.old.model }
     {
         while self.known < log.len() {
             let clause = Clause::new(self.alloc, log.clause(self.known))?;
@@ -55,13 +108,99 @@ impl Engine {
         Ok(())
     }
 
+    /// One step of the search: propagates, and then learns, decides, or answers.
+    fn advance(
+        &mut self,
+        assume: &[Lit],
+        log: &mut Log,
+        budget: &mut Budget,
+    ) -> Result<Option<Verdict>, NoMemory>
+        requires under_way { IsUnderWay self.old log.old assume.now }
+        requires assume { IsWithin self.old.trail.vars assume.now }
+        requires distinct { IsTrue (has_distinct_variables assume.now) }
+        requires small { length assume.now ≤ 2 ^ 32 }
+        requires room { self.old.form_len + length log.old + budget.old + 1 < 2 ^ 32 }
+        requires some { 0 < budget.old }
+        ensures ready { IsReady self.new log.new }
+        ensures keeps { Keeps self.old self.new }
+        ensures grows { Grows (form_of self.old) log.old log.new budget.old budget.new (closings_at result) }
+        ensures gives { IfOk result (StepGives self.old self.new log.new assume.now budget.old budget.new) }
+    {
+        match self.trail.propagate() {
+            Some(conflict) => self.meet(assume, log, budget, conflict),
+            None => self.extend(assume, log),
+        }
+    }
+
+    /// Meets a conflict: learns from it, or derives the empty clause where nothing is decided.
+    fn meet(
+        &mut self,
+        assume: &[Lit],
+        log: &mut Log,
+        budget: &mut Budget,
+        conflict: u32,
+    ) -> Result<Option<Verdict>, NoMemory>
+        requires under_way { IsUnderWay self.old log.old assume.now }
+        requires room { self.old.form_len + length log.old + budget.old + 1 < 2 ^ 32 }
+        requires some { 0 < budget.old }
+        requires number { IsNumber self.old.trail.clauses conflict }
+        requires conflict { IsFalsified (values_of self.old.trail.entries) (numbered self.old.trail.clauses conflict) }
+        ensures ready { IsReady self.new log.new }
+        ensures keeps { Keeps self.old self.new }
+        ensures grows { Grows (form_of self.old) log.old log.new budget.old budget.new (closings_at result) }
+        ensures gives { IfOk result (StepGives self.old self.new log.new assume.now budget.old budget.new) }
+    {
+        if self.trail.level() == 0 {
+            self.close(log, conflict)?;
+            return Ok(Some(Verdict::Closed {
+                step: log.len() as u32,
+            }));
+        }
+        self.learn(log, budget, conflict)?;
+        if budget.left() == 0 {
+            return Ok(Some(Verdict::Spent));
+        }
+        Ok(None)
+    }
+
+    /// Goes on where all clauses rest: decides a literal, or answers.
+    fn extend(&mut self, assume: &[Lit], log: &mut Log) -> Result<Option<Verdict>, NoMemory>
+        requires under_way { IsUnderWay self.old log.old assume.now }
+        requires assume { IsWithin self.old.trail.vars assume.now }
+        requires distinct { IsTrue (has_distinct_variables assume.now) }
+        requires small { length assume.now ≤ 2 ^ 32 }
+        requires room { self.old.form_len + length log.old + 1 < 2 ^ 32 }
+        requires rest { AllRest self.old.trail.clauses (values_of self.old.trail.entries) }
+        ensures ready { IsReady self.new log.new }
+        ensures keeps { Keeps self.old self.new }
+        ensures grows { Grows (form_of self.old) log.old log.new 0 0 (closings_at result) }
+        ensures gives { IfOk result (ExtendGives self.old self.new log.new assume.now) }
+    {
+        match self.next(assume) {
+            Choice::Decide(place, l) => {
+                self.decide(place, l)?;
+                Ok(None)
+            }
+            Choice::Refuted(l) => {
+                self.contradict(log, l)?;
+                Ok(Some(Verdict::Closed {
+                    step: log.len() as u32,
+                }))
+            }
+            Choice::Complete => {
+                keep(&mut self.model, &self.trail);
+                Ok(Some(Verdict::Model))
+            }
+        }
+    }
+
     /// What is decided next, under these assumptions.
     fn next(&self, assume: &[Lit]) -> Choice
         requires fit { IsFit self.now }
         requires chosen { AreChosen self.now.trail assume.now self.now.preferred.items self.now.chosen.items }
         requires assume { IsWithin self.now.trail.vars assume.now }
         requires preferred { All (λ v. (1 ≤ v) × (v ≤ self.now.trail.vars)) self.now.preferred.items }
-        requires small { length assume.now + length self.now.preferred.items < 2 ^ 32 }
+        requires small { length assume.now + length self.now.preferred.items < 2 ^ 63 }
         ensures { ChoiceGives self.now.trail assume.now self.now.preferred.items result }
     {
         let count = self.chosen.len();
@@ -84,6 +223,8 @@ impl Engine {
         ensures chosen { OnOk result (self.new.chosen.items ≡ self.old.chosen.items ++ place ∷ []) }
         ensures known { self.new.known ≡ self.old.known }
         ensures preferred { self.new.preferred ≡ self.old.preferred }
+        ensures form_len { self.new.form_len ≡ self.old.form_len }
+        ensures model { self.new.model ≡ self.old.model }
         ensures err { OnErr result (self.new.trail ≡ self.old.trail) }
     {
         self.chosen.push(place)?;
@@ -105,6 +246,10 @@ impl Engine {
         ensures ok { OnOk result (Learned self.old self.new log.old log.new) }
         ensures taken { OnOk result (budget.new + 1 ≡ budget.old) }
         ensures err { OnErr result (KeptLog self.old self.new log.old log.new budget.old budget.new) }
+        ensures vars { self.new.trail.vars ≡ self.old.trail.vars }
+        ensures preferred { self.new.preferred ≡ self.old.preferred }
+        ensures form_len { self.new.form_len ≡ self.old.form_len }
+        ensures model { self.new.model ≡ self.old.model }
     {
         let learned = self.analysis.learn(&self.trail, conflict);
         if learned.is_err() {
@@ -121,5 +266,69 @@ impl Engine {
         self.trail.add_clause(&clause)?;
         self.known += 1;
         Ok(())
+    }
+
+    /// Derives a clause from one that is false, and writes its step. After `NoMemory` the log is as it was.
+    fn close(&mut self, log: &mut Log, conflict: u32) -> Result<(), NoMemory>
+        requires fit { IsFit self.old }
+        requires number { IsNumber self.old.trail.clauses conflict }
+        requires conflict { IsFalsified (values_of self.old.trail.entries) (numbered self.old.trail.clauses conflict) }
+        ensures fit { IsFit self.new }
+        ensures trail { self.new.trail ≡ self.old.trail }
+        ensures known { self.new.known ≡ self.old.known }
+        ensures preferred { self.new.preferred ≡ self.old.preferred }
+        ensures form_len { self.new.form_len ≡ self.old.form_len }
+        ensures model { self.new.model ≡ self.old.model }
+        ensures ok { OnOk result (DerivesStep self.old.trail [] log.old log.new) }
+        ensures err { OnErr result (log.new ≡ log.old) }
+    {
+        let closed = self.analysis.close(&self.trail, conflict);
+        if closed.is_err() {
+            self.analysis.reset();
+            return closed;
+        }
+        let recorded = self.analysis.record(self.alloc, log, StepKind::Derived);
+        self.analysis.reset();
+        recorded?;
+        Ok(())
+    }
+
+    /// Derives a clause of a false literal's opposite and of opposites of decisions, and writes its step. After
+    /// `NoMemory` the log is as it was.
+    fn contradict(&mut self, log: &mut Log, l: Lit) -> Result<(), NoMemory>
+        requires fit { IsFit self.old }
+        requires variable { IsVariable self.old.trail.vars l.var }
+        requires falsified { IsFalseIn (values_of self.old.trail.entries) l }
+        requires reason { IsSome (reason_in self.old.trail.entries l.var) }
+        ensures fit { IsFit self.new }
+        ensures trail { self.new.trail ≡ self.old.trail }
+        ensures known { self.new.known ≡ self.old.known }
+        ensures preferred { self.new.preferred ≡ self.old.preferred }
+        ensures form_len { self.new.form_len ≡ self.old.form_len }
+        ensures model { self.new.model ≡ self.old.model }
+        ensures ok { OnOk result (DerivesStep self.old.trail (opposite l ∷ []) log.old log.new) }
+        ensures err { OnErr result (log.new ≡ log.old) }
+    {
+        let reason = self.trail.reason(l.var).unwrap();
+        let contradicted = self.analysis.contradict(&self.trail, l.opposite(), reason);
+        if contradicted.is_err() {
+            self.analysis.reset();
+            return contradicted;
+        }
+        let recorded = self.analysis.record(self.alloc, log, StepKind::Derived);
+        self.analysis.reset();
+        recorded?;
+        Ok(())
+    }
+}
+
+/// Keeps the values of a trail's variables, where they have one.
+fn keep(model: &mut Vec<bool>, trail: &Trail)
+    requires trail { IsTrail trail.now }
+    requires size { length model.old.items ≡ trail.now.vars }
+    ensures { IsModelOf trail.now model.new.items }
+{
+    for place in 0..model.len() {
+        model[place] = trail.value(place as u32 + 1).unwrap_or(false);
     }
 }

@@ -22,7 +22,7 @@ pub(crate) fn choose(trail: &Trail, assume: &[Lit], preferred: &[u32], from: usi
     requires trail { IsTrail trail.now }
     requires assume { IsWithin trail.now.vars assume.now }
     requires preferred { All (λ v. (1 ≤ v) × (v ≤ trail.now.vars)) preferred.now }
-    requires small { length assume.now + length preferred.now < 2 ^ 32 }
+    requires small { length assume.now + length preferred.now < 2 ^ 63 }
     requires passed { PassedTo trail.now assume.now preferred.now from }
     ensures { ChoiceGives trail.now assume.now preferred.now result }
 {
@@ -41,7 +41,7 @@ pub(crate) fn choose(trail: &Trail, assume: &[Lit], preferred: &[u32], from: usi
 /// The literal at a place of the order of decisions: the assumptions, the preferred variables, each true, and all
 /// variables, each false.
 fn item(assume: &[Lit], preferred: &[u32], place: usize) -> Lit
-    requires small { length assume.now + length preferred.now < 2 ^ 32 }
+    requires small { length assume.now + length preferred.now < 2 ^ 63 }
     requires place { place + 1 < length assume.now + length preferred.now + 2 ^ 32 }
     ensures { result ≡ choice_at assume.now preferred.now place }
 {

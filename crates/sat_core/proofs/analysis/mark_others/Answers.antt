@@ -1,4 +1,4 @@
-use Rattle.std.proofs.Common.{◌≡◌, sym, refl, inl, false}
+use Rattle.std.proofs.Common.{refl, inl, false}
 use Rattle.clause_base.specs.declared.literal.Lit.{Lit}
 use Rattle.trail_core.proofs.Looks.{variable_at}
 use Rattle.sat_core.proofs.Marks.{MarksOthers-kept_at, MarksOthers-more_at}

@@ -1,8 +1,6 @@
 use Rattle.std.proofs.Common.{◌∙◌, ap, sym, Some}
 use Rattle.clause_base.specs.Literal.{has}
-use Rattle.sat_core.proofs.Chosen.{AreChosen-back}
-use Rattle.sat_core.proofs.Greatest.{false_in_rivals}
-use Rattle.sat_core.proofs.OrderLemmas.{choice_variable, PassedTo-more, passed_value, contrary_member, beq_same}
+use Rattle.sat_core.proofs.OrderLemmas.{contrary_member, beq_same}
 use Rattle.sat_core.proofs.order.choose.Goals as goal
 
 pub returns-in-Some : goal.returns-in-Some

@@ -1,6 +1,5 @@
 use Rattle.std.proofs.Common.{◌≤◌, arith}
 use Rattle.sat_core.proofs.Resolving.{place_left}
-use Rattle.sat_core.proofs.Learning.{only_present}
 use Rattle.sat_core.proofs.analysis.Analysis.descend.Goals as goal
 
 pub overflow_sub-place : goal.overflow_sub-place

@@ -1,8 +1,5 @@
-use Rattle.std.proofs.Common.{◌≡◌, ◌∙◌, ◌++◌, ◌∷◌, [], sym, subst, ap}
-use Rattle.clause_base.specs.Literal.{opposite}
-use Rattle.clause_base.specs.Acceptance.{numbered}
+use Rattle.std.proofs.Common.{◌∙◌, ◌++◌, ◌∷◌, [], sym, subst, ap}
 use Rattle.sat_core.specs.Derivation.{MarksOthers, Tracks}
-use Rattle.sat_core.proofs.FreshLemmas.{Learns-fresh}
 use Rattle.sat_core.proofs.Learning.{Tracks-clean, Resolved-start, Learns-from}
 use Rattle.sat_core.proofs.analysis.Analysis.learn.Goals as goal
 

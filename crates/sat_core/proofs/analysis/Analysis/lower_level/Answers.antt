@@ -1,6 +1,6 @@
-use Rattle.std.proofs.Common.{◌≡◌, ◌∙◌, ◌-◌, take, max, ap, false}
+use Rattle.std.proofs.Common.{◌∙◌, ◌-◌, take, max, ap, false}
 use Rattle.clause_base.specs.declared.literal.Lit.{Lit}
-use Rattle.sat_core.proofs.BackLevel.{IsGreatest, IsGreatest-more, ord_max_is, whole_lower, greatest_below, greatest_may}
+use Rattle.sat_core.proofs.BackLevel.{IsGreatest-more, ord_max_is, whole_lower, greatest_below, greatest_may}
 use Rattle.sat_core.proofs.analysis.Analysis.lower_level.Goals as goal
 
 abbrev none : Lit

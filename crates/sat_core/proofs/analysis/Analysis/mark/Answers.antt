@@ -1,9 +1,7 @@
-use Rattle.std.proofs.Common.{◌≡◌, ◌∙◌, ◌-◌, ◌+◌, ◌<◌, ◌^◌, arith, true, set, sym, subst, ap}
+use Rattle.std.proofs.Common.{◌∙◌, ◌-◌, ◌+◌, ◌<◌, ◌^◌, arith, true, set, sym, subst}
 use Rattle.sat_core.specs.declared.analysis.Analysis.{Analysis}
 use Rattle.sat_core.specs.Derivation.{Tracks}
 use Rattle.sat_core.proofs.Tracking.{Tracks-present, Tracks-pushed, present_fits, is_present-false, level_yes, level_no}
-use Rattle.sat_core.proofs.Sets.{Derives-done}
-use Rattle.sat_core.proofs.Resolving.{reason_before}
 use Rattle.sat_core.proofs.analysis.Analysis.mark.Goals as goal
 use Rattle.sat_core.proofs.analysis.Analysis.mark.Goals.{then-eq, else-eq+in_ok-push}
 

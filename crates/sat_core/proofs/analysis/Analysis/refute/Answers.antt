@@ -1,6 +1,5 @@
 use Rattle.std.proofs.Common.{◌≡◌, ◌∙◌, ◌+◌, ◌-◌, subst, arith}
 use Rattle.sat_core.specs.Derivation.{Refutes}
-use Rattle.sat_core.proofs.Greatest.{false_in_rivals}
 use Rattle.sat_core.proofs.Refuting.{Refutes-step}
 use Rattle.sat_core.proofs.analysis.Analysis.refute.Goals as goal
 

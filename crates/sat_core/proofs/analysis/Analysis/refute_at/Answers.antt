@@ -1,5 +1,4 @@
-use Rattle.std.proofs.Common.{◌≡◌, ◌∙◌, ◌-◌, false, set, sym, subst}
-use Rattle.clause_base.specs.declared.literal.Lit.{Lit}
+use Rattle.std.proofs.Common.{◌∙◌, ◌-◌, false, set, sym, subst}
 use Rattle.sat_core.specs.Derivation.{MarksOthers}
 use Rattle.sat_core.proofs.Resolving.{place_lit, reason_forces}
 use Rattle.sat_core.proofs.Refuting.{RefutesAt-decided, RefutesAt-replaced}

@@ -1,4 +1,4 @@
-use Rattle.std.proofs.Common.{◌≡◌, ◌∙◌, ◌-◌, ◌++◌, ◌∷◌, [], not, false, set, sym, subst, ap}
+use Rattle.std.proofs.Common.{◌∙◌, ◌-◌, not, false, set, sym, subst, ap}
 use Rattle.std.proofs.lemmas.Result.{on_ok_weaker}
 use Rattle.clause_base.specs.Acceptance.{numbered}
 use Rattle.trail_core.specs.Values.{IsVariable}

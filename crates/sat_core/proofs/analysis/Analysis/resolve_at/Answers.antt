@@ -1,4 +1,4 @@
-use Rattle.std.proofs.Common.{◌≡◌, ◌∙◌, get_or, sym, subst, ap, false}
+use Rattle.std.proofs.Common.{◌∙◌, sym, subst, ap}
 use Rattle.clause_base.specs.declared.literal.Lit.{Lit}
 use Rattle.clause_base.specs.Acceptance.{numbered}
 use Rattle.sat_core.specs.Derivation.{marked, Replaces}

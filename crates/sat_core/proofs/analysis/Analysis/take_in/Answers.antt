@@ -1,11 +1,8 @@
-use Rattle.std.proofs.Common.{◌≡◌, ◌∙◌, ◌+◌, true, false, get_or, take, sym, subst, ap, inl, inr, not}
-use Rattle.std.proofs.lemmas.Bool.{not-true, not-false}
+use Rattle.std.proofs.Common.{◌∙◌, false, get_or, sym, subst, inl, inr}
 use Rattle.clause_base.specs.declared.literal.Lit.{Lit}
 use Rattle.trail_core.specs.Values.{IsVariable}
 use Rattle.trail_core.proofs.Looks.{has_at, variable_at}
-use Rattle.sat_core.specs.declared.analysis.Analysis.{Analysis}
-use Rattle.sat_core.specs.Derivation.{Tracks, MarksOthers}
-use Rattle.sat_core.proofs.TakingIn.{TakesIn, TakesIn-none, TakesIn-kept, TakesIn-more}
+use Rattle.sat_core.proofs.TakingIn.{TakesIn-kept, TakesIn-more}
 use Rattle.sat_core.proofs.analysis.Analysis.take_in.Goals as goal
 use Rattle.sat_core.proofs.analysis.Analysis.take_in.Goals.{then-l-skip+then-not-is_marked+in_ok-mark, else-l-skip, else-l-skip-via-then-l-skip+else-not-is_marked, else-l-skip-via-else-l-skip}
 

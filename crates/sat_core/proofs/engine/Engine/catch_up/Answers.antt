@@ -1,5 +1,5 @@
 use Rattle.std.proofs.Common.{arith}
-use Rattle.sat_core.proofs.EngineLemmas.{step_within, KeepsPace-more}
+use Rattle.sat_core.proofs.EngineLemmas.{step_within}
 use Rattle.sat_core.proofs.engine.Engine.catch_up.Goals as goal
 
 pub add_clause-requires-clause-within : goal.add_clause-requires-clause-within

@@ -11,7 +11,10 @@ invariant-loop-self l = record {
   count : length l.self.trail.clauses + l.fn.self.known ≡ length l.fn.self.trail.clauses + l.self.known;
   entries : l.self.trail.entries ≡ l.fn.self.trail.entries;
   vars : l.self.trail.vars ≡ l.fn.self.trail.vars;
+  chosen : l.self.chosen ≡ l.fn.self.chosen;
   preferred : l.self.preferred ≡ l.fn.self.preferred;
+  form_len : l.self.form_len ≡ l.fn.self.form_len;
+  model : l.self.model ≡ l.fn.self.model;
 }
 
 abbrev pub decreases-loop-self : goal.decreases-loop-self

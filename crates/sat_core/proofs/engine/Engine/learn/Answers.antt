@@ -1,6 +1,6 @@
-use Rattle.std.proofs.Common.{◌≡◌, ◌∙◌, ◌++◌, ◌∷◌, [], refl, sym, subst, ap}
+use Rattle.std.proofs.Common.{◌∙◌, refl, sym, ap}
 use Rattle.trail_core.specs.TrailState.{TrailState}
-use Rattle.sat_core.specs.Engines.{LearnsStep, KeptLog, step}
+use Rattle.sat_core.specs.Engines.{step}
 use Rattle.sat_core.proofs.EngineLemmas.{LearnsStep-from, on_ok_at, on_err_from, may_add, trail_after}
 use Rattle.sat_core.proofs.engine.Engine.learn.Goals as goal
 

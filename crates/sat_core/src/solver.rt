@@ -1,0 +1,121 @@
+ghost use Rattle.std.specs.Prelude.{◌≡◌, ◌+◌, ◌^◌, ◌<◌, ◌≤◌, length, IsTrue, IfOk, OnOk, OnErr, All, []};
+ghost use Rattle.clause_base.specs.Literal.{IsWithin, AreWithin, has_distinct_variables};
+ghost use Rattle.trail_core.specs.TrailState.{IsTrail};
+
+use crate::analysis::Analysis;
+use crate::budget::Budget;
+use crate::engine::Engine;
+use crate::verdict::Verdict;
+use clause_base::{Clause, Form, Lit, Log, StepKind};
+use loc_base::NoMemory;
+use std::alloc::Global;
+use std::marker::Model;
+use trail_core::Trail;
+
+/// A clause solver under assumptions, which writes each step into a log.
+///
+/// Contracts see it as its variables, its form, the variables that it prefers true, its log, and its last model.
+#[derive(Drop)]
+pub struct Solver {
+    engine: Engine,
+    log: Log,
+}
+
+impl Model for Solver {
+    ghost use Rattle.sat_core.specs.SolverState.{SolverState};
+    ghost use Rattle.sat_core.specs.Searching.{state_of, IsReady};
+
+    ghost Value = { SolverState };
+
+    ghost view = { λ s. state_of s.engine s.log };
+
+    ghost invariant = { λ s. IsReady s.engine s.log };
+}
+
+impl Solver {
+    ghost use Rattle.sat_core.specs.SolverState.{IsSolver};
+    ghost use Rattle.sat_core.specs.Outcome.{Searches, Says, closings};
+    ghost use Rattle.sat_core.specs.Calls.{Begins, with_block};
+
+    /// A solver of a form, with an empty log. Of the preferred variables, which are to be true where they can be, the
+    /// first counts most.
+    pub fn new(alloc: Global, form: &Form, preferred: &[u32]) -> Result<Solver, NoMemory>
+        requires within { AreWithin form.now.vars form.now.clauses }
+        requires room { length form.now.clauses < 2 ^ 32 }
+        requires preferred { All (λ v. (1 ≤ v) × (v ≤ form.now.vars)) preferred.now }
+        requires few { length preferred.now < 2 ^ 32 }
+        ensures begins { IfOk result (Begins form.now.vars form.now.clauses preferred.now) }
+        ensures solver { IfOk result IsSolver }
+    {
+        let engine = Engine {
+            alloc,
+            trail: trail_of(alloc, form)?,
+            analysis: Analysis::new(alloc, form.vars)?,
+            preferred: preferred.to_vec(alloc)?,
+            chosen: Vec::new(alloc),
+            form_len: form.clauses.len(),
+            known: 0,
+            model: vec![in alloc; false; form.vars as usize]?,
+        };
+        Ok(Solver {
+            engine,
+            log: Log::new(alloc),
+        })
+    }
+
+    /// Appends a `Block` step. Unchanged after `NoMemory`.
+    pub fn add_block(&mut self, block: &Clause) -> Result<(), NoMemory>
+        requires within { IsWithin self.old.vars block.now }
+        ensures ok { OnOk result (self.new ≡ with_block self.old block.now) }
+        ensures err { OnErr result (self.new ≡ self.old) }
+        ensures solver { IsSolver self.new }
+    {
+        self.log.push(StepKind::Block, block.literals(), &[])
+    }
+
+    /// Searches for the model of form, log and assumptions that makes the preferred variables true as far as they can
+    /// be, or for a clause of negated assumptions, while units are left. After `NoMemory` the log has grown by accepted
+    /// steps only, and it may be called again. The clauses of the form, the steps of the log and the units together
+    /// are to be numbers of 32 bits.
+    pub fn solve(&mut self, assume: &[Lit], budget: &mut Budget) -> Result<Verdict, NoMemory>
+        requires within { IsWithin self.old.vars assume.now }
+        requires distinct { IsTrue (has_distinct_variables assume.now) }
+        requires room { length self.old.form + length self.old.log + budget.old + 1 < 2 ^ 32 }
+        ensures searches { Searches self.old self.new budget.old budget.new (closings result) }
+        ensures solver { IsSolver self.new }
+        ensures says { IfOk result (Says self.new assume.now budget.new) }
+    {
+        self.engine.search(assume, &mut self.log, budget)
+    }
+
+    /// The values of the variables from 1 on in the last model; all are false before the first.
+    pub fn model(&self) -> &[bool]
+        ensures value { result.now ≡ self.now.model }
+        ensures size { length self.now.model ≡ self.now.vars }
+    {
+        self.engine.model.as_slice()
+    }
+
+    /// The steps so far.
+    pub fn log(&self) -> &Log
+        ensures value { result.now ≡ self.now.log }
+        ensures solver { IsSolver self.now }
+    {
+        &self.log
+    }
+}
+
+/// A trail with the clauses of a form.
+fn trail_of(alloc: Global, form: &Form) -> Result<Trail, NoMemory>
+    requires within { AreWithin form.now.vars form.now.clauses }
+    requires room { length form.now.clauses < 2 ^ 32 }
+    ensures state { IfOk result (λ t. t ≡ record { vars = form.now.vars; clauses = form.now.clauses; entries = []; level = 0 }) }
+    ensures trail { IfOk result IsTrail }
+{
+    let mut trail = Trail::new(alloc, form.vars)?;
+    for place in 0..form.clauses.len() {
+        let clause = Clause::new(alloc, form.clauses.clause(place))?;
+        trail.add_clause(&clause)?;
+    }
+    Ok(trail)
+}
