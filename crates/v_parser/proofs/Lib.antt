@@ -1,0 +1,10 @@
+pub mod Marks
+pub mod ListSteps
+pub mod LeftSteps
+pub mod StatementSteps
+pub mod Laws
+pub mod NameLaws
+pub mod StatementLaws
+pub mod InitialSteps
+pub mod InitialLaws
+pub mod PublicLemmas

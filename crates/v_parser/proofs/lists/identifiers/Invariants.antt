@@ -1,0 +1,12 @@
+use Rattle.std.proofs.Common.{◌≡◌, ◌-◌, ◌≤◌, length}
+use Rattle.v_parser.specs.Reading.{identifier_at, list_at, more_at}
+use Rattle.v_parser.proofs.ListSteps.{with_front}
+use Rattle.v_parser.proofs.lists.identifiers.Given as goal
+
+abbrev pub invariant-loop : goal.invariant-loop
+invariant-loop l =
+    let part = identifier_at l.tokens in
+    record {
+      inside : l.end-2 ≤ length l.tokens;
+      goes_on : list_at l.tokens part l.at ≡ with_front (λ x. x) l.list.items (more_at l.tokens part (l.end - l.counter) l.end-2);
+    }

@@ -1,0 +1,11 @@
+pub mod Tree
+pub mod Productions
+pub mod Reading
+pub mod Seen
+pub mod StatementTree
+pub mod Statements
+pub mod StatementReading
+pub mod StatementSeen
+pub mod Initials
+pub mod InitialReading
+pub mod Answers
