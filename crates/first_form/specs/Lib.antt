@@ -1,6 +1,5 @@
 pub mod Circles
 pub mod Combinational
-pub mod Dump
 pub mod Formula
 pub mod Meaning
 pub mod Names

@@ -21,3 +21,4 @@ mod walk;
 pub use design::{FirstDesign, design_of};
 pub use error::FormErr;
 pub use netlist::{Assignment, Direction, Formula, Netlist, Operator, Port};
+pub use numbers::{Numbers, find, numbered};
