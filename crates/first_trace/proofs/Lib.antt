@@ -1,0 +1,14 @@
+pub mod Fits
+pub mod HeaderLaws
+pub mod LevelLaws
+pub mod Lists
+pub mod MachineSteps
+pub mod OneTrace
+pub mod Readable
+pub mod StampLaws
+pub mod Standing
+pub mod TableLaws
+pub mod TimeSteps
+pub mod TraceLaws
+pub mod WholeLaws
+pub mod WordSteps

@@ -1,0 +1,5 @@
+pub mod Dump
+pub mod Machine
+pub mod Same
+pub mod Sight
+pub mod Words
