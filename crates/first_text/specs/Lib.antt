@@ -1,0 +1,4 @@
+pub mod Answers
+pub mod Formulas
+pub mod ModuleText
+pub mod Seen
