@@ -12,3 +12,13 @@ pub mod Sampling
 pub mod Settling
 pub mod Expected
 pub mod Trying
+pub mod Rowing
+pub mod Explaining
+pub mod Grouping
+pub mod Working
+pub mod Readings
+pub mod Networks
+pub mod Inclusion
+pub mod Searching
+pub mod FirstDesigns
+pub mod Fitting

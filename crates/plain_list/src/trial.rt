@@ -35,7 +35,7 @@ fn choose(d: &Design, places: &[u32], numbers: &mut [u128], next: usize, number:
 /// Tries every choice of numbers for the places from `next` on, the others being as they are, until one makes the
 /// outputs as expected.
 #[tactic(auto, using(crate::proofs::Trying::try_rules))]
-fn try_values(
+pub(crate) fn try_values(
     d: &Design,
     order: &[u32],
     samples: &[Bits],
