@@ -1,0 +1,9 @@
+pub mod Ready
+pub mod SameModule
+pub mod AlikeDesigns
+pub mod Refusing
+pub mod ShownSets
+pub mod Ended
+pub mod Outcomes
+pub mod Statuses
+pub mod InOrder

@@ -1,0 +1,11 @@
+pub mod Words
+pub mod Asked
+pub mod Views
+pub mod Lines
+pub mod Report
+pub mod Means
+pub mod Inputs
+pub mod Listed
+pub mod Outcome
+pub mod Ends
+pub mod Statuses

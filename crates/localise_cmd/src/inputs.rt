@@ -1,0 +1,197 @@
+//! Reading the texts: the design and the trace that they mean.
+ghost use Rattle.std.specs.Prelude.{◌≡◌, ◌≤◌, true, Err, IfOk, IfErr, MatchResult, length, ◌≢◌};
+ghost use Rattle.v_lexer.specs.declared.types.refusal.LexErr.TheVariants as lex;
+ghost use Rattle.v_lexer.specs.Tokens.{HasTokens};
+ghost use Rattle.design_core.specs.declared.design.Design.{Design as SomeDesign};
+ghost use Rattle.first_form.specs.declared.error.FormErr.TheVariants.{Form};
+ghost use Rattle.design_core.specs.TraceFits.{IsTraceOf};
+ghost use Rattle.first_trace.specs.Dump.{IsTraceText};
+ghost use Rattle.plain_list.specs.Network.{IsNetwork};
+ghost use Rattle.localise_cmd.specs.declared.refusal.Refusal.TheVariants as refusal;
+ghost use Rattle.localise_cmd.specs.Means.{Causes, IsDesignText, IsModuleDesign, Means, MeansDesign, MeansTrace, most_assigns, most_bytes};
+ghost use Rattle.localise_cmd.specs.Views.{asked_of};
+ghost use Rattle.localise_cmd.specs.Inputs.{AreAlike, ArePorts, AreRead, DesignCause, Loads, ReadCause, TokensCause, TraceCause};
+
+use crate::refusal::{Input, Refusal};
+use crate::request::Request;
+use design_core::{Design, Trace};
+use first_form::{FirstDesign, FormErr, design_of};
+use first_text::netlist_of;
+use first_trace::read_trace;
+use io_ports::{LoadErr, Shelf};
+use loc_base::{Bytes, Name};
+use plain_list::laws::is_network;
+use std::alloc::Global;
+use v_lexer::types::{LexErr, Token, Tokens};
+use v_lexer::{few_tokens, one_outcome, tokens};
+
+/// The most bytes that a text may have.
+const MOST_BYTES: u64 = 1_073_741_824;
+
+/// The most assignments that are tried.
+const MOST_ASSIGNS: usize = 16;
+
+/// What the texts mean.
+#[derive(Debug, Drop)]
+pub struct Inputs {
+    pub first: FirstDesign,
+    pub trace: Trace,
+}
+
+/// The text under a name.
+fn load<S: Shelf>(alloc: Global, shelf: &mut S, name: &str, input: Input) -> Result<Bytes, Refusal>
+    ensures tells { S.tells shelf.new ≡ S.tells shelf.old }
+    ensures texts { S.texts shelf.new ≡ S.texts shelf.old }
+    ensures written { S.written shelf.new ≡ S.written shelf.old }
+    ensures text { S.tells shelf.old ≡ true → Loads (S.texts shelf.old name.now) input result }
+    ensures limit { IfOk result (λ text. length text ≤ most_bytes) }
+    ensures cause { MatchResult result (λ _. S.faults shelf.new ≡ S.faults shelf.old) (ReadCause (S.faults shelf.old) (S.faults shelf.new)) }
+{
+    match shelf.load(alloc, name, MOST_BYTES) {
+        Ok(text) => Ok(text),
+        Err(LoadErr::TooBig) => Err(Refusal::Size(input)),
+        Err(LoadErr::Failed) => Err(Refusal::ReadFault(input)),
+        Err(LoadErr::NoMemory) => Err(Refusal::NoMemory),
+    }
+}
+
+/// Why a text has no tokens.
+fn refusal_of(fault: LexErr) -> Refusal
+    ensures none { fault ≡ lex.NoMemory → result ≡ refusal.NoMemory }
+    ensures some { fault ≢ lex.NoMemory → result ≡ refusal.Lexical fault }
+{
+    match fault {
+        LexErr::NoMemory => Refusal::NoMemory,
+        fault => Refusal::Lexical(fault),
+    }
+}
+
+/// The tokens of a text.
+fn read_tokens(alloc: Global, text: &[u8]) -> Result<Tokens, Refusal>
+    ensures read { IfOk result (HasTokens text.now) }
+    ensures count { IfOk result (λ tokens. length tokens ≤ 2000000) }
+    ensures refused { IfErr result (TokensCause text.now) }
+{
+    few_tokens();
+    match tokens(alloc, text) {
+        Ok(tokens) => Ok(tokens),
+        Err(fault) => Err(refusal_of(fault)),
+    }
+}
+
+/// The design that tokens mean.
+#[tactic(auto, using(crate::proofs::Ready::ready_rules, crate::proofs::SameModule::module_rules))]
+fn read_module(alloc: Global, tokens: &[Token], top: &Name) -> Result<FirstDesign, FormErr>
+    requires count { length tokens.now ≤ 2000000 }
+    ensures meaning { IfOk result (λ first. IsModuleDesign tokens.now top.now first.design) }
+    ensures alike { IfOk result (λ first. (d : SomeDesign) → IsModuleDesign tokens.now top.now d → AreAlike d first.design) }
+    ensures none { result ≡ Err Form → (d : SomeDesign) → ¬ IsModuleDesign tokens.now top.now d }
+    ensures network { IfOk result (λ first. IsNetwork first.design first.order) }
+    ensures ports { IfOk result (λ first. ArePorts first.design) }
+{
+    let netlist = netlist_of(alloc, tokens)?;
+    let first = design_of(alloc, &netlist, top)?;
+    is_network(&first.design, first.order.as_slice());
+    Ok(first)
+}
+
+/// The design that a text means, with an order of its drivers, where it has no more assignments than are tried.
+#[tactic(auto, using(crate::proofs::Refusing::design_rules))]
+fn read_design(alloc: Global, text: &[u8], top: &Name) -> Result<FirstDesign, Refusal>
+    ensures meaning { IfOk result (λ first. IsDesignText text.now top.now first.design) }
+    ensures alike { IfOk result (λ first. (d : SomeDesign) → IsDesignText text.now top.now d → AreAlike d first.design) }
+    ensures few { IfOk result (λ first. length first.design.places.items ≤ most_assigns) }
+    ensures network { IfOk result (λ first. IsNetwork first.design first.order) }
+    ensures ports { IfOk result (λ first. ArePorts first.design) }
+    ensures refused { IfErr result (DesignCause text.now top.now) }
+{
+    let tokens = read_tokens(alloc, text)?;
+    one_outcome();
+    match read_module(alloc, tokens.as_slice(), top) {
+        Err(FormErr::Form) => Err(Refusal::Form(Input::Design)),
+        Err(FormErr::NoMemory) => Err(Refusal::NoMemory),
+        Ok(first) => {
+            if first.design.places.len() > MOST_ASSIGNS {
+                return Err(Refusal::Assigns);
+            }
+            Ok(first)
+        }
+    }
+}
+
+/// The trace that a text means for a design.
+fn read_dump(alloc: Global, text: &[u8], design: &Design) -> Result<Trace, Refusal>
+    requires { ArePorts design.now }
+    ensures meaning { IfOk result (λ trace. IsTraceText text.now design.now trace) }
+    ensures fits { IfOk result (λ trace. IsTraceOf design.now trace) }
+    ensures refused { IfErr result (TraceCause text.now design.now) }
+{
+    match read_trace(alloc, design, text) {
+        Ok(trace) => Ok(trace),
+        Err(FormErr::Form) => Err(Refusal::Form(Input::Trace)),
+        Err(FormErr::NoMemory) => Err(Refusal::NoMemory),
+    }
+}
+
+/// The design of the text under its name.
+#[tactic(auto, using(crate::proofs::Refusing::load_rules))]
+fn load_design<S: Shelf>(
+    alloc: Global,
+    request: &Request,
+    shelf: &mut S,
+) -> Result<FirstDesign, Refusal>
+    ensures tells { S.tells shelf.new ≡ S.tells shelf.old }
+    ensures texts { S.texts shelf.new ≡ S.texts shelf.old }
+    ensures written { S.written shelf.new ≡ S.written shelf.old }
+    ensures cause { MatchResult result (λ _. S.faults shelf.new ≡ S.faults shelf.old) (ReadCause (S.faults shelf.old) (S.faults shelf.new)) }
+    ensures meaning { S.tells shelf.old ≡ true → IfOk result (λ first. MeansDesign (asked_of request.now) (S.texts shelf.old) first.design) }
+    ensures alike { S.tells shelf.old ≡ true → IfOk result (λ first. (d : SomeDesign) → MeansDesign (asked_of request.now) (S.texts shelf.old) d → AreAlike d first.design) }
+    ensures refused { S.tells shelf.old ≡ true → IfErr result (Causes (asked_of request.now) (S.texts shelf.old)) }
+    ensures few { IfOk result (λ first. length first.design.places.items ≤ most_assigns) }
+    ensures network { IfOk result (λ first. IsNetwork first.design first.order) }
+    ensures ports { IfOk result (λ first. ArePorts first.design) }
+{
+    let text = load(alloc, shelf, request.design.as_str(), Input::Design)?;
+    read_design(alloc, text.as_slice(), &request.top)
+}
+
+/// The trace of the text under its name.
+#[tactic(auto, using(crate::proofs::Refusing::load_rules))]
+fn load_trace<S: Shelf>(
+    alloc: Global,
+    request: &Request,
+    design: &Design,
+    shelf: &mut S,
+) -> Result<Trace, Refusal>
+    requires { ArePorts design.now }
+    ensures tells { S.tells shelf.new ≡ S.tells shelf.old }
+    ensures texts { S.texts shelf.new ≡ S.texts shelf.old }
+    ensures written { S.written shelf.new ≡ S.written shelf.old }
+    ensures cause { MatchResult result (λ _. S.faults shelf.new ≡ S.faults shelf.old) (ReadCause (S.faults shelf.old) (S.faults shelf.new)) }
+    ensures meaning { S.tells shelf.old ≡ true → IfOk result (λ trace. MeansTrace (asked_of request.now) (S.texts shelf.old) design.now trace) }
+    ensures refused { S.tells shelf.old ≡ true → MeansDesign (asked_of request.now) (S.texts shelf.old) design.now
+        → ((d : SomeDesign) → MeansDesign (asked_of request.now) (S.texts shelf.old) d → AreAlike d design.now) → IfErr result (Causes (asked_of request.now) (S.texts shelf.old)) }
+    ensures fits { IfOk result (λ trace. IsTraceOf design.now trace) }
+{
+    let text = load(alloc, shelf, request.trace.as_str(), Input::Trace)?;
+    read_dump(alloc, text.as_slice(), design)
+}
+
+/// The design and the trace that the texts mean.
+pub fn load_inputs<S: Shelf>(
+    alloc: Global,
+    request: &Request,
+    shelf: &mut S,
+) -> Result<Inputs, Refusal>
+    ensures tells { S.tells shelf.new ≡ S.tells shelf.old }
+    ensures texts { S.texts shelf.new ≡ S.texts shelf.old }
+    ensures written { S.written shelf.new ≡ S.written shelf.old }
+    ensures cause { MatchResult result (λ _. S.faults shelf.new ≡ S.faults shelf.old) (ReadCause (S.faults shelf.old) (S.faults shelf.new)) }
+    ensures meaning { S.tells shelf.old ≡ true → IfOk result (λ inputs. Means (asked_of request.now) (S.texts shelf.old) inputs.first.design inputs.trace) }
+    ensures refused { S.tells shelf.old ≡ true → IfErr result (Causes (asked_of request.now) (S.texts shelf.old)) }
+    ensures read { IfOk result (λ inputs. AreRead inputs.first.design inputs.first.order inputs.trace) }
+{
+    let first = load_design(alloc, request, shelf)?;
+    let trace = load_trace(alloc, request, &first.design, shelf)?;
+    Ok(Inputs { first, trace })
+}
