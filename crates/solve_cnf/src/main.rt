@@ -1,0 +1,102 @@
+//! `solve_cnf [BUDGET] [--times]`: solves a formula in DIMACS CNF from standard input, checks the log of the solver, and
+//! tells what came of it.
+#![tactic(auto)]
+
+ghost use Rattle.std.specs.Prelude.{◌<◌, ◌^◌, IfOk};
+
+mod error;
+mod form;
+mod model;
+mod report;
+mod request;
+mod run;
+#[cfg(test)]
+mod tests;
+mod words;
+
+use crate::error::{Failure, failure_status, failure_text};
+use crate::form::read_form;
+use crate::report::{report_text, status_of};
+use crate::request::{Request, request_of};
+use crate::run::{check, report_on, solve};
+use loc_base::Bytes;
+use std::io::Read;
+use std::process::ExitCode;
+use std::time::{Duration, Instant};
+use std::{env, str};
+
+/// What the words behind the program's name ask for.
+fn read_request(rt: &HostRuntime) -> Result<Request, Failure>
+    ensures { IfOk result (λ request. request.units < 2 ^ 31) }
+{
+    let Ok(mut words) = env::args(rt) else {
+        return Err(Failure::Usage);
+    };
+    let _name = words.next();
+    let mut rest = Vec::new(rt.alloc());
+    for word in words {
+        rest.push(word)?;
+    }
+    request_of(&rest).ok_or(Failure::Usage)
+}
+
+/// What standard input holds.
+fn read_input(rt: &HostRuntime) -> Result<Vec<u8>, Failure> {
+    let mut bytes = Vec::new(rt.alloc());
+    match rt.reader().read_to_end(&mut bytes) {
+        Ok(_) => Ok(bytes),
+        Err(_) => Err(Failure::Input),
+    }
+}
+
+/// Prints a text.
+fn print_text(rt: &HostRuntime, text: &Bytes) -> Result<(), Failure> {
+    let Ok(text) = str::from_utf8(text.as_slice()) else {
+        return Err(Failure::Output);
+    };
+    rt.print(text)?;
+    Ok(())
+}
+
+/// `NAME MS`, on standard error.
+fn print_time(rt: &HostRuntime, name: &str, time: Duration) -> Result<(), Failure> {
+    let micros = time.as_micros();
+    let whole = micros / 1000;
+    let rest = micros % 1000;
+    eprintln!(rt; "{name} {whole}.{rest:03}")?;
+    Ok(())
+}
+
+/// Solves, checks, prints, and gives the exit status.
+fn answer(rt: &HostRuntime) -> Result<u8, Failure> {
+    let alloc = rt.alloc();
+    let request = read_request(rt)?;
+    let input = read_input(rt)?;
+    let form = read_form(alloc, &input)?;
+    let begin = Instant::now(rt)?;
+    let solved = solve(alloc, &form, request.units)?;
+    let middle = Instant::now(rt)?;
+    let checked = check(alloc, &form, solved.solver.log())?;
+    let end = Instant::now(rt)?;
+    let report = report_on(&form, &solved, request.units, checked);
+    let text = report_text(alloc, &report)?;
+    print_text(rt, &text)?;
+    if request.times {
+        print_time(rt, "solve", middle.duration_since(begin))?;
+        print_time(rt, "check", end.duration_since(middle))?;
+    }
+    Ok(status_of(&report))
+}
+
+fn main(rt: HostRuntime) -> ExitCode {
+    match answer(&rt) {
+        Ok(status) => ExitCode::from(status),
+        Err(failure) => {
+            let told = failure_text(rt.alloc(), failure);
+            if let Ok(text) = told {
+                let _printed = rt.print(text);
+            }
+            ExitCode::from(failure_status(failure))
+        }
+    }
+}
