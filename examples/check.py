@@ -1,0 +1,141 @@
+#!/usr/bin/env python3
+"""Runs the built program on each example and compares what it prints with expected.txt, and both with a list that this
+script makes by itself: it reads the design and the dump in its own way and tries every set of assignments with every
+choice of values.
+
+    examples/check.py [PROGRAM]
+
+PROGRAM is crates/localise/out/localise where it isn't given. The last line is `N examples right`; the status is 1 where
+one isn't.
+"""
+
+import itertools
+import os
+import re
+import subprocess
+import sys
+import tempfile
+
+HERE = os.path.dirname(os.path.abspath(__file__))
+BUILT = os.path.join(HERE, "..", "crates", "localise", "out", "localise")
+EXAMPLES = ["voter", "full_adder", "multiplexer"]
+SIZE = 2
+
+
+def read_design(path):
+    """The inputs, the outputs, and each assignment: its line, its net and its right side as compiled Python."""
+    inputs, outputs, assigns = [], [], []
+    with open(path) as text:
+        for line, words in enumerate((row.split("//")[0] for row in text), 1):
+            inputs += re.findall(r"\binput (\w+)", words)
+            outputs += re.findall(r"\boutput (\w+)", words)
+            for net, right in re.findall(r"\bassign (\w+) = ([^;]*);", words):
+                assigns.append((line, net, compile(right, path, "eval")))
+    return inputs, outputs, assigns
+
+
+def read_dump(path):
+    """The levels of the variables at each stamp, by name."""
+    with open(path) as text:
+        header, body = text.read().split("$enddefinitions $end")
+    names = dict(re.findall(r"\$var wire 1 (\S+) (\S+) \$end", header))
+    cycles, now = [], {}
+    for word in body.split():
+        if word[0] == "#":
+            now = dict(now)
+            cycles.append(now)
+        else:
+            now[names[word[1:]]] = word[0]
+    return cycles
+
+
+def settle(inputs, assigns, cycle, freed):
+    """The level of each net, some assignments (by number, from 1) having values of their own. The assignments are
+    carried out again and again until nothing changes, in no order."""
+    nets = {name: int(cycle[name]) for name in inputs}
+    nets.update({net: 0 for _, net, _ in assigns})
+    while True:
+        before = dict(nets)
+        for number, (_, net, right) in enumerate(assigns, 1):
+            nets[net] = freed[number] if number in freed else eval(right, {}, nets) & 1
+        if nets == before:
+            return nets
+
+
+def is_right(inputs, outputs, assigns, cycle, freed):
+    nets = settle(inputs, assigns, cycle, freed)
+    return all(cycle.get(name, "x") == "x" or int(cycle[name]) == nets[name] for name in outputs)
+
+
+def works(inputs, outputs, assigns, cycles, members):
+    choices = [dict(zip(members, values)) for values in itertools.product((0, 1), repeat=len(members))]
+    return all(any(is_right(inputs, outputs, assigns, cycle, freed) for freed in choices) for cycle in cycles)
+
+
+def minimal_sets(inputs, outputs, assigns, cycles):
+    found = []
+    for size in range(SIZE + 1):
+        for members in itertools.combinations(range(1, len(assigns) + 1), size):
+            if not any(set(less) <= set(members) for less in found) and works(inputs, outputs, assigns, cycles, members):
+                found.append(members)
+    return found
+
+
+def lines_of(found, assigns, module):
+    lines = []
+    for members in found:
+        lines.append("set {%s}" % ",".join(map(str, members)))
+        lines += ["  %d stmt %d %s" % (number, assigns[number - 1][0], module) for number in members]
+    return "".join(line + "\n" for line in lines + ["complete %d" % len(found)])
+
+
+def report_is_right(text, found, inputs, outputs, assigns, cycles):
+    """Each set has a line for each cycle, whose values make the cycle right."""
+    rows = [row.split() for row in text.splitlines()]
+    heads = [[str(number), "1", str(cycle)] for number in range(1, len(found) + 1) for cycle in range(len(cycles))]
+    if [row[:3] for row in rows] != heads:
+        return False
+    for row in rows:
+        freed = dict(zip(found[int(row[0]) - 1], map(int, row[3:])))
+        if not is_right(inputs, outputs, assigns, cycles[int(row[2])], freed):
+            return False
+    return True
+
+
+def check(program, name):
+    folder = os.path.join(HERE, name)
+    design, dump = os.path.join(folder, name + ".v"), os.path.join(folder, name + ".vcd")
+    with open(os.path.join(folder, "expected.txt")) as text:
+        expected = text.read()
+    with tempfile.TemporaryDirectory() as scratch:
+        report = os.path.join(scratch, "report")
+        run = subprocess.run([program, "find", design, name, dump, "--report", report], capture_output=True, text=True)
+        with open(report) as text:
+            values = text.read()
+    inputs, outputs, assigns = read_design(design)
+    cycles = read_dump(dump)
+    found = minimal_sets(inputs, outputs, assigns, cycles)
+    faults = []
+    if run.returncode != 0:
+        faults.append("status %d" % run.returncode)
+    if run.stdout != expected:
+        faults.append("printed other lines than expected.txt")
+    if lines_of(found, assigns, name) != expected:
+        faults.append("expected.txt isn't the list by trial")
+    if not report_is_right(values, found, inputs, outputs, assigns, cycles):
+        faults.append("the report's values don't make each cycle right")
+    print("%s: %s" % (name, ", ".join(faults) or "%d sets, %d cycles, right" % (len(found), len(cycles))))
+    return not faults
+
+
+def main():
+    program = os.path.abspath(sys.argv[1] if len(sys.argv) > 1 else BUILT)
+    if not os.path.exists(program):
+        sys.exit("no program at %s; build it first" % program)
+    rights = [check(program, name) for name in EXAMPLES]
+    print("%d examples right" % sum(rights))
+    sys.exit(0 if all(rights) else 1)
+
+
+if __name__ == "__main__":
+    main()
