@@ -1,13 +1,13 @@
 -- Selects of their own: what reading finds, and that it looks no farther than the token behind them.
-use Rattle.std.proofs.Common.{◌≡◌, ℕ, ◌+◌, ◌∙◌, List, Ok, ap, sym, subst}
+use Rattle.std.proofs.Common.{◌≡◌, ℕ, ◌+◌, ◌<◌, ◌≤◌, ◌∙◌, List, length, Ok, ap, sym, subst}
 use Rattle.v_lexer.specs.Lexeme.{Lexeme}
-use Rattle.v_tree.specs.Tree.{Tree, Selection, Selections}
-use Rattle.v_tree.specs.Reading.{Reader, Readers, readers, below, select_at, selects_at}
+use Rattle.v_tree.specs.Tree.{Selection, Selections}
+use Rattle.v_tree.specs.Reading.{Readers, readers, below, select_at, selects_at}
 use Rattle.v_tree.specs.declared.mark.Mark.TheVariants as marks
 use Rattle.v_tree.specs.Marks.{mark_at}
 use Rattle.v_tree.proofs.StepLemmas.{below_less}
-use Rattle.v_tree.proofs.SoundLemmas.{Sound, SoundReader, SoundSelect, SoundSelects, sound_readers, select-sound, selects-sound}
-use Rattle.v_tree.proofs.SteadyLemmas.{SteadyReader, SteadyUnder, SelectsClaim, steady_readers, st_selects, below_moves}
+use Rattle.v_tree.proofs.SoundLemmas.{SoundReader, SoundSelect, SoundSelects, sound_readers, select-sound, selects-sound}
+use Rattle.v_tree.proofs.SteadyLemmas.{SteadyReader, SteadyUnder, SelectsClaim, Steady, steady_readers, st_select, st_selects, below_moves}
 
 sound_within : (t : List Lexeme) (d n : ℕ) → n + 1 ≡ d → SoundReader t n (below t d).whole
 sound_within t d n e room a x b is =
@@ -28,3 +28,7 @@ steady_within base t u d n e =
 
 pub steady_selects : (base : ℕ) (t u : List Lexeme) (d room n : ℕ) → SelectsClaim base t u d (below t d).whole (below u d).whole room n
 steady_selects base t u d room n = st_selects base t u d (below t d).whole (below u d).whole (steady_within base t u d) (below_moves t d) room n
+
+pub steady_select : (base : ℕ) (t u : List Lexeme) (d room a : ℕ) → a < length t → mark_at t a ≡ marks.OpenBracket → base + 256 ≤ a + d → base + 4096 ≤ a + room
+    → Steady base t u a (select_at t d (below t d).whole room a) (select_at u d (below u d).whole room a)
+steady_select base t u d room a h m deep far = st_select base t u d (below t d).whole (below u d).whole (steady_within base t u d) (below_moves t d) room a h m deep far
