@@ -1,39 +1,35 @@
 -- The readers of initial blocks read what their productions have.
-use Rattle.std.proofs.Common.{◌≡◌, ◌≢◌, ℕ, zero, suc, ◌+◌, ◌<◌, ◌≤◌, ◌⊎◌, inl, inr, Bool, true, false, if◌then◌else◌, List, [], ◌∷◌, length, Some, None, Option, Ok, Err, sym, ap, ◌∙◌, subst, refl, arith}
+use Rattle.std.proofs.Common.{◌≡◌, ◌≢◌, ℕ, zero, suc, ◌+◌, ◌≤◌, inl, inr, Bool, true, if◌then◌else◌, List, [], ◌∷◌, length, None, Err, sym, ap, ◌∙◌, subst, refl, arith}
 use Rattle.v_lexer.specs.Lexeme.{Lexeme}
 use Rattle.v_tree.specs.declared.mark.Mark.{Mark}
 use Rattle.v_tree.specs.declared.mark.Mark.TheVariants as marks
-use Rattle.v_tree.specs.declared.fault.Fault.{Fault}
 use Rattle.v_tree.specs.declared.fault.Fault.TheVariants.{Unsupported, Deep}
-use Rattle.v_tree.specs.declared.declaration.Identifier.{Identifier}
 use Rattle.v_tree.specs.declared.statement.AssignKind.TheVariants.{Blocking}
 use Rattle.v_tree.specs.Marks.{mark_at, same}
 use Rattle.v_tree.specs.Sites.{site}
 use Rattle.v_tree.specs.Tree.{no_select}
-use Rattle.v_tree.specs.Faults.{Begins}
-use Rattle.v_tree.specs.Reading.{Read, ◌>>=◌, expect, lower}
-use Rattle.v_tree.proofs.MarkLemmas.{same_true, same_of}
-use Rattle.v_tree.proofs.BindLemmas.{good, bad, bad_good, if-inv, true_false}
+use Rattle.v_tree.specs.Reading.{Read}
+use Rattle.v_tree.proofs.BindLemmas.{bad, bad_good, if-inv, true_false}
 use Rattle.v_tree.proofs.SoundLemmas.{not_mark}
 use Rattle.v_tree.proofs.CompleteLemmas.{else_of, apart_of}
-use Rattle.v_tree.proofs.SteadyLemmas.{Steady, st_look, st_if, mark_kept, site_kept}
+use Rattle.v_tree.proofs.SteadyLemmas.{Steady, st_look, st_if, site_kept}
 use Rattle.v_parser.specs.Tree.{name_left}
 use Rattle.v_parser.specs.Reading.{optional_at, run_at, name_at, value_at}
 use Rattle.v_parser.specs.Productions.{IsOptional, AreRun, IsName, IsValue}
-use Rattle.v_parser.specs.StatementTree.{PlainStatement, block, assignment, statements_of}
+use Rattle.v_parser.specs.StatementTree.{block, assignment, statements_of}
 use Rattle.v_parser.specs.Statements.{Nested, IsLabel}
 use Rattle.v_parser.specs.StatementReading.{Inner, label_at, body_at, close_block_at}
 use Rattle.v_parser.specs.Initials.{IsInitialBlock, IsInitialAssign, is_left_out, IsInitialWith, IsInitial}
 use Rattle.v_parser.specs.InitialReading.{unless_at, initial_value_at, initial_right_at, initial_equals_at, initial_assign_at, initial_block_at, initial_with, initial_at}
-use Rattle.v_parser.proofs.Laws.{Start, Law, LawFrom, Taking, TakingFrom, law_as, law_bind, law_expect, law_found, law_node, law_run, taking_open, taking_bind, taking_or, Tells, tells_one}
-use Rattle.v_parser.proofs.NameLaws.{law_name, taking_name, law_value}
+use Rattle.v_parser.proofs.Laws.{Start, Law, Taking, TakingFrom, law_bind, law_expect, law_found, law_node, law_run, taking_open, taking_bind, taking_or, Tells, tells_one}
+use Rattle.v_parser.proofs.NameLaws.{taking_name, law_value}
 use Rattle.v_parser.proofs.StatementLaws.{Within, law_label_if}
 
-left_out_steady : {A : Type 0} (base : ℕ) (t u : List Lexeme) (a : ℕ) → a ≤ length t → Steady {A = A} base t u a (bad (Unsupported a)) (bad (Unsupported a))
+pub left_out_steady : {A : Type 0} (base : ℕ) (t u : List Lexeme) (a : ℕ) → a ≤ length t → Steady {A = A} base t u a (bad (Unsupported a)) (bad (Unsupported a))
 left_out_steady base t u a h = record { ahead = (omega arith, h, record { refused = λ _. refl; deep = λ e. absurd (true_false (sym e)) }); same_read = λ b. refl }
 
 -- what is read where no token of that mark stands
-law_unless : {A : Type 0} (base : ℕ) (t u : List Lexeme) (a : ℕ) → a ≤ length t → (m : Mark) (o p : Read A) (P : A → ℕ → Type 0) → (mark_at t a ≢ m → Law base t u a o p P)
+pub law_unless : {A : Type 0} (base : ℕ) (t u : List Lexeme) (a : ℕ) → a ≤ length t → (m : Mark) (o p : Read A) (P : A → ℕ → Type 0) → (mark_at t a ≢ m → Law base t u a o p P)
     → Law base t u a (unless_at t m a o) (unless_at u m a p) (λ x b. (mark_at t a ≢ m) × P x b)
 law_unless base t u a inside m o p P k = record {
   sound = λ x b e. elim (if-inv (same (mark_at t a) m) _ _ _ e) [

@@ -1,23 +1,22 @@
 -- What a reader's steps read: exactly what a production has, and that it looks no farther than the token behind it, or at the
 -- one that it names.
-use Rattle.std.proofs.Common.{◌≡◌, ◌≢◌, ℕ, zero, suc, ◌+◌, ◌-◌, ◌<◌, ◌≤◌, ◌⊎◌, inl, inr, Bool, true, false, if◌then◌else◌, List, [], ◌∷◌, length, Some, None, Option, Ok, Err, sym, ap, ◌∙◌, subst, refl, arith}
+use Rattle.std.proofs.Common.{◌≡◌, ◌≢◌, ℕ, zero, suc, ◌+◌, ◌-◌, ◌<◌, ◌≤◌, ◌⊎◌, inl, inr, Bool, true, false, if◌then◌else◌, List, [], ◌∷◌, length, Some, None, Option, sym, ap, ◌∙◌, subst, refl, arith}
 use Rattle.std.proofs.Common.{slice_get}
 use Rattle.std.proofs.lemmas.Option.{slice_get_cases, slice_get_within}
 use Rattle.v_lexer.specs.Lexeme.{Lexeme}
 use Rattle.v_tree.specs.declared.site.Site.{Site}
 use Rattle.v_tree.specs.declared.mark.Mark.{Mark}
 use Rattle.v_tree.specs.declared.mark.Mark.TheVariants as marks
-use Rattle.v_tree.specs.declared.fault.Fault.{Fault}
 use Rattle.v_tree.specs.Marks.{mark_at, same}
-use Rattle.v_tree.specs.Sites.{site, text_at}
+use Rattle.v_tree.specs.Sites.{site}
 use Rattle.v_tree.specs.Faults.{no_place, Begins}
 use Rattle.v_tree.specs.Reading.{Read, ◌>>=◌, expect, lower}
 use Rattle.v_tree.proofs.MarkLemmas.{same_true, same_of}
 use Rattle.v_tree.proofs.PlaceLemmas.{marked_inside, past_nothing}
 use Rattle.v_tree.proofs.BindLemmas.{good, bad, bad_good, ok-one, bind-inv, if-inv, lower-inv, expect-inv, expect-of, true_false}
 use Rattle.v_tree.proofs.SoundLemmas.{not_mark}
-use Rattle.v_tree.proofs.CompleteLemmas.{step, then_of, else_of, is_false, apart_of, lower-of}
-use Rattle.v_tree.proofs.SteadyLemmas.{Steady, Ahead, reach, reach_more, from_before, st_bind, st_ok, st_no_place, st_expect, st_lower, st_look, st_if, not_by, mark_kept, site_kept, text_kept, begins_less}
+use Rattle.v_tree.proofs.CompleteLemmas.{step, then_of, else_of, apart_of, lower-of}
+use Rattle.v_tree.proofs.SteadyLemmas.{Steady, Ahead, reach, reach_more, from_before, st_bind, st_ok, st_no_place, st_expect, st_lower, st_look, st_if, not_by, mark_kept, site_kept}
 use Rattle.v_parser.specs.Reading.{optional_at, more_at, list_at, run_at}
 use Rattle.v_parser.specs.Productions.{IsOptional, AreMore, AreListed, AreRun}
 
@@ -492,3 +491,19 @@ pub law_run : {S A : Type 0} (base : ℕ) (t u : List Lexeme) (d : ℕ) (last : 
     → ((s : S) → TakingFrom base t u d (r s) (q s) (P s)) → (s : S) (a : ℕ) → 1 ≤ a → Start base t d a
     → Law base t u a (run_at t last r next (length t) s a) (run_at u last q next (length u) s a) (λ xs b. AreRun t last P next s xs a b)
 law_run base t u d last some r q next P items s a behind st = law_run_by base t u d last some r q next P items (length t) (length u) s a (omega (arith, behind)) (omega (arith, behind)) st
+
+-- a choice by the kind of the token at a, which each alternative tells
+pub taking_kind : {K A : Type 0} (base : ℕ) (t u : List Lexeme) (a : ℕ) (kind : Mark → K) (f g : K → Read A) (P : K → A → ℕ → Type 0) (Q : A → ℕ → Type 0)
+    → ((k : K) → kind (mark_at t a) ≡ k → Taking base t u a (f k) (g k) (P k))
+    → ((k : K) (x : A) (b : ℕ) → P k x b → Q x b) → ((x : A) (b : ℕ) → Q x b → P (kind (mark_at t a)) x b)
+    → Taking base t u a (f (kind (mark_at t a))) (g (kind (mark_at u a))) Q
+taking_kind base t u a kind f g P Q by to from =
+    let here = by (kind (mark_at t a)) refl in
+    record {
+      law = record {
+        sound = λ x b e. to (kind (mark_at t a)) x b (here.law.sound x b e);
+        complete = λ x b q. here.law.complete x b (from x b q);
+        steady = st_look base t u a (λ m. f (kind m)) (λ m. g (kind m)) (λ m is. (by (kind m) (ap kind is)).law.steady);
+      };
+      takes = λ x b q. here.takes x b (from x b q);
+    }

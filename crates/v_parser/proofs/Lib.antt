@@ -7,4 +7,16 @@ pub mod NameLaws
 pub mod StatementLaws
 pub mod InitialSteps
 pub mod InitialLaws
+pub mod TypeLaws
+pub mod DeclarationLaws
+pub mod StructureSteps
+pub mod StructureLaws
+pub mod SensitivityLaws
+pub mod ProcedureLaws
+pub mod ItemSteps
+pub mod ItemLaws
+pub mod HeaderLaws
+pub mod ModuleSteps
+pub mod ModuleLaws
 pub mod PublicLemmas
+pub mod FewParts

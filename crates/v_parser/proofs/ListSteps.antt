@@ -1,10 +1,8 @@
 -- The steps of reading a list with commas, as equations.
-use Rattle.std.proofs.Common.{◌≡◌, ◌≢◌, ℕ, zero, suc, ◌+◌, ◌-◌, Bool, true, false, if◌then◌else◌, List, [], ◌∷◌, ◌++◌, length, map, Ok, Err, sym, ap, ◌∙◌, refl, arith}
+use Rattle.std.proofs.Common.{◌≡◌, ◌≢◌, ℕ, zero, suc, ◌+◌, ◌-◌, true, false, if◌then◌else◌, List, [], ◌∷◌, ◌++◌, length, map, Ok, Err, sym, ap, ◌∙◌, refl, arith}
 use Rattle.v_lexer.specs.Lexeme.{Lexeme}
 use Rattle.v_tree.specs.declared.mark.Mark.TheVariants as marks
 use Rattle.v_tree.specs.declared.fault.Fault.{Fault}
-use Rattle.v_tree.specs.declared.fault.Stop.{Stop}
-use Rattle.v_tree.specs.declared.fault.Stop.TheVariants as stop
 use Rattle.v_tree.specs.Marks.{mark_at, same}
 use Rattle.v_tree.specs.declared.mark.Mark.{Mark}
 use Rattle.v_tree.specs.Faults.{no_place}
@@ -25,11 +23,11 @@ append_assoc : {A : Type 0} (xs : List A) (y : A) (zs : List A) → (xs ++ y ∷
 append_assoc [] y zs = refl
 append_assoc (x ∷ xs) y zs = ap (λ r. x ∷ r) (append_assoc xs y zs)
 
-append_none : {A : Type 0} (xs : List A) → xs ++ [] ≡ xs
+pub append_none : {A : Type 0} (xs : List A) → xs ++ [] ≡ xs
 append_none [] = refl
 append_none (x ∷ xs) = ap (λ r. x ∷ r) (append_none xs)
 
-front_one : {X A : Type 0} (view : X → A) (xs : List X) (y : X) (r : Read (List A)) → with_front view xs (r >>= λ zs. good (view y ∷ zs.0, zs.1)) ≡ with_front view (xs ++ y ∷ []) r
+pub front_one : {X A : Type 0} (view : X → A) (xs : List X) (y : X) (r : Read (List A)) → with_front view xs (r >>= λ zs. good (view y ∷ zs.0, zs.1)) ≡ with_front view (xs ++ y ∷ []) r
 front_one view xs y (Err g) = refl
 front_one {X} {A} view xs y (Ok zs) =
     let lists : map view xs ++ view y ∷ zs.0 ≡ map view (xs ++ y ∷ []) ++ zs.0 =

@@ -1,27 +1,23 @@
 -- The readers of names, ranges, delays and left sides read what their productions have.
-use Rattle.std.proofs.Common.{◌≡◌, ◌≢◌, ℕ, zero, suc, ◌+◌, ◌-◌, ◌<◌, ◌≤◌, ◌⊎◌, inl, inr, Bool, true, false, if◌then◌else◌, List, [], ◌∷◌, length, Some, None, Option, Ok, Err, sym, ap, ap₂, ◌∙◌, subst, refl, arith, lit≤}
+use Rattle.std.proofs.Common.{◌≡◌, ◌≢◌, ℕ, zero, suc, ◌+◌, ◌<◌, ◌≤◌, ◌⊎◌, inl, inr, false, if◌then◌else◌, List, [], ◌∷◌, length, sym, ap₂, ◌∙◌, subst, refl, arith}
 use Rattle.v_lexer.specs.Lexeme.{Lexeme}
-use Rattle.v_tree.specs.declared.site.Site.{Site}
 use Rattle.v_tree.specs.declared.mark.Mark.{Mark}
 use Rattle.v_tree.specs.declared.mark.Mark.TheVariants as marks
-use Rattle.v_tree.specs.declared.fault.Fault.{Fault}
 use Rattle.v_tree.specs.declared.fault.Fault.TheVariants.{Unsupported, Deep}
-use Rattle.v_tree.specs.declared.declaration.Identifier.{Identifier}
 use Rattle.v_tree.specs.Marks.{mark_at, same}
-use Rattle.v_tree.specs.Sites.{site, text_at}
-use Rattle.v_tree.specs.Tree.{Tree, wild, Selections}
-use Rattle.v_tree.specs.Faults.{no_place, Begins}
-use Rattle.v_tree.specs.Reading.{Read, ◌>>=◌, expect, lower, below, selects_at, whole_expression}
-use Rattle.v_tree.specs.Expressions.{IsExpr, IsWild, Ends, Within, IsWhole}
-use Rattle.v_tree.proofs.MarkLemmas.{same_true, same_of}
+use Rattle.v_tree.specs.Sites.{text_at}
+use Rattle.v_tree.specs.Tree.{Tree, wild}
+use Rattle.v_tree.specs.Reading.{Read, below, selects_at, whole_expression}
+use Rattle.v_tree.specs.Expressions.{IsWild, IsWhole}
+use Rattle.v_tree.proofs.MarkLemmas.{same_true}
 use Rattle.v_tree.proofs.BindLemmas.{good, bad, bad_good, if-inv}
 use Rattle.v_tree.proofs.SoundLemmas.{not_mark}
-use Rattle.v_tree.proofs.CompleteLemmas.{then_of, else_of, apart_of, complete_selects}
-use Rattle.v_tree.proofs.SteadyLemmas.{Steady, st_look, st_if, not_by, within_by, text_kept, site_kept, mark_kept}
+use Rattle.v_tree.proofs.CompleteLemmas.{else_of, apart_of, complete_selects}
+use Rattle.v_tree.proofs.SteadyLemmas.{Steady, st_look, st_if, not_by, within_by, text_kept, site_kept}
 use Rattle.v_tree.proofs.SelectLemmas.{selects_found, steady_selects}
 use Rattle.v_tree.proofs.WholeLemmas.{whole_sound, whole_complete, begins_plain, wild_bad, st_whole_expression}
-use Rattle.v_parser.specs.Tree.{PlainRange, PlainDelay, number_delay, name_delay, parens_delay, PlainLeft, name_left, concat_left, lefts_of}
-use Rattle.v_parser.specs.Reading.{name_at, identifier_at, value_at, equals_at, range_at, parens_delay_at, name_delay_at, number_delay_at, behind_hash_at, delay_at, name_left_at, concat_left_at, close_left_at, left_with, left_at, left_below, list_at, named_value_at}
+use Rattle.v_parser.specs.Tree.{number_delay, name_delay, parens_delay, PlainLeft, name_left, concat_left, lefts_of}
+use Rattle.v_parser.specs.Reading.{name_at, identifier_at, value_at, equals_at, range_at, parens_delay_at, name_delay_at, number_delay_at, behind_hash_at, delay_at, name_left_at, concat_left_at, close_left_at, left_with, left_at, list_at, named_value_at}
 use Rattle.v_parser.specs.Productions.{IsName, IsIdentifier, IsValue, IsEquals, IsRange, IsNumberDelay, IsParensDelay, IsNameDelay, IsDelay, AreIndexes, IsNameLeft, IsConcatLeft, IsLeftWith, IsLeft, AreListed, IsNamedValue}
 use Rattle.v_parser.proofs.Laws.{Start, Law, LawFrom, Taking, TakingFrom, later, law_as, law_bind, law_expect, law_open, law_no_place, law_found, law_node, law_choice, law_list, taking_open, taking_token, taking_bind, taking_or, Tells, tells_one, tells_more}
 

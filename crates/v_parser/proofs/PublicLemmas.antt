@@ -1,5 +1,5 @@
 -- What the private reading says of the answers of public readers.
-use Rattle.std.proofs.Common.{◌≡◌, ◌≢◌, ℕ, ◌+◌, ◌≤◌, List, length, Ok, sym, ap, ◌∙◌, subst, refl, arith}
+use Rattle.std.proofs.Common.{◌≡◌, ◌≢◌, ℕ, ◌≤◌, List, length, Ok, sym, ap, ◌∙◌, subst, refl, arith}
 use Rattle.v_lexer.specs.Lexeme.{Lexeme}
 use Rattle.v_tree.specs.declared.fault.Fault.{Fault}
 use Rattle.v_tree.specs.declared.fault.Stop.{Stop}
@@ -7,7 +7,7 @@ use Rattle.v_tree.specs.declared.fault.Stop.TheVariants as stop
 use Rattle.v_tree.specs.declared.fault.ParseErr.TheVariants as error
 use Rattle.v_tree.specs.Faults.{Fails, error_of, fault_place}
 use Rattle.v_tree.specs.Reading.{Read}
-use Rattle.v_tree.proofs.BindLemmas.{good, bad, ok-one, bad_good}
+use Rattle.v_tree.proofs.BindLemmas.{bad, ok-one, bad_good}
 use Rattle.v_tree.proofs.SteadyLemmas.{Steady, told_more}
 use Rattle.v_parser.specs.Statements.{IsStatement}
 use Rattle.v_parser.specs.StatementReading.{statement_at}

@@ -1,35 +1,32 @@
 -- The readers of statements read what their productions have.
-use Rattle.std.proofs.Common.{◌≡◌, ◌≢◌, ℕ, zero, suc, ◌+◌, ◌-◌, ◌<◌, ◌≤◌, ◌⊎◌, inl, inr, Bool, true, false, ◌||◌, if◌then◌else◌, List, [], ◌∷◌, length, Some, None, Option, Ok, Err, sym, ap, ap₂, ◌∙◌, subst, refl, arith, lit≤}
+use Rattle.std.proofs.Common.{◌≡◌, ◌≢◌, ℕ, zero, suc, ◌+◌, ◌<◌, ◌≤◌, inl, inr, Bool, true, false, if◌then◌else◌, List, [], ◌∷◌, length, Ok, Err, sym, ap, ◌∙◌, subst, refl, arith}
 use Rattle.v_lexer.specs.Lexeme.{Lexeme}
-use Rattle.v_tree.specs.declared.site.Site.{Site}
 use Rattle.v_tree.specs.declared.mark.Mark.{Mark}
 use Rattle.v_tree.specs.declared.mark.Mark.TheVariants as marks
-use Rattle.v_tree.specs.declared.fault.Fault.{Fault}
 use Rattle.v_tree.specs.declared.fault.Fault.TheVariants.{Unsupported, Deep}
-use Rattle.v_tree.specs.declared.declaration.Identifier.{Identifier}
 use Rattle.v_tree.specs.declared.statement.AssignKind.{AssignKind}
 use Rattle.v_tree.specs.declared.statement.AssignKind.TheVariants.{Blocking, Nonblocking}
 use Rattle.v_tree.specs.declared.statement.CaseKind.{CaseKind}
 use Rattle.v_tree.specs.declared.statement.CaseKind.TheVariants as kinds
 use Rattle.v_tree.specs.Marks.{mark_at, same}
-use Rattle.v_tree.specs.Sites.{site, text_at}
+use Rattle.v_tree.specs.Sites.{site}
 use Rattle.v_tree.specs.Tree.{Tree, wild}
 use Rattle.v_tree.specs.Faults.{no_place, Begins}
-use Rattle.v_tree.specs.Reading.{Read, ◌>>=◌, expect, lower, whole_expression}
-use Rattle.v_tree.specs.Expressions.{IsExpr, IsWild, IsWhole}
+use Rattle.v_tree.specs.Reading.{Read, ◌>>=◌, whole_expression}
+use Rattle.v_tree.specs.Expressions.{IsWild}
 use Rattle.v_tree.proofs.MarkLemmas.{same_true, same_of}
 use Rattle.v_tree.proofs.BindLemmas.{good, bad, bad_good, if-inv, bind-inv, from_ok, true_false}
 use Rattle.v_tree.proofs.SoundLemmas.{not_mark}
 use Rattle.v_tree.proofs.CompleteLemmas.{step, then_of, else_of, apart_of}
-use Rattle.v_tree.proofs.SteadyLemmas.{Steady, st_look, st_if, st_bind, st_ok, not_by, within_by, text_kept, site_kept, mark_kept}
+use Rattle.v_tree.proofs.SteadyLemmas.{Steady, st_bind, not_by, within_by, site_kept, mark_kept}
 use Rattle.v_tree.proofs.WholeLemmas.{whole_sound, whole_complete, begins_plain, wild_bad, st_whole_expression}
-use Rattle.v_parser.specs.Tree.{PlainDelay, PlainLeft}
-use Rattle.v_parser.specs.Reading.{optional_at, list_at, run_at, identifier_at, value_at, delay_at, left_at, name_left_at}
-use Rattle.v_parser.specs.Productions.{IsOptional, AreListed, AreRun, IsIdentifier, IsValue, IsDelay, IsLeft, IsLeftWith, IsNameLeft, IsConcatLeft}
-use Rattle.v_parser.specs.StatementTree.{PlainHead, PlainStatement, empty, block, delayed, if_then, if_else, choice, loop, assignment, statements_of, PlainCaseItem, labelled, otherwise, case_items_of, is_default}
+use Rattle.v_parser.specs.Tree.{PlainDelay}
+use Rattle.v_parser.specs.Reading.{optional_at, list_at, run_at, identifier_at, value_at, delay_at, left_at}
+use Rattle.v_parser.specs.Productions.{IsOptional, AreListed, AreRun, IsIdentifier, IsValue, IsDelay, IsLeft}
+use Rattle.v_parser.specs.StatementTree.{PlainStatement, empty, block, delayed, if_then, if_else, choice, loop, assignment, statements_of, PlainCaseItem, labelled, otherwise, case_items_of}
 use Rattle.v_parser.specs.Statements.{Nested, IsLabel, IsInParens, IsEmpty, IsBlock, IsDelayed, IsElse, IsIf, may_follow_label, IsCasezLabel, IsCaseLabel, IsLabelled, IsColonIf, IsOtherwise, IsCaseItem, case_word, AreItems, IsCase, IsHead, IsLoop, IsAssignKind, IsAssign, IsStatementWith, IsStatement}
 use Rattle.v_parser.specs.StatementReading.{Inner, label_at, in_parens_at, close_block_at, block_at, delayed_at, else_at, if_at, casez_label_at, case_label_at, labelled_at, colon_at, default_at, case_item_at, has_default, case_items_at, case_at, body_at, head_at, loop_at, assign_kind_at, assign_at, statement_with, statement_at}
-use Rattle.v_parser.proofs.Laws.{ahead_of, Start, Law, LawFrom, Taking, TakingFrom, later, lower_start, law_as, law_bind, law_bind_past, law_expect, law_open_at, law_before, law_no_place, law_found, law_node, law_choice, law_list, law_optional, law_run, taking_open, taking_expect, taking_bind, taking_after, taking_as, taking_or, Tells, tells_one, tells_more, ends_from}
+use Rattle.v_parser.proofs.Laws.{ahead_of, Start, Law, LawFrom, Taking, TakingFrom, later, lower_start, law_as, law_bind, law_bind_past, law_expect, law_open_at, law_before, law_no_place, law_found, law_node, law_choice, law_list, law_optional, law_run, taking_open, taking_expect, taking_bind, taking_after, taking_or, Tells, tells_more}
 use Rattle.v_parser.proofs.NameLaws.{law_identifier, law_value, law_delay, taking_delay_behind, taking_left, left_tells}
 
 law_label : (base : ℕ) (t u : List Lexeme) (d : ℕ) → LawFrom base t u d (label_at t) (label_at u) (IsLabel t)
@@ -120,7 +117,7 @@ law_if base t u d r s P under a st is =
     law_bind base t u n m st3 (r m) (s m) _ _ (λ x b. P x m b) _ (under n low m st3).law (λ x k q2 ge2 st4.
     law_else base t u n r s P (under n low) a c x k (omega (arith, ge, ge2)) st4)))
 
-law_head : (base : ℕ) (t u : List Lexeme) (d : ℕ) → LawFrom base t u d (head_at t d) (head_at u d) (IsHead t d)
+pub law_head : (base : ℕ) (t u : List Lexeme) (d : ℕ) → LawFrom base t u d (head_at t d) (head_at u d) (IsHead t d)
 unfolding head_at
 law_head base t u d a s =
     law_expect base t u d a s marks.Open refl _ _ _ (λ opens st.

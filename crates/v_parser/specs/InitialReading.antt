@@ -1,5 +1,5 @@
 -- How the code reads initial blocks: the function on lists that each reader is. No public clause speaks of it.
-use Rattle.std.specs.Prelude.{ℕ, zero, suc, ◌+◌, List, length, None, Ok, Err, if◌then◌else◌, Bool, true}
+use Rattle.std.specs.Prelude.{ℕ, zero, suc, ◌+◌, List, None, Ok, Err, if◌then◌else◌}
 use Rattle.v_lexer.specs.Lexeme.{Lexeme}
 use Rattle.v_tree.specs.declared.statement.AssignKind.TheVariants.{Blocking}
 use Rattle.v_tree.specs.declared.mark.Mark.{Mark}

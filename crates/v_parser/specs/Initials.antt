@@ -4,7 +4,7 @@ use Rattle.v_lexer.specs.Lexeme.{Lexeme}
 use Rattle.v_tree.specs.declared.declaration.Identifier.{Identifier}
 use Rattle.v_tree.specs.declared.statement.AssignKind.TheVariants.{Blocking}
 use Rattle.v_tree.specs.declared.mark.Mark.{Mark}
-use Rattle.v_tree.specs.declared.mark.Mark.TheVariants.{Nothing, OpenBracket, OpenBrace, Colon, Semicolon, Equals, LessEqual, Hash, Begin, End, If, Case, Casez, For}
+use Rattle.v_tree.specs.declared.mark.Mark.TheVariants.{OpenBracket, OpenBrace, Colon, Semicolon, Equals, LessEqual, Hash, Begin, End, If, Case, Casez, For}
 use Rattle.v_tree.specs.Marks.{mark_at}
 use Rattle.v_tree.specs.Sites.{site}
 use Rattle.v_tree.specs.Tree.{Tree, no_select}

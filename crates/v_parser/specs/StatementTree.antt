@@ -1,5 +1,5 @@
 -- The tree of statements without where it lies in memory, a case for each production (IEEE 1364-2005, clause 9 and A.6).
-use Rattle.std.specs.Prelude.{ℕ, List, [], ◌∷◌, map, Option, Some, None, option_map, Bool, true, false}
+use Rattle.std.specs.Prelude.{List, [], ◌∷◌, map, Option, Some, None, option_map, Bool, true, false}
 use Rattle.v_tree.specs.declared.site.Site.{Site}
 use Rattle.v_tree.specs.declared.declaration.Identifier.{Identifier}
 use Rattle.v_tree.specs.declared.declaration.LoopHead.{LoopHead}

@@ -1,6 +1,6 @@
 -- Statements (IEEE 1364-2005, clause 9 and A.6): which tree the tokens from a place up to another one spell, where nesting of
 -- `depth` is left. Each production stands as its comment, as in Productions.
-use Rattle.std.specs.Prelude.{◌≡◌, ◌≢◌, ℕ, zero, suc, ◌+◌, ◌⊎◌, Bool, true, false, ◌||◌, List, [], ◌∷◌, Option, Some, None}
+use Rattle.std.specs.Prelude.{◌≡◌, ◌≢◌, ℕ, zero, suc, ◌+◌, ◌⊎◌, Bool, true, false, ◌||◌, List, ◌∷◌, Option}
 use Rattle.v_lexer.specs.Lexeme.{Lexeme}
 use Rattle.v_tree.specs.declared.declaration.Identifier.{Identifier}
 use Rattle.v_tree.specs.declared.statement.AssignKind.{AssignKind}

@@ -7,7 +7,7 @@ use Rattle.v_tree.specs.declared.declaration.Delay.{Delay}
 use Rattle.v_tree.specs.declared.declaration.Delay.TheVariants as variant
 use Rattle.v_tree.specs.declared.declaration.Left.{Left, fold-Left}
 use Rattle.v_tree.specs.declared.declaration.Left.TheOpen.{Left-F}
-use Rattle.v_tree.specs.Tree.{Tree, tree_of, Selection, selection_of, Selections, selections_of}
+use Rattle.v_tree.specs.Tree.{Tree, tree_of, selection_of, Selections, selections_of}
 
 -- a range of a declaration
 pub record PlainRange : Type 0 where

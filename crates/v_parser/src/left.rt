@@ -14,7 +14,7 @@ use v_lexer::types::Token;
 use v_tree::{Left, Mark, Select, Site, expect, lower, selects, site_of, stands};
 
 /// Levels for the indexes of a left side or an event, each of which is an expression of its own.
-const INDEX_LEVELS: u32 = 4097;
+pub const INDEX_LEVELS: u32 = 4097;
 
 fn named(site: Site, name: Name, selects: Vec<Select>) -> Left
     ensures { left_of result ≡ name_left site name (selections_of (map selection_of selects.items)) }

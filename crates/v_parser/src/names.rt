@@ -74,7 +74,7 @@ pub fn value_if(alloc: Global, tokens: &[Token], at: usize, depth: u32) -> Read<
 
 /// `'[' expr ':' expr ']'`
 #[tactic(auto, unfolding(crate::specs::Reading::range_at))]
-fn range(alloc: Global, tokens: &[Token], at: usize, depth: u32) -> Read<Range>
+pub fn range(alloc: Global, tokens: &[Token], at: usize, depth: u32) -> Read<Range>
     requires short { length tokens.now < 2 ^ 32 }
     requires inside { at < length tokens.now }
     ensures gives { Gives seen_range result (range_at tokens.now depth at) }

@@ -1,14 +1,17 @@
-ghost use Rattle.std.specs.Prelude.{◌≡◌, ◌≢◌, ℕ, ◌<◌, ◌≤◌, ◌^◌, length, IfOk, IfErr};
+ghost use Rattle.std.specs.Prelude.{◌≡◌, ◌≢◌, ℕ, ◌<◌, ◌≤◌, ◌^◌, List, length, IfOk, IfErr};
 ghost use Rattle.v_tree.specs.declared.fault.ParseErr.TheVariants as error;
 ghost use Rattle.v_parser.specs.StatementTree.{PlainStatement, statement_of};
 ghost use Rattle.v_parser.specs.Statements.{IsStatement};
 ghost use Rattle.v_parser.specs.Initials.{IsInitial};
 ghost use Rattle.v_parser.specs.Answers.{IsAnswer, ShowsFault};
+ghost use Rattle.v_parser.specs.ModuleTree.{PlainModule, source_of};
+ghost use Rattle.v_parser.specs.Modules.{IsSource, IsSourceAnswer, ShowsNoSource};
 
+use crate::modules::modules;
 use crate::{initials, statements};
 use std::alloc::Global;
 use v_lexer::types::Token;
-use v_tree::{ParseErr, Statement, error_of};
+use v_tree::{ParseErr, SourceTree, Statement, error_of};
 
 /// How deep a text may nest.
 const MOST_NESTING: u32 = 256;
@@ -51,6 +54,25 @@ pub fn initial_statement(
 {
     match initials::initial(alloc, tokens, at, MOST_NESTING) {
         Ok(found) => Ok(found),
+        Err(stop) => Err(error_of(tokens, stop)),
+    }
+}
+
+/// The tree of all the tokens (IEEE 1364-2005, A.1): the modules, one behind the other, and none where there is no token.
+/// `Unexpected` comes where no production has a token, `Unsupported` where a token is of a form that is left out, `Deep` where a
+/// part of a module nests deeper than 256 or an expression's tree has more than 4,096 levels; each with the span of that token,
+/// or of the end.
+pub fn source(alloc: Global, tokens: &[Token]) -> Result<SourceTree, ParseErr>
+    requires short { length tokens.now < 2 ^ 32 }
+    // What is read is a source of all the tokens.
+    ensures found { IfOk result (λ tree. IsSource tokens.now (source_of tree)) }
+    // A source of all the tokens is what is read.
+    ensures only { (s : List PlainModule) → IsSource tokens.now s → IsSourceAnswer result s }
+    // Where it refuses, no tokens that begin as these do have one.
+    ensures refused { IfErr result (λ e. e ≢ error.NoMemory → ShowsNoSource tokens.now e) }
+{
+    match modules(alloc, tokens) {
+        Ok((modules, _)) => Ok(SourceTree { modules }),
         Err(stop) => Err(error_of(tokens, stop)),
     }
 }

@@ -1,4 +1,4 @@
-use Rattle.std.proofs.Common.{◌≡◌, ◌∙◌, ap, ap₂, sym, Some}
+use Rattle.std.proofs.Common.{◌∙◌, ap, ap₂, sym, Some}
 use Rattle.v_tree.specs.Tree.{tree_of}
 use Rattle.v_tree.specs.declared.statement.Statement.TheVariants as variant
 use Rattle.v_tree.specs.declared.statement.CaseItem.TheFolds.{fold-roll-Statement}

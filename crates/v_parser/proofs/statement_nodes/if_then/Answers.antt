@@ -1,4 +1,4 @@
-use Rattle.std.proofs.Common.{◌≡◌, ◌∙◌, ap, sym, None}
+use Rattle.std.proofs.Common.{◌∙◌, ap, sym, None}
 use Rattle.v_tree.specs.Tree.{tree_of}
 use Rattle.v_tree.specs.declared.statement.Statement.TheVariants as variant
 use Rattle.v_tree.specs.declared.statement.CaseItem.TheFolds.{fold-roll-Statement}

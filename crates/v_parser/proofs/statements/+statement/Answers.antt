@@ -1,4 +1,4 @@
-use Rattle.std.proofs.Common.{◌≡◌, ◌≢◌, ◌+◌, ◌-◌, ◌≤◌, ◌++◌, ◌∷◌, [], true, false, Bool, ◌||◌, length, Ok, Err, sym, ap, ◌∙◌, arith, rules}
+use Rattle.std.proofs.Common.{◌≡◌, ◌≢◌, ◌+◌, ◌-◌, ◌++◌, ◌∷◌, [], true, false, Bool, ◌||◌, length, Err, sym, ap, ◌∙◌, arith, rules}
 use Rattle.std.proofs.lemmas.Result.{err_from_is_err_and}
 use Rattle.v_tree.specs.declared.mark.Mark.TheVariants as marks
 use Rattle.v_tree.specs.declared.fault.Fault.{Fault}
@@ -7,7 +7,7 @@ use Rattle.v_tree.specs.Faults.{no_place}
 use Rattle.v_tree.proofs.BindLemmas.{bad}
 use Rattle.v_tree.proofs.StepLemmas.{fails_along}
 use Rattle.v_parser.specs.Reading.{run_at}
-use Rattle.v_parser.specs.StatementTree.{PlainStatement, PlainCaseItem, statement_of, case_item_of, is_default}
+use Rattle.v_parser.specs.StatementTree.{statement_of, case_item_of, is_default}
 use Rattle.v_parser.specs.StatementReading.{statement_at, body_at, case_items_at, case_item_at, has_default}
 use Rattle.v_parser.proofs.ListSteps.{with_front, run_turn, run_ends, run_fails, run_done}
 use Rattle.v_parser.proofs.statements.+statement.Goals as goal

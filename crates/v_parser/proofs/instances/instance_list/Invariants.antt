@@ -1,0 +1,14 @@
+use Rattle.std.proofs.Common.{◌≡◌, ◌-◌, ◌≤◌, length}
+use Rattle.v_parser.specs.ItemTree.{instance_of}
+use Rattle.v_parser.specs.Reading.{list_at, more_at}
+use Rattle.v_parser.specs.StructureReading.{instance_at}
+use Rattle.v_parser.proofs.ListSteps.{with_front}
+use Rattle.v_parser.proofs.instances.instance_list.Given as goal
+
+abbrev pub invariant-loop : goal.invariant-loop
+invariant-loop l =
+    let part = instance_at l.tokens l.depth in
+    record {
+      inside : l.end-2 ≤ length l.tokens;
+      goes_on : list_at l.tokens part l.at ≡ with_front instance_of l.list.items (more_at l.tokens part (l.end - l.counter) l.end-2);
+    }

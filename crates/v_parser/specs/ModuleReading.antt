@@ -1,0 +1,25 @@
+-- How the code reads modules: the function on lists that each reader is. No public clause speaks of it.
+use Rattle.std.specs.Prelude.{ℕ, zero, suc, List, [], ◌∷◌, length, Ok, if◌then◌else◌, nat_lt}
+use Rattle.v_lexer.specs.Lexeme.{Lexeme}
+use Rattle.v_tree.specs.declared.mark.Mark.TheVariants as mark
+use Rattle.v_tree.specs.Sites.{site}
+use Rattle.v_tree.specs.Reading.{Read, ◌>>=◌, expect}
+use Rattle.v_parser.specs.ModuleTree.{PlainModule}
+use Rattle.v_parser.specs.Reading.{name_at}
+use Rattle.v_parser.specs.HeaderReading.{header_parameters_at, header_ports_at}
+use Rattle.v_parser.specs.ItemReading.{items_at, item_at}
+
+unfoldable pub module_at : List Lexeme → ℕ → ℕ → Read PlainModule
+module_at tokens depth a =
+    expect tokens mark.Module a >>= λ b. name_at tokens b >>= λ x. header_parameters_at tokens depth x.1 >>= λ ps. header_ports_at tokens depth ps.1 >>= λ qs.
+    expect tokens mark.Semicolon qs.1 >>= λ c. items_at tokens mark.Endmodule (item_at tokens depth) c >>= λ xs.
+    Ok (record { site = site tokens a xs.1; name = x.0; parameters = ps.0; ports = qs.0; items = xs.0 }, xs.1)
+
+-- modules up to the end of the tokens, at most so many
+unfoldable pub modules_at : List Lexeme → ℕ → ℕ → Read (List PlainModule)
+modules_at tokens zero a = Ok ([], a)
+modules_at tokens (suc n) a =
+    if nat_lt a (length tokens) then (module_at tokens 256 a >>= λ x. modules_at tokens n x.1 >>= λ xs. Ok (x.0 ∷ xs.0, xs.1)) else Ok ([], a)
+
+unfoldable pub source_at : List Lexeme → ℕ → Read (List PlainModule)
+source_at tokens a = modules_at tokens (length tokens) a

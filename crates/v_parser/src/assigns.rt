@@ -1,0 +1,75 @@
+//! Continuous assignments (IEEE 1364-2005, 6.1 and A.6.1).
+ghost use Rattle.std.specs.Prelude.{◌≡◌, ◌<◌, ◌≤◌, ◌^◌, length, IfOk};
+ghost use Rattle.v_tree.specs.Faults.{Gives};
+ghost use Rattle.v_parser.specs.Seen.{Inside};
+ghost use Rattle.v_parser.specs.ItemSeen.{seen_item};
+ghost use Rattle.v_parser.specs.Reading.{list_at};
+ghost use Rattle.v_parser.specs.StructureReading.{assignment_at, assigns_at};
+ghost use Rattle.v_parser.specs.StructureSeen.{seen_assignment, seen_assignments};
+
+use crate::left::left;
+use crate::names::{Read, delay_if, value};
+use crate::structure_nodes as nodes;
+use std::alloc::Global;
+use v_lexer::types::Token;
+use v_tree::{Item, Mark, NetAssignment, expect, site_of, stands};
+
+/// `left '=' expr`
+#[tactic(auto, unfolding(crate::specs::StructureReading::assignment_at))]
+fn assignment(alloc: Global, tokens: &[Token], at: usize, depth: u32) -> Read<NetAssignment>
+    requires short { length tokens.now < 2 ^ 32 }
+    requires inside { at ≤ length tokens.now }
+    ensures gives { Gives seen_assignment result (assignment_at tokens.now depth at) }
+    ensures inside { IfOk result (Inside tokens.now) }
+{
+    let (target, equals) = left(alloc, tokens, at, depth)?;
+    let next = expect(tokens, Mark::Equals, equals)?;
+    let (value, end) = value(alloc, tokens, next, depth)?;
+    let site = site_of(tokens, at, end);
+    Ok((
+        NetAssignment {
+            site,
+            target,
+            value,
+        },
+        end,
+    ))
+}
+
+/// `(left '=' expr),+`
+#[tactic(auto, unfolding(crate::specs::Reading::list_at))]
+fn assignments(alloc: Global, tokens: &[Token], at: usize, depth: u32) -> Read<Vec<NetAssignment>>
+    requires short { length tokens.now < 2 ^ 32 }
+    requires inside { at ≤ length tokens.now }
+    ensures gives { Gives seen_assignments result (list_at tokens.now (assignment_at tokens.now depth) at) }
+    ensures inside { IfOk result (Inside tokens.now) }
+{
+    let mut list = Vec::new(alloc);
+    let (first, mut end) = assignment(alloc, tokens, at, depth)?;
+    list.push(first)?;
+    for _ in 0..tokens.len() {
+        if !stands(tokens, end, Mark::Comma) {
+            return Ok((list, end));
+        }
+        let (part, next) = assignment(alloc, tokens, end + 1, depth)?;
+        list.push(part)?;
+        end = next;
+    }
+    Ok((list, end))
+}
+
+/// `'assign' delay? (left '=' expr),+ ';'`
+#[tactic(auto, unfolding(crate::specs::StructureReading::assigns_at))]
+pub fn assigns(alloc: Global, tokens: &[Token], at: usize, depth: u32) -> Read<Item>
+    requires short { length tokens.now < 2 ^ 32 }
+    requires inside { at ≤ length tokens.now }
+    ensures gives { Gives seen_item result (assigns_at tokens.now depth at) }
+    ensures inside { IfOk result (Inside tokens.now) }
+{
+    let next = expect(tokens, Mark::Assign, at)?;
+    let (delay, next) = delay_if(alloc, tokens, next, depth)?;
+    let (list, semicolon) = assignments(alloc, tokens, next, depth)?;
+    let end = expect(tokens, Mark::Semicolon, semicolon)?;
+    let site = site_of(tokens, at, end);
+    Ok((nodes::assigns(site, delay, list), end))
+}

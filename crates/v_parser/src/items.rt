@@ -1,0 +1,174 @@
+//! The items of a module (IEEE 1364-2005, 12.4, A.1.4 and A.4.2).
+ghost use Rattle.std.specs.Prelude.{◌≡◌, ◌≢◌, ◌+◌, ◌<◌, ◌≤◌, ◌^◌, length, IfOk};
+ghost use Rattle.v_tree.specs.Faults.{Gives};
+ghost use Rattle.v_tree.specs.declared.mark.Mark.TheVariants as marks;
+ghost use Rattle.v_parser.specs.Seen.{Inside};
+ghost use Rattle.v_parser.specs.ItemSeen.{seen_item, seen_items};
+ghost use Rattle.v_parser.specs.BlockSeen.{seen_block};
+ghost use Rattle.v_parser.specs.ItemReading.{item_at, item_below, items_at, generate_at, several_at, single_at, block_item_at, loop_item_at, if_item_at, generated_at};
+
+use crate::declarations::declaration;
+use crate::item_kinds::{ItemKind, item_kind};
+use crate::item_nodes as nodes;
+use crate::names::Read;
+use crate::procedures::procedure;
+use crate::statement_parts::{in_parens, label_if, loop_head};
+use crate::structures::structure;
+use std::alloc::Global;
+use v_lexer::types::Token;
+use v_tree::{GenerateBlock, Item, Mark, Stop, expect, lower, mark_at, no_place, site_of, stands};
+
+/// An item, where nesting of `depth` is left to it.
+#[tactic(auto, using(crate::proofs::ItemSteps::item_over), unfolding(crate::specs::ItemReading::item_with))]
+#[cycle(item)]
+pub fn item(alloc: Global, tokens: &[Token], at: usize, depth: u32) -> Read<Item>
+    requires short { length tokens.now < 2 ^ 32 }
+    requires inside { at ≤ length tokens.now }
+    ensures gives { Gives seen_item result (item_at tokens.now depth at) }
+    ensures inside { IfOk result (Inside tokens.now) }
+{
+    match item_kind(mark_at(tokens, at)) {
+        ItemKind::Declaration => declaration(alloc, tokens, at, depth),
+        ItemKind::Structure => structure(alloc, tokens, at, depth),
+        ItemKind::Procedure => procedure(alloc, tokens, at, depth),
+        ItemKind::Generated => generated(alloc, tokens, at, depth),
+        ItemKind::Nothing => Err(Stop::Fault(no_place(tokens, at))),
+    }
+}
+
+/// A generate region, loop or condition.
+#[tactic(auto, unfolding(crate::specs::ItemReading::generated_at))]
+#[cycle(item)]
+fn generated(alloc: Global, tokens: &[Token], at: usize, depth: u32) -> Read<Item>
+    requires short { length tokens.now < 2 ^ 32 }
+    requires inside { at ≤ length tokens.now }
+    ensures gives { Gives seen_item result (generated_at tokens.now depth (item_below tokens.now depth) at) }
+    ensures inside { IfOk result (Inside tokens.now) }
+{
+    if stands(tokens, at, Mark::Generate) {
+        return generate(alloc, tokens, at, depth);
+    }
+    if stands(tokens, at, Mark::For) {
+        return generate_for(alloc, tokens, at, depth);
+    }
+    if stands(tokens, at, Mark::If) {
+        return generate_if(alloc, tokens, at, depth);
+    }
+    Err(Stop::Fault(no_place(tokens, at)))
+}
+
+/// `item*`, and the token that ends them.
+#[tactic(auto, unfolding(crate::specs::ItemReading::items_at))]
+#[cycle(item)]
+pub fn items(alloc: Global, tokens: &[Token], at: usize, depth: u32, last: Mark) -> Read<Vec<Item>>
+    requires short { length tokens.now < 2 ^ 32 }
+    requires inside { at ≤ length tokens.now }
+    requires some { last ≢ marks.Nothing }
+    ensures gives { Gives seen_items result (items_at tokens.now last (item_at tokens.now depth) at) }
+    ensures inside { IfOk result (Inside tokens.now) }
+{
+    let mut list = Vec::new(alloc);
+    let mut end = at;
+    for _ in 0..tokens.len() {
+        if stands(tokens, end, last) {
+            return Ok((list, end + 1));
+        }
+        let (part, next) = item(alloc, tokens, end, depth)?;
+        list.push(part)?;
+        end = next;
+    }
+    Err(Stop::Fault(no_place(tokens, end)))
+}
+
+/// `'generate' item* 'endgenerate'`
+#[tactic(auto, using(crate::proofs::ItemSteps::item_below_less), unfolding(crate::specs::ItemReading::generate_at))]
+#[cycle(item)]
+fn generate(alloc: Global, tokens: &[Token], at: usize, depth: u32) -> Read<Item>
+    requires short { length tokens.now < 2 ^ 32 }
+    requires inside { at < length tokens.now }
+    ensures gives { Gives seen_item result (generate_at tokens.now depth (item_below tokens.now depth) at) }
+    ensures inside { IfOk result (Inside tokens.now) }
+{
+    let depth = lower(depth, at)?;
+    let (items, end) = items(alloc, tokens, at + 1, depth, Mark::Endgenerate)?;
+    Ok((nodes::generate(site_of(tokens, at, end), items), end))
+}
+
+/// `'begin' (':' NAME)? item* 'end'`, which is no nesting of its own.
+#[tactic(auto, unfolding(crate::specs::ItemReading::several_at))]
+#[cycle(item)]
+fn several(alloc: Global, tokens: &[Token], at: usize, depth: u32) -> Read<GenerateBlock>
+    requires short { length tokens.now < 2 ^ 32 }
+    requires inside { at ≤ length tokens.now }
+    ensures gives { Gives seen_block result (several_at tokens.now (item_at tokens.now depth) at) }
+    ensures inside { IfOk result (Inside tokens.now) }
+{
+    let next = expect(tokens, Mark::Begin, at)?;
+    let (label, next) = label_if(alloc, tokens, next)?;
+    let (items, end) = items(alloc, tokens, next, depth, Mark::End)?;
+    Ok((nodes::block(site_of(tokens, at, end), label, items), end))
+}
+
+/// `item`
+#[tactic(auto, unfolding(crate::specs::ItemReading::single_at))]
+#[cycle(item)]
+fn single(alloc: Global, tokens: &[Token], at: usize, depth: u32) -> Read<GenerateBlock>
+    requires short { length tokens.now < 2 ^ 32 }
+    requires inside { at ≤ length tokens.now }
+    ensures gives { Gives seen_block result (single_at tokens.now (item_at tokens.now depth) at) }
+    ensures inside { IfOk result (Inside tokens.now) }
+{
+    let (item, end) = item(alloc, tokens, at, depth)?;
+    Ok((nodes::one(alloc, site_of(tokens, at, end), item)?, end))
+}
+
+/// `item | 'begin' (':' NAME)? item* 'end'`
+#[tactic(auto, unfolding(crate::specs::ItemReading::block_item_at))]
+#[cycle(item)]
+fn block(alloc: Global, tokens: &[Token], at: usize, depth: u32) -> Read<GenerateBlock>
+    requires short { length tokens.now < 2 ^ 32 }
+    requires inside { at ≤ length tokens.now }
+    ensures gives { Gives seen_block result (block_item_at tokens.now (item_at tokens.now depth) at) }
+    ensures inside { IfOk result (Inside tokens.now) }
+{
+    if stands(tokens, at, Mark::Begin) {
+        return several(alloc, tokens, at, depth);
+    }
+    single(alloc, tokens, at, depth)
+}
+
+/// `'for' head gblock`
+#[tactic(auto, using(crate::proofs::ItemSteps::item_below_less), unfolding(crate::specs::ItemReading::loop_item_at))]
+#[cycle(item)]
+fn generate_for(alloc: Global, tokens: &[Token], at: usize, depth: u32) -> Read<Item>
+    requires short { length tokens.now < 2 ^ 32 }
+    requires inside { at < length tokens.now }
+    ensures gives { Gives seen_item result (loop_item_at tokens.now depth (item_below tokens.now depth) at) }
+    ensures inside { IfOk result (Inside tokens.now) }
+{
+    let depth = lower(depth, at)?;
+    let (head, next) = loop_head(alloc, tokens, at + 1, depth)?;
+    let (body, end) = block(alloc, tokens, next, depth)?;
+    Ok((nodes::repeated(site_of(tokens, at, end), head, body), end))
+}
+
+/// `'if' '(' expr ')' gblock ('else' gblock)?`
+#[tactic(auto, using(crate::proofs::ItemSteps::item_below_less), unfolding(crate::specs::ItemReading::if_item_at, crate::specs::ItemReading::else_item_at))]
+#[cycle(item)]
+fn generate_if(alloc: Global, tokens: &[Token], at: usize, depth: u32) -> Read<Item>
+    requires short { length tokens.now < 2 ^ 32 }
+    requires inside { at < length tokens.now }
+    ensures gives { Gives seen_item result (if_item_at tokens.now depth (item_below tokens.now depth) at) }
+    ensures inside { IfOk result (Inside tokens.now) }
+{
+    let depth = lower(depth, at)?;
+    let (condition, next) = in_parens(alloc, tokens, at + 1, depth)?;
+    let (first, end) = block(alloc, tokens, next, depth)?;
+    if !stands(tokens, end, Mark::Else) {
+        let site = site_of(tokens, at, end);
+        return Ok((nodes::if_then(site, condition, first), end));
+    }
+    let (other, end) = block(alloc, tokens, end + 1, depth)?;
+    let site = site_of(tokens, at, end);
+    Ok((nodes::if_else(site, condition, first, other), end))
+}
