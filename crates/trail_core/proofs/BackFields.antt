@@ -13,7 +13,7 @@ use Rattle.trail_core.proofs.Back.{IsStart, up_to_start, IsTrail-back_at, AreSta
 pub record GoesBack (a b : Inside) (k m : ℕ) : Type 0 where
   pub below : k < length a.starts.items
   pub start : m ≡ get_or a.starts.items k 0
-  pub clauses : b.clauses.items ≡ a.clauses.items
+  pub clauses : b.clauses ≡ a.clauses
   pub entries : b.entries.items ≡ take m a.entries.items
   pub starts : b.starts.items ≡ take k a.starts.items
   pub size : length b.assigned.items ≡ length a.assigned.items
@@ -31,10 +31,10 @@ pub state_back : (a b : Inside) (k m : ℕ) → IsLaidOut a → GoesBack a b k m
 state_back a b k m h g =
     let entries = g.entries ∙ sym (up_to_start a.entries.items k m h.trail.leveled (start_is a b k m h g)) in
     let level : length b.starts.items ≡ k = ap length g.starts ∙ length-take-le k a.starts.items (omega (arith, g.below)) in
-    ap (λ v. record { vars = v; clauses = b.clauses.items; entries = b.entries.items; level = length b.starts.items }) g.size
+    ap (λ v. record { vars = v; clauses = b.clauses; entries = b.entries.items; level = length b.starts.items }) g.size
     ∙ (ap (λ cs. record { vars = length a.assigned.items; clauses = cs; entries = b.entries.items; level = length b.starts.items }) g.clauses
-    ∙ (ap (λ es. record { vars = length a.assigned.items; clauses = a.clauses.items; entries = es; level = length b.starts.items }) entries
-    ∙ ap (λ j. record { vars = length a.assigned.items; clauses = a.clauses.items; entries = up_to k a.entries.items; level = j }) level))
+    ∙ (ap (λ es. record { vars = length a.assigned.items; clauses = a.clauses; entries = es; level = length b.starts.items }) entries
+    ∙ ap (λ j. record { vars = length a.assigned.items; clauses = a.clauses; entries = up_to k a.entries.items; level = j }) level))
 
 pub trail_back : (a b : Inside) (k m : ℕ) → IsLaidOut a → GoesBack a b k m → IsTrail (state_of b)
 trail_back a b k m h g = subst IsTrail (sym (state_back a b k m h g)) (IsTrail-back_at (state_of a) k m h.trail (omega (arith, g.below)) (start_is a b k m h g))

@@ -17,7 +17,7 @@ use Rattle.trail_core.proofs.LayoutLemmas.{IsFree, room_for, IsIndex-push, count
 
 -- b has the fields of a with the entry appended
 pub record Appends (a b : Inside) (e : Entry) : Type 0 where
-  pub clauses : b.clauses.items ≡ a.clauses.items
+  pub clauses : b.clauses ≡ a.clauses
   pub table : b.assigned.items ≡ set a.assigned.items (e.lit.var - 1) (Some e)
   pub entries : b.entries.items ≡ a.entries.items ++ e ∷ []
   pub entry_room : vec_capacity a.entries ≤ vec_capacity b.entries
@@ -35,10 +35,10 @@ room_at a l h v u = room_for a.assigned.items a.entries.items l.var h.index h.co
 same_state : (a b : Inside) (e : Entry) → Appends a b e → with_entry (state_of a) e ≡ state_of b
 same_state a b e p =
     let vars : length b.assigned.items ≡ length a.assigned.items = ap length p.table ∙ length-set a.assigned.items (e.lit.var - 1) (Some e) in
-    ap (λ v. record { vars = v; clauses = a.clauses.items; entries = a.entries.items ++ e ∷ []; level = e.decision_level }) (sym vars)
+    ap (λ v. record { vars = v; clauses = a.clauses; entries = a.entries.items ++ e ∷ []; level = e.decision_level }) (sym vars)
     ∙ (ap (λ cs. record { vars = length b.assigned.items; clauses = cs; entries = a.entries.items ++ e ∷ []; level = e.decision_level }) (sym p.clauses)
-    ∙ (ap (λ es. record { vars = length b.assigned.items; clauses = b.clauses.items; entries = es; level = e.decision_level }) (sym p.entries)
-    ∙ ap (λ k. record { vars = length b.assigned.items; clauses = b.clauses.items; entries = b.entries.items; level = k }) (sym p.level)))
+    ∙ (ap (λ es. record { vars = length b.assigned.items; clauses = b.clauses; entries = es; level = e.decision_level }) (sym p.entries)
+    ∙ ap (λ k. record { vars = length b.assigned.items; clauses = b.clauses; entries = b.entries.items; level = k }) (sym p.level)))
 
 -- the trail after an entry
 pub trail_after : (a b : Inside) (e : Entry) → IsLaidOut a → Appends a b e → MayAppend (state_of a) e → IsTrail (state_of b)

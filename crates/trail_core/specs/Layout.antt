@@ -8,7 +8,7 @@ use Rattle.trail_core.specs.TrailState.{TrailState, IsTrail, entry_of, is_decisi
 
 -- the trail that the fields stand for
 abbrev pub state_of : Inside → TrailState
-state_of a = record { vars = length a.assigned.items; clauses = a.clauses.items; entries = a.entries.items; level = length a.starts.items }
+state_of a = record { vars = length a.assigned.items; clauses = a.clauses; entries = a.entries.items; level = length a.starts.items }
 
 -- the table has, at a variable less 1, the variable's entry
 abbrev pub IsIndex : List (Option Entry) → List Entry → Type 0
@@ -31,6 +31,6 @@ pub record IsLaidOut (a : Inside) : Type 0 where
   pub counted : count_by is_some a.assigned.items ≡ length a.entries.items
   pub starts : AreStarts a.starts.items a.entries.items
   pub small : length a.assigned.items < 2 ^ 32
-  pub few_clauses : length a.clauses.items < 2 ^ 32
+  pub few_clauses : length a.clauses < 2 ^ 32
   pub entry_room : length a.assigned.items ≤ vec_capacity a.entries
   pub start_room : length a.assigned.items ≤ vec_capacity a.starts

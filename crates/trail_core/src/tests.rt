@@ -1,10 +1,10 @@
-ghost use Rattle.std.specs.Prelude.{◌≡◌, ◌+◌, ◌^◌, ◌<◌, ◌≤◌, IsTrue, length};
-ghost use Rattle.clause_base.specs.Literal.{IsWithin, has_distinct_variables};
+ghost use Rattle.std.specs.Prelude.{◌≡◌, ◌+◌, ◌^◌, ◌<◌, ◌≤◌, IsTrue, IfOk, length};
+ghost use Rattle.clause_base.specs.Literal.{IsWithin};
+ghost use Rattle.trail_core.specs.TrailState.{IsNumber};
 
 use crate::Trail;
-use clause_base::{Clause, Lit};
+use clause_base::{Lit, has_distinct_variables};
 use loc_base::NoMemory;
-use std::alloc::Global;
 use std::process::Abort;
 use std::test::Fail;
 
@@ -28,21 +28,16 @@ fn all_within(vars: u32, literals: &[Lit]) -> bool
     true
 }
 
-/// A clause of two literals.
-fn pair(rt: &impl Abort, alloc: Global, a: i8, b: i8) -> Result<Clause, NoMemory> {
-    let (a, b) = (lit(a), lit(b));
-    assert!(rt; a.var != b.var);
-    Clause::new(alloc, &[a, b])
-}
-
-/// Adds a clause at level 0.
-fn add(rt: &impl Abort, trail: &mut Trail, clause: &Clause) -> Result<u32, NoMemory>
+/// Adds the clause of these literals at level 0.
+fn add(rt: &impl Abort, trail: &mut Trail, literals: &[Lit]) -> Result<u32, NoMemory>
     requires { length trail.old.clauses + 1 < 2 ^ 32 }
-    ensures { length trail.new.clauses ≤ length trail.old.clauses + 1 }
+    ensures count { length trail.new.clauses ≤ length trail.old.clauses + 1 }
+    ensures number { IfOk result (IsNumber trail.new.clauses) }
 {
     assert!(rt; trail.level() == 0);
-    assert!(rt; all_within(trail.vars(), clause.literals()));
-    trail.add_clause(clause)
+    assert!(rt; has_distinct_variables(literals));
+    assert!(rt; all_within(trail.vars(), literals));
+    trail.add_clause(literals)
 }
 
 /// The value of a variable.
@@ -71,10 +66,11 @@ fn a_chain_of_implications_is_forced_in_order_each_with_its_reason(
     rt: HostRuntime,
 ) -> Result<(), Fail> {
     let mut trail = Trail::new(rt.alloc(), 4)?;
-    let first = pair(&rt, rt.alloc(), -1, 2)?;
-    let second = pair(&rt, rt.alloc(), -2, 3)?;
-    assert_eq!(rt; add(&rt, &mut trail, &second)?, 1);
-    assert_eq!(rt; add(&rt, &mut trail, &first)?, 2);
+    let second = [lit(-2), lit(3)];
+    let number = add(&rt, &mut trail, &second)?;
+    assert_eq!(rt; number, 1);
+    assert_eq!(rt; trail.clause(number), second.as_slice());
+    assert_eq!(rt; add(&rt, &mut trail, &[lit(-1), lit(2)])?, 2);
     decide(&rt, &mut trail, 1);
     assert_eq!(rt; trail.propagate(), None);
     assert_eq!(rt; trail.len(), 3);
@@ -96,10 +92,8 @@ fn a_clause_with_all_literals_false_is_answered_and_gone_after_going_back(
     rt: HostRuntime,
 ) -> Result<(), Fail> {
     let mut trail = Trail::new(rt.alloc(), 2)?;
-    let both = pair(&rt, rt.alloc(), -1, -2)?;
-    let other = pair(&rt, rt.alloc(), -1, 2)?;
-    add(&rt, &mut trail, &both)?;
-    add(&rt, &mut trail, &other)?;
+    add(&rt, &mut trail, &[lit(-1), lit(-2)])?;
+    add(&rt, &mut trail, &[lit(-1), lit(2)])?;
     decide(&rt, &mut trail, 1);
     assert_eq!(rt; trail.propagate(), Some(2));
     trail.back_to(0);
@@ -128,8 +122,7 @@ fn going_back_keeps_the_lower_levels(rt: HostRuntime) -> Result<(), Fail> {
 #[test]
 fn an_empty_clause_is_false_at_once(rt: HostRuntime) -> Result<(), Fail> {
     let mut trail = Trail::new(rt.alloc(), 1)?;
-    let empty = Clause::new(rt.alloc(), &[])?;
-    assert_eq!(rt; add(&rt, &mut trail, &empty)?, 1);
+    assert_eq!(rt; add(&rt, &mut trail, &[])?, 1);
     assert_eq!(rt; trail.propagate(), Some(1));
     Ok(())
 }

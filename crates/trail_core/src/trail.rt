@@ -1,6 +1,6 @@
 ghost use Rattle.std.specs.Prelude.{◌≡◌, ℕ, ◌+◌, ◌-◌, ◌^◌, ◌<◌, ◌≤◌, ◌↔◌, [], ◌∷◌, ◌++◌, length, IfOk, OnOk, OnErr, IfSome, IfNone, slice_get, IsTrue};
 ghost use Rattle.std.specs.Option.{option_map};
-ghost use Rattle.clause_base.specs.Literal.{IsWithin};
+ghost use Rattle.clause_base.specs.Literal.{IsWithin, has_distinct_variables};
 ghost use Rattle.clause_base.specs.Acceptance.{numbered};
 ghost use Rattle.trail_core.specs.Values.{IsVariable};
 ghost use Rattle.trail_core.specs.TrailState.{TrailState, IsTrail, IsNumber, MayAdd, with_clause, values_of, level_in, reason_in, entry_of};
@@ -10,7 +10,7 @@ mod back;
 mod propagate;
 
 use crate::entry::Entry;
-use clause_base::{Clause, Lit};
+use clause_base::{Clauses, Lit};
 use loc_base::NoMemory;
 use std::alloc::Global;
 use std::marker::Model;
@@ -20,8 +20,7 @@ use std::marker::Model;
 /// Contracts see it as its number of variables, its clauses, its entries and its decision level.
 #[derive(Drop)]
 pub struct Trail {
-    alloc: Global,
-    clauses: Vec<Clause>,
+    clauses: Clauses,
     /// The entry of each variable, at the variable less 1.
     assigned: Vec<Option<Entry>>,
     /// The true literals, in order.
@@ -53,36 +52,36 @@ impl Trail {
         let entries = Vec::with_capacity(alloc, size)?;
         let starts = Vec::with_capacity(alloc, size)?;
         Ok(Trail {
-            alloc,
-            clauses: Vec::new(alloc),
+            clauses: Clauses::new(alloc),
             assigned,
             entries,
             starts,
         })
     }
 
-    /// Adds a copy of a clause and gives its number, the first being 1. Unchanged after `NoMemory`.
-    pub fn add_clause(&mut self, c: &Clause) -> Result<u32, NoMemory>
+    /// Adds a clause of these literals and gives its number, the first being 1. Unchanged after `NoMemory`.
+    pub fn add_clause(&mut self, literals: &[Lit]) -> Result<u32, NoMemory>
         requires room { length self.old.clauses + 1 < 2 ^ 32 }
-        requires within { IsWithin self.old.vars c.now }
-        requires may { MayAdd self.old c.now }
+        requires distinct { IsTrue (has_distinct_variables literals.now) }
+        requires within { IsWithin self.old.vars literals.now }
+        requires may { MayAdd self.old literals.now }
         ensures number { IfOk result (λ n. n ≡ length self.old.clauses + 1) }
-        ensures ok { OnOk result (self.new ≡ with_clause self.old c.now) }
+        ensures ok { OnOk result (self.new ≡ with_clause self.old literals.now) }
         ensures err { OnErr result (self.new ≡ self.old) }
         ensures trail { IsTrail self.new }
     {
-        let copy = Clause::new(self.alloc, c.literals())?;
-        self.clauses.push(copy)?;
+        self.clauses.push(literals)?;
         Ok(self.clauses.len() as u32)
     }
 
-    /// The clause of that number.
-    pub fn clause(&self, number: u32) -> &Clause
+    /// The literals of the clause of that number.
+    pub fn clause(&self, number: u32) -> &[Lit]
         requires { IsNumber self.now.clauses number }
         ensures value { result.now ≡ numbered self.now.clauses number }
         ensures within { IsWithin self.now.vars result.now }
+        ensures distinct { IsTrue (has_distinct_variables result.now) }
     {
-        &self.clauses[number as usize - 1]
+        self.clauses.clause(number as usize - 1)
     }
 
     /// The number of variables.

@@ -81,7 +81,7 @@ impl Trail {
         ensures { LookGives self.now number result }
     {
         let mut unassigned = None;
-        for l in self.clause(number).literals() {
+        for l in self.clause(number) {
             match self.value(l.var) {
                 None if unassigned.is_some() => return Look::Rests,
                 None => unassigned = Some(*l),

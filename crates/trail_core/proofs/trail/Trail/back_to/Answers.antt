@@ -7,7 +7,7 @@ use Rattle.trail_core.proofs.BackFields.{GoesBack, state_back, trail_back, laid_
 use Rattle.trail_core.proofs.trail.Trail.back_to.Goals as goal
 
 abbrev after : (c : goal.After-truncate) → Inside
-after c = record { alloc = c.self.inside.alloc; clauses = c.self.inside.clauses; assigned = c.shorten.new.assigned; entries = c.shorten.new.entries; starts = c.truncate.new.self }
+after c = record { clauses = c.self.inside.clauses; assigned = c.shorten.new.assigned; entries = c.shorten.new.entries; starts = c.truncate.new.self }
 
 goes_back : (c : goal.After-truncate) → GoesBack c.self.inside (after c) c.args.level c.index.result.now
 goes_back c =

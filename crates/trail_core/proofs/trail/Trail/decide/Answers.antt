@@ -34,7 +34,6 @@ may c = decided_at c.self.inside c.args.self.now c.args.l c.len.result c.self.vi
 
 abbrev after : (c : goal.After-unwrap-2) → Inside
 after c = record {
-  alloc = c.self.inside.alloc;
   clauses = c.self.inside.clauses;
   assigned = with_item c.self.inside.assigned (c.args.l.var - 1) (Some record { lit = c.args.l; decision_level = c.len.result; reason = None });
   entries = c.push-2.new.self;

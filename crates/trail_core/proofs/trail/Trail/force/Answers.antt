@@ -21,7 +21,6 @@ may c = forced_at c.self.inside c.args.self.now c.args.l c.len.result c.args.num
 
 abbrev after : (c : goal.After-unwrap) → Inside
 after c = record {
-  alloc = c.self.inside.alloc;
   clauses = c.self.inside.clauses;
   assigned = with_item c.self.inside.assigned (c.args.l.var - 1) (Some record { lit = c.args.l; decision_level = c.len.result; reason = Some c.args.number });
   entries = c.push.new.self;
