@@ -5,7 +5,7 @@ ghost use Rattle.trail_core.specs.Values.{IsVariable, IsTrueIn, IsFalseIn, IsFal
 ghost use Rattle.trail_core.specs.TrailState.{IsTrail, IsNumber, MayAdd, back_at, values_of, level_in, reason_in};
 ghost use Rattle.sat_core.specs.Derivation.{marked, set_of, MarksOthers, Tracks, AreFalse, IsForced, Replaces, Derives, Resolved, IsOnlyPresent, Learns, AreOf, Unmarks, IsClean, RefutesAt, Refutes, opposites_of, Starts, Denies};
 
-use clause_base::{Clause, Lit, Log, StepKind};
+use clause_base::{Lit, Log, StepKind};
 use loc_base::NoMemory;
 use std::alloc::Global;
 use trail_core::Trail;
@@ -52,7 +52,7 @@ impl Analysis {
         ensures learns { OnOk result (Learns trail.now self.new.marked.items self.new.literals.items self.new.chain.items) }
     {
         self.chain.push(conflict)?;
-        self.take_in(trail, trail.clause(conflict).literals(), 0)?;
+        self.take_in(trail, trail.clause(conflict), 0)?;
         let place = self.descend(trail)?;
         let last = self.last_marked(trail, place);
         self.literals.push(last.opposite())?;
@@ -99,7 +99,7 @@ impl Analysis {
         ensures marks { OnOk result (MarksOthers self.old.marked.items self.new.marked.items (numbered trail.now.clauses number) skip) }
     {
         self.chain.push(number)?;
-        mark_others(&mut self.marked, trail.clause(number).literals(), skip);
+        mark_others(&mut self.marked, trail.clause(number), skip);
         Ok(())
     }
 
@@ -168,7 +168,7 @@ impl Analysis {
             Some(reason) => {
                 self.chain.push(reason)?;
                 self.marked[l.var as usize - 1] = false;
-                mark_others(&mut self.marked, trail.clause(reason).literals(), l.var);
+                mark_others(&mut self.marked, trail.clause(reason), l.var);
                 Ok(())
             }
         }
@@ -215,22 +215,13 @@ impl Analysis {
         self.present = 0;
     }
 
-    /// Writes the step of the clause and the chain into a log, and gives the clause. After `NoMemory` the log is as
-    /// it was.
-    pub(crate) fn record(
-        &self,
-        alloc: Global,
-        log: &mut Log,
-        kind: StepKind,
-    ) -> Result<Clause, NoMemory>
+    /// Writes the step of the clause and the chain into a log. After `NoMemory` the log is as it was.
+    pub(crate) fn record(&self, log: &mut Log, kind: StepKind) -> Result<(), NoMemory>
         requires { IsTrue (has_distinct_variables self.now.literals.items) }
-        ensures clause { IfOk result (λ clause. clause ≡ self.now.literals.items) }
         ensures ok { OnOk result (log.new ≡ log.old ++ record { kind = kind; clause = self.now.literals.items; chain = self.now.chain.items } ∷ []) }
         ensures err { OnErr result (log.new ≡ log.old) }
     {
-        let clause = Clause::new(alloc, &self.literals)?;
-        log.push(kind, &self.literals, &self.chain)?;
-        Ok(clause)
+        log.push(kind, &self.literals, &self.chain)
     }
 
     /// The true literal before a place that is the only marked one of the present decision level.
@@ -305,7 +296,7 @@ impl Analysis {
         self.chain.push(number)?;
         self.marked[l.var as usize - 1] = false;
         self.present -= 1;
-        self.take_in(trail, trail.clause(number).literals(), l.var)
+        self.take_in(trail, trail.clause(number), l.var)
     }
 
     /// Takes the literals of a clause into the set, but for that of one variable.

@@ -6,15 +6,13 @@ use crate::analysis::Analysis;
 use crate::budget::Budget;
 use crate::order::{Choice, choose};
 use crate::verdict::Verdict;
-use clause_base::{Clause, Lit, Log, StepKind};
+use clause_base::{Lit, Log, StepKind};
 use loc_base::NoMemory;
-use std::alloc::Global;
 use trail_core::Trail;
 
 /// The state of a search.
 #[derive(Drop)]
 pub(crate) struct Engine {
-    pub(crate) alloc: Global,
     pub(crate) trail: Trail,
     pub(crate) analysis: Analysis,
     /// The variables that are decided first, each true.
@@ -101,8 +99,7 @@ impl Engine {
         ensures model { self.new.model ≡ self.old.model }
     {
         while self.known < log.len() {
-            let clause = Clause::new(self.alloc, log.clause(self.known))?;
-            self.trail.add_clause(&clause)?;
+            self.trail.add_clause(log.clause(self.known))?;
             self.known += 1;
         }
         Ok(())
@@ -257,13 +254,13 @@ impl Engine {
             return learned;
         }
         let level = self.analysis.lower_level(&self.trail);
-        let recorded = self.analysis.record(self.alloc, log, StepKind::Learned);
+        let recorded = self.analysis.record(log, StepKind::Learned);
         self.analysis.clear();
-        let clause = recorded?;
+        recorded?;
         budget.take();
         self.chosen.truncate(level as usize);
         self.trail.back_to(level);
-        self.trail.add_clause(&clause)?;
+        self.trail.add_clause(log.clause(log.len() - 1))?;
         self.known += 1;
         Ok(())
     }
@@ -287,10 +284,9 @@ impl Engine {
             self.analysis.reset();
             return closed;
         }
-        let recorded = self.analysis.record(self.alloc, log, StepKind::Derived);
+        let recorded = self.analysis.record(log, StepKind::Derived);
         self.analysis.reset();
-        recorded?;
-        Ok(())
+        recorded
     }
 
     /// Derives a clause of a false literal's opposite and of opposites of decisions, and writes its step. After
@@ -315,10 +311,9 @@ impl Engine {
             self.analysis.reset();
             return contradicted;
         }
-        let recorded = self.analysis.record(self.alloc, log, StepKind::Derived);
+        let recorded = self.analysis.record(log, StepKind::Derived);
         self.analysis.reset();
-        recorded?;
-        Ok(())
+        recorded
     }
 }
 

@@ -48,7 +48,6 @@ impl Solver {
         ensures solver { IfOk result IsSolver }
     {
         let engine = Engine {
-            alloc,
             trail: trail_of(alloc, form)?,
             analysis: Analysis::new(alloc, form.vars)?,
             preferred: preferred.to_vec(alloc)?,
@@ -114,8 +113,7 @@ fn trail_of(alloc: Global, form: &Form) -> Result<Trail, NoMemory>
 {
     let mut trail = Trail::new(alloc, form.vars)?;
     for place in 0..form.clauses.len() {
-        let clause = Clause::new(alloc, form.clauses.clause(place))?;
-        trail.add_clause(&clause)?;
+        trail.add_clause(form.clauses.clause(place))?;
     }
     Ok(trail)
 }

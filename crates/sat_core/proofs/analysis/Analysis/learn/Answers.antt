@@ -12,7 +12,7 @@ pub descend-requires-clause-resolved : goal.descend-requires-clause-resolved
 descend-requires-clause-resolved c =
     Resolved-start c.args.trail.now c.args.self.now.marked.items c.take_in.new.self.marked.items c.take_in.new.self.literals.items c.take_in.new.self.chain.items c.take_in.new.self.present c.args.conflict
     c.requires.trail c.requires.level c.requires.number c.requires.conflict c.requires.size c.requires.empty.clean
-    (subst (λ ls. MarksOthers c.args.self.now.marked.items c.take_in.new.self.marked.items ls 0) (c.literals.ensures.value ∙ c.clause.ensures.value) c.in_ok-take_in.ensures.marks)
+    (subst (λ ls. MarksOthers c.args.self.now.marked.items c.take_in.new.self.marked.items ls 0) c.clause.ensures.value c.in_ok-take_in.ensures.marks)
     c.in_ok-take_in.ensures.tracks
     (ap (λ v. v.items) c.in_ok-take_in.ensures.chain ∙ (c.in_ok-push.ensures.items ∙ ap (λ ns. ns ++ c.args.conflict ∷ []) c.requires.empty.chain))
 

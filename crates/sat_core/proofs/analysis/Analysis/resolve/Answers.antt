@@ -16,12 +16,12 @@ take_in-requires-clause-tracks c =
     Tracks-unmark c.args.trail.now c.args.self.now.marked.items c.args.self.now.literals.items c.args.self.now.present c.args.l.var c.requires.trail c.requires.tracks
     (valued_variable c.args.trail.now c.args.l.var (not c.args.l.negated) c.requires.trail c.requires.forced.is_true) c.requires.set c.requires.level
 
-replaced : (c : goal.After-take_in) → MarksOthers (set c.args.self.now.marked.items (c.args.l.var - 1) false) c.take_in.new.self.marked.items c.literals.result.now c.args.l.var → Replaces c.args.self.now.marked.items c.take_in.new.self.marked.items (numbered c.args.trail.now.clauses c.args.number) c.args.l.var
+replaced : (c : goal.After-take_in) → MarksOthers (set c.args.self.now.marked.items (c.args.l.var - 1) false) c.take_in.new.self.marked.items c.clause.result.now c.args.l.var → Replaces c.args.self.now.marked.items c.take_in.new.self.marked.items (numbered c.args.trail.now.clauses c.args.number) c.args.l.var
 replaced c m =
     let k = valued_variable c.args.trail.now c.args.l.var (not c.args.l.negated) c.requires.trail c.requires.forced.is_true in
     Replaces-from c.args.self.now.marked.items c.take_in.new.self.marked.items (numbered c.args.trail.now.clauses c.args.number) c.args.l.var
     (subst (λ n. IsVariable n c.args.l.var) (sym c.requires.tracks.size) k)
-    (subst (λ ls. MarksOthers (set c.args.self.now.marked.items (c.args.l.var - 1) false) c.take_in.new.self.marked.items ls c.args.l.var) (c.literals.ensures.value ∙ c.clause.ensures.value) m)
+    (subst (λ ls. MarksOthers (set c.args.self.now.marked.items (c.args.l.var - 1) false) c.take_in.new.self.marked.items ls c.args.l.var) c.clause.ensures.value m)
 
 pub returns-clause-derives : goal.returns-clause-derives
 returns-clause-derives c =
