@@ -16,7 +16,11 @@ abbrev pub IsWordWithin : ℕ → Word → Type 0
 IsWordWithin vars (Literal l) = (1 ≤ l.var) × (l.var ≤ vars)
 IsWordWithin vars End = ⊤
 
--- the words are those of a problem line's clauses; before the problem line there is none
-abbrev pub AreWordsOf : Option Problem → List Word → Type 0
-AreWordsOf None words = words ≡ []
-AreWordsOf (Some problem) words = All (λ word. IsWordWithin problem.vars word) words
+-- the number's word is within
+abbrev pub IsNumberWithin : ℕ → ℤ → Type 0
+IsNumberWithin vars number = IsWordWithin vars (word_of number)
+
+-- the numbers are those of a problem line's clauses; before the problem line there is none
+abbrev pub AreNumbersOf : Option Problem → List ℤ → Type 0
+AreNumbersOf None numbers = numbers ≡ []
+AreNumbersOf (Some problem) numbers = All (λ number. IsNumberWithin problem.vars number) numbers

@@ -1,11 +1,11 @@
 //! The formula that words give.
-ghost use Rattle.std.specs.Prelude.{◌≡◌, ◌<◌, ◌^◌, All, IfOk, OnOk, IsTrue, length, []};
+ghost use Rattle.std.specs.Prelude.{◌≡◌, ◌<◌, ◌^◌, All, IfOk, OnOk, IsTrue, length, map, []};
 ghost use Rattle.clause_base.specs.Literal.{AreWithin, AllDistinct, has};
-ghost use Rattle.solve_cnf.specs.Words.{IsWordWithin};
+ghost use Rattle.solve_cnf.specs.Words.{word_of, IsNumberWithin};
 ghost use Rattle.solve_cnf.specs.Reading.{with_literal, with_clause, after, clauses_of};
 
 use crate::error::FormErr;
-use crate::words::{Word, read_words};
+use crate::words::{Word, Words, read_words, word_of};
 use clause_base::{Clauses, Form, Lit, has_distinct_variables};
 use loc_base::NoMemory;
 use std::alloc::Global;
@@ -60,30 +60,38 @@ fn take(clauses: &mut Clauses, literals: &mut Vec<Lit>, word: Word) -> Result<()
     }
 }
 
-/// The clauses that the words give.
-fn clauses_of(alloc: Global, words: &[Word]) -> Result<Clauses, NoMemory>
-    ensures { IfOk result (λ clauses. clauses ≡ clauses_of words.now) }
+/// The clauses that the words give, each of which is that of a number.
+fn clauses_of(alloc: Global, numbers: &[i32]) -> Result<Clauses, NoMemory>
+    ensures { IfOk result (λ clauses. clauses ≡ clauses_of (map word_of numbers.now)) }
 {
     let mut clauses = Clauses::new(alloc);
     let mut literals = Vec::new(alloc);
-    for word in words {
-        take(&mut clauses, &mut literals, *word)?;
+    for number in numbers {
+        take(&mut clauses, &mut literals, word_of(*number))?;
     }
     Ok(clauses)
 }
 
+/// The words of a text that is to be UTF-8.
+fn words_in(alloc: Global, text: &[u8]) -> Result<Words, FormErr>
+    ensures { IfOk result (λ read. All (λ number. IsNumberWithin read.problem.vars number) read.numbers.items) }
+{
+    match str::from_utf8(text) {
+        Ok(text) => read_words(alloc, text),
+        Err(_) => Err(FormErr::NotText),
+    }
+}
+
 /// Reads a formula in DIMACS CNF. A literal that a clause has already is dropped, and so is a clause with both signs of a
-/// variable.
+/// variable. The text's memory is given back before the clauses are made.
 #[tactic(auto, using(crate::proofs::Within::within))]
-pub fn read_form(alloc: Global, text: &[u8]) -> Result<Form, FormErr>
+pub fn read_form(alloc: Global, text: Vec<u8>) -> Result<Form, FormErr>
     ensures within { IfOk result (λ form. AreWithin form.vars form.clauses) }
     ensures few { IfOk result (λ form. length form.clauses < 2 ^ 31) }
 {
-    let Ok(text) = str::from_utf8(text) else {
-        return Err(FormErr::NotText);
-    };
-    let read = read_words(alloc, text)?;
-    let clauses = clauses_of(alloc, &read.words)?;
+    let read = words_in(alloc, &text)?;
+    drop(text);
+    let clauses = clauses_of(alloc, &read.numbers)?;
     if clauses.len() as u64 >= CLAUSES_END {
         return Err(FormErr::TooMany);
     }

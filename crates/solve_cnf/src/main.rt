@@ -71,8 +71,7 @@ fn print_time(rt: &HostRuntime, name: &str, time: Duration) -> Result<(), Failur
 fn answer(rt: &HostRuntime) -> Result<u8, Failure> {
     let alloc = rt.alloc();
     let request = read_request(rt)?;
-    let input = read_input(rt)?;
-    let form = read_form(alloc, &input)?;
+    let form = read_form(alloc, read_input(rt)?)?;
     let begin = Instant::now(rt)?;
     let solved = solve(alloc, &form, request.units)?;
     let middle = Instant::now(rt)?;

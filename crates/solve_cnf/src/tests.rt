@@ -13,7 +13,7 @@ use std::test::Fail;
 /// What the program prints of a text with so many units, and its exit status.
 fn printed(alloc: Global, text: &[u8], units: u8) -> Result<(Bytes, u8), Fail> {
     let units = u32::from(units);
-    let form = read_form(alloc, text)?;
+    let form = read_form(alloc, text.to_vec(alloc)?)?;
     let solved = solve(alloc, &form, units)?;
     let checked = check(alloc, &form, solved.solver.log())?;
     let report = report_on(&form, &solved, units, checked);
@@ -79,7 +79,8 @@ fn without_units_nothing_is_known(rt: HostRuntime) -> Result<(), Fail> {
 
 #[test]
 fn literals_keep_their_signs_and_their_order(rt: HostRuntime) -> Result<(), Fail> {
-    let form = read_form(rt.alloc(), b"p cnf 3 2\n3 -1 3 0\n2 -2 0\n")?;
+    let text = b"p cnf 3 2\n3 -1 3 0\n2 -2 0\n".to_vec(rt.alloc())?;
+    let form = read_form(rt.alloc(), text)?;
     let want = [
         Lit {
             var: 3,
@@ -147,7 +148,7 @@ fn texts_that_are_no_formula_are_refused_by_name(rt: HostRuntime) -> Result<(), 
             b"wrong number of clauses\n",
         ),
     ] {
-        match read_form(alloc, text) {
+        match read_form(alloc, text.to_vec(alloc)?) {
             Ok(_) => assert!(rt; false, "{text:?}"),
             Err(error) => {
                 let failure = Failure::from(error);

@@ -1,6 +1,6 @@
-//! The text of a formula as words: literals, and ends of clauses.
+//! The text of a formula as numbers, each of which is a word: a literal, or the end of a clause.
 ghost use Rattle.std.specs.Prelude.{◌≡◌, ◌↔◌, All, IfOk, OnOk, IsTrue, None};
-ghost use Rattle.solve_cnf.specs.Words.{word_of, IsWordWithin, AreWordsOf};
+ghost use Rattle.solve_cnf.specs.Words.{word_of, IsNumberWithin, AreNumbersOf, IsWordWithin};
 
 use crate::error::FormErr;
 use clause_base::Lit;
@@ -23,11 +23,11 @@ pub struct Problem {
     pub clauses: u32,
 }
 
-/// The words of a text's clauses, and its problem line.
+/// The words of a text's clauses, each as the number that it is, and its problem line.
 #[derive(Drop)]
 pub struct Words {
     pub problem: Problem,
-    pub words: Vec<Word>,
+    pub numbers: Vec<i32>,
 }
 
 /// The word that a number is: 0 ends a clause, and a negative number is a negated variable.
@@ -54,28 +54,27 @@ fn is_word_within(word: Word, vars: u32) -> bool
 }
 
 /// Reads one word of a clause.
-fn take_word(vars: u32, words: &mut Vec<Word>, text: &str, line: u64) -> Result<(), FormErr>
-    requires { All (λ word. IsWordWithin vars word) words.old.items }
-    ensures { OnOk result (All (λ word. IsWordWithin vars word) words.new.items) }
+fn take_word(vars: u32, numbers: &mut Vec<i32>, text: &str, line: u64) -> Result<(), FormErr>
+    requires { All (λ number. IsNumberWithin vars number) numbers.old.items }
+    ensures { OnOk result (All (λ number. IsNumberWithin vars number) numbers.new.items) }
 {
     let Ok(number) = text.parse::<i32>() else {
         return Err(FormErr::BadWord { line });
     };
-    let word = word_of(number);
-    if !is_word_within(word, vars) {
+    if !is_word_within(word_of(number), vars) {
         return Err(FormErr::OutOfRange { line });
     }
-    words.push(word)?;
+    numbers.push(number)?;
     Ok(())
 }
 
 /// Reads a line of words.
-fn take_words(vars: u32, words: &mut Vec<Word>, text: &str, line: u64) -> Result<(), FormErr>
-    requires { All (λ word. IsWordWithin vars word) words.old.items }
-    ensures { OnOk result (All (λ word. IsWordWithin vars word) words.new.items) }
+fn take_words(vars: u32, numbers: &mut Vec<i32>, text: &str, line: u64) -> Result<(), FormErr>
+    requires { All (λ number. IsNumberWithin vars number) numbers.old.items }
+    ensures { OnOk result (All (λ number. IsNumberWithin vars number) numbers.new.items) }
 {
     for word in text.split_whitespace() {
-        take_word(vars, words, word, line)?;
+        take_word(vars, numbers, word, line)?;
     }
     Ok(())
 }
@@ -107,12 +106,12 @@ fn take_problem(problem: Option<Problem>, text: &str, line: u64) -> Result<Probl
 /// Reads a line: a comment, the problem line, or words of clauses.
 fn take_line(
     problem: &mut Option<Problem>,
-    words: &mut Vec<Word>,
+    numbers: &mut Vec<i32>,
     text: &str,
     line: u64,
 ) -> Result<(), FormErr>
-    requires { AreWordsOf problem.old words.old.items }
-    ensures { OnOk result (AreWordsOf problem.new words.new.items) }
+    requires { AreNumbersOf problem.old numbers.old.items }
+    ensures { OnOk result (AreNumbersOf problem.new numbers.new.items) }
 {
     if text.is_empty() || text.starts_with('c') {
         return Ok(());
@@ -122,20 +121,20 @@ fn take_line(
         return Ok(());
     }
     match *problem {
-        Some(known) => take_words(known.vars, words, text, line),
+        Some(known) => take_words(known.vars, numbers, text, line),
         None => Err(FormErr::NoProblem),
     }
 }
 
-/// How many clauses the words end.
-fn ends(words: &[Word]) -> usize {
-    words.iter().filter(|word| **word == Word::End).count()
+/// How many clauses the numbers end.
+fn ends(numbers: &[i32]) -> usize {
+    numbers.iter().filter(|number| **number == 0).count()
 }
 
-/// Whether the words, if any, end with an end of a clause.
-fn is_ended(words: &[Word]) -> bool {
-    match words.last() {
-        Some(word) => *word == Word::End,
+/// Whether the numbers, if any, end with an end of a clause.
+fn is_ended(numbers: &[i32]) -> bool {
+    match numbers.last() {
+        Some(number) => *number == 0,
         None => true,
     }
 }
@@ -143,21 +142,21 @@ fn is_ended(words: &[Word]) -> bool {
 /// Reads a text of lines: comments begin with `c`, one line `p cnf VARS CLAUSES` stands before all clauses, and these are
 /// numbers that stand apart, each clause ended by 0.
 pub fn read_words(alloc: Global, text: &str) -> Result<Words, FormErr>
-    ensures { IfOk result (λ read. All (λ word. IsWordWithin read.problem.vars word) read.words.items) }
+    ensures { IfOk result (λ read. All (λ number. IsNumberWithin read.problem.vars number) read.numbers.items) }
 {
     let mut problem = None;
-    let mut words = Vec::new(alloc);
-    let mut number = 0u64;
+    let mut numbers = Vec::new(alloc);
+    let mut place = 0u64;
     for line in text.lines() {
-        number = number.saturating_add(1);
-        take_line(&mut problem, &mut words, line.trim(), number)?;
+        place = place.saturating_add(1);
+        take_line(&mut problem, &mut numbers, line.trim(), place)?;
     }
     let problem = problem.ok_or(FormErr::NoProblem)?;
-    if !is_ended(&words) {
+    if !is_ended(&numbers) {
         return Err(FormErr::Unended);
     }
-    if ends(&words) as u64 != u64::from(problem.clauses) {
+    if ends(&numbers) as u64 != u64::from(problem.clauses) {
         return Err(FormErr::WrongCount);
     }
-    Ok(Words { problem, words })
+    Ok(Words { problem, numbers })
 }
