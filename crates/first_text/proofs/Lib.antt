@@ -1,8 +1,4 @@
-pub mod AssignList
-pub mod Chains
-pub mod Exits
-pub mod FormulaLemmas
-pub mod Modules
-pub mod Places
-pub mod PortList
-pub mod WireList
+pub mod Counts
+pub mod Lists
+pub mod NameLemmas
+pub mod Parts

@@ -1,4 +1,3 @@
-pub mod Answers
 pub mod Formulas
-pub mod ModuleText
+pub mod Netlists
 pub mod Seen

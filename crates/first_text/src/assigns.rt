@@ -1,67 +1,77 @@
 //! The continuous assignments.
-ghost use Rattle.std.specs.Prelude.{◌≡◌, ◌≢◌, ◌+◌, ◌<◌, ◌≤◌, ◌^◌, ℕ, List, IfOk, length, map};
-ghost use Rattle.v_tree.specs.Marks.{mark_at};
-ghost use Rattle.v_tree.specs.declared.mark.Mark.TheVariants as marks;
-ghost use Rattle.first_form.specs.declared.netlist.Assignment.{Assignment as SomeAssignment};
-ghost use Rattle.first_text.specs.Answers.{IsAnswer};
-ghost use Rattle.first_text.specs.ModuleText.{AreItems, IsAssign};
+ghost use Rattle.std.specs.Prelude.{◌≡◌, Some, None, Err, IfOk, map};
+ghost use Rattle.v_parser.specs.Tree.{left_of};
+ghost use Rattle.v_parser.specs.ItemTree.{assignment_of as tree_assignment, item_of};
+ghost use Rattle.first_form.specs.declared.error.FormErr.TheVariants.{Form};
+ghost use Rattle.first_text.specs.Netlists.{all_of, assignment_of, net_assignment_of, target_of};
 ghost use Rattle.first_text.specs.Seen.{plain_assignment};
 
-use crate::marks::{name_at, past, stands};
-use crate::right_side::right_side;
+use crate::formula::formula_of;
 use first_form::{Assignment, FormErr};
+use loc_base::Name;
 use std::alloc::Global;
-use v_lexer::types::Token;
-use v_tree::{Mark, site_of};
+use v_tree::{Item, Left, NetAssignment};
 
-/// The assignment at a place, and the place behind it. `Form` comes exactly where none stands there.
-fn assignment(alloc: Global, tokens: &[Token], at: usize) -> Result<(Assignment, usize), FormErr>
-    requires short { length tokens.now < 2 ^ 32 }
-    requires inside { at < length tokens.now }
-    ensures found { IfOk result (λ found. IsAssign tokens.now found.0 at found.1) }
-    ensures inside { IfOk result (λ found. found.1 ≤ length tokens.now) }
-    ensures only { (assignment : SomeAssignment) (b : ℕ) → IsAssign tokens.now assignment at b
-        → IsAnswer result (λ found. plain_assignment assignment ≡ plain_assignment found) b }
-    ensures past { IfOk result (λ found. at < found.1) }
+/// The net that a left side names. `Form` comes exactly where it is no name, or one with a select.
+fn target_of(alloc: Global, left: &Left) -> Result<Name, FormErr>
+    ensures target { IfOk result (λ name. target_of (left_of left.now) ≡ Some name) }
+    ensures refused { result ≡ Err Form → target_of (left_of left.now) ≡ None }
 {
-    let from = past(tokens, at, Mark::Assign)?;
-    let target = name_at(alloc, tokens, from)?;
-    let equals = past(tokens, from + 1, Mark::Equals)?;
-    let (value, behind) = right_side(alloc, tokens, equals)?;
-    let end = past(tokens, behind, Mark::Semicolon)?;
-    let place = site_of(tokens, from, behind);
-    let assignment = Assignment {
-        target,
-        value,
-        span: place.span,
-        line: place.line,
-        token: place.token,
-    };
-    Ok((assignment, end))
+    match left {
+        Left::Name { name, selects, .. } => {
+            if !selects.is_empty() {
+                return Err(FormErr::Form);
+            }
+            Ok(name.copied(alloc)?)
+        }
+        _ => Err(FormErr::Form),
+    }
 }
 
-/// The assignments from a place on, and the place behind them. `Form` comes exactly where an assignment begins that is
-/// none.
-pub fn assigns(
-    alloc: Global,
-    tokens: &[Token],
-    from: usize,
-) -> Result<(Vec<Assignment>, usize), FormErr>
-    requires short { length tokens.now < 2 ^ 32 }
-    requires inside { from ≤ length tokens.now }
-    ensures found { IfOk result (λ found. AreItems (IsAssign tokens.now) found.0.items from found.1) }
-    ensures inside { IfOk result (λ found. found.1 ≤ length tokens.now) }
-    ensures counted { IfOk result (λ found. from + length found.0.items ≤ found.1) }
-    ensures only { (assigns : List SomeAssignment) (b : ℕ) → AreItems (IsAssign tokens.now) assigns from b
-        → mark_at tokens.now b ≢ marks.Assign
-        → IsAnswer result (λ found. map plain_assignment assigns ≡ map plain_assignment found.items) b }
+/// The assignment of a value to a net, and where it stands. `Form` comes exactly where it isn't of the form.
+fn net_assignment_of(alloc: Global, assign: &NetAssignment) -> Result<Assignment, FormErr>
+    ensures assignment { IfOk result (λ found. net_assignment_of (tree_assignment assign.now) ≡ Some (plain_assignment found)) }
+    ensures refused { result ≡ Err Form → net_assignment_of (tree_assignment assign.now) ≡ None }
+{
+    let target = target_of(alloc, &assign.target)?;
+    let value = formula_of(alloc, &assign.value)?;
+    Ok(Assignment {
+        target,
+        value,
+        span: assign.site.span,
+        line: assign.site.line,
+        token: assign.site.token,
+    })
+}
+
+/// The assignment that an item is. `Form` comes exactly where it is none.
+fn assignment_of(alloc: Global, item: &Item) -> Result<Assignment, FormErr>
+    ensures assignment { IfOk result (λ found. assignment_of (item_of item.now) ≡ Some (plain_assignment found)) }
+    ensures refused { result ≡ Err Form → assignment_of (item_of item.now) ≡ None }
+{
+    match item {
+        Item::Assigns {
+            delay: None,
+            assignments,
+            ..
+        } => {
+            if assignments.len() != 1 {
+                return Err(FormErr::Form);
+            }
+            net_assignment_of(alloc, &assignments[0])
+        }
+        _ => Err(FormErr::Form),
+    }
+}
+
+/// The assignments that items are, in their order. `Form` comes exactly where one of them is none.
+pub fn assigns_of(alloc: Global, items: &[Item]) -> Result<Vec<Assignment>, FormErr>
+    ensures assigns { IfOk result (λ found. all_of assignment_of (map item_of items.now) ≡ Some (map plain_assignment found.items)) }
+    ensures refused { result ≡ Err Form → all_of assignment_of (map item_of items.now) ≡ None }
 {
     let mut assigns = Vec::new(alloc);
-    let mut at = from;
-    while stands(tokens, at, Mark::Assign) {
-        let (assignment, end) = assignment(alloc, tokens, at)?;
-        assigns.push(assignment)?;
-        at = end;
+    for item in items {
+        assigns.push(assignment_of(alloc, item)?)?;
     }
-    Ok((assigns, at))
+    Ok(assigns)
 }

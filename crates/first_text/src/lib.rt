@@ -1,14 +1,12 @@
-//! The netlist that the tokens of a design text are: one module of 1-bit continuous assignments.
+//! The netlist that the syntax tree of a design text is: one module of 1-bit continuous assignments.
 //!
-//! Which netlist that is says `specs/ModuleText.antt`, apart from the code that reads it.
+//! Which netlist that is says `specs/Netlists.antt`, apart from the code that makes it.
 #![tactic(auto)]
 
 mod assigns;
 mod formula;
-mod marks;
 mod module;
 mod ports;
-mod right_side;
 #[cfg(test)]
 mod tests;
 mod wires;

@@ -1,46 +1,49 @@
-//! The module that a text is.
-ghost use Rattle.std.specs.Prelude.{◌≡◌, ◌+◌, ◌<◌, ◌^◌, Err, IfOk, MatchResult, length};
-ghost use Rattle.first_form.specs.declared.error.FormErr.TheVariants.{Form, NoMemory};
-ghost use Rattle.first_form.specs.declared.netlist.Netlist.{Netlist as SomeNetlist};
-ghost use Rattle.first_text.specs.ModuleText.{IsModuleOf};
+//! The module that a source is.
+ghost use Rattle.std.specs.Prelude.{◌≡◌, ◌+◌, ◌<◌, ◌^◌, Some, None, Err, IfOk, length};
+ghost use Rattle.v_parser.specs.ModuleTree.{module_of, parts_of, source_of};
+ghost use Rattle.first_form.specs.declared.error.FormErr.TheVariants.{Form};
+ghost use Rattle.first_text.specs.Netlists.{module_netlist, netlist_of};
 ghost use Rattle.first_text.specs.Seen.{plain_netlist};
 
-use crate::assigns::assigns;
-use crate::marks::{name_at, past};
-use crate::ports::ports;
-use crate::wires::wires;
+use crate::assigns::assigns_of;
+use crate::ports::ports_of;
+use crate::wires::wires_of;
 use first_form::{FormErr, Netlist};
 use std::alloc::Global;
-use v_lexer::types::Token;
-use v_tree::Mark;
+use v_tree::{Module, SourceTree};
 
-/// The module that the tokens of a text are. `Form` comes exactly where they are of no module of the form.
-pub fn netlist_of(alloc: Global, tokens: &[Token]) -> Result<Netlist, FormErr>
-    requires short { length tokens.now + 1 < 2 ^ 32 }
-    ensures meaning { IfOk result (λ netlist. IsModuleOf tokens.now netlist) }
-    ensures form { result ≡ Err Form → (netlist : SomeNetlist) → ¬ IsModuleOf tokens.now netlist }
-    // The tokens are of no other netlist, up to where it lies in memory.
-    ensures only { (other : SomeNetlist) → IsModuleOf tokens.now other
-        → MatchResult result (λ netlist. plain_netlist other ≡ plain_netlist netlist) (λ e. e ≡ NoMemory) }
-    ensures nets { IfOk result (λ n. length n.ports.items + length n.wires.items < 2 ^ 32) }
-    ensures assignments { IfOk result (λ n. length n.assigns.items + 1 < 2 ^ 32) }
+/// The netlist that a module is. `Form` comes exactly where it is none.
+fn module_netlist(alloc: Global, module: &Module) -> Result<Netlist, FormErr>
+    ensures meaning { IfOk result (λ netlist. module_netlist (module_of «module».now) ≡ Some (plain_netlist netlist)) }
+    ensures form { result ≡ Err Form → module_netlist (module_of «module».now) ≡ None }
 {
-    past(tokens, 0, Mark::Module)?;
-    let name = name_at(alloc, tokens, 1)?;
-    let at = past(tokens, 2, Mark::Open)?;
-    let (ports, at) = ports(alloc, tokens, at)?;
-    let at = past(tokens, at, Mark::Close)?;
-    let at = past(tokens, at, Mark::Semicolon)?;
-    let (wires, at) = wires(alloc, tokens, at)?;
-    let (assigns, at) = assigns(alloc, tokens, at)?;
-    let at = past(tokens, at, Mark::Endmodule)?;
-    if at != tokens.len() {
+    if !module.parameters.is_empty() {
         return Err(FormErr::Form);
     }
+    let ports = ports_of(alloc, &module.ports)?;
+    let items = module.items.as_slice();
+    let wires = wires_of(alloc, items)?;
+    let assigns = assigns_of(alloc, &items[wires.len()..])?;
     Ok(Netlist {
-        name,
+        name: module.name.copied(alloc)?,
         ports,
         wires,
         assigns,
     })
+}
+
+/// The netlist that a source is. `Form` comes exactly where it is none: where there is not one module alone, or where that
+/// has parameters, a port that is no declaration of a net of one bit, or an item beside its wires and the assignments behind
+/// them.
+pub fn netlist_of(alloc: Global, tree: &SourceTree) -> Result<Netlist, FormErr>
+    requires few { parts_of (source_of tree.now) < 2 ^ 32 }
+    ensures meaning { IfOk result (λ netlist. netlist_of (source_of tree.now) ≡ Some (plain_netlist netlist)) }
+    ensures form { result ≡ Err Form → netlist_of (source_of tree.now) ≡ None }
+    ensures nets { IfOk result (λ n. length n.ports.items + length n.wires.items < 2 ^ 32) }
+    ensures assignments { IfOk result (λ n. length n.assigns.items + 1 < 2 ^ 32) }
+{
+    let [only] = tree.modules.as_slice() else {
+        return Err(FormErr::Form);
+    };
+    module_netlist(alloc, only)
 }

@@ -1,70 +1,71 @@
-//! The ports of a module's head.
-ghost use Rattle.std.specs.Prelude.{◌≡◌, ◌≢◌, ◌+◌, ◌<◌, ◌≤◌, ℕ, List, IfOk, length};
-ghost use Rattle.v_tree.specs.Marks.{mark_at};
-ghost use Rattle.v_tree.specs.declared.mark.Mark.TheVariants as marks;
-ghost use Rattle.first_form.specs.declared.netlist.Port.{Port as SomePort};
-ghost use Rattle.first_text.specs.Answers.{IsAnswer};
-ghost use Rattle.first_text.specs.ModuleText.{ArePorts, IsNextPort, IsPort, direction_of};
+//! The ports of a module's header.
+ghost use Rattle.std.specs.Prelude.{◌≡◌, Some, None, Err, IfOk, map};
+ghost use Rattle.v_parser.specs.ModuleTree.{port_of as plain_port, ports_of as plain_ports};
+ghost use Rattle.first_form.specs.declared.error.FormErr.TheVariants.{Form};
+ghost use Rattle.first_text.specs.Netlists.{all_of, direction_of, port_of, ports_of};
 
-use crate::marks::{name_at, past, stands};
 use first_form::{Direction, FormErr, Port};
 use std::alloc::Global;
-use v_lexer::types::Token;
-use v_tree::{Mark, mark_at};
+use v_tree::{Direction as TreeDirection, Port as TreePort, Ports};
 
-/// The direction that a word names, if it is one.
-fn direction_of(word: Mark) -> Option<Direction>
-    ensures { result ≡ direction_of word }
+fn direction_of(direction: TreeDirection) -> Direction
+    ensures { result ≡ direction_of direction }
 {
-    match word {
-        Mark::Input => Some(Direction::Input),
-        Mark::Output => Some(Direction::Output),
-        _ => None,
+    match direction {
+        TreeDirection::Input => Direction::Input,
+        TreeDirection::Output => Direction::Output,
     }
 }
 
-/// The port at a place, and the place behind it. `Form` comes exactly where none stands there.
-fn port(alloc: Global, tokens: &[Token], at: usize) -> Result<(Port, usize), FormErr>
-    requires inside { at ≤ length tokens.now }
-    ensures found { IfOk result (λ found. IsPort tokens.now found.0 at found.1) }
-    ensures inside { IfOk result (λ found. found.1 ≤ length tokens.now) }
-    ensures only { (port : SomePort) (b : ℕ) → IsPort tokens.now port at b → IsAnswer result (λ found. port ≡ found) b }
+/// The port that a header's declaration is. `Form` comes exactly where it is none.
+fn port_of(alloc: Global, port: &TreePort) -> Result<Port, FormErr>
+    ensures port { IfOk result (λ found. port_of (plain_port port.now) ≡ Some found) }
+    ensures refused { result ≡ Err Form → port_of (plain_port port.now) ≡ None }
 {
-    let Some(direction) = direction_of(mark_at(tokens, at)) else {
-        return Err(FormErr::Form);
-    };
-    let name = name_at(alloc, tokens, at + 1)?;
-    Ok((Port { direction, name }, at + 2))
-}
-
-/// A comma and the port behind it, and the place behind that. `Form` comes exactly where none stands there.
-fn next_port(alloc: Global, tokens: &[Token], at: usize) -> Result<(Port, usize), FormErr>
-    requires inside { at < length tokens.now }
-    ensures found { IfOk result (λ found. IsNextPort tokens.now found.0 at found.1) }
-    ensures inside { IfOk result (λ found. found.1 ≤ length tokens.now) }
-    ensures only { (port : SomePort) (b : ℕ) → IsNextPort tokens.now port at b → IsAnswer result (λ found. port ≡ found) b }
-{
-    let at = past(tokens, at, Mark::Comma)?;
-    port(alloc, tokens, at)
-}
-
-/// The ports from a place on, and the place behind them. `Form` comes exactly where none stands there, or none behind a
-/// comma.
-pub fn ports(alloc: Global, tokens: &[Token], from: usize) -> Result<(Vec<Port>, usize), FormErr>
-    requires inside { from ≤ length tokens.now }
-    ensures found { IfOk result (λ found. ArePorts tokens.now found.0.items from found.1) }
-    ensures inside { IfOk result (λ found. found.1 ≤ length tokens.now) }
-    ensures counted { IfOk result (λ found. from + length found.0.items ≤ found.1) }
-    ensures only { (ports : List SomePort) (b : ℕ) → ArePorts tokens.now ports from b
-        → mark_at tokens.now b ≢ marks.Comma → IsAnswer result (λ found. ports ≡ found.items) b }
-{
-    let (first, end) = port(alloc, tokens, from)?;
-    let mut ports = vec![in alloc; first]?;
-    let mut at = end;
-    while stands(tokens, at, Mark::Comma) {
-        let (port, end) = next_port(alloc, tokens, at)?;
-        ports.push(port)?;
-        at = end;
+    match port {
+        TreePort::Declared {
+            direction,
+            net: None,
+            signed: false,
+            range: None,
+            name,
+            value: None,
+            ..
+        } => {
+            let name = name.copied(alloc)?;
+            Ok(Port {
+                direction: direction_of(*direction),
+                name,
+            })
+        }
+        _ => Err(FormErr::Form),
     }
-    Ok((ports, at))
+}
+
+/// The ports that declarations are, in their order. `Form` comes exactly where one of them is none.
+fn all_ports(alloc: Global, ports: &[TreePort]) -> Result<Vec<Port>, FormErr>
+    ensures ports { IfOk result (λ found. all_of port_of (map plain_port ports.now) ≡ Some found.items) }
+    ensures refused { result ≡ Err Form → all_of port_of (map plain_port ports.now) ≡ None }
+{
+    let mut found = Vec::new(alloc);
+    for port in ports {
+        found.push(port_of(alloc, port)?)?;
+    }
+    Ok(found)
+}
+
+/// The ports that a header declares, one at least. `Form` comes exactly where it doesn't, or where one is not of the form.
+pub fn ports_of(alloc: Global, ports: &Ports) -> Result<Vec<Port>, FormErr>
+    ensures ports { IfOk result (λ found. ports_of (plain_ports ports.now) ≡ Some found.items) }
+    ensures refused { result ≡ Err Form → ports_of (plain_ports ports.now) ≡ None }
+{
+    match ports {
+        Ports::Declared { ports } => {
+            if ports.is_empty() {
+                return Err(FormErr::Form);
+            }
+            all_ports(alloc, ports.as_slice())
+        }
+        _ => Err(FormErr::Form),
+    }
 }

@@ -1,46 +1,55 @@
 //! The declarations of wires.
-ghost use Rattle.std.specs.Prelude.{◌≡◌, ◌≢◌, ◌+◌, ◌<◌, ◌≤◌, ℕ, List, IfOk, length};
-ghost use Rattle.v_tree.specs.Marks.{mark_at};
-ghost use Rattle.v_tree.specs.declared.mark.Mark.TheVariants as marks;
-ghost use Rattle.first_text.specs.Answers.{IsAnswer};
-ghost use Rattle.first_text.specs.ModuleText.{AreItems, IsWire};
+ghost use Rattle.std.specs.Prelude.{◌≡◌, ◌≤◌, IfOk, length, map};
+ghost use Rattle.v_parser.specs.ItemTree.{declarator_of, item_of};
+ghost use Rattle.first_text.specs.Netlists.{declared_name, wire_of, wires_of};
 
-use crate::marks::{name_at, past, stands};
-use first_form::FormErr;
-use loc_base::Name;
+use loc_base::{Name, NoMemory};
 use std::alloc::Global;
-use v_lexer::types::Token;
-use v_tree::Mark;
+use v_tree::{Declarator, Item, NetKind};
 
-/// The declaration of a wire at a place, and the place behind it. `Form` comes exactly where none stands there.
-fn wire(alloc: Global, tokens: &[Token], at: usize) -> Result<(Name, usize), FormErr>
-    requires inside { at < length tokens.now }
-    ensures found { IfOk result (λ found. IsWire tokens.now found.0 at found.1) }
-    ensures inside { IfOk result (λ found. found.1 ≤ length tokens.now) }
-    ensures only { (name : List ℕ) (b : ℕ) → IsWire tokens.now name at b → IsAnswer result (λ found. name ≡ found) b }
+/// The name that is declared, if it has neither a range nor a value.
+fn declared_name(alloc: Global, declarator: &Declarator) -> Result<Option<Name>, NoMemory>
+    ensures { IfOk result (λ found. found ≡ declared_name (declarator_of declarator.now)) }
 {
-    let at = past(tokens, at, Mark::Wire)?;
-    let name = name_at(alloc, tokens, at)?;
-    let at = past(tokens, at + 1, Mark::Semicolon)?;
-    Ok((name, at))
+    if declarator.range.is_some() || declarator.value.is_some() {
+        return Ok(None);
+    }
+    Ok(Some(declarator.name.copied(alloc)?))
 }
 
-/// The wires that are declared from a place on, and the place behind them. `Form` comes exactly where a declaration begins
-/// that is none.
-pub fn wires(alloc: Global, tokens: &[Token], from: usize) -> Result<(Vec<Name>, usize), FormErr>
-    requires inside { from ≤ length tokens.now }
-    ensures found { IfOk result (λ found. AreItems (IsWire tokens.now) found.0.items from found.1) }
-    ensures inside { IfOk result (λ found. found.1 ≤ length tokens.now) }
-    ensures counted { IfOk result (λ found. from + length found.0.items ≤ found.1) }
-    ensures only { (names : List (List ℕ)) (b : ℕ) → AreItems (IsWire tokens.now) names from b
-        → mark_at tokens.now b ≢ marks.Wire → IsAnswer result (λ found. names ≡ found.items) b }
+/// The wire that an item declares, if it declares one wire and no more.
+fn wire_of(alloc: Global, item: &Item) -> Result<Option<Name>, NoMemory>
+    ensures { IfOk result (λ found. found ≡ wire_of (item_of item.now)) }
+{
+    match item {
+        Item::Declaration {
+            net: NetKind::Wire,
+            signed: false,
+            range: None,
+            delay: None,
+            names,
+            ..
+        } => {
+            if names.len() != 1 {
+                return Ok(None);
+            }
+            declared_name(alloc, &names[0])
+        }
+        _ => Ok(None),
+    }
+}
+
+/// The wires that the items begin with.
+pub fn wires_of(alloc: Global, items: &[Item]) -> Result<Vec<Name>, NoMemory>
+    ensures wires { IfOk result (λ wires. wires.items ≡ wires_of (map item_of items.now)) }
+    ensures within { IfOk result (λ wires. length wires.items ≤ length items.now) }
 {
     let mut wires = Vec::new(alloc);
-    let mut at = from;
-    while stands(tokens, at, Mark::Wire) {
-        let (name, end) = wire(alloc, tokens, at)?;
-        wires.push(name)?;
-        at = end;
+    for item in items {
+        let Some(wire) = wire_of(alloc, item)? else {
+            return Ok(wires);
+        };
+        wires.push(wire)?;
     }
-    Ok((wires, at))
+    Ok(wires)
 }

@@ -1,7 +1,7 @@
 use Rattle.std.proofs.Common.{sym, ap, ◌∙◌, Some}
 use Rattle.v_tree.specs.Tree.{tree_of}
 use Rattle.first_text.specs.Formulas.{formula_of, named}
-use Rattle.first_text.proofs.FormulaLemmas.{name_with_select, name_without_select}
+use Rattle.first_text.proofs.NameLemmas.{name_with_select, name_without_select}
 use Rattle.first_text.proofs.formula.+formula_of.Goals as goal
 
 pub returns-then-not-is_empty-clause-refused : goal.returns-then-not-is_empty-clause-refused
