@@ -1,6 +1,6 @@
 -- The designs of one netlist have ports of the same names and as many places, wherever the netlist lies in memory, and a
 -- text means the same traces of them.
-use Rattle.std.proofs.Common.{◌≡◌, ℕ, zero, suc, ◌+◌, List, [], ◌∷◌, ◌++◌, length, map, Bool, not, refl, sym, ap, ◌∙◌, subst}
+use Rattle.std.proofs.Common.{◌≡◌, ℕ, zero, suc, ◌+◌, List, [], ◌∷◌, ◌++◌, length, map, Bool, not, refl, sym, ap, ◌∙◌, subst, Some}
 use Rattle.std.specs.Prelude.{slice_get, IsTrue}
 use Rattle.std.specs.List.{AllZip, list_all}
 use Rattle.std.specs.Option.{option_map_or}
@@ -13,12 +13,13 @@ use Rattle.first_form.specs.declared.netlist.Netlist.{Netlist}
 use Rattle.first_form.specs.Names.{is_in, number_of}
 use Rattle.first_form.specs.Netlists.{declarations, names, is_input, Declaration, port_declaration, wire_declaration}
 use Rattle.first_form.specs.Meaning.{IsSignalOf, IsDesignOf, place_of, ports_from}
-use Rattle.first_text.specs.ModuleText.{IsModuleOf}
+use Rattle.first_text.specs.Netlists.{netlist_of}
 use Rattle.first_text.specs.Seen.{PlainNetlist, plain_assignment, plain_netlist}
 use Rattle.first_trace.specs.Dump.{AreVariables, IsTraceText, Variable, input_names, levels_at, name_at, names_of, output_names}
-use Rattle.v_lexer.specs.Lexeme.{Lexeme}
+use Rattle.v_parser.specs.ModuleTree.{PlainModule}
 use Rattle.localise_cmd.specs.Means.{IsModuleDesign}
 use Rattle.localise_cmd.specs.Inputs.{AreAlike}
+use Rattle.localise_cmd.proofs.SameModule.{one-netlist}
 
 -- the name of a net by its number
 net_name : List Declaration → ℕ → List ℕ
@@ -63,11 +64,10 @@ designs-alike n m d e same of also = record {
   places = count-places n d of ∙ ap (λ (p : PlainNetlist). length p.assigns) same ∙ sym (count-places m e also);
 }
 
--- tokens that are one module alone mean designs that are alike
-pub module-alike : (tokens : List Lexeme) (top : List ℕ) (n : Netlist) (e : Design)
-    → ((other : Netlist) → IsModuleOf tokens other → plain_netlist other ≡ plain_netlist n)
-    → IsDesignOf n e → (d : Design) → IsModuleDesign tokens top d → AreAlike d e
-module-alike tokens top n e only of d is = designs-alike is.netlist n d e (only is.netlist is.is_module) is.meaning of
+-- a tree means designs that are alike
+pub module-alike : (tree : List PlainModule) (top : List ℕ) (n : Netlist) (e : Design) → netlist_of tree ≡ Some (plain_netlist n)
+    → IsDesignOf n e → (d : Design) → IsModuleDesign tree top d → AreAlike d e
+module-alike tree top n e is-n of d is = designs-alike is.netlist n d e (one-netlist (netlist_of tree) (plain_netlist is.netlist) (plain_netlist n) is.is_netlist is-n) is.meaning of
 
 variables-alike : (d e : Design) (variables : List Variable) → AreAlike d e → AreVariables d variables → AreVariables e variables
 variables-alike d e variables alike are = record {

@@ -2,7 +2,10 @@
 use Rattle.std.proofs.Common.{◌≡◌, ℕ, ◌≤◌, ◌<◌, ◌⊎◌, inl, inr, List, length, refl, subst, arith, Option, Some, None, Result, Ok, Err}
 use Rattle.std.specs.Prelude.{IsSomeAnd}
 use Rattle.v_lexer.specs.Tokens.{HasFault}
-use Rattle.v_lexer.proofs.Unique.{no_fault}
+use Rattle.v_lexer.proofs.Unique.{no_fault, no_other_tokens}
+use Rattle.v_tree.specs.declared.fault.ParseErr.{ParseErr}
+use Rattle.v_parser.specs.ModuleTree.{PlainModule}
+use Rattle.v_parser.specs.Modules.{IsSource}
 use Rattle.first_trace.specs.Dump.{IsTraceText}
 use Rattle.design_core.specs.declared.trace.Trace.{Trace}
 use Rattle.localise_cmd.specs.declared.request.Usage.{Usage}
@@ -12,7 +15,7 @@ use Rattle.localise_cmd.specs.declared.refusal.Refusal.TheVariants as refusal
 use Rattle.localise_cmd.specs.declared.outcome.Outcome.{Outcome}
 use Rattle.localise_cmd.specs.declared.outcome.Outcome.TheVariants as outcome
 use Rattle.localise_cmd.specs.Asked.{Asked, asked}
-use Rattle.localise_cmd.specs.Means.{Causes, IsDesignText, asked_name, most_bytes}
+use Rattle.localise_cmd.specs.Means.{Causes, IsSourceText, IsDesignText, HasSyntaxFault, HasNoDesign, asked_name, most_bytes}
 use Rattle.localise_cmd.specs.Outcome.{Counts, Run, Leaves, RunCause, refusal_status, status_of}
 use Rattle.localise_cmd.specs.Statuses.{IsInOrder}
 
@@ -27,14 +30,22 @@ Ok-request answer a b e f = cc
 not-usage : (answer : Result Asked Usage) (a : Asked) (usage : Usage) → answer ≡ Ok a → answer ≡ Err usage → ⊥
 not-usage answer a usage e f = absurd (cc)
 
+-- tokens that have a tree are not refused
+no-syntax-fault : (text : List ℕ) (tree : List PlainModule) (fault : ParseErr) → IsSourceText text tree → HasSyntaxFault text fault → ⊥
+no-syntax-fault text tree fault is has =
+    has.shows.refuses.no_tree has.tokens (λ i below. refl) tree 0 (subst (λ t. IsSource t tree) (no_other_tokens text is.tokens is.lexed has.tokens has.lexed) is.parsed)
+
 -- the texts give a list, or memory was wanted
 refused : (run : Run) (counts : Counts) (why : Refusal) (order : IsInOrder run counts) → Causes order.request run.texts why
     → RunCause counts (outcome.Refused why) → refusal_status why ≡ 7
 refused run counts (refusal.Lexical fault) order cause counted =
     absurd (not-both (λ t. IsDesignText t order.request.top order.design) (λ t. HasFault t fault) (run.texts order.request.design)
-    (λ t is fails. no_fault t is.tokens is.lexed fault fails) order.means.design cause)
+    (λ t is fails. no_fault t is.is_source.tokens is.is_source.lexed fault fails) order.means.design cause)
+refused run counts (refusal.Syntax fault) order cause counted =
+    absurd (not-both (λ t. IsDesignText t order.request.top order.design) (λ t. HasSyntaxFault t fault) (run.texts order.request.design)
+    (λ t is fails. no-syntax-fault t is.tree fault is.is_source fails) order.means.design cause)
 refused run counts (refusal.Form input.Design) order cause counted =
-    absurd (not-both (λ t. IsDesignText t order.request.top order.design) _ (run.texts order.request.design) (λ t is none. none order.design is) order.means.design cause)
+    absurd (not-both (λ t. IsDesignText t order.request.top order.design) (λ t. HasNoDesign t order.request.top) (run.texts order.request.design) (λ t is no. no.none order.design is) order.means.design cause)
 refused run counts (refusal.Form input.Trace) order cause counted =
     absurd (not-both (λ t. IsTraceText t order.design order.trace) (λ t. (trace : Trace) → ¬ IsTraceText t order.design trace) (run.texts order.request.trace)
     (λ t is none. none order.trace is) order.means.trace (cause.none order.design order.means.design))

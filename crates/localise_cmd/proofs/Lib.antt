@@ -1,5 +1,6 @@
 pub mod Ready
 pub mod SameModule
+pub mod SourceTexts
 pub mod AlikeDesigns
 pub mod Refusing
 pub mod ShownSets

@@ -1,9 +1,7 @@
 -- Why the texts give no list.
-use Rattle.std.proofs.Common.{◌≡◌, ℕ, ◌<◌, List, length, refl, sym, subst, Option, Some, Result, Ok, Err}
+use Rattle.std.proofs.Common.{◌≡◌, ℕ, ◌<◌, List, length, sym, subst, Option, Some, Result, Ok, Err}
 use Rattle.std.specs.Prelude.{IsSomeAnd, IfErr}
-use Rattle.v_lexer.specs.Lexeme.{Lexeme}
-use Rattle.v_lexer.specs.declared.types.refusal.LexErr.{LexErr}
-use Rattle.v_lexer.specs.Tokens.{HasOutcome, HasTokens}
+use Rattle.v_parser.specs.ModuleTree.{PlainModule}
 use Rattle.design_core.specs.declared.design.Design.{Design}
 use Rattle.design_core.specs.declared.trace.Trace.{Trace}
 use Rattle.first_form.specs.declared.design.FirstDesign.{FirstDesign}
@@ -12,37 +10,35 @@ use Rattle.localise_cmd.specs.declared.refusal.Input.TheVariants as input
 use Rattle.localise_cmd.specs.declared.refusal.Refusal.{Refusal}
 use Rattle.localise_cmd.specs.declared.refusal.Refusal.TheVariants as refusal
 use Rattle.localise_cmd.specs.Asked.{Asked}
-use Rattle.localise_cmd.specs.Means.{IsModuleDesign, IsDesignText, Texts, MeansDesign, Causes, most_assigns}
-use Rattle.localise_cmd.specs.Inputs.{AreAlike, IsTooLarge, DesignCause, TraceCause, Loads, TokensCause}
+use Rattle.localise_cmd.specs.Means.{IsSourceText, IsModuleDesign, IsDesignText, HasNoDesign, Texts, MeansDesign, Causes, most_assigns}
+use Rattle.localise_cmd.specs.Inputs.{AreAlike, IsTooLarge, DesignCause, TraceCause, Loads, SourceCause}
 use Rattle.localise_cmd.proofs.AlikeDesigns.{trace-alike}
 
--- a text is a design's by its tokens, which are its only ones
-pub design-text : (text top : List ℕ) (tokens : List Lexeme) (d : Design) → HasTokens text tokens → IsModuleDesign tokens top d → IsDesignText text top d
-design-text text top tokens d lexed is = record { tokens = tokens; lexed = lexed; design = is }
+-- a text is a design's by its tree, which is its only one
+pub design-text : (text top : List ℕ) (tree : List PlainModule) (d : Design) → IsSourceText text tree → IsModuleDesign tree top d → IsDesignText text top d
+design-text text top tree d source is = record { tree = tree; is_source = source; design = is }
 
-Ok-is : (a b : Result (List Lexeme) LexErr) (x y : List Lexeme) → a ≡ b → a ≡ Ok x → b ≡ Ok y → x ≡ y
-Ok-is a b x y e f g = cc
+pub no-design : (text top : List ℕ) (tree : List PlainModule) → IsSourceText text tree → ((s : List PlainModule) → IsSourceText text s → s ≡ tree)
+    → ((d : Design) → ¬ IsModuleDesign tree top d) → HasNoDesign text top
+no-design text top tree source only none = record {
+  tree = tree;
+  is_source = source;
+  none = λ d is. none d (subst (λ t. IsModuleDesign t top d) (only is.tree is.is_source) is.design);
+}
 
-pub no-design : (text top : List ℕ) (tokens : List Lexeme)
-    → ((t : List ℕ) (a b : Result (List Lexeme) LexErr) → HasOutcome t a → HasOutcome t b → a ≡ b)
-    → HasTokens text tokens → ((d : Design) → ¬ IsModuleDesign tokens top d) → (d : Design) → ¬ IsDesignText text top d
-no-design text top tokens unique lexed none d is =
-    none d (subst (λ t. IsModuleDesign t top d) (Ok-is (Ok is.tokens) (Ok tokens) is.tokens tokens (unique text (Ok is.tokens) (Ok tokens) is.lexed lexed) refl refl) is.design)
+pub source-cause : (text top : List ℕ) (why : Refusal) → SourceCause text why → DesignCause text top why
+source-cause text top (refusal.Lexical fault) cause = cause
+source-cause text top (refusal.Syntax fault) cause = cause
+source-cause text top refusal.NoMemory cause = tt
+source-cause text top (refusal.Form i) cause = absurd cause
+source-cause text top refusal.Assigns cause = absurd cause
+source-cause text top (refusal.Size i) cause = absurd cause
+source-cause text top (refusal.ReadFault i) cause = absurd cause
 
-pub tokens-cause : (text top : List ℕ) (why : Refusal) → TokensCause text why → DesignCause text top why
-tokens-cause text top (refusal.Lexical fault) cause = cause
-tokens-cause text top refusal.NoMemory cause = tt
-tokens-cause text top (refusal.Form i) cause = absurd cause
-tokens-cause text top refusal.Assigns cause = absurd cause
-tokens-cause text top (refusal.Size i) cause = absurd cause
-tokens-cause text top (refusal.ReadFault i) cause = absurd cause
-
--- what is alike to each design of the tokens is alike to each design of the text
-pub text-alike : (text top : List ℕ) (tokens : List Lexeme) (e : Design)
-    → ((t : List ℕ) (a b : Result (List Lexeme) LexErr) → HasOutcome t a → HasOutcome t b → a ≡ b)
-    → HasTokens text tokens → ((d : Design) → IsModuleDesign tokens top d → AreAlike d e) → (d : Design) → IsDesignText text top d → AreAlike d e
-text-alike text top tokens e unique lexed alike d is =
-    alike d (subst (λ t. IsModuleDesign t top d) (Ok-is (Ok is.tokens) (Ok tokens) is.tokens tokens (unique text (Ok is.tokens) (Ok tokens) is.lexed lexed) refl refl) is.design)
+-- what is alike to each design of the tree is alike to each design of the text
+pub text-alike : (text top : List ℕ) (tree : List PlainModule) (e : Design) → ((s : List PlainModule) → IsSourceText text s → s ≡ tree)
+    → ((d : Design) → IsModuleDesign tree top d → AreAlike d e) → (d : Design) → IsDesignText text top d → AreAlike d e
+text-alike text top tree e only alike d is = alike d (subst (λ t. IsModuleDesign t top d) (only is.tree is.is_source) is.design)
 
 pub too-large : (text top : List ℕ) (e : Design) → IsDesignText text top e → ((d : Design) → IsDesignText text top d → AreAlike d e)
     → most_assigns < length e.places.items → IsTooLarge text top
@@ -52,7 +48,7 @@ too-large text top e means alike many = record {
   many = λ d is. subst (λ n. most_assigns < n) (sym (alike d is).places) many;
 }
 
-pub ruleset design_rules = (design-text, no-design, tokens-cause, text-alike, too-large)
+pub ruleset design_rules = (design-text, no-design, source-cause, text-alike, too-large)
 
 -- of a text that is there
 in-some : (P : List ℕ → Type 0) (text : Option (List ℕ)) (loaded : List ℕ) → text ≡ Some loaded → P loaded → IsSomeAnd text P
@@ -67,6 +63,7 @@ means-alike asked texts text e is alike d means = alike d (of-some (λ t. IsDesi
 
 pub design-cause : (asked : Asked) (texts : Texts) (text : List ℕ) (why : Refusal) → texts asked.design ≡ Some text → DesignCause text asked.top why → Causes asked texts why
 design-cause asked texts text (refusal.Lexical fault) e cause = in-some _ (texts asked.design) text e cause
+design-cause asked texts text (refusal.Syntax fault) e cause = in-some _ (texts asked.design) text e cause
 design-cause asked texts text refusal.NoMemory e cause = tt
 design-cause asked texts text (refusal.Form input.Design) e cause = in-some _ (texts asked.design) text e cause
 design-cause asked texts text (refusal.Form input.Trace) e cause = absurd cause
@@ -85,6 +82,7 @@ trace-none text d e alike none trace is = none trace (trace-alike text d e trace
 pub trace-cause : (asked : Asked) (texts : Texts) (e : Design) (text : List ℕ) (why : Refusal) → MeansDesign asked texts e
     → ((d : Design) → MeansDesign asked texts d → AreAlike d e) → texts asked.trace ≡ Some text → TraceCause text e why → Causes asked texts why
 trace-cause asked texts e text (refusal.Lexical fault) means alike is cause = absurd cause
+trace-cause asked texts e text (refusal.Syntax fault) means alike is cause = absurd cause
 trace-cause asked texts e text refusal.NoMemory means alike is cause = tt
 trace-cause asked texts e text (refusal.Form input.Design) means alike is cause = absurd cause
 trace-cause asked texts e text (refusal.Form input.Trace) means alike is cause = record {
@@ -112,6 +110,7 @@ trace-refused asked texts e text r means alike is refused =
 
 pub load-design-cause : (asked : Asked) (texts : Texts) (why : Refusal) → Loads (texts asked.design) input.Design (Err why) → Causes asked texts why
 load-design-cause asked texts (refusal.Lexical fault) cause = absurd cause
+load-design-cause asked texts (refusal.Syntax fault) cause = absurd cause
 load-design-cause asked texts (refusal.Form i) cause = absurd cause
 load-design-cause asked texts refusal.Assigns cause = absurd cause
 load-design-cause asked texts (refusal.Size input.Design) cause = cause.1
@@ -121,6 +120,7 @@ load-design-cause asked texts refusal.NoMemory cause = tt
 
 pub load-trace-cause : (asked : Asked) (texts : Texts) (why : Refusal) → Loads (texts asked.trace) input.Trace (Err why) → Causes asked texts why
 load-trace-cause asked texts (refusal.Lexical fault) cause = absurd cause
+load-trace-cause asked texts (refusal.Syntax fault) cause = absurd cause
 load-trace-cause asked texts (refusal.Form i) cause = absurd cause
 load-trace-cause asked texts refusal.Assigns cause = absurd cause
 load-trace-cause asked texts (refusal.Size input.Trace) cause = cause.1

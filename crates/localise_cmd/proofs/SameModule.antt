@@ -1,5 +1,5 @@
 -- Whether a netlist is of the first form does not depend on where it lies in memory.
-use Rattle.std.proofs.Common.{◌≡◌, ℕ, zero, suc, List, [], ◌∷◌, ◌++◌, map, refl, sym, ap, ◌∙◌, subst, Some, get_or}
+use Rattle.std.proofs.Common.{◌≡◌, ℕ, zero, suc, List, [], ◌∷◌, ◌++◌, map, refl, sym, ap, ◌∙◌, subst, Option, Some, None, get_or}
 use Rattle.std.specs.Prelude.{All, Contains, slice_get, IsTrue, filter_map}
 use Rattle.std.specs.List.{list_all}
 use Rattle.std.proofs.lemmas.Option.{slice_get-get_or, slice_get_within}
@@ -11,9 +11,9 @@ use Rattle.first_form.specs.Formula.{formula_names}
 use Rattle.first_form.specs.Names.{is_in, number_in, AreDistinct}
 use Rattle.first_form.specs.Circles.{IsWay}
 use Rattle.first_form.specs.Netlists.{declarations, names, targets, sources, DependsOn, is_assigned_rightly, AreDeclared, IsOfForm, Declaration, port_declaration, wire_declaration}
-use Rattle.v_lexer.specs.Lexeme.{Lexeme}
+use Rattle.v_parser.specs.ModuleTree.{PlainModule}
 use Rattle.design_core.specs.declared.design.Design.{Design}
-use Rattle.first_text.specs.ModuleText.{IsModuleOf}
+use Rattle.first_text.specs.Netlists.{netlist_of}
 use Rattle.localise_cmd.specs.Means.{IsModuleDesign}
 use Rattle.first_text.specs.Formulas.{PlainFormula, named, complement, combined, plain_of}
 use Rattle.first_text.specs.Seen.{PlainAssignment, plain_assignment, PlainNetlist, plain_netlist}
@@ -117,13 +117,20 @@ same-form a b top e of = record {
   no_circle = record { none = λ i leads. of.no_circle.none i (leads.0, way-more (DependsOn b) (DependsOn a) (depends a b e) i i leads.0 leads.1) };
 }
 
--- tokens that are no module have no design
-pub no-module : (tokens : List Lexeme) (top : List ℕ) → ((n : Netlist) → ¬ IsModuleOf tokens n) → (d : Design) → ¬ IsModuleDesign tokens top d
-no-module tokens top none d is = none is.netlist is.is_module
+-- a tree is one netlist
+pub one-netlist : (r : Option PlainNetlist) (n m : PlainNetlist) → r ≡ Some n → r ≡ Some m → n ≡ m
+one-netlist r n m e f = cc
 
--- nor have those whose only module is not of the form
-pub no-form : (tokens : List Lexeme) (top : List ℕ) (n : Netlist) → ((other : Netlist) → IsModuleOf tokens other → plain_netlist other ≡ plain_netlist n)
-    → ¬ IsOfForm n top → (d : Design) → ¬ IsModuleDesign tokens top d
-no-form tokens top n only none d is = none (same-form is.netlist n top (only is.netlist is.is_module) is.of_form)
+not-none : (r : Option PlainNetlist) (n : PlainNetlist) → r ≡ None → r ≡ Some n → ⊥
+not-none r n e f = absurd (cc)
+
+-- a tree that is no netlist has no design
+pub no-module : (tree : List PlainModule) (top : List ℕ) → netlist_of tree ≡ None → (d : Design) → ¬ IsModuleDesign tree top d
+no-module tree top none d is = not-none (netlist_of tree) (plain_netlist is.netlist) none is.is_netlist
+
+-- nor has one whose netlist is not of the form
+pub no-form : (tree : List PlainModule) (top : List ℕ) (n : Netlist) → netlist_of tree ≡ Some (plain_netlist n)
+    → ¬ IsOfForm n top → (d : Design) → ¬ IsModuleDesign tree top d
+no-form tree top n of none d is = none (same-form is.netlist n top (one-netlist (netlist_of tree) (plain_netlist is.netlist) (plain_netlist n) is.is_netlist of) is.of_form)
 
 pub ruleset module_rules = (no-module, no-form)

@@ -28,6 +28,7 @@ lexical-cases lex.NoMemory = inl refl
 -- a refusal has the status 3, 4 or 5, but for want of memory
 refusal-cases : (why : Refusal) → IsRefusal (refusal_status why) ⊎ (why ≡ refusal.NoMemory)
 refusal-cases (refusal.Lexical fault) = elim (lexical-cases fault) [ inl three ↦ inl (inl three) | inr four ↦ inl (inr (inl four)) ]
+refusal-cases (refusal.Syntax fault) = inl (inl refl)
 refusal-cases (refusal.Form text) = inl (inl refl)
 refusal-cases refusal.Assigns = inl (inr (inl refl))
 refusal-cases (refusal.Size text) = inl (inr (inl refl))
@@ -89,6 +90,7 @@ fault-of run outcome.Memory leaves e = absurd (omega (arith, e))
 -- a refusal for want of memory prints `memory`
 memory-early : (run : Run) (why : Refusal) → Leaves run (outcome.Refused why) → why ≡ refusal.NoMemory → IsCutEarly run
 memory-early run (refusal.Lexical fault) leaves e = absurd (cc)
+memory-early run (refusal.Syntax fault) leaves e = absurd (cc)
 memory-early run (refusal.Form text) leaves e = absurd (cc)
 memory-early run refusal.Assigns leaves e = absurd (cc)
 memory-early run (refusal.Size text) leaves e = absurd (cc)
@@ -114,6 +116,12 @@ read-cause counts (refusal.Lexical fault) cause = record {
   none = λ h. record { shelf = cause.1; sink = cause.0 };
   read = λ e. absurd (elim (lexical-cases fault) [ inl three ↦ omega (arith, three, e) | inr four ↦ omega (arith, four, e) ]);
   written = λ e. absurd (elim (lexical-cases fault) [ inl three ↦ omega (arith, three, e) | inr four ↦ omega (arith, four, e) ]);
+  memory = λ e. cause.0;
+}
+read-cause counts (refusal.Syntax fault) cause = record {
+  none = λ h. record { shelf = cause.1; sink = cause.0 };
+  read = λ e. absurd (omega (arith, e));
+  written = λ e. absurd (omega (arith, e));
   memory = λ e. cause.0;
 }
 read-cause counts (refusal.Form text) cause = record {

@@ -1,7 +1,11 @@
 -- What is known of the texts that are read.
-use Rattle.std.specs.Prelude.{ℕ, ◌≡◌, ◌+◌, ◌≤◌, ◌<◌, ◌^◌, All, List, length, Option, Some, IsSomeAnd, Result, Ok, Err}
+use Rattle.std.specs.Prelude.{ℕ, ◌≡◌, ◌+◌, ◌≤◌, ◌<◌, ◌^◌, All, List, length, Option, Some, IsSomeAnd, Result, Ok, Err, MatchResult}
 use Rattle.io_ports.specs.Faults.{Rose}
+use Rattle.v_lexer.specs.Lexeme.{Lexeme}
 use Rattle.v_lexer.specs.Tokens.{HasFault}
+use Rattle.v_tree.specs.declared.module.SourceTree.{SourceTree}
+use Rattle.v_parser.specs.ModuleTree.{PlainModule, source_of}
+use Rattle.v_parser.specs.Modules.{ShowsNoSource}
 use Rattle.design_core.specs.declared.design.Design.{Design}
 use Rattle.design_core.specs.declared.trace.Trace.{Trace}
 use Rattle.design_core.specs.Valuation.{width_at}
@@ -12,7 +16,7 @@ use Rattle.localise_cmd.specs.declared.refusal.Input.{Input}
 use Rattle.localise_cmd.specs.declared.refusal.Input.TheVariants as input
 use Rattle.localise_cmd.specs.declared.refusal.Refusal.{Refusal}
 use Rattle.localise_cmd.specs.declared.refusal.Refusal.TheVariants as refusal
-use Rattle.localise_cmd.specs.Means.{IsDesignText, most_assigns, most_bytes}
+use Rattle.localise_cmd.specs.Means.{IsDesignText, HasSyntaxFault, HasNoDesign, most_assigns, most_bytes}
 
 -- the answer of a load: the text, or why there is none
 abbrev pub Loads : Option (List ℕ) → Input → Result (List ℕ) Refusal → Type 0
@@ -21,6 +25,7 @@ Loads text input (Err (refusal.Size other)) = (other ≡ input) × IsSomeAnd tex
 Loads text input (Err (refusal.ReadFault other)) = other ≡ input
 Loads text input (Err refusal.NoMemory) = Unit {0}
 Loads text input (Err (refusal.Lexical fault)) = ⊥
+Loads text input (Err (refusal.Syntax fault)) = ⊥
 Loads text input (Err (refusal.Form other)) = ⊥
 Loads text input (Err refusal.Assigns) = ⊥
 
@@ -28,6 +33,7 @@ Loads text input (Err refusal.Assigns) = ⊥
 abbrev pub ReadCause : ℕ → ℕ → Refusal → Type 0
 ReadCause old new (refusal.ReadFault input) = Rose old new
 ReadCause old new (refusal.Lexical fault) = new ≡ old
+ReadCause old new (refusal.Syntax fault) = new ≡ old
 ReadCause old new (refusal.Form input) = new ≡ old
 ReadCause old new refusal.Assigns = new ≡ old
 ReadCause old new (refusal.Size input) = new ≡ old
@@ -54,7 +60,8 @@ pub record IsTooLarge (text top : List ℕ) : Type 0 where
 -- the cause of a refusal of a design's text
 abbrev pub DesignCause : List ℕ → List ℕ → Refusal → Type 0
 DesignCause text top (refusal.Lexical fault) = HasFault text fault
-DesignCause text top (refusal.Form input.Design) = (d : Design) → ¬ IsDesignText text top d
+DesignCause text top (refusal.Syntax fault) = HasSyntaxFault text fault
+DesignCause text top (refusal.Form input.Design) = HasNoDesign text top
 DesignCause text top refusal.Assigns = IsTooLarge text top
 DesignCause text top refusal.NoMemory = Unit {0}
 DesignCause text top _ = ⊥
@@ -76,3 +83,20 @@ abbrev pub TokensCause : List ℕ → Refusal → Type 0
 TokensCause text (refusal.Lexical fault) = HasFault text fault
 TokensCause text refusal.NoMemory = Unit {0}
 TokensCause text _ = ⊥
+
+-- the cause of a refusal of tokens
+abbrev pub TreeCause : List Lexeme → Refusal → Type 0
+TreeCause tokens (refusal.Syntax fault) = ShowsNoSource tokens fault
+TreeCause tokens refusal.NoMemory = Unit {0}
+TreeCause tokens _ = ⊥
+
+-- the cause of a refusal of a text's tokens or of their tree
+abbrev pub SourceCause : List ℕ → Refusal → Type 0
+SourceCause text (refusal.Lexical fault) = HasFault text fault
+SourceCause text (refusal.Syntax fault) = HasSyntaxFault text fault
+SourceCause text refusal.NoMemory = Unit {0}
+SourceCause text _ = ⊥
+
+-- a tree is that of tokens, or memory was wanted
+abbrev pub IsOnlyTree : Result SourceTree Refusal → List PlainModule → Type 0
+IsOnlyTree result tree = MatchResult result (λ found. source_of found ≡ tree) (λ why. why ≡ refusal.NoMemory)

@@ -5,6 +5,8 @@ use Rattle.std.specs.Option.{option_map_or}
 use Rattle.loc_base.specs.declared.span.Span.{Span}
 use Rattle.v_lexer.specs.declared.types.refusal.LexErr.{LexErr}
 use Rattle.v_lexer.specs.declared.types.refusal.LexErr.TheVariants as lex
+use Rattle.v_tree.specs.declared.fault.ParseErr.{ParseErr}
+use Rattle.v_tree.specs.declared.fault.ParseErr.TheVariants as parse
 use Rattle.design_core.specs.declared.place.Place.{Place}
 use Rattle.localise_cmd.specs.declared.request.Usage.{Usage}
 use Rattle.localise_cmd.specs.declared.request.Usage.TheVariants as usage
@@ -43,6 +45,12 @@ lexical_line (lex.MacroDepth span) = span_line (codes "L8") span
 lexical_line (lex.TooLong span) = codes "limit L9" ++ newline
 lexical_line lex.NoMemory = []
 
+abbrev pub syntax_line : ParseErr → List ℕ
+syntax_line (parse.Unexpected span) = span_line (codes "P1") span
+syntax_line (parse.Unsupported span) = span_line (codes "P2") span
+syntax_line (parse.Deep span) = span_line (codes "P3") span
+syntax_line parse.NoMemory = []
+
 -- the name of a text that is read
 abbrev pub name_of : List ℕ → List ℕ → Input → List ℕ
 name_of design trace input.Design = design
@@ -51,6 +59,7 @@ name_of design trace input.Trace = trace
 -- what is printed of a refusal, the names of the design's and the trace's text being given
 abbrev pub refusal_line : List ℕ → List ℕ → Refusal → List ℕ
 refusal_line design trace (refusal.Lexical fault) = lexical_line fault
+refusal_line design trace (refusal.Syntax fault) = syntax_line fault
 refusal_line design trace (refusal.Form text) = codes "input form " ++ name_of design trace text ++ newline
 refusal_line design trace refusal.Assigns = codes "limit assigns" ++ newline
 refusal_line design trace (refusal.Size text) = codes "limit size" ++ newline

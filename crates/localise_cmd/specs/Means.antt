@@ -1,13 +1,17 @@
 -- Which design and which trace the texts mean, and when they mean none.
-use Rattle.std.specs.Prelude.{ℕ, ◌<◌, List, length, Option, IsSomeAnd}
+use Rattle.std.specs.Prelude.{ℕ, ◌≡◌, ◌<◌, List, length, Option, Some, IsSomeAnd}
 use Rattle.v_lexer.specs.Lexeme.{Lexeme}
 use Rattle.v_lexer.specs.Tokens.{HasTokens, HasFault}
+use Rattle.v_tree.specs.declared.fault.ParseErr.{ParseErr}
+use Rattle.v_parser.specs.ModuleTree.{PlainModule}
+use Rattle.v_parser.specs.Modules.{IsSource, ShowsNoSource}
 use Rattle.design_core.specs.declared.design.Design.{Design}
 use Rattle.design_core.specs.declared.trace.Trace.{Trace}
 use Rattle.first_form.specs.declared.netlist.Netlist.{Netlist}
 use Rattle.first_form.specs.Netlists.{IsOfForm}
 use Rattle.first_form.specs.Meaning.{IsDesignOf}
-use Rattle.first_text.specs.ModuleText.{IsModuleOf}
+use Rattle.first_text.specs.Netlists.{netlist_of}
+use Rattle.first_text.specs.Seen.{plain_netlist}
 use Rattle.first_trace.specs.Dump.{IsTraceText}
 use Rattle.localise_cmd.specs.declared.refusal.Input.{Input}
 use Rattle.localise_cmd.specs.declared.refusal.Input.TheVariants as input
@@ -19,18 +23,36 @@ use Rattle.localise_cmd.specs.Asked.{Asked}
 abbrev pub Texts : Type 0
 Texts = List ℕ → Option (List ℕ)
 
--- tokens are a module of a name, which means a design
-pub record IsModuleDesign (tokens : List Lexeme) (top : List ℕ) (d : Design) : Type 0 where
+-- a text has tokens, and these have a tree
+pub record IsSourceText (text : List ℕ) (tree : List PlainModule) : Type 0 where
+  pub tokens : List Lexeme
+  pub lexed : HasTokens text tokens
+  pub parsed : IsSource tokens tree
+
+-- a tree is a module of a name, which means a design
+pub record IsModuleDesign (tree : List PlainModule) (top : List ℕ) (d : Design) : Type 0 where
   pub netlist : Netlist
-  pub is_module : IsModuleOf tokens netlist
+  pub is_netlist : netlist_of tree ≡ Some (plain_netlist netlist)
   pub of_form : IsOfForm netlist top
   pub meaning : IsDesignOf netlist d
 
--- and a text is one by its tokens
+-- and a text is one by its tree
 pub record IsDesignText (text top : List ℕ) (d : Design) : Type 0 where
+  pub tree : List PlainModule
+  pub is_source : IsSourceText text tree
+  pub design : IsModuleDesign tree top d
+
+-- a text has tokens, and these have no tree, for that fault
+pub record HasSyntaxFault (text : List ℕ) (fault : ParseErr) : Type 0 where
   pub tokens : List Lexeme
   pub lexed : HasTokens text tokens
-  pub design : IsModuleDesign tokens top d
+  pub shows : ShowsNoSource tokens fault
+
+-- a text has a tree, and means no design
+pub record HasNoDesign (text top : List ℕ) : Type 0 where
+  pub tree : List PlainModule
+  pub is_source : IsSourceText text tree
+  pub none : (d : Design) → ¬ IsDesignText text top d
 
 -- the text under the design's name means the design
 abbrev pub MeansDesign : Asked → Texts → Design → Type 0
@@ -72,7 +94,8 @@ pub record HasManyAssigns (asked : Asked) (texts : Texts) : Type 0 where
 -- the cause of a refusal
 abbrev pub Causes : Asked → Texts → Refusal → Type 0
 Causes asked texts (refusal.Lexical fault) = IsSomeAnd (texts asked.design) (λ text. HasFault text fault)
-Causes asked texts (refusal.Form input.Design) = IsSomeAnd (texts asked.design) (λ text. (d : Design) → ¬ IsDesignText text asked.top d)
+Causes asked texts (refusal.Syntax fault) = IsSomeAnd (texts asked.design) (λ text. HasSyntaxFault text fault)
+Causes asked texts (refusal.Form input.Design) = IsSomeAnd (texts asked.design) (λ text. HasNoDesign text asked.top)
 Causes asked texts (refusal.Form input.Trace) = HasNoTrace asked texts
 Causes asked texts refusal.Assigns = HasManyAssigns asked texts
 Causes asked texts (refusal.Size text) = IsSomeAnd (texts (asked_name asked text)) (λ bytes. most_bytes < length bytes)

@@ -223,6 +223,7 @@ lexical_status _ = 3
 
 abbrev pub refusal_status : Refusal → ℕ
 refusal_status (refusal.Lexical fault) = lexical_status fault
+refusal_status (refusal.Syntax fault) = 3
 refusal_status (refusal.Form text) = 3
 refusal_status refusal.Assigns = 4
 refusal_status (refusal.Size text) = 4

@@ -1,7 +1,6 @@
 //! Reading the texts: the design and the trace that they mean.
-ghost use Rattle.std.specs.Prelude.{◌≡◌, ◌≤◌, true, Err, IfOk, IfErr, MatchResult, length, ◌≢◌};
-ghost use Rattle.v_lexer.specs.declared.types.refusal.LexErr.TheVariants as lex;
-ghost use Rattle.v_lexer.specs.Tokens.{HasTokens};
+ghost use Rattle.std.specs.Prelude.{◌≡◌, ◌≤◌, ◌<◌, ◌^◌, true, Err, IfOk, IfErr, MatchResult, length};
+ghost use Rattle.v_parser.specs.ModuleTree.{parts_of, source_of};
 ghost use Rattle.design_core.specs.declared.design.Design.{Design as SomeDesign};
 ghost use Rattle.first_form.specs.declared.error.FormErr.TheVariants.{Form};
 ghost use Rattle.design_core.specs.TraceFits.{IsTraceOf};
@@ -10,10 +9,11 @@ ghost use Rattle.plain_list.specs.Network.{IsNetwork};
 ghost use Rattle.localise_cmd.specs.declared.refusal.Refusal.TheVariants as refusal;
 ghost use Rattle.localise_cmd.specs.Means.{Causes, IsDesignText, IsModuleDesign, Means, MeansDesign, MeansTrace, most_assigns, most_bytes};
 ghost use Rattle.localise_cmd.specs.Views.{asked_of};
-ghost use Rattle.localise_cmd.specs.Inputs.{AreAlike, ArePorts, AreRead, DesignCause, Loads, ReadCause, TokensCause, TraceCause};
+ghost use Rattle.localise_cmd.specs.Inputs.{AreAlike, ArePorts, AreRead, DesignCause, Loads, ReadCause, TraceCause};
 
 use crate::refusal::{Input, Refusal};
 use crate::request::Request;
+use crate::sources::read_source;
 use design_core::{Design, Trace};
 use first_form::{FirstDesign, FormErr, design_of};
 use first_text::netlist_of;
@@ -22,8 +22,7 @@ use io_ports::{LoadErr, Shelf};
 use loc_base::{Bytes, Name};
 use plain_list::laws::is_network;
 use std::alloc::Global;
-use v_lexer::types::{LexErr, Token, Tokens};
-use v_lexer::{few_tokens, one_outcome, tokens};
+use v_tree::SourceTree;
 
 /// The most bytes that a text may have.
 const MOST_BYTES: u64 = 1_073_741_824;
@@ -55,41 +54,17 @@ fn load<S: Shelf>(alloc: Global, shelf: &mut S, name: &str, input: Input) -> Res
     }
 }
 
-/// Why a text has no tokens.
-fn refusal_of(fault: LexErr) -> Refusal
-    ensures none { fault ≡ lex.NoMemory → result ≡ refusal.NoMemory }
-    ensures some { fault ≢ lex.NoMemory → result ≡ refusal.Lexical fault }
-{
-    match fault {
-        LexErr::NoMemory => Refusal::NoMemory,
-        fault => Refusal::Lexical(fault),
-    }
-}
-
-/// The tokens of a text.
-fn read_tokens(alloc: Global, text: &[u8]) -> Result<Tokens, Refusal>
-    ensures read { IfOk result (HasTokens text.now) }
-    ensures count { IfOk result (λ tokens. length tokens ≤ 2000000) }
-    ensures refused { IfErr result (TokensCause text.now) }
-{
-    few_tokens();
-    match tokens(alloc, text) {
-        Ok(tokens) => Ok(tokens),
-        Err(fault) => Err(refusal_of(fault)),
-    }
-}
-
-/// The design that tokens mean.
+/// The design that a tree means.
 #[tactic(auto, using(crate::proofs::Ready::ready_rules, crate::proofs::SameModule::module_rules))]
-fn read_module(alloc: Global, tokens: &[Token], top: &Name) -> Result<FirstDesign, FormErr>
-    requires count { length tokens.now ≤ 2000000 }
-    ensures meaning { IfOk result (λ first. IsModuleDesign tokens.now top.now first.design) }
-    ensures alike { IfOk result (λ first. (d : SomeDesign) → IsModuleDesign tokens.now top.now d → AreAlike d first.design) }
-    ensures none { result ≡ Err Form → (d : SomeDesign) → ¬ IsModuleDesign tokens.now top.now d }
+fn read_module(alloc: Global, tree: &SourceTree, top: &Name) -> Result<FirstDesign, FormErr>
+    requires few { parts_of (source_of tree.now) < 2 ^ 32 }
+    ensures meaning { IfOk result (λ first. IsModuleDesign (source_of tree.now) top.now first.design) }
+    ensures alike { IfOk result (λ first. (d : SomeDesign) → IsModuleDesign (source_of tree.now) top.now d → AreAlike d first.design) }
+    ensures none { result ≡ Err Form → (d : SomeDesign) → ¬ IsModuleDesign (source_of tree.now) top.now d }
     ensures network { IfOk result (λ first. IsNetwork first.design first.order) }
     ensures ports { IfOk result (λ first. ArePorts first.design) }
 {
-    let netlist = netlist_of(alloc, tokens)?;
+    let netlist = netlist_of(alloc, tree)?;
     let first = design_of(alloc, &netlist, top)?;
     is_network(&first.design, first.order.as_slice());
     Ok(first)
@@ -105,9 +80,8 @@ fn read_design(alloc: Global, text: &[u8], top: &Name) -> Result<FirstDesign, Re
     ensures ports { IfOk result (λ first. ArePorts first.design) }
     ensures refused { IfErr result (DesignCause text.now top.now) }
 {
-    let tokens = read_tokens(alloc, text)?;
-    one_outcome();
-    match read_module(alloc, tokens.as_slice(), top) {
+    let tree = read_source(alloc, text)?;
+    match read_module(alloc, &tree, top) {
         Err(FormErr::Form) => Err(Refusal::Form(Input::Design)),
         Err(FormErr::NoMemory) => Err(Refusal::NoMemory),
         Ok(first) => {

@@ -11,6 +11,7 @@ mod refusal;
 mod report;
 mod request;
 mod run;
+mod sources;
 #[cfg(test)]
 mod tests;
 mod words;

@@ -1,6 +1,6 @@
 //! The lines that the program prints.
 ghost use Rattle.std.specs.Prelude.{◌≡◌, ◌++◌, ◌-◌, All, IfOk, OnOk, Some, decimal, codes, slice_get};
-ghost use Rattle.localise_cmd.specs.Lines.{IsSuspectOf, complete_line, lexical_line, member_line, memory_line, name_of, place_line, refusal_line, set_line, set_lines, span_line, usage_line, usage_word};
+ghost use Rattle.localise_cmd.specs.Lines.{IsSuspectOf, complete_line, lexical_line, syntax_line, member_line, memory_line, name_of, place_line, refusal_line, set_line, set_lines, span_line, usage_line, usage_word};
 ghost use Rattle.std.specs.List.{flat_map, join_by};
 
 use crate::refusal::{Input, Refusal};
@@ -10,6 +10,7 @@ use itoa::Buffer;
 use loc_base::{Bytes, NoMemory, Span};
 use std::alloc::Global;
 use v_lexer::types::LexErr;
+use v_tree::ParseErr;
 
 /// Appends a number in decimal.
 pub fn push_number(text: &mut Bytes, number: u64) -> Result<(), NoMemory>
@@ -76,6 +77,18 @@ fn lexical_line(alloc: Global, fault: LexErr) -> Result<Bytes, NoMemory>
     }
 }
 
+/// What is printed where tokens have no tree.
+fn syntax_line(alloc: Global, fault: ParseErr) -> Result<Bytes, NoMemory>
+    ensures { IfOk result (λ line. line ≡ syntax_line fault) }
+{
+    match fault {
+        ParseErr::Unexpected(span) => span_line(alloc, "P1", span),
+        ParseErr::Unsupported(span) => span_line(alloc, "P2", span),
+        ParseErr::Deep(span) => span_line(alloc, "P3", span),
+        ParseErr::NoMemory => Ok(Bytes::new(alloc)),
+    }
+}
+
 /// The name of a text that is read.
 pub fn name_of<'a>(design: &'a str, trace: &'a str, input: Input) -> &'a str
     ensures { result.now ≡ name_of design.now trace.now input }
@@ -108,6 +121,7 @@ pub fn refusal_line(
 {
     match refusal {
         Refusal::Lexical(fault) => lexical_line(alloc, fault),
+        Refusal::Syntax(fault) => syntax_line(alloc, fault),
         Refusal::Form(input) => named_line(alloc, "input form ", name_of(design, trace, input)),
         Refusal::Assigns => Bytes::copy_of(alloc, b"limit assigns\n"),
         Refusal::Size(_) => Bytes::copy_of(alloc, b"limit size\n"),

@@ -2,6 +2,7 @@ ghost use Rattle.std.specs.Prelude.{◌≡◌};
 ghost use Rattle.localise_cmd.specs.Outcome.{refusal_status};
 
 use v_lexer::types::LexErr;
+use v_tree::ParseErr;
 
 /// A text that is read.
 #[derive(Clone, Copy, Debug, PartialEq, Eq)]
@@ -15,6 +16,8 @@ pub enum Input {
 pub enum Refusal {
     /// The design's text has no tokens.
     Lexical(LexErr),
+    /// The design's tokens have no tree.
+    Syntax(ParseErr),
     /// A text isn't of the form that is read.
     Form(Input),
     /// The design has more assignments than are tried.
@@ -34,7 +37,7 @@ impl Refusal {
     {
         match self {
             Refusal::Lexical(LexErr::TooLong(_)) | Refusal::Assigns | Refusal::Size(_) => 4,
-            Refusal::Lexical(_) | Refusal::Form(_) => 3,
+            Refusal::Lexical(_) | Refusal::Syntax(_) | Refusal::Form(_) => 3,
             Refusal::ReadFault(_) => 5,
             Refusal::NoMemory => 7,
         }

@@ -198,7 +198,25 @@ fn options_stand_anywhere(rt: HostRuntime) -> Result<(), Fail> {
 #[test]
 fn texts_that_give_no_list_are_refused_with_their_cause(rt: HostRuntime) -> Result<(), Fail> {
     for (design, lines, want, status) in [
-        ("module m", "#0 0a 0b 1y\n", "input form m.v\n", 3),
+        ("module m", "#0 0a 0b 1y\n", "input P1 8 8\n", 3),
+        (
+            "module m(output y); assign y = ; endmodule",
+            "#0 0a 0b 1y\n",
+            "input P1 31 32\n",
+            3,
+        ),
+        (
+            "module m; always @(posedge a or posedge b or posedge c) ; endmodule",
+            "#0 0a 0b 1y\n",
+            "input P2 42 44\n",
+            3,
+        ),
+        (
+            "module m(output reg y); always @* y = 1'b0; endmodule",
+            "#0 0a 0b 1y\n",
+            "input form m.v\n",
+            3,
+        ),
         (
             "module m(output y); assign y = 4'b10x1; endmodule",
             "#0 0a 0b 1y\n",
@@ -228,6 +246,31 @@ fn texts_that_give_no_list_are_refused_with_their_cause(rt: HostRuntime) -> Resu
         assert_eq!(rt; ran.status, status);
         assert!(rt; ran.shelf.text("localise.json").is_none());
     }
+    Ok(())
+}
+
+#[test]
+fn nesting_deeper_than_256_is_named(rt: HostRuntime) -> Result<(), Fail> {
+    let mut text = Bytes::copy_of(rt.alloc(), b"module m(output y); assign y = ")?;
+    for _ in 0..257 {
+        text.append(b"(")?;
+    }
+    let ran = find(rt.alloc(), text.as_slice(), HEADER_OF_THREE, b"")?;
+    assert_eq!(rt; ran.out.text().as_slice(), b"input P3 287 288\n".as_slice());
+    assert_eq!(rt; ran.status, 3);
+    Ok(())
+}
+
+#[test]
+fn a_design_of_more_than_16_mebibytes_passes_a_limit(rt: HostRuntime) -> Result<(), Fail> {
+    let spaces = [b' '; 4096];
+    let mut text = Bytes::copy_of(rt.alloc(), b"\n")?;
+    for _ in 0..4096 {
+        text.append(spaces.as_slice())?;
+    }
+    let ran = find(rt.alloc(), text.as_slice(), HEADER_OF_THREE, b"")?;
+    assert_eq!(rt; ran.out.text().as_slice(), b"limit L9\n".as_slice());
+    assert_eq!(rt; ran.status, 4);
     Ok(())
 }
 
