@@ -1,12 +1,16 @@
 #!/usr/bin/env python3
 """Measures the solver and the checker of its logs by families of formulas.
 
-    python3 bench/solver.py [PROGRAM] [--limit SECONDS] [--quick]
+    python3 bench/solver.py [PROGRAM] [--limit SECONDS] [--quick] [--family NAME]
+    python3 bench/solver.py [PROGRAM] --largest
 
 PROGRAM is the built crate solve_cnf (default: crates/solve_cnf/out/solve_cnf). Each formula is written in DIMACS CNF,
 given to PROGRAM and, where `minisat` is installed, to minisat; the answers must agree. A family of growing formulas ends
 with the first that takes longer than the limit (10 seconds, or 2 with --quick). All formulas are the same each time:
 the random ones have fixed seeds.
+
+With --largest it measures instead what the largest formulas take: 4,000,000 variables, and up to 64,000,000 literals. Their
+texts, up to 570 MB, are written one at a time into a temporary folder, which takes half a minute each.
 """
 import argparse
 import os
@@ -270,6 +274,62 @@ def measure(program, name, formula, folder, stop, faults):
 
 POINTS = []
 
+LARGEST_VARS = 4_000_000
+LARGEST_CLAUSES = 21_333_333
+UNITS = ["1 0\n", "-1 0\n"]
+
+
+def write_largest(path, clauses, units_first):
+    """Writes a formula of so many clauses of three literals, and of the two clauses `1` and `-1` before them, so that
+    propagation ends at once, or behind them, so that it goes over all clauses first. Gives the number of literals."""
+    size = LARGEST_VARS
+    with open(path, "w") as file:
+        file.write("p cnf %d %d\n" % (size, clauses + 2))
+        if units_first:
+            file.writelines(UNITS)
+        for begin in range(0, clauses, 100_000):
+            lines = []
+            for place in range(begin, min(begin + 100_000, clauses)):
+                turn, a = divmod(place, size)
+                b = (a + 1 + 7919 * (turn + 1)) % size
+                c = (a + 2 + 104729 * (turn + 1)) % size
+                lines.append("%d %d %d 0\n" % (
+                    a + 1 if place & 1 else -a - 1, b + 1 if place & 2 else -b - 1, c + 1 if place & 4 else -c - 1))
+            file.write("".join(lines))
+        if not units_first:
+            file.writelines(UNITS)
+    return 3 * clauses + 2
+
+
+def largest_row(words):
+    print("%-8s %10s %10s %8s %8s %8s %8s %8s %8s" % tuple(words), flush=True)
+
+
+def measure_largest(program, folder, clauses, units_first, faults):
+    """Prints a row."""
+    path = os.path.join(folder, "largest.cnf")
+    literals = write_largest(path, clauses, units_first)
+    code, out, err, wall, _, peak = run_child([program, "--times"], path, 600)
+    if code != 20 or "log accepted" not in out:
+        faults.append("%d literals: status %s, %r %r" % (literals, code, out, err))
+        return
+    times = fields(err)
+    form = 8 * (literals + clauses + 2) / 2**20
+    largest_row(["first" if units_first else "last", clauses + 2, literals, "%.0f" % (os.path.getsize(path) / 2**20), "%.0f" % form,
+                 "%.1f" % wall, "%.0f" % times["solve"], "%.0f" % times["check"], "%.0f" % peak])
+
+
+def largest(program):
+    """Measures the largest formulas."""
+    print("""%d variables, clauses of three literals, and the clauses 1 and -1 first or last. Text, form (8 bytes a literal and 8 a
+clause) and memory (the peak of the process) are in MB of 2^20 bytes, solve and check in milliseconds, the whole run in seconds.""" % LARGEST_VARS)
+    largest_row(["units", "clauses", "literals", "text", "form", "seconds", "solve", "check", "memory"])
+    faults = []
+    with tempfile.TemporaryDirectory() as folder:
+        for clauses, units_first in [(0, True), (LARGEST_CLAUSES // 4, True), (LARGEST_CLAUSES // 2, True), (LARGEST_CLAUSES, True), (LARGEST_CLAUSES, False)]:
+            measure_largest(program, folder, clauses, units_first, faults)
+    return faults
+
 
 def main():
     words = argparse.ArgumentParser(description="Measures the solver and the checker of its logs.")
@@ -277,10 +337,16 @@ def main():
     words.add_argument("--limit", type=float, default=10)
     words.add_argument("--quick", action="store_true")
     words.add_argument("--family", action="append")
+    words.add_argument("--largest", action="store_true")
     given = words.parse_args()
     limit = 2 if given.quick else given.limit
     if not os.access(given.program, os.X_OK):
         sys.exit("no program at %s: build it with `rt run` or `rt test` in crates/solve_cnf" % given.program)
+    if given.largest:
+        faults = largest(given.program)
+        for fault in faults:
+            print("FAULT " + fault)
+        sys.exit(1 if faults else 0)
     print("""The solver propagates over all clauses, without watch lists, restarts or an order by activity, so the formulas are
 small; a family ends with the first formula that takes more than %g s. Times are milliseconds, by the clock for solve and check
 (the least of three runs where one takes less than a second) and of the processor for minisat and the ratio to it; memory is MB.""" % limit)
