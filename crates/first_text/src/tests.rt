@@ -13,8 +13,8 @@ const OR_NOT: &[u8] =
 /// The netlist of a text, or why there is none.
 fn read(alloc: Global, text: &[u8]) -> Result<Result<Netlist, FormErr>, Fail> {
     let found = tokens(alloc, text)?;
-    let tree = source(alloc, found.as_slice())?;
     few_tokens();
+    let tree = source(alloc, found.as_slice())?;
     few_parts();
     Ok(netlist_of(alloc, &tree))
 }
@@ -114,7 +114,11 @@ fn an_assignment_stands_where_its_net_does(rt: HostRuntime) -> Result<(), Fail> 
 #[test]
 fn the_netlist_of_a_text_has_a_design(rt: HostRuntime) -> Result<(), Fail> {
     let alloc = rt.alloc();
-    let netlist = read(alloc, OR_NOT)??;
+    let found = tokens(alloc, OR_NOT)?;
+    few_tokens();
+    let tree = source(alloc, found.as_slice())?;
+    few_parts();
+    let netlist = netlist_of(alloc, &tree)?;
     let top = Name::new(alloc, b"m")?.expect(&rt, "a name");
     let first = design_of(alloc, &netlist, &top)?;
     assert_eq!(rt; first.design.signals.len(), 4);
