@@ -1,3 +1,4 @@
 pub mod Bits
 pub mod Name
 pub mod Word
+pub mod formers

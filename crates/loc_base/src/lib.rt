@@ -3,15 +3,17 @@
 #![tactic(auto)]
 
 mod bits;
-mod bytes;
+mod boxed;
 mod digest;
+mod items;
 mod memory;
 mod name;
 mod span;
 
 pub use bits::Bits;
-pub use bytes::Bytes;
+pub use boxed::Boxed;
 pub use digest::Digest;
+pub use items::{Bytes, Items};
 pub use memory::NoMemory;
 pub use name::Name;
 pub use span::Span;
