@@ -1,4 +1,7 @@
+pub mod Ascii
 pub mod Bits
 pub mod Name
+pub mod NameTable
+pub mod Rows
 pub mod Word
 pub mod formers

@@ -1,4 +1,4 @@
-ghost use Rattle.std.specs.Prelude.{◌≡◌, ◌+◌, ◌-◌, ◌*◌, ◌/◌, ◌%◌, ◌^◌, ◌<◌, ◌≤◌, ◌<ℤ◌, ◌↔◌, IsTrue, IsSome, IfSome};
+ghost use Rattle.std.specs.Prelude.{◌≡◌, ◌+◌, ◌-◌, ◌*◌, ◌/◌, ◌%◌, ◌^◌, ◌<◌, ◌≤◌, ◌<ℤ◌, ◌↔◌, IsTrue, IsSome, IfSome, if◌then◌else◌};
 ghost use Rattle.std.specs.Prelude.{bit_and, bit_or, bit_xor};
 ghost use Rattle.loc_base.specs.Word.{is_negative, signed_value, extended, shifted_signed};
 
@@ -37,6 +37,27 @@ impl Bits {
             return None;
         }
         Some(Bits { width, value })
+    }
+
+    /// The word of this width whose bits are all 0.
+    pub fn zero(width: u8) -> Bits
+        requires least { 1 ≤ width }
+        requires most { width ≤ 128 }
+        ensures width { width_of result ≡ width }
+        ensures value { value_of result ≡ 0 }
+    {
+        Bits { width, value: 0 }
+    }
+
+    /// The word of one bit that is 1 exactly where `bit` is true.
+    pub fn from_bool(bit: bool) -> Bits
+        ensures width { width_of result ≡ 1 }
+        ensures value { value_of result ≡ (if bit then 1 else 0) }
+    {
+        Bits {
+            width: 1,
+            value: u128::from(bit),
+        }
     }
 
     /// The number of bits, from 1 to 128.
@@ -260,6 +281,3 @@ impl Bits {
         }
     }
 }
-
-#[cfg(test)]
-mod tests;

@@ -56,28 +56,3 @@ impl Name {
         Ok(Name { bytes })
     }
 }
-
-#[cfg(test)]
-mod tests {
-    use super::*;
-    use std::test::Fail;
-
-    #[test]
-    fn no_bytes_and_a_space_make_no_name(rt: HostRuntime) -> Result<(), Fail> {
-        for bytes in ["", "a b", "a\n", "\x7f", "é"] {
-            let name = Name::new(rt.alloc(), bytes.as_bytes())?;
-            assert!(rt; name.is_none(), "{bytes:?}");
-        }
-        Ok(())
-    }
-
-    #[test]
-    fn printable_bytes_make_a_name_and_its_copy(rt: HostRuntime) -> Result<(), Fail> {
-        for bytes in ["a", "u1.q[3]", "!", "~"] {
-            let name = Name::new(rt.alloc(), bytes.as_bytes())?.expect(&rt, "a name");
-            assert_eq!(rt; name.as_bytes(), bytes.as_bytes());
-            assert_eq!(rt; name.copied(rt.alloc())?.as_bytes(), bytes.as_bytes());
-        }
-        Ok(())
-    }
-}
