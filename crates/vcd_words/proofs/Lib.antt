@@ -1,2 +1,11 @@
+pub mod CodeLaws
+pub mod CodeSteps
+pub mod DigitSteps
+pub mod LevelLaws
+pub mod LevelSteps
+pub mod LineLaws
+pub mod Lists
 pub mod Standing
+pub mod TimeLaws
+pub mod TimeSteps
 pub mod WordSteps

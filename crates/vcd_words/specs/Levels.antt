@@ -1,5 +1,5 @@
 -- The level of a variable and the digits that say it (IEEE 1364-2005, 18.2).
-use Rattle.std.specs.Prelude.{ℕ, zero, suc, ◌≡◌, ◌<◌, ◌≤◌, ◌+◌, ◌-◌, ◌*◌, ◌/◌, ◌%◌, ◌^◌, Bool, nat_le, ◌&&◌, ◌||◌, ◌==◌, if◌then◌else◌, List, [], ◌∷◌, ◌++◌, length, fold, bit_and, Option, None, Some}
+use Rattle.std.specs.Prelude.{ℕ, zero, suc, ◌≡◌, ◌≤◌, ◌+◌, ◌-◌, ◌*◌, ◌/◌, ◌%◌, ◌^◌, Bool, nat_le, ◌&&◌, ◌||◌, ◌==◌, if◌then◌else◌, List, [], ◌∷◌, ◌++◌, length, fold, bit_and, Option, None, Some}
 use Rattle.std.specs.List.{list_all}
 use Rattle.vcd_words.specs.declared.level.Level.{Level}
 
@@ -51,5 +51,6 @@ digits_of (suc width) value mask = digits_of width (value / 2) (mask / 2) ++ dig
 -- the level of a value's digits is the value within its mask, with the bits outside it unknown
 abbrev pub DigitsMean : Type 0
 DigitsMean =
-    (width value mask : ℕ) → 1 ≤ width → width ≤ 128 → value < 2 ^ width → mask < 2 ^ width
-    → cut_level width (level_of (digits_of width value mask)) ≡ record { ones = bit_and value mask; unknowns = 2 ^ width - 1 - mask }
+    (width value mask : ℕ) → 1 ≤ width → width ≤ 128
+    → cut_level width (level_of (digits_of width value mask))
+    ≡ record { ones = bit_and value mask % 2 ^ width; unknowns = 2 ^ width - 1 - mask % 2 ^ width }
