@@ -1,7 +1,8 @@
 -- The words of a line stand in it.
 use Rattle.std.proofs.Common.{◌≡◌, ◌≢◌, ℕ, ◌+◌, true, List, [], ◌∷◌, ◌++◌, length, refl, ◌∙◌, ap, arith, append_assoc, length-append}
 use Rattle.std.specs.List.{list_all}
-use Rattle.vcd_words.specs.Words.{is_white, words_at}
+use Rattle.loc_base.specs.Ascii.{is_white}
+use Rattle.vcd_words.specs.Words.{words_at}
 use Rattle.vcd_words.specs.Lines.{line_text, line_words, is_black, LineStands}
 use Rattle.vcd_words.specs.Lines.AreBlack.{one_more}
 use Rattle.vcd_words.proofs.WordSteps.{white_byte}

@@ -6,7 +6,8 @@ use Rattle.std.specs.Option.{option_map_or}
 use Rattle.std.proofs.lemmas.Bool.{cases_Bool, cond-true, cond-false, and_from, and_parts, false≢true}
 use Rattle.std.proofs.lemmas.List.{append-nil}
 use Rattle.std.proofs.lemmas.List.Folds.{list_all-append}
-use Rattle.vcd_words.specs.Words.{is_white, Placed, ended, words_from, words_at, IsNextWord, AreWords, WordsStand}
+use Rattle.loc_base.specs.Ascii.{is_white}
+use Rattle.vcd_words.specs.Words.{Placed, ended, words_from, words_at, IsNextWord, AreWords, WordsStand}
 use Rattle.vcd_words.proofs.WordSteps.{white_byte, one_ended}
 
 abbrev is_black : ℕ → Bool

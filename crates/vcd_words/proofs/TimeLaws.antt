@@ -7,13 +7,14 @@ use Rattle.std.proofs.lemmas.Bool.Decides.{nat_tests}
 use Rattle.std.proofs.lemmas.List.Folds.{list_all-append}
 use Rattle.std.proofs.lemmas.List.Sums.{fold-append}
 use Rattle.std.proofs.lemmas.Fmt.{decimal_by_steps, length-decimal-le, decimal_nonempty}
-use Rattle.vcd_words.specs.Times.{is_digit, time_of, is_time, TimeBack}
+use Rattle.loc_base.specs.Ascii.{is_decimal}
+use Rattle.vcd_words.specs.Times.{time_of, is_time, TimeBack}
 
 pub record IsWritten (time : ℕ) (digits : List ℕ) : Type 0 where
-  pub right : list_all is_digit digits ≡ true
+  pub right : list_all is_decimal digits ≡ true
   pub value : time_of digits ≡ time
 
-a_digit : (digit : ℕ) → digit < 10 → is_digit (48 + digit) ≡ true
+a_digit : (digit : ℕ) → digit < 10 → is_decimal (48 + digit) ≡ true
 a_digit digit small = grind (arith, nat_tests)
 
 one : (time : ℕ) → time < 10 → IsWritten time ((48 + time) ∷ [])
@@ -21,7 +22,7 @@ one time small = record { right = and_from _ _ (a_digit time small) refl; value 
 
 more : (time : ℕ) (digits : List ℕ) → 10 ≤ time → IsWritten (time / 10) digits → IsWritten time (digits ++ (48 + time % 10) ∷ [])
 more time digits long is = record {
-  right = list_all-append is_digit digits ((48 + time % 10) ∷ []) ∙ and_from _ _ is.right (and_from _ _ (a_digit (time % 10) (omega arith)) refl);
+  right = list_all-append is_decimal digits ((48 + time % 10) ∷ []) ∙ and_from _ _ is.right (and_from _ _ (a_digit (time % 10) (omega arith)) refl);
   value = fold-append (λ (time byte : ℕ). time * 10 + (byte - 48)) 0 digits ((48 + time % 10) ∷ []) ∙ (ap (λ n. n * 10 + (48 + time % 10 - 48)) is.value ∙ omega arith);
 }
 

@@ -2,7 +2,8 @@
 use Rattle.std.proofs.Common.{◌≡◌, ◌≢◌, ℕ, ◌+◌, ◌<◌, true, false, List, [], ◌∷◌, length, get_or, take, drop, refl, sym, ◌∙◌, ap, add-zero, add_assoc}
 use Rattle.std.proofs.lemmas.Bool.{cond-true, cond-false}
 use Rattle.std.proofs.lemmas.List.{drop_more, take_more}
-use Rattle.vcd_words.specs.Words.{is_white, Placed, ended, words_from, words_at}
+use Rattle.loc_base.specs.Ascii.{is_white}
+use Rattle.vcd_words.specs.Words.{Placed, ended, words_from, words_at}
 
 -- white space before a text moves its words
 pub white_byte : (at byte : ℕ) (text : List ℕ) → is_white byte ≡ true → words_at at (byte ∷ text) ≡ words_at (at + 1) text

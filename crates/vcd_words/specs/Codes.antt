@@ -1,10 +1,7 @@
 -- The identifier codes of variables (IEEE 1364-2005, 18.2): words of the printable characters from `!` to `~`.
 use Rattle.std.specs.Prelude.{ℕ, zero, suc, ◌≡◌, ◌<◌, ◌+◌, ◌-◌, ◌*◌, ◌/◌, ◌%◌, ◌^◌, Bool, nat_le, ◌&&◌, ◌==◌, if◌then◌else◌, IsTrue, List, [], ◌∷◌, length, Option, None, Some}
 use Rattle.std.specs.List.{list_all}
-
--- one of the 94 characters of a code
-abbrev pub is_code_byte : ℕ → Bool
-is_code_byte byte = nat_le 33 byte && nat_le byte 126
+use Rattle.loc_base.specs.Ascii.{is_visible}
 
 -- the digits of a number in base 94, the least first, each as the byte 33 plus the digit: no more than a number of them
 unfoldable pub code_from : ℕ → ℕ → List ℕ
@@ -27,7 +24,7 @@ place_of (byte ∷ code) = byte - 32 + 94 * place_of code
 
 -- a code of at most nine characters
 abbrev pub is_short_code : List ℕ → Bool
-is_short_code code = nat_le 1 (length code) && nat_le (length code) 9 && list_all is_code_byte code
+is_short_code code = nat_le 1 (length code) && nat_le (length code) 9 && list_all is_visible code
 
 -- the place of a word that is such a code
 abbrev pub place_in : List ℕ → Option ℕ
@@ -37,7 +34,7 @@ place_in code = if is_short_code code then Some (place_of code) else None
 pub record CodeLaws : Type 0 where
   -- the number is read back from its code, so that different numbers have different codes
   pub reads_back : (number : ℕ) → number < 2 ^ 64 → number_of (code_of number) ≡ number
-  pub code_bytes : (number : ℕ) → IsTrue (list_all is_code_byte (code_of number))
+  pub code_bytes : (number : ℕ) → IsTrue (list_all is_visible (code_of number))
   -- different codes have different places
-  pub places_differ : (one other : List ℕ) → IsTrue (list_all is_code_byte one) → IsTrue (list_all is_code_byte other)
+  pub places_differ : (one other : List ℕ) → IsTrue (list_all is_visible one) → IsTrue (list_all is_visible other)
       → place_of one ≡ place_of other → one ≡ other

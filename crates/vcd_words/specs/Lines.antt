@@ -1,7 +1,8 @@
 -- Texts of lines: words with a blank between each two, and a newline behind the last.
 use Rattle.std.specs.Prelude.{ℕ, ◌≡◌, ◌≢◌, ◌+◌, Bool, not, IsTrue, List, [], ◌∷◌, ◌++◌, length}
 use Rattle.std.specs.List.{list_all, flat_map}
-use Rattle.vcd_words.specs.Words.{is_white, Placed, words_at}
+use Rattle.loc_base.specs.Ascii.{is_white}
+use Rattle.vcd_words.specs.Words.{Placed, words_at}
 
 abbrev pub line_text : List (List ℕ) → List ℕ
 line_text [] = 10 ∷ []

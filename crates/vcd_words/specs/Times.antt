@@ -1,9 +1,7 @@
 -- The times of a dump (IEEE 1364-2005, 18.2): decimal numbers, here of at most 18 digits.
 use Rattle.std.specs.Prelude.{ℕ, ◌≡◌, ◌<◌, ◌+◌, ◌-◌, ◌*◌, ◌^◌, Bool, nat_le, ◌&&◌, if◌then◌else◌, List, length, fold, decimal, Option, None, Some}
 use Rattle.std.specs.List.{list_all}
-
-abbrev pub is_digit : ℕ → Bool
-is_digit byte = nat_le 48 byte && nat_le byte 57
+use Rattle.loc_base.specs.Ascii.{is_decimal}
 
 -- the number that decimal digits mean
 abbrev pub time_of : List ℕ → ℕ
@@ -11,7 +9,7 @@ time_of digits = fold (λ time byte. time * 10 + (byte - 48)) 0 digits
 
 -- 1 to 18 decimal digits
 abbrev pub is_time : List ℕ → Bool
-is_time digits = nat_le 1 (length digits) && nat_le (length digits) 18 && list_all is_digit digits
+is_time digits = nat_le 1 (length digits) && nat_le (length digits) 18 && list_all is_decimal digits
 
 -- the time that a word says, where it is made of 1 to 18 decimal digits
 abbrev pub time_in : List ℕ → Option ℕ

@@ -2,10 +2,7 @@
 use Rattle.std.specs.Prelude.{ℕ, ◌≡◌, ◌≢◌, ◌+◌, ◌-◌, Bool, true, not, ◌||◌, ◌==◌, if◌then◌else◌, IsTrue, List, [], ◌∷◌, ◌++◌, length, take, drop, slice_get}
 use Rattle.std.specs.List.{list_all}
 use Rattle.std.specs.Option.{option_map_or}
-
--- white space: a space, a tab, a newline, a form feed or a carriage return (3.2)
-abbrev pub is_white : ℕ → Bool
-is_white byte = byte == 32 || byte == 9 || byte == 10 || byte == 12 || byte == 13
+use Rattle.loc_base.specs.Ascii.{is_white}
 
 -- a word, and the offset of its first byte in the text
 pub record Placed : Type 0 where

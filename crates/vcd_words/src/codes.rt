@@ -1,15 +1,9 @@
 //! Identifier codes of variables (IEEE 1364-2005, 18.2): one for each number, and a place for each code.
 ghost use Rattle.std.specs.Prelude.{◌≡◌, ◌≤◌, ◌-◌, ◌++◌, true, OnOk};
-ghost use Rattle.vcd_words.specs.Codes.{is_code_byte, code_of, place_in, CodeLaws};
+ghost use Rattle.loc_base.specs.Ascii.{is_visible};
+ghost use Rattle.vcd_words.specs.Codes.{code_of, place_in, CodeLaws};
 
-use loc_base::{Bytes, NoMemory};
-
-/// Whether a byte is a character of a code, `!` to `~`.
-pub fn is_code_byte(byte: u8) -> bool
-    ensures { result ≡ is_code_byte byte }
-{
-    b'!' <= byte && byte <= b'~'
-}
+use loc_base::{Bytes, NoMemory, is_visible};
 
 /// Appends the code of the variable with a number: its digits in base 94, the least first.
 #[tactic(auto, using(crate::proofs::CodeSteps::code_steps))]
@@ -29,7 +23,7 @@ pub fn write_code(text: &mut Bytes, number: u64) -> Result<(), NoMemory>
 
 /// The digit that a character of a code has in its place.
 fn place_digit(byte: u8) -> u64
-    requires { is_code_byte byte ≡ true }
+    requires { is_visible byte ≡ true }
     ensures value { result ≡ byte - 32 }
     ensures small { result ≤ 94 }
 {
@@ -48,7 +42,7 @@ pub fn code_place(word: &[u8]) -> Option<u64>
     let mut place = 0u64;
     let mut power = 1u64;
     for byte in word {
-        if !is_code_byte(*byte) {
+        if !is_visible(*byte) {
             return None;
         }
         place += place_digit(*byte) * power;

@@ -8,8 +8,8 @@ mod lines;
 mod times;
 mod words;
 
-pub use codes::{code_laws, code_place, is_code_byte, write_code};
+pub use codes::{code_laws, code_place, write_code};
 pub use level::{Level, digits_mean, is_level_digit, read_level, write_digits};
 pub use lines::line_stands;
-pub use times::{is_digit, read_time, time_back};
-pub use words::{Extent, is_white, word_at, words_stand};
+pub use times::{read_time, time_back};
+pub use words::{Extent, word_at, words_stand};

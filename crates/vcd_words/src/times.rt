@@ -1,13 +1,8 @@
 //! Times of a dump (IEEE 1364-2005, 18.2): decimal numbers of 1 to 18 digits.
 ghost use Rattle.std.specs.Prelude.{◌≡◌};
-ghost use Rattle.vcd_words.specs.Times.{is_digit, time_in, TimeBack};
+ghost use Rattle.vcd_words.specs.Times.{time_in, TimeBack};
 
-/// Whether a byte is a decimal digit.
-pub fn is_digit(byte: u8) -> bool
-    ensures { result ≡ is_digit byte }
-{
-    b'0' <= byte && byte <= b'9'
-}
+use loc_base::is_decimal;
 
 /// The time that a word says, where it is made of 1 to 18 decimal digits.
 #[tactic(auto, using(crate::proofs::TimeSteps::time_steps))]
@@ -19,7 +14,7 @@ pub fn read_time(word: &[u8]) -> Option<u64>
     }
     let mut time = 0u64;
     for digit in word {
-        if !is_digit(*digit) {
+        if !is_decimal(*digit) {
             return None;
         }
         time = time * 10 + u64::from(*digit - b'0');

@@ -1,20 +1,16 @@
 //! The words of a text, found one by one where they stand (IEEE 1364-2005, 3.2). No memory is taken, and each byte is
 //! looked at once.
 ghost use Rattle.std.specs.Prelude.{◌≡◌, ◌≤◌, ◌<◌, ◌+◌, ◌∷◌, [], ℕ, false, length, take, drop, slice_index, IfNone, IfSome};
-ghost use Rattle.vcd_words.specs.Words.{is_white, Placed, words_at, words_left, placed, WordsStand};
+ghost use Rattle.loc_base.specs.Ascii.{is_white};
+ghost use Rattle.vcd_words.specs.Words.{Placed, words_at, words_left, placed, WordsStand};
+
+use loc_base::is_white;
 
 /// Where a word stands in a text: from the byte at `start` on, up to the one before `stop`.
 #[derive(Clone, Copy, Debug, PartialEq, Eq)]
 pub struct Extent {
     pub start: usize,
     pub stop: usize,
-}
-
-/// Whether a byte is white space.
-pub fn is_white(byte: u8) -> bool
-    ensures { result ≡ is_white byte }
-{
-    byte == b' ' || byte == b'\t' || byte == b'\n' || byte == 12 || byte == b'\r'
 }
 
 /// The number of bytes that are white space at the front of a text.
