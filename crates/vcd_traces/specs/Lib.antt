@@ -1,0 +1,9 @@
+pub mod Commands
+pub mod Reals
+pub mod Pieces
+pub mod Header
+pub mod Scopes
+pub mod Events
+pub mod Changes
+pub mod Reading
+pub mod Samples
