@@ -3,16 +3,16 @@ use Rattle.std.specs.Prelude.{ℕ, Bool, true, false, not, ◌&&◌, ◌||◌, �
 use Rattle.std.specs.List.{list_all, take_while}
 use Rattle.std.specs.Option.{option_and_then, option_or}
 use Rattle.vcd_words.specs.Words.{Placed}
-use Rattle.vcd_words.specs.Times.{is_digit, time_of}
+use Rattle.loc_base.specs.Ascii.{is_decimal}
 use Rattle.vcd_traces.specs.declared.commands.Command.{Command}
 use Rattle.vcd_traces.specs.declared.commands.Command.TheVariants.{End, Comment, Dump, Scope, Upscope, Var, EndDefinitions, Other}
 use Rattle.vcd_traces.specs.Commands.{same_bytes, is_end}
 
--- a variable: the scope in which it stands, if any, whether its type is a real one, its size, code and name
+-- a variable: the scope in which it stands, if any, the words of its type, size and code, and its name
 pub record Variable : Type 0 where
   pub scope : Option ℕ
-  pub real : Bool
-  pub size : ℕ
+  pub type_word : List ℕ
+  pub size : List ℕ
   pub code : List ℕ
   pub name : List ℕ
 
@@ -30,7 +30,7 @@ no_header = record { scopes = []; current = None; variables = []; ended = false 
 
 -- at least one decimal digit
 unfoldable pub is_size : List ℕ → Bool
-is_size word = nat_le 1 (length word) && list_all is_digit word
+is_size word = nat_le 1 (length word) && list_all is_decimal word
 
 -- the type words of variables that have no bits
 unfoldable pub is_real_type : List ℕ → Bool
@@ -64,18 +64,15 @@ wrong_in EndDefinitions words = None
 wrong_in Other words = None
 
 -- `$var`: the words behind it declare a variable in the open scope
-abbrev pub variable_of : Option ℕ → List ℕ → List ℕ → List ℕ → List ℕ → Variable
-variable_of scope type_word size code reference = record {
-  scope = scope;
-  real = is_real_type type_word;
-  size = time_of size;
-  code = code;
-  name = name_of reference;
-}
-
 abbrev pub with_variable : Header → List Placed → Header
 with_variable h (type_word ∷ size ∷ code ∷ reference ∷ words) =
-    record h { variables = h.variables ++ variable_of h.current type_word.word size.word code.word reference.word ∷ [] }
+    record h { variables = h.variables ++ (record {
+      scope = h.current;
+      type_word = type_word.word;
+      size = size.word;
+      code = code.word;
+      name = name_of reference.word;
+    }) ∷ [] }
 with_variable h _ = h
 
 -- `$scope`: one more scope opens, in the open one

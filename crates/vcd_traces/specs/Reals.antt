@@ -1,7 +1,7 @@
 -- The numbers of real changes (IEEE 1364-2005, 18.2.1): as C's `%.16g` prints them.
 use Rattle.std.specs.Prelude.{ℕ, Bool, true, false, ◌||◌, ◌==◌, if◌then◌else◌, List, [], ◌∷◌, Option, Some, None, codes}
 use Rattle.std.specs.Option.{option_and_then}
-use Rattle.vcd_words.specs.Times.{is_digit}
+use Rattle.loc_base.specs.Ascii.{is_decimal}
 use Rattle.vcd_traces.specs.Commands.{same_bytes}
 
 -- what stands behind a sign, where there is one
@@ -12,12 +12,12 @@ unsigned (byte ∷ bytes) = if byte == 43 || byte == 45 then bytes else byte ∷
 -- what stands behind the digits at the front
 abbrev pub drop_digits : List ℕ → List ℕ
 drop_digits [] = []
-drop_digits (byte ∷ bytes) = if is_digit byte then drop_digits bytes else byte ∷ bytes
+drop_digits (byte ∷ bytes) = if is_decimal byte then drop_digits bytes else byte ∷ bytes
 
 -- what stands behind at least one digit
 abbrev pub past_digits : List ℕ → Option (List ℕ)
 past_digits [] = None
-past_digits (byte ∷ bytes) = if is_digit byte then Some (drop_digits bytes) else None
+past_digits (byte ∷ bytes) = if is_decimal byte then Some (drop_digits bytes) else None
 
 -- what stands behind a point and digits, where there is a point
 abbrev pub past_fraction : List ℕ → Option (List ℕ)
@@ -35,10 +35,10 @@ is_at_end (Some []) = true
 is_at_end (Some (byte ∷ bytes)) = false
 
 -- digits, a fraction if any, and an exponent if any
-unfoldable pub is_decimal : List ℕ → Bool
-is_decimal bytes = is_at_end (option_and_then past_exponent (option_and_then past_fraction (past_digits bytes)))
+unfoldable pub is_decimal_number : List ℕ → Bool
+is_decimal_number bytes = is_at_end (option_and_then past_exponent (option_and_then past_fraction (past_digits bytes)))
 
 -- a sign if any, and a decimal number, `inf` or `nan`
 unfoldable pub is_real : List ℕ → Bool
 is_real bytes =
-    same_bytes (unsigned bytes) (codes "inf") || same_bytes (unsigned bytes) (codes "nan") || is_decimal (unsigned bytes)
+    same_bytes (unsigned bytes) (codes "inf") || same_bytes (unsigned bytes) (codes "nan") || is_decimal_number (unsigned bytes)

@@ -6,7 +6,8 @@ use Rattle.design_core.specs.declared.signal.Signal.{Signal}
 use Rattle.design_core.specs.declared.design.Design.{Design}
 use Rattle.design_core.specs.Valuation.{width_at}
 use Rattle.vcd_traces.specs.Commands.{same_bytes}
-use Rattle.vcd_traces.specs.Header.{Header, Variable}
+use Rattle.vcd_words.specs.Times.{time_of}
+use Rattle.vcd_traces.specs.Header.{is_real_type, Header, Variable}
 
 -- a port of the top: the number of its signal, its width and its name
 pub record Port : Type 0 where
@@ -86,4 +87,4 @@ is_too_long h ports code digits = list_any (λ port. has_code h ports code port 
 -- whether a port's variable is a real one or has another width
 abbrev pub is_unfit : Header → List Port → Port → Bool
 is_unfit h ports port =
-    option_map_or (λ (v : Variable). v.real || not (v.size == port.width)) (port_variable h (scope_of h ports) port) false
+    option_map_or (λ (v : Variable). is_real_type v.type_word || not (time_of v.size == port.width)) (port_variable h (scope_of h ports) port) false
