@@ -1,7 +1,7 @@
 ghost use Rattle.std.specs.Prelude.{◌≡◌, ◌↔◌, IsTrue, false};
 ghost use Rattle.std.specs.List.Sorted.{IsNonDecreasing, IsPermutation};
 
-use crate::numbers::Numbers;
+use crate::Numbers;
 
 /// The calls that are to fail, by their numbers from 0 on, ascending; how many calls were made, and how many failed.
 /// Both counts stay at their last value.

@@ -133,6 +133,3 @@ impl<R: Files> Shelf for FileShelf<'_, R> {
         self.counted(answer)
     }
 }
-
-#[cfg(test)]
-mod tests;

@@ -2,14 +2,11 @@
 //! implementation in memory that tells everything and fails where it is told to, and a thin one over the system.
 #![tactic(auto)]
 
-#[cfg(test)]
-mod caller;
 mod errors;
 mod fault_plan;
 mod file_shelf;
 mod mem_shelf;
 mod mem_sink;
-mod numbers;
 mod out_sink;
 mod shelf;
 mod sink;
@@ -20,8 +17,11 @@ pub use errors::{LoadErr, PutErr, SinkFault};
 pub use file_shelf::FileShelf;
 pub use mem_shelf::MemShelf;
 pub use mem_sink::MemSink;
-pub use numbers::Numbers;
 pub use out_sink::OutSink;
 pub use shelf::Shelf;
 pub use sink::Sink;
 pub use texts::Texts;
+pub use transfer::{read_text, write_piece};
+
+/// Numbers of calls, counted from 0.
+pub type Numbers = loc_base::Items<u64>;

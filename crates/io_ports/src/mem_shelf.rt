@@ -3,9 +3,9 @@ ghost use Rattle.std.specs.List.Sorted.{IsPermutation};
 ghost use Rattle.io_ports.specs.Shelf.{LoadCause, Loads, PutCause, Begins, Appends};
 ghost use Rattle.io_ports.specs.Texts.{text_of};
 
+use crate::Numbers;
 use crate::errors::{LoadErr, PutErr};
 use crate::fault_plan::FaultPlan;
-use crate::numbers::Numbers;
 use crate::shelf::Shelf;
 use crate::texts::Texts;
 use loc_base::Bytes;
@@ -107,7 +107,7 @@ impl Shelf for MemShelf {
         Ok(())
     }
 
-    /// A call that is to fail appends the first half of the piece, where there is memory for it.
+    /// A call that is to fail appends a front of the piece.
     fn put(&mut self, name: &str, piece: &[u8]) -> Result<(), PutErr>
         requires begun { IsSome (written_of self.old name.now) }
         ensures texts { texts_of self.new ≡ texts_of self.old }
@@ -127,6 +127,3 @@ impl Shelf for MemShelf {
         Ok(())
     }
 }
-
-#[cfg(test)]
-mod tests;

@@ -38,16 +38,3 @@ impl<P: Print> Sink for OutSink<'_, P> {
         Err(SinkFault::Failed)
     }
 }
-
-#[cfg(test)]
-mod tests {
-    use super::*;
-
-    #[test]
-    fn standard_output_takes_a_piece(rt: HostRuntime) {
-        let mut sink = OutSink::new(&rt);
-        assert_eq!(rt; sink.put(b"a piece on standard output\n"), Ok(()));
-        assert_eq!(rt; sink.put(b""), Ok(()));
-        assert_eq!(rt; sink.faults, 0);
-    }
-}

@@ -12,11 +12,7 @@ use std::io::{Read, Write};
 const PIECE: usize = 262_144;
 
 /// What a reader gives, to its end. `TooBig` comes where it gives more than `limit` bytes.
-pub(crate) fn read_text<R: Read>(
-    alloc: Global,
-    reader: &mut R,
-    limit: u64,
-) -> Result<Bytes, LoadErr>
+pub fn read_text<R: Read>(alloc: Global, reader: &mut R, limit: u64) -> Result<Bytes, LoadErr>
     ensures limit { IfOk result (λ text. length text ≤ limit) }
     ensures text { IfOk result (IsAllOf (R.remaining reader.old)) }
     ensures too_big { IsErrOf result LoadErr.TooBig → IsMoreThan limit (R.remaining reader.old) }
@@ -51,7 +47,7 @@ fn read_through<R: Read>(
 }
 
 /// Writes a piece, and says whether the writer took all of it. Else it took a front of it.
-pub(crate) fn write_piece<W: Write>(writer: &mut W, piece: &[u8]) -> bool
+pub fn write_piece<W: Write>(writer: &mut W, piece: &[u8]) -> bool
     ensures taken { IsTrue result → Appends (W.contents writer.old) (W.contents writer.new) piece.now }
     ensures front { result ≡ false → AppendsSome (W.contents writer.old) (W.contents writer.new) piece.now }
 {
@@ -67,6 +63,3 @@ pub(crate) fn write_piece<W: Write>(writer: &mut W, piece: &[u8]) -> bool
     }
     true
 }
-
-#[cfg(test)]
-mod tests;

@@ -1,15 +1,16 @@
-//! Every operation against values that Python's integers gave.
+//! Every operation on words against values that Python's integers gave.
 
 mod tables;
 
 ghost use Rattle.std.specs.Prelude.{◌≡◌};
+ghost use Rattle.loc_base.specs.Bits.{width_of};
 
-use super::*;
+use loc_base::Bits;
 use std::process::Abort;
 use tables::*;
 
 fn word(rt: &impl Abort, width: u8, value: u128) -> Bits
-    ensures { result.width ≡ width }
+    ensures { width_of result ≡ width }
 {
     Bits::new(width, value).expect(rt, "a word")
 }
