@@ -4,11 +4,7 @@ ghost use Rattle.std.specs.Prelude.{◌≡◌, ◌≢◌, ◌⊎◌, ◌++◌, �
 ghost use Rattle.std.specs.Io.{StartsWith};
 ghost use Rattle.io_ports.specs.Faults.{Rose};
 
-use crate::errors::{LoadErr, PutErr};
-use crate::mem_shelf::MemShelf;
-use crate::numbers::Numbers;
-use crate::shelf::Shelf;
-use crate::texts::Texts;
+use io_ports::{LoadErr, MemShelf, Numbers, PutErr, Shelf, Texts};
 use loc_base::Bytes;
 use std::alloc::Global;
 use std::test::Fail;
@@ -24,7 +20,7 @@ enum Stop {
 
 impl From<PutErr> for Stop {
     ghost use Rattle.io_ports.specs.declared.errors.PutErr.TheVariants as put;
-    ghost use Rattle.io_ports.specs.declared.caller.Stop.TheVariants as stop;
+    ghost use Rattle.io_ports_tests.specs.declared.caller.Stop.TheVariants as stop;
 
     ghost from_gives = { λ e s. (e ≡ put.Failed → s ≡ stop.WriteFault) × (e ≡ put.NoMemory → s ≡ stop.Memory) };
 

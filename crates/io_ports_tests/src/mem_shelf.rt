@@ -1,4 +1,8 @@
-use super::*;
+//! A shelf in memory.
+
+use io_ports::{LoadErr, MemShelf, Numbers, PutErr, Shelf, Texts};
+use loc_base::Bytes;
+use std::alloc::Global;
 use std::test::Fail;
 
 /// A shelf with the texts `a`, which is `abcd`, and `b`, which is empty, and with calls that are to fail.

@@ -1,5 +1,10 @@
-use super::*;
+//! The loops over reads and writes that stop on the way.
+
+use io_ports::{LoadErr, read_text, write_piece};
+use loc_base::Bytes;
+use std::alloc::Global;
 use std::io;
+use std::io::{Read, Write};
 use std::test::Fail;
 
 /// A reader and writer of one byte a call, which fails after some calls.
