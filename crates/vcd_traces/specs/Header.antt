@@ -1,6 +1,6 @@
 -- The header of a dump (IEEE 1364-2005, 18.2.3): the scopes and the variables that it declares.
 use Rattle.std.specs.Prelude.{ℕ, Bool, true, false, not, ◌&&◌, ◌||◌, ◌==◌, nat_le, if◌then◌else◌, List, [], ◌∷◌, ◌++◌, length, Option, Some, None, codes, slice_get, unwrap_or}
-use Rattle.std.specs.List.{list_all, take_while}
+use Rattle.std.specs.List.{list_all}
 use Rattle.std.specs.Option.{option_and_then, option_or}
 use Rattle.vcd_words.specs.Words.{Placed}
 use Rattle.loc_base.specs.Ascii.{is_decimal}
@@ -36,10 +36,15 @@ is_size word = nat_le 1 (length word) && list_all is_decimal word
 unfoldable pub is_real_type : List ℕ → Bool
 is_real_type word = same_bytes word (codes "real") || same_bytes word (codes "realtime")
 
+-- the bytes of a word up to the first `[`
+abbrev pub up_to_bracket : List ℕ → List ℕ
+up_to_bracket [] = []
+up_to_bracket (byte ∷ bytes) = if byte == 91 then [] else byte ∷ up_to_bracket bytes
+
 -- the name of a reference: its bytes up to the first `[`, or all but the backslash of an escaped one
 abbrev pub name_of : List ℕ → List ℕ
 name_of [] = []
-name_of (first ∷ rest) = if first == 92 then rest else take_while (λ byte. not (byte == 91)) (first ∷ rest)
+name_of (first ∷ rest) = if first == 92 then rest else up_to_bracket (first ∷ rest)
 
 -- the place of a word, where it stands and is wrong
 abbrev pub wrong_at : (List ℕ → Bool) → List Placed → ℕ → Option ℕ
@@ -66,13 +71,15 @@ wrong_in Other words = None
 -- `$var`: the words behind it declare a variable in the open scope
 abbrev pub with_variable : Header → List Placed → Header
 with_variable h (type_word ∷ size ∷ code ∷ reference ∷ words) =
-    record h { variables = h.variables ++ (record {
-      scope = h.current;
-      type_word = type_word.word;
-      size = size.word;
-      code = code.word;
-      name = name_of reference.word;
-    }) ∷ [] }
+    record h {
+      variables = h.variables ++ (record {
+        scope = h.current;
+        type_word = type_word.word;
+        size = size.word;
+        code = code.word;
+        name = name_of reference.word;
+      }) ∷ [];
+    }
 with_variable h _ = h
 
 -- `$scope`: one more scope opens, in the open one

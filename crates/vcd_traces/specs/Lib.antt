@@ -2,8 +2,10 @@ pub mod Commands
 pub mod Reals
 pub mod Pieces
 pub mod Header
+pub mod HeaderView
 pub mod Scopes
 pub mod Events
 pub mod Changes
 pub mod Reading
+pub mod Outcomes
 pub mod Samples

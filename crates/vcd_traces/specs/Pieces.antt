@@ -3,7 +3,7 @@ use Rattle.std.specs.Prelude.{ℕ, Bool, ◌||◌, ◌==◌, if◌then◌else◌
 use Rattle.std.specs.Option.{option_and_then, option_map}
 use Rattle.vcd_words.specs.Words.{Placed}
 use Rattle.vcd_words.specs.Times.{time_in}
-use Rattle.vcd_words.specs.Levels.{is_level_digit, level_of, level_in}
+use Rattle.vcd_words.specs.Levels.{is_level_digit, level_in}
 use Rattle.vcd_traces.specs.declared.commands.Command.{Command}
 use Rattle.vcd_traces.specs.declared.commands.Command.TheVariants as command
 use Rattle.vcd_traces.specs.declared.kinds.Kind.{Kind}
@@ -33,15 +33,19 @@ mark_of command.Var = None
 mark_of command.EndDefinitions = None
 mark_of command.Other = None
 
--- what a word behind the header begins, by its first byte: `#`, a digit, `b` or `B`, `r` or `R`, `s`, `$`
+-- behind the header, what a word begins that is no time and no scalar change, by its first byte: `b`, `r`, `s` or `$`
+abbrev pub letter_kind : ℕ → List ℕ → Option Kind
+letter_kind first rest =
+    if first == 98 || first == 66 then option_map Vector (level_in rest) else
+    (if first == 114 || first == 82 then (if is_real rest then Some Real else None) else
+    (if first == 115 then Some Text else
+    (if first == 36 then mark_of (named_command rest) else None)))
+
+-- behind the header, what a word begins: a time with `#`, a scalar change with its digit
 abbrev pub change_kind : ℕ → List ℕ → Option Kind
 change_kind first rest =
     if first == 35 then option_map Time (time_in rest) else
-    (if is_level_digit first then Some (Scalar (level_of (first ∷ []))) else
-    (if first == 98 || first == 66 then option_map Vector (level_in rest) else
-    (if first == 114 || first == 82 then (if is_real rest then Some Real else None) else
-    (if first == 115 then Some Text else
-    (if first == 36 then mark_of (named_command rest) else None)))))
+    (if is_level_digit first then option_map Scalar (level_in (first ∷ [])) else letter_kind first rest)
 
 -- what a word begins, in the header and behind it
 abbrev pub kind_of : Bool → List ℕ → Option Kind

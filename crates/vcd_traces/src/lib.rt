@@ -3,6 +3,9 @@
 
 mod commands;
 mod error;
+mod header;
+mod header_reader;
 mod kinds;
+mod reals;
 
 pub use error::VcdErr;

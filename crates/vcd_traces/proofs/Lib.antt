@@ -1,0 +1,4 @@
+pub mod HeaderSteps
+pub mod ReadSteps
+pub mod RealSteps
+pub mod Exits
