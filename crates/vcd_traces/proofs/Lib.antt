@@ -2,3 +2,5 @@ pub mod HeaderSteps
 pub mod ReadSteps
 pub mod RealSteps
 pub mod Exits
+pub mod RunningLaws
+pub mod ChangeLaws

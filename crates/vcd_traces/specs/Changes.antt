@@ -1,19 +1,25 @@
 -- The times and value changes behind the header (IEEE 1364-2005, 18.2.1): what each does, or which word is wrong.
 use Rattle.std.specs.Prelude.{ℕ, ◌-◌, Bool, true, false, not, nat_lt, if◌then◌else◌, List, [], ◌∷◌, ◌++◌, length, drop, Option, Some, None, Result, Ok, Err}
+use Rattle.std.specs.Option.{option_to_list}
 use Rattle.vcd_words.specs.declared.level.Level.{Level}
 use Rattle.vcd_words.specs.Words.{Placed}
 use Rattle.vcd_traces.specs.Header.{Header}
 use Rattle.vcd_traces.specs.Scopes.{Port, is_declared, is_of_port, is_too_long}
 use Rattle.vcd_traces.specs.Events.{Event}
 
--- what stands before a word: what the header has declared, the last time, the stamps by their times, and the changes
+-- what stands before a word: what the header has declared, the last time, the times of the stamps that have ended, and
+-- the changes
 pub record Past : Type 0 where
   pub header : Header
   pub time : Option ℕ
-  pub stamps : List ℕ
+  pub ended : List ℕ
   pub events : List Event
 
--- a time: one that is less than the last is wrong, and one that is greater begins a stamp
+-- the times of all stamps
+abbrev pub stamps_of : Past → List ℕ
+stamps_of past = past.ended ++ option_to_list past.time
+
+-- a time: one that is less than the last is wrong, and one that is greater ends a stamp and begins another
 abbrev pub is_later : Option ℕ → ℕ → Bool
 is_later None time = true
 is_later (Some last) time = nat_lt last time
@@ -23,8 +29,7 @@ is_earlier None time = false
 is_earlier (Some last) time = nat_lt time last
 
 abbrev pub at_time : Past → ℕ → Past
-at_time past time =
-    record past { time = Some time; stamps = if is_later past.time time then past.stamps ++ time ∷ [] else past.stamps }
+at_time past time = if is_later past.time time then record past { time = Some time; ended = stamps_of past } else past
 
 abbrev pub timed : Past → ℕ → ℕ → Result Past ℕ
 timed past time at = if is_earlier past.time time then Err at else Ok (at_time past time)

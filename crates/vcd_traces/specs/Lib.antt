@@ -8,4 +8,7 @@ pub mod Events
 pub mod Changes
 pub mod Reading
 pub mod Outcomes
+pub mod Running
+pub mod Table
+pub mod Levels
 pub mod Samples

@@ -25,7 +25,7 @@ Turns text step (Err fault) new = IsAt (λ at. step ≡ stops at) fault
 
 -- what stands before the words behind a header
 abbrev pub begun : Header → Past
-begun h = record { header = h; time = None; stamps = []; events = [] }
+begun h = record { header = h; time = None; ended = []; events = [] }
 
 -- whatever comes of the words from a place on comes of the text
 abbrev pub ReadsOn : List Port → List ℕ → Past → ℕ → Type 0

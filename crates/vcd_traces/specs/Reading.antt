@@ -68,7 +68,7 @@ pub data Reads (ports : List Port) (end : ℕ) : Past → List Placed → Result
 
 -- what stands before the first word
 abbrev pub no_past : Past
-no_past = record { header = no_header; time = None; stamps = []; events = [] }
+no_past = record { header = no_header; time = None; ended = []; events = [] }
 
 -- a text reads to its end, or to its first wrong word
 abbrev pub ReadsText : List Port → List ℕ → Result Past ℕ → Type 0

@@ -1,11 +1,15 @@
 //! The reader of value change dumps (IEEE 1364-2005, clause 18).
 #![tactic(auto)]
 
+mod changes;
+mod codes;
 mod commands;
 mod error;
 mod header;
 mod header_reader;
 mod kinds;
 mod reals;
+mod running;
+mod table;
 
 pub use error::VcdErr;

@@ -1,0 +1,41 @@
+-- The table of a dump's codes: what each declared code is to the ports.
+use Rattle.std.specs.Prelude.{ℕ, ◌≡◌, true, false, nat_eq, nat_lt, if◌then◌else◌, List, map, Option, Some, None, is_some, slice_get}
+use Rattle.std.specs.Borrow.{Bor}
+use Rattle.std.specs.HashMap as hash
+use Rattle.std.specs.Cmp.Lexicographic.{pointwise}
+use Rattle.std.specs.Option.{option_and_then}
+use Rattle.vcd_traces.specs.declared.codes.Codes.{Codes}
+use Rattle.vcd_traces.specs.declared.codes.Role.{Role}
+use Rattle.vcd_traces.specs.declared.codes.Role.TheVariants.{Other, Port as OfPort}
+use Rattle.vcd_traces.specs.declared.table.Table.{Table}
+use Rattle.vcd_traces.specs.Header.{Header}
+use Rattle.vcd_traces.specs.Scopes.{Port, is_declared, is_of_port, is_too_long}
+
+-- the role of a code, where it is declared
+abbrev pub role_of : Codes → List ℕ → Option Role
+role_of codes code = hash.get_by (λ key. pointwise nat_eq code key.now) codes.roles
+
+-- the roles of codes, with that of one code put in its place
+abbrev pub with_role : List ℕ → Role → (List ℕ → Option Role) → List ℕ → Option Role
+with_role code role roles other = if pointwise nat_eq code other then Some role else roles other
+
+-- the cell of a role, if it has one
+abbrev pub cell_of : Role → Option ℕ
+cell_of Other = None
+cell_of (OfPort cell limit) = Some cell
+
+-- the code of each cell
+abbrev pub cell_codes : Table → List (List ℕ)
+cell_codes table = map (λ (code : Bor (List ℕ)). code.now) table.cells.items
+
+-- a code of no port, or one of ports that all have at least some bits, of which one has no more
+abbrev pub IsRole : Header → List Port → List (List ℕ) → List ℕ → Role → Type 0
+IsRole h ports cells code Other = is_of_port h ports code ≡ false
+IsRole h ports cells code (OfPort cell limit) =
+    (is_of_port h ports code ≡ true) × ((digits : ℕ) → is_too_long h ports code digits ≡ nat_lt limit digits) × (slice_get cells cell ≡ Some code)
+
+-- a table has the declared codes and their roles, and a cell for each code of a port
+pub record IsTable (h : Header) (ports : List Port) (table : Table) : Type 0 where
+  pub declared : (code : List ℕ) → is_some (role_of table.codes code) ≡ is_declared h code
+  pub role : (code : List ℕ) (role : Role) → role_of table.codes code ≡ Some role → IsRole h ports (cell_codes table) code role
+  pub cell : (code : List ℕ) (k : ℕ) → slice_get (cell_codes table) k ≡ Some code → option_and_then cell_of (role_of table.codes code) ≡ Some k
