@@ -12,3 +12,4 @@ pub mod CommandRows
 pub mod ReadingLaws
 pub mod Unique
 pub mod Counted
+pub mod SpellingLaws

@@ -1,4 +1,5 @@
 pub mod Bytes
+pub mod Terminals
 pub mod Words
 pub mod Symbols
 pub mod Numbers

@@ -15,8 +15,7 @@ mod position;
 mod reader;
 mod state;
 mod symbols;
-#[cfg(test)]
-mod tests;
+mod terminals;
 pub mod types;
 mod words;
 

@@ -16,6 +16,7 @@ use crate::conditionals::Conditionals;
 use crate::literals::{NumberFault, judge};
 use crate::macros::Macros;
 use crate::position::Position;
+use crate::terminals::terminal_of;
 use crate::types::{LexErr, Token, TokenKind, Tokens};
 use crate::words::{is_reserved, is_system};
 use loc_base::{Bytes, Span};
@@ -106,9 +107,11 @@ impl State {
         ensures { Gives (act.adds self.old place size kind text.now) result self.new }
     {
         if self.tokens.len() < MOST_TOKENS {
+            let terminal = terminal_of(kind, text);
             let text = Bytes::copy_of(alloc, text)?;
             let token = Token {
                 kind,
+                terminal,
                 span: place.span(size),
                 line: place.line(),
                 text,

@@ -1,7 +1,7 @@
 -- What a step that succeeds says of its parts.
 use Rattle.std.proofs.Common.{◌≡◌, ◌≢◌, ℕ, ◌+◌, ◌-◌, ◌<◌, ◌≤◌, ◌⊎◌, inl, inr, Bool, true, false, if◌then◌else◌, List, Ok, Err, Result, sym, ap, ◌∙◌, subst, refl, arith, nat_lt, ◌==◌, eq-eqb, ltb-true}
 use Rattle.v_lexer.specs.Lexeme.{Lexeme}
-use Rattle.v_tree.specs.declared.mark.Mark.{Mark}
+use Rattle.v_lexer.specs.declared.types.terminal.Terminal.{Terminal}
 use Rattle.v_tree.specs.declared.fault.Fault.{Fault}
 use Rattle.v_tree.specs.declared.fault.Fault.TheVariants.{Deep}
 use Rattle.v_tree.specs.Marks.{mark_at, same}
@@ -53,7 +53,7 @@ above-inv room used a n e =
       | inr p ↦ bad_good (Deep a) n p.1
     ]
 
-pub expect-inv : (t : List Lexeme) (m : Mark) (a b : ℕ) → expect t m a ≡ Ok b → (mark_at t a ≡ m) × (b ≡ a + 1)
+pub expect-inv : (t : List Lexeme) (m : Terminal) (a b : ℕ) → expect t m a ≡ Ok b → (mark_at t a ≡ m) × (b ≡ a + 1)
 unfolding expect
 expect-inv t m a b e =
     elim (if-inv (same (mark_at t a) m) _ _ _ e) [
@@ -61,6 +61,6 @@ expect-inv t m a b e =
       | inr p ↦ bad_good (no_place t a) b p.1
     ]
 
-pub expect-of : (t : List Lexeme) (m : Mark) (a : ℕ) → mark_at t a ≡ m → expect t m a ≡ Ok (a + 1)
+pub expect-of : (t : List Lexeme) (m : Terminal) (a : ℕ) → mark_at t a ≡ m → expect t m a ≡ Ok (a + 1)
 unfolding expect
 expect-of t m a e = ap (λ (b : Bool). if b then Ok (a + 1) else Err (no_place t a)) (same_of _ _ e)

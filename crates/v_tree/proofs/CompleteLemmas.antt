@@ -2,8 +2,8 @@
 use Rattle.std.proofs.Common.{◌≡◌, ◌≢◌, ℕ, zero, suc, ◌+◌, ◌-◌, ◌<◌, ◌≤◌, Bool, true, false, if◌then◌else◌, List, length, Some, None, Option, Ok, Result, sym, ap, ◌∙◌, subst, refl, arith, nat_lt, le-ltb, lt-ltb, ne_eqb, ◌==◌, lit≤}
 use Rattle.v_lexer.specs.Lexeme.{Lexeme}
 use Rattle.v_tree.specs.declared.site.Site.{Site}
-use Rattle.v_tree.specs.declared.mark.Mark.{Mark}
-use Rattle.v_tree.specs.declared.mark.Mark.TheVariants as marks
+use Rattle.v_lexer.specs.declared.types.terminal.Terminal.{Terminal}
+use Rattle.v_lexer.specs.declared.types.terminal.Terminal.TheVariants as marks
 use Rattle.v_tree.specs.declared.fault.Fault.{Fault}
 use Rattle.v_tree.specs.declared.operator.Unary.{Unary}
 use Rattle.v_tree.specs.declared.operator.Binary.{Binary}
@@ -43,7 +43,7 @@ pub is_false : (b : Bool) → (b ≡ true → ⊥) → b ≡ false
 is_false true h = absurd (h refl)
 is_false false h = refl
 
-pub apart_of : (m n : Mark) → m ≢ n → same m n ≡ false
+pub apart_of : (m n : Terminal) → m ≢ n → same m n ≡ false
 apart_of m n h = is_false (same m n) (λ e. h (same_true m n e))
 
 pub finish : {A : Type 0} (node : Site → A) (t : List Lexeme) (a b c : ℕ) (s : Site) → b ≡ c → s ≡ site t a b → good {A = A × ℕ} (node (site t a c), c) ≡ good {A = A × ℕ} (node s, b)
@@ -53,20 +53,20 @@ finish {A} node t a b c s e h =
     one ∙ two
 
 -- a mark at which an expression ends
-pub ends_by : (t : List Lexeme) (e : Tree) (b : ℕ) (m : Mark) → mark_at t b ≡ m → binary_of m ≡ None → same m marks.Question ≡ false → same m marks.OpenBracket ≡ false → Ends t e b
+pub ends_by : (t : List Lexeme) (e : Tree) (b : ℕ) (m : Terminal) → mark_at t b ≡ m → binary_of m ≡ None → same m marks.Question ≡ false → same m marks.OpenBracket ≡ false → Ends t e b
 ends_by t e b m is op question bracket = record {
   no_operator = ap binary_of is ∙ op;
   no_question = λ h. never (sym (same_of m marks.Question (sym is ∙ h)) ∙ question);
   no_select = λ _ h. never (sym (same_of m marks.OpenBracket (sym is ∙ h)) ∙ bracket);
 }
 
-part_ends : (m : Mark) (k : PartKind) → part_of m ≡ Some k → (binary_of m ≡ None) × (same m marks.Question ≡ false) × (same m marks.OpenBracket ≡ false)
+part_ends : (m : Terminal) (k : PartKind) → part_of m ≡ Some k → (binary_of m ≡ None) × (same m marks.Question ≡ false) × (same m marks.OpenBracket ≡ false)
 part_ends marks.Colon k e = (refl, refl, refl)
 part_ends marks.PlusColon k e = (refl, refl, refl)
 part_ends marks.MinusColon k e = (refl, refl, refl)
 part_ends _ k e = none_some k e
 
-system_unary : (m : Mark) (f : SystemFunction) → system_of m ≡ Some f → unary_of m ≡ None
+system_unary : (m : Terminal) (f : SystemFunction) → system_of m ≡ Some f → unary_of m ≡ None
 system_unary marks.SystemSigned f e = refl
 system_unary marks.SystemUnsigned f e = refl
 system_unary marks.SystemClog2 f e = refl
@@ -155,7 +155,7 @@ within t d room a h = ap (λ (r : Readers). r.whole room a) (below_less t d (d -
 within_operand : (t : List Lexeme) (d room a : ℕ) → d ≢ 0 → (below t d).operand room a ≡ (readers t (d - 1)).operand room a
 within_operand t d room a h = ap (λ (r : Readers). r.operand room a) (below_less t d (d - 1) (omega (arith, h)))
 
-at_mark : (t : List Lexeme) (d : ℕ) (o w : Reader) (room a : ℕ) (m : Mark) → mark_at t a ≡ m → operand_with t d o w room a ≡ signed_at t d o w m (unary_of m) room a
+at_mark : (t : List Lexeme) (d : ℕ) (o w : Reader) (room a : ℕ) (m : Terminal) → mark_at t a ≡ m → operand_with t d o w room a ≡ signed_at t d o w m (unary_of m) room a
 unfolding operand_with
 at_mark t d o w room a m e = ap (λ n. signed_at t d o w n (unary_of n) room a) e
 
@@ -323,10 +323,10 @@ name_reads t s text xs ih d room a b (m, x, ss, c, z) n l done =
     ∙ step (selects_at t d (below t d).whole room 2 (a + 1)) (xs, b) _ _ (ih d room 2 (a + 1) b ss c n l (λ h. done (lt-ltb _ _ h)))
     (ap (λ q. good {A = Tree × ℕ} (name (site t a b) q xs, b)) (sym x) ∙ finish (λ q. name q text xs) t a b b s refl z)
 
-operator_no_bracket : (m : Mark) (o : Binary) → binary_of m ≡ Some o → m ≢ marks.OpenBracket
+operator_no_bracket : (m : Terminal) (o : Binary) → binary_of m ≡ Some o → m ≢ marks.OpenBracket
 operator_no_bracket m o e gone = none_some o (sym (ap binary_of gone) ∙ e)
 
-operator_no_question : (m : Mark) (o : Binary) → binary_of m ≡ Some o → m ≢ marks.Question
+operator_no_question : (m : Terminal) (o : Binary) → binary_of m ≡ Some o → m ≢ marks.Question
 operator_no_question m o e gone = none_some o (sym (ap binary_of gone) ∙ e)
 
 binary_chains : (t : List Lexeme) (s : Site) (op : Binary) (left right : Tree) → Complete t left → Complete t right → (d room least a b : ℕ) → least ≤ strength op → 1 ≤ least

@@ -3,7 +3,7 @@ use Rattle.std.proofs.Common.{◌≡◌, ℕ, ◌+◌, ◌<◌, ◌≤◌, ◌�
 use Rattle.v_lexer.specs.Lexeme.{Lexeme}
 use Rattle.v_tree.specs.Tree.{Selection, Selections}
 use Rattle.v_tree.specs.Reading.{Readers, readers, below, select_at, selects_at}
-use Rattle.v_tree.specs.declared.mark.Mark.TheVariants as marks
+use Rattle.v_lexer.specs.declared.types.terminal.Terminal.TheVariants as marks
 use Rattle.v_tree.specs.Marks.{mark_at}
 use Rattle.v_tree.proofs.StepLemmas.{below_less}
 use Rattle.v_tree.proofs.SoundLemmas.{SoundReader, SoundSelect, SoundSelects, sound_readers, select-sound, selects-sound}

@@ -1,8 +1,8 @@
 -- What reading finds is an expression of the tokens.
 use Rattle.std.proofs.Common.{◌≡◌, ◌≢◌, ℕ, zero, suc, ◌+◌, ◌<◌, ◌≤◌, inl, inr, true, false, List, length, Some, None, Option, Ok, sym, ap, ◌∙◌, subst, refl, arith, nat_lt, ltb-true, ltb-false, lit≤}
 use Rattle.v_lexer.specs.Lexeme.{Lexeme}
-use Rattle.v_tree.specs.declared.mark.Mark.{Mark}
-use Rattle.v_tree.specs.declared.mark.Mark.TheVariants as marks
+use Rattle.v_lexer.specs.declared.types.terminal.Terminal.{Terminal}
+use Rattle.v_lexer.specs.declared.types.terminal.Terminal.TheVariants as marks
 use Rattle.v_tree.specs.declared.operator.Unary.{Unary}
 use Rattle.v_tree.specs.declared.operator.Binary.{Binary}
 use Rattle.v_tree.specs.declared.operator.SystemFunction.{SystemFunction}
@@ -214,7 +214,7 @@ pub record SoundSelects (t : List Lexeme) (d room n : ℕ) (xs : Selections) (a 
   pub rises : levels_of_selects xs ≤ room
   pub stops : how_many xs < n → mark_at t b ≢ marks.OpenBracket
 
-pub not_mark : (m n : Mark) → same m n ≡ false → m ≢ n
+pub not_mark : (m n : Terminal) → same m n ≡ false → m ≢ n
 not_mark m n e is = never (sym (same_of m n is) ∙ e)
 
 pub selects-sound : (t : List Lexeme) (d : ℕ) (w : Reader) → ((n : ℕ) → n + 1 ≡ d → SoundReader t n w) → (room n a : ℕ) (xs : Selections) (b : ℕ)

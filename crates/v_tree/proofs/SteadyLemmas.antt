@@ -2,8 +2,8 @@
 use Rattle.std.proofs.Common.{◌≡◌, ◌≢◌, ℕ, zero, suc, ◌+◌, ◌-◌, ◌<◌, ◌≤◌, inl, inr, Bool, true, false, if◌then◌else◌, List, length, Some, None, Option, Ok, Err, sym, ap, ap₂, ◌∙◌, subst, refl, arith, nat_lt, ltb-true, ltb-false, le-ltb, ◌==◌, eqb-true, eq-eqb, lit≤}
 use Rattle.std.proofs.lemmas.Bool.{cases_lt}
 use Rattle.v_lexer.specs.Lexeme.{Lexeme}
-use Rattle.v_tree.specs.declared.mark.Mark.{Mark}
-use Rattle.v_tree.specs.declared.mark.Mark.TheVariants as marks
+use Rattle.v_lexer.specs.declared.types.terminal.Terminal.{Terminal}
+use Rattle.v_lexer.specs.declared.types.terminal.Terminal.TheVariants as marks
 use Rattle.v_tree.specs.declared.fault.Fault.{Fault}
 use Rattle.v_tree.specs.declared.fault.Fault.TheVariants.{Unexpected, Unsupported, Deep}
 use Rattle.v_tree.specs.declared.operator.Unary.{Unary}
@@ -102,10 +102,10 @@ placed_if true c a = refl
 placed_if false true a = refl
 placed_if false false a = refl
 
-placed : (m : Mark) (a : ℕ) → fault_place (fault_of_mark m a) ≡ a
+placed : (m : Terminal) (a : ℕ) → fault_place (fault_of_mark m a) ≡ a
 placed m a = placed_if (same m marks.Refused) (same m marks.Wild) a
 
-fair_refused : (m : Mark) (a : ℕ) → m ≡ marks.Refused → is_unsupported (fault_of_mark m a) ≡ true
+fair_refused : (m : Terminal) (a : ℕ) → m ≡ marks.Refused → is_unsupported (fault_of_mark m a) ≡ true
 fair_refused m a e = ap (λ k. is_unsupported (fault_of_mark k a)) e
 
 not_deep_if : (b c : Bool) (a : ℕ) → is_deep (if b then Unsupported a else if c then Unsupported a else Unexpected a) ≡ true → ⊥
@@ -113,7 +113,7 @@ not_deep_if true c a e = true_false (sym e)
 not_deep_if false true a e = true_false (sym e)
 not_deep_if false false a e = true_false (sym e)
 
-not_deep : (m : Mark) (a : ℕ) → is_deep (fault_of_mark m a) ≡ true → ⊥
+not_deep : (m : Terminal) (a : ℕ) → is_deep (fault_of_mark m a) ≡ true → ⊥
 not_deep m a e = not_deep_if (same m marks.Refused) (same m marks.Wild) a e
 
 pub fair_place : (t : List Lexeme) (base a : ℕ) → Fair t base (no_place t a)
@@ -133,7 +133,7 @@ st_no_place base t u a h =
     }
 
 -- a choice by the token at a
-pub st_look : {A : Type 0} (base : ℕ) (t u : List Lexeme) (a : ℕ) (f g : Mark → Read A) → ((m : Mark) → mark_at t a ≡ m → Steady base t u a (f m) (g m))
+pub st_look : {A : Type 0} (base : ℕ) (t u : List Lexeme) (a : ℕ) (f g : Terminal → Read A) → ((m : Terminal) → mark_at t a ≡ m → Steady base t u a (f m) (g m))
     → Steady base t u a (f (mark_at t a)) (g (mark_at u a))
 st_look base t u a f g h =
     let s = h (mark_at t a) refl in
@@ -144,8 +144,8 @@ pub st_if : {A : Type 0} (base : ℕ) (t u : List Lexeme) (a : ℕ) (b : Bool) (
 st_if base t u a true o p q r h k = h refl
 st_if base t u a false o p q r h k = k refl
 
-expect_case : {B : Type 0} (base : ℕ) (t u : List Lexeme) (m : Mark) (a : ℕ) (f g : ℕ → Read B) → m ≢ marks.Nothing → a ≤ length t
-    → (mark_at t a ≡ m → a + 1 ≤ length t → Steady base t u (a + 1) (f (a + 1)) (g (a + 1))) → (n : Mark) → mark_at t a ≡ n → (b : Bool) → same n m ≡ b
+expect_case : {B : Type 0} (base : ℕ) (t u : List Lexeme) (m : Terminal) (a : ℕ) (f g : ℕ → Read B) → m ≢ marks.Nothing → a ≤ length t
+    → (mark_at t a ≡ m → a + 1 ≤ length t → Steady base t u (a + 1) (f (a + 1)) (g (a + 1))) → (n : Terminal) → mark_at t a ≡ n → (b : Bool) → same n m ≡ b
     → Steady base t u a ((if b then Ok (a + 1) else Err (no_place t a)) >>= f) ((if b then Ok (a + 1) else Err (no_place u a)) >>= g)
 expect_case base t u m a f g some h k n is true e =
     let found : mark_at t a ≡ m = is ∙ same_true n m e in
@@ -154,7 +154,7 @@ expect_case base t u m a f g some h k n is true e =
 expect_case base t u m a f g some h k n is false e = st_no_place base t u a h
 
 -- a step that takes a token of that mark
-pub st_expect : {B : Type 0} (base : ℕ) (t u : List Lexeme) (m : Mark) (a : ℕ) (f g : ℕ → Read B) → m ≢ marks.Nothing → a ≤ length t
+pub st_expect : {B : Type 0} (base : ℕ) (t u : List Lexeme) (m : Terminal) (a : ℕ) (f g : ℕ → Read B) → m ≢ marks.Nothing → a ≤ length t
     → (mark_at t a ≡ m → a + 1 ≤ length t → Steady base t u (a + 1) (f (a + 1)) (g (a + 1))) → Steady base t u a (expect t m a >>= f) (expect u m a >>= g)
 unfolding expect
 st_expect base t u m a f g some h k =
@@ -186,10 +186,10 @@ st_above : {B : Type 0} (base : ℕ) (t u : List Lexeme) (room used a : ℕ) (f 
     → (used < room → Steady base t u a (f (room - 1)) (g (room - 1))) → Steady base t u a (above room used a >>= f) (above room used a >>= g)
 st_above base t u room used a f g h allowed far k = above_case base t u room used a f g h allowed far k (nat_lt used room) refl
 
-pub not_by : (m n : Mark) → same m n ≡ false → m ≢ n
+pub not_by : (m n : Terminal) → same m n ≡ false → m ≢ n
 not_by m n e h = true_false (sym (same_of m n h) ∙ e)
 
-pub allowed_by : (t : List Lexeme) (a : ℕ) (m : Mark) → mark_at t a ≡ m → same m marks.Refused ≡ false → mark_at t a ≢ marks.Refused
+pub allowed_by : (t : List Lexeme) (a : ℕ) (m : Terminal) → mark_at t a ≡ m → same m marks.Refused ≡ false → mark_at t a ≢ marks.Refused
 allowed_by t a m is e h = not_by m marks.Refused e (sym is ∙ h)
 
 abbrev pub SteadyReader : ℕ → List Lexeme → List Lexeme → ℕ → Reader → Reader → Type 0
@@ -390,11 +390,11 @@ st_name base t u d r s under moves room a h deep far =
     (from_before base t u a (a + 1) _ _ (omega arith) (st_selects base t u d r s under moves room 2 (a + 1) (omega (arith, h)) (omega (arith, deep)) (omega (arith, far)))) (λ xs ge le eq.
     st_ok base t u xs.1 xs.1 _ _ (omega arith) le (λ b. ap₂ (λ z w. name z w xs.0) (site_kept t u _ a xs.1 b ge (omega arith)) (text_kept t u _ a b ge)))
 
-pub within_by : (t : List Lexeme) (a : ℕ) (k m : Mark) → mark_at t a ≡ k → same k m ≡ true → same m marks.Nothing ≡ false → a < length t
+pub within_by : (t : List Lexeme) (a : ℕ) (k m : Terminal) → mark_at t a ≡ k → same k m ≡ true → same m marks.Nothing ≡ false → a < length t
 within_by t a k m is hit some = marked_inside t a (λ gone. not_by m marks.Nothing some (sym (is ∙ same_true _ _ hit) ∙ gone))
 
 st_plain : (base : ℕ) (t u : List Lexeme) (d : ℕ) (r s : Reader) → SteadyUnder base t u d r s → Moves r → (room a : ℕ) → a ≤ length t → base + 256 ≤ a + d → base + 4096 ≤ a + room
-    → (k : Mark) → mark_at t a ≡ k → Steady base t u a (plain_at t d r k room a) (plain_at u d s k room a)
+    → (k : Terminal) → mark_at t a ≡ k → Steady base t u a (plain_at t d r k room a) (plain_at u d s k room a)
 unfolding plain_at
 st_plain base t u d r s under moves room a h deep far k is =
     st_if base t u a (same k marks.Number) _ _ _ _
@@ -409,12 +409,12 @@ st_plain base t u d r s under moves room a h deep far k is =
     (λ n4. st_no_place base t u a h))))
 
 st_called : (base : ℕ) (t u : List Lexeme) (d : ℕ) (r s : Reader) → SteadyUnder base t u d r s → Moves r → (room a : ℕ) → a ≤ length t → base + 256 ≤ a + d → base + 4096 ≤ a + room
-    → (k : Mark) → mark_at t a ≡ k → (f : Option SystemFunction) → system_of k ≡ f → Steady base t u a (called_at t d r k f room a) (called_at u d s k f room a)
+    → (k : Terminal) → mark_at t a ≡ k → (f : Option SystemFunction) → system_of k ≡ f → Steady base t u a (called_at t d r k f room a) (called_at u d s k f room a)
 st_called base t u d r s under moves room a h deep far k is None e = st_plain base t u d r s under moves room a h deep far k is
 st_called base t u d r s under moves room a h deep far k is (Some f) e = st_system base t u d r s under f room a (ap system_of is ∙ e) deep far
 
 st_signed : (base : ℕ) (t u : List Lexeme) (d : ℕ) (o p r s : Reader) → SteadyUnder base t u d o p → SteadyUnder base t u d r s → Moves r → (room a : ℕ) → a ≤ length t → base + 256 ≤ a + d → base + 4096 ≤ a + room
-    → (k : Mark) → mark_at t a ≡ k → (f : Option Unary) → unary_of k ≡ f → Steady base t u a (signed_at t d o r k f room a) (signed_at u d p s k f room a)
+    → (k : Terminal) → mark_at t a ≡ k → (f : Option Unary) → unary_of k ≡ f → Steady base t u a (signed_at t d o r k f room a) (signed_at u d p s k f room a)
 st_signed base t u d o p r s opens under moves room a h deep far k is None e = st_called base t u d r s under moves room a h deep far k is (system_of k) refl
 st_signed base t u d o p r s opens under moves room a h deep far k is (Some f) e = st_unary base t u d o p opens f room a (ap unary_of is ∙ e) deep far
 

@@ -1,7 +1,7 @@
 -- The steps of reading, as equations.
 use Rattle.std.proofs.Common.{◌≡◌, ◌≢◌, ℕ, zero, suc, ◌+◌, ◌-◌, ◌<◌, ◌≤◌, Bool, true, false, if◌then◌else◌, List, [], ◌∷◌, ◌++◌, map, length, max, Some, None, Ok, Err, Result, sym, ap, ◌∙◌, refl, arith, nat_lt, lit<, ltb-false, lt-ltb, le-ltb, lit≤}
 use Rattle.v_lexer.specs.Lexeme.{Lexeme}
-use Rattle.v_tree.specs.declared.mark.Mark.TheVariants as marks
+use Rattle.v_lexer.specs.declared.types.terminal.Terminal.TheVariants as marks
 use Rattle.v_tree.specs.declared.operator.Binary.{Binary}
 use Rattle.v_tree.specs.declared.operator.Binary.TheVariants as ops
 use Rattle.v_tree.specs.declared.expression.Expr.{Expr}

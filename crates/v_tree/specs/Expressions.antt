@@ -2,7 +2,7 @@
 -- numbers of tokens. Each production stands as its comment: x? is optional, x,+ is one or more with commas between.
 use Rattle.std.specs.Prelude.{◌≡◌, ◌≢◌, ℕ, ◌+◌, ◌<◌, ◌≤◌, ◌⊎◌, Bool, true, false, List, Some, None, nat_lt}
 use Rattle.v_lexer.specs.Lexeme.{Lexeme}
-use Rattle.v_tree.specs.declared.mark.Mark.TheVariants.{Number, Wild, Name, Open, Close, OpenBracket, CloseBracket, OpenBrace, CloseBrace, Comma, Colon, Question}
+use Rattle.v_lexer.specs.declared.types.terminal.Terminal.TheVariants.{Number, Wild, Name, Open, Close, OpenBracket, CloseBracket, OpenBrace, CloseBrace, Comma, Colon, Question}
 use Rattle.v_tree.specs.Marks.{mark_at}
 use Rattle.v_tree.specs.Sites.{text_at, site}
 use Rattle.v_tree.specs.Operators.{unary_of, binary_of, strength, system_of, part_of}

@@ -1,8 +1,8 @@
 -- Why tokens have no tree, and how a reader's result stands to what reading gives.
 use Rattle.std.specs.Prelude.{◌≡◌, ℕ, Bool, true, false, ◌+◌, ◌≤◌, slice_get, List, Result, Ok, Err, if◌then◌else◌}
 use Rattle.v_lexer.specs.Lexeme.{Lexeme}
-use Rattle.v_tree.specs.declared.mark.Mark.{Mark}
-use Rattle.v_tree.specs.declared.mark.Mark.TheVariants as mark
+use Rattle.v_lexer.specs.declared.types.terminal.Terminal.{Terminal}
+use Rattle.v_lexer.specs.declared.types.terminal.Terminal.TheVariants as mark
 use Rattle.v_tree.specs.declared.fault.Fault.{Fault}
 use Rattle.v_tree.specs.declared.fault.Fault.TheVariants.{Unexpected, Unsupported, Deep}
 use Rattle.v_tree.specs.declared.fault.Stop.{Stop}
@@ -14,7 +14,7 @@ use Rattle.v_tree.specs.Sites.{place_span}
 
 -- the fault of a token without a place: a word of the standard that is left out, or a number with wildcard digits, is of a
 -- form that is left out
-abbrev pub fault_of_mark : Mark → ℕ → Fault
+abbrev pub fault_of_mark : Terminal → ℕ → Fault
 fault_of_mark found at = if same found mark.Refused then Unsupported at else if same found mark.Wild then Unsupported at else Unexpected at
 
 unfoldable pub no_place : List Lexeme → ℕ → Fault

@@ -1,7 +1,7 @@
 -- The operators of a mark, and how tightly they bind (IEEE 1364-2005, 5.1 and table 5-4).
 use Rattle.std.specs.Prelude.{ℕ, Option, Some, None}
-use Rattle.v_tree.specs.declared.mark.Mark.{Mark}
-use Rattle.v_tree.specs.declared.mark.Mark.TheVariants as mark
+use Rattle.v_lexer.specs.declared.types.terminal.Terminal.{Terminal}
+use Rattle.v_lexer.specs.declared.types.terminal.Terminal.TheVariants as mark
 use Rattle.v_tree.specs.declared.operator.Unary.{Unary}
 use Rattle.v_tree.specs.declared.operator.Unary.TheVariants as unary
 use Rattle.v_tree.specs.declared.operator.Binary.{Binary}
@@ -12,7 +12,7 @@ use Rattle.v_tree.specs.declared.expression.PartKind.{PartKind}
 use Rattle.v_tree.specs.declared.expression.PartKind.TheVariants as part
 
 -- + - ! ~ & ~& | ~| ^ ~^ ^~
-abbrev pub unary_of : Mark → Option Unary
+abbrev pub unary_of : Terminal → Option Unary
 unary_of mark.Plus = Some unary.Plus
 unary_of mark.Minus = Some unary.Minus
 unary_of mark.Bang = Some unary.Not
@@ -26,7 +26,7 @@ unary_of mark.TildeCaret = Some unary.Xnor
 unary_of _ = None
 
 -- ** * / % + - << >> <<< >>> < <= > >= == != & ^ ~^ ^~ | && ||
-abbrev pub binary_of : Mark → Option Binary
+abbrev pub binary_of : Terminal → Option Binary
 binary_of mark.StarStar = Some binary.Power
 binary_of mark.Star = Some binary.Multiply
 binary_of mark.Slash = Some binary.Divide
@@ -77,14 +77,14 @@ strength binary.LogicalAnd = 2
 strength binary.LogicalOr = 1
 
 -- $signed $unsigned $clog2
-abbrev pub system_of : Mark → Option SystemFunction
+abbrev pub system_of : Terminal → Option SystemFunction
 system_of mark.SystemSigned = Some system.Signed
 system_of mark.SystemUnsigned = Some system.Unsigned
 system_of mark.SystemClog2 = Some system.Clog2
 system_of _ = None
 
 -- : +: -:
-abbrev pub part_of : Mark → Option PartKind
+abbrev pub part_of : Terminal → Option PartKind
 part_of mark.Colon = Some part.Range
 part_of mark.PlusColon = Some part.Up
 part_of mark.MinusColon = Some part.Down

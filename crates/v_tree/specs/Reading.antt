@@ -1,8 +1,8 @@
 -- How the code reads expressions: the function that each reader is, on lists. No public clause speaks of it.
 use Rattle.std.specs.Prelude.{ℕ, zero, suc, ◌+◌, ◌-◌, List, length, Option, Some, None, Result, Ok, Err, if◌then◌else◌, ◌==◌, nat_lt}
 use Rattle.v_lexer.specs.Lexeme.{Lexeme}
-use Rattle.v_tree.specs.declared.mark.Mark.{Mark}
-use Rattle.v_tree.specs.declared.mark.Mark.TheVariants as mark
+use Rattle.v_lexer.specs.declared.types.terminal.Terminal.{Terminal}
+use Rattle.v_lexer.specs.declared.types.terminal.Terminal.TheVariants as mark
 use Rattle.v_tree.specs.declared.operator.Unary.{Unary}
 use Rattle.v_tree.specs.declared.operator.Binary.{Binary}
 use Rattle.v_tree.specs.declared.operator.SystemFunction.{SystemFunction}
@@ -29,7 +29,7 @@ Read A = Result (A × ℕ) Fault
 abbrev pub Reader : Type 0
 Reader = ℕ → ℕ → Read Tree
 
-unfoldable pub expect : List Lexeme → Mark → ℕ → Result ℕ Fault
+unfoldable pub expect : List Lexeme → Terminal → ℕ → Result ℕ Fault
 expect tokens mark at = if same (mark_at tokens at) mark then Ok (at + 1) else Err (no_place tokens at)
 
 -- one less, unless nothing is left
@@ -115,7 +115,7 @@ unfoldable pub name_at : List Lexeme → ℕ → Reader → Reader
 name_at tokens depth whole room a =
     selects_at tokens depth whole room 2 (a + 1) >>= λ xs. Ok (name (site tokens a xs.1) (text_at tokens a) xs.0, xs.1)
 
-unfoldable pub plain_at : List Lexeme → ℕ → Reader → Mark → Reader
+unfoldable pub plain_at : List Lexeme → ℕ → Reader → Terminal → Reader
 plain_at tokens depth whole at room a =
     if same at mark.Number then Ok (number (site tokens a (a + 1)) (text_at tokens a), a + 1)
     else if same at mark.Name then name_at tokens depth whole room a
@@ -123,11 +123,11 @@ plain_at tokens depth whole at room a =
     else if same at mark.OpenBrace then braces_at tokens depth whole room a
     else Err (no_place tokens a)
 
-abbrev pub called_at : List Lexeme → ℕ → Reader → Mark → Option SystemFunction → Reader
+abbrev pub called_at : List Lexeme → ℕ → Reader → Terminal → Option SystemFunction → Reader
 called_at tokens depth whole at (Some function) = system_at tokens depth whole function
 called_at tokens depth whole at None = plain_at tokens depth whole at
 
-abbrev pub signed_at : List Lexeme → ℕ → Reader → Reader → Mark → Option Unary → Reader
+abbrev pub signed_at : List Lexeme → ℕ → Reader → Reader → Terminal → Option Unary → Reader
 signed_at tokens depth operand whole at (Some operator) = unary_at tokens depth operand operator
 signed_at tokens depth operand whole at None = called_at tokens depth whole at (system_of at)
 

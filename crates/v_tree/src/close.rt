@@ -4,7 +4,7 @@ ghost use Rattle.v_tree.specs.Tree as tree;
 ghost use Rattle.v_tree.specs.Tree.{tree_of};
 ghost use Rattle.v_tree.specs.Sites.{site, text_at};
 ghost use Rattle.v_tree.specs.Marks.{mark_at};
-ghost use Rattle.v_tree.specs.declared.mark.Mark.TheVariants as marks;
+ghost use Rattle.v_lexer.specs.declared.types.terminal.Terminal.TheVariants as marks;
 ghost use Rattle.v_tree.specs.Faults.{Gives};
 ghost use Rattle.v_tree.specs.Found.{seen, seen_parts, seen_select, seen_selects, Sized, SizedParts, SizedSelect, SizedSelects};
 ghost use Rattle.v_tree.specs.Reading.{above, close_bit, close_concat, close_part, close_parens, close_repeat, close_system};
@@ -14,11 +14,10 @@ use crate::fault::{Fault, Stop};
 use crate::found::Found;
 use crate::input::{expect, site};
 use crate::make;
-use crate::mark::Mark;
 use crate::operator::{Binary, SystemFunction, Unary};
 use crate::text::{name_of, number_of};
 use std::alloc::Global;
-use v_lexer::types::Token;
+use v_lexer::types::{Terminal, Token};
 
 /// One level less, where one more still stands above a tree of so many levels.
 pub fn above(room: u32, used: u32, at: usize) -> Result<u32, Stop>
@@ -160,7 +159,7 @@ pub fn close_parens(
     ensures gives { Gives seen result (close_parens tokens.now at (tree_of inner.tree) inner.end) }
     ensures sized { IfOk result (Sized tokens.now inner.levels) }
 {
-    let end = expect(tokens, Mark::Close, inner.end)?;
+    let end = expect(tokens, Terminal::Close, inner.end)?;
     let site = site(tokens, at, end);
     Ok(Found {
         levels: inner.levels,
@@ -184,7 +183,7 @@ pub fn close_system(
     ensures gives { Gives seen result (close_system tokens.now at function (tree_of inner.tree) inner.end) }
     ensures sized { IfOk result (Sized tokens.now (inner.levels + 1)) }
 {
-    let end = expect(tokens, Mark::Close, inner.end)?;
+    let end = expect(tokens, Terminal::Close, inner.end)?;
     let site = site(tokens, at, end);
     Ok(Found {
         levels: inner.levels + 1,
@@ -211,8 +210,8 @@ pub fn close_repeat(
         (close_repeat tokens.now at (tree_of count.tree) (seen_parts parts).0 parts.end) }
     ensures sized { IfOk result (Sized tokens.now (max count.levels parts.levels + 1)) }
 {
-    let inner = expect(tokens, Mark::CloseBrace, parts.end)?;
-    let end = expect(tokens, Mark::CloseBrace, inner)?;
+    let inner = expect(tokens, Terminal::CloseBrace, parts.end)?;
+    let end = expect(tokens, Terminal::CloseBrace, inner)?;
     let site = site(tokens, at, end);
     Ok(Found {
         levels: count.levels.max(parts.levels) + 1,
@@ -234,7 +233,7 @@ pub fn close_concat(
     ensures gives { Gives seen result (close_concat tokens.now at (seen_parts parts).0 parts.end) }
     ensures sized { IfOk result (Sized tokens.now (parts.levels + 1)) }
 {
-    let end = expect(tokens, Mark::CloseBrace, parts.end)?;
+    let end = expect(tokens, Terminal::CloseBrace, parts.end)?;
     let site = site(tokens, at, end);
     Ok(Found {
         levels: parts.levels + 1,
@@ -261,7 +260,7 @@ pub fn close_part(
         (close_part tokens.now at kind (tree_of left.tree) (tree_of right.tree) right.end) }
     ensures sized { IfOk result (SizedSelect tokens.now (max left.levels right.levels + 1)) }
 {
-    let end = expect(tokens, Mark::CloseBracket, right.end)?;
+    let end = expect(tokens, Terminal::CloseBracket, right.end)?;
     let site = site(tokens, at, end);
     Ok(Found {
         levels: left.levels.max(right.levels) + 1,
@@ -279,7 +278,7 @@ pub fn close_bit(tokens: &[Token], at: usize, index: Found<Expr>) -> Result<Foun
     ensures gives { Gives seen_select result (close_bit tokens.now at (tree_of index.tree) index.end) }
     ensures sized { IfOk result (SizedSelect tokens.now (index.levels + 1)) }
 {
-    let end = expect(tokens, Mark::CloseBracket, index.end)?;
+    let end = expect(tokens, Terminal::CloseBracket, index.end)?;
     let site = site(tokens, at, end);
     Ok(Found {
         levels: index.levels + 1,

@@ -5,10 +5,10 @@ ghost use Rattle.v_tree.specs.Faults.{error_of, no_place};
 ghost use Rattle.v_tree.specs.declared.fault.Stop.TheVariants.{NoMemory as OutOfMemory};
 
 use crate::input::place_span;
-use crate::mark::{Mark, mark_at, same};
+use crate::mark::{mark_at, same};
 use loc_base::{NoMemory, Span};
 use std::alloc::{AllocError, AllocFailed};
-use v_lexer::types::Token;
+use v_lexer::types::{Terminal, Token};
 
 /// Why tokens have no tree, and where: the span of the token that has no place, or of the end.
 #[derive(Clone, Copy, Debug, PartialEq, Eq)]
@@ -71,9 +71,9 @@ pub fn no_place(tokens: &[Token], at: usize) -> Fault
     ensures { result ≡ no_place tokens.now at }
 {
     let found = mark_at(tokens, at);
-    if same(found, Mark::Refused) {
+    if same(found, Terminal::Refused) {
         Fault::Unsupported(at)
-    } else if same(found, Mark::Wild) {
+    } else if same(found, Terminal::Wild) {
         Fault::Unsupported(at)
     } else {
         Fault::Unexpected(at)

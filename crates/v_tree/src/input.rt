@@ -4,13 +4,13 @@ ghost use Rattle.v_tree.specs.Sites.{span_at, line_at, text_at, site, end_span, 
 ghost use Rattle.v_tree.specs.Marks.{mark_at, same};
 ghost use Rattle.v_tree.specs.Faults.{Gives};
 ghost use Rattle.v_tree.specs.Reading.{expect, lower};
-ghost use Rattle.v_tree.specs.declared.mark.Mark.TheVariants as marks;
+ghost use Rattle.v_lexer.specs.declared.types.terminal.Terminal.TheVariants as marks;
 
 use crate::fault::{Fault, Stop, no_place};
-use crate::mark::{Mark, mark_at, same};
+use crate::mark::{mark_at, same};
 use crate::site::Site;
 use loc_base::Span;
-use v_lexer::types::Token;
+use v_lexer::types::{Terminal, Token};
 
 #[tactic(auto, unfolding(crate::specs::Sites::span_at))]
 fn span_at(tokens: &[Token], at: usize) -> Span
@@ -74,7 +74,7 @@ pub fn place_span(tokens: &[Token], at: usize) -> Span
 
 /// Whether a token of that mark stands there.
 #[tactic(auto, using(crate::proofs::PlaceLemmas::found_inside))]
-pub fn stands(tokens: &[Token], at: usize, mark: Mark) -> bool
+pub fn stands(tokens: &[Token], at: usize, mark: Terminal) -> bool
     requires { mark ≢ marks.Nothing }
     ensures gives { result ≡ same (mark_at tokens.now at) mark }
     ensures inside { IsTrue result → at < length tokens.now }
@@ -84,7 +84,7 @@ pub fn stands(tokens: &[Token], at: usize, mark: Mark) -> bool
 
 /// The place behind a token of that mark.
 #[tactic(auto, unfolding(crate::specs::Reading::expect))]
-pub fn expect(tokens: &[Token], mark: Mark, at: usize) -> Result<usize, Stop>
+pub fn expect(tokens: &[Token], mark: Terminal, at: usize) -> Result<usize, Stop>
     requires { mark ≢ marks.Nothing }
     ensures gives { Gives (λ n. n) result (expect tokens.now mark at) }
     ensures within { IfOk result (λ n. n ≤ length tokens.now) }

@@ -30,7 +30,7 @@ pub use item::{
     NamedConnection, NetAssignment, NetKind, ParameterKind, ParameterType,
 };
 pub use literal::{Number, WildNumber};
-pub use mark::{Mark, mark_at};
+pub use mark::mark_at;
 pub use module::{HeaderParameter, Module, Port, Ports, SourceTree};
 pub use operator::{Binary, SystemFunction, Unary};
 pub use public::{expr, read_expression};
@@ -38,6 +38,5 @@ pub use read::{select, selects};
 pub use site::Site;
 pub use statement::{AssignKind, CaseItem, CaseKind, Edge, Event, Sensitivity, Statement};
 pub use text::{name_of, number_of};
+pub use v_lexer::types::Terminal;
 
-#[cfg(test)]
-mod tests;

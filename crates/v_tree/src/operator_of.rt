@@ -2,55 +2,55 @@ ghost use Rattle.std.specs.Prelude.{◌≡◌, ◌≤◌, Some};
 ghost use Rattle.v_tree.specs.Operators.{unary_of, binary_of, strength, system_of, part_of};
 
 use crate::expression::PartKind;
-use crate::mark::Mark;
 use crate::operator::{Binary, SystemFunction, Unary};
+use v_lexer::types::Terminal;
 
 /// The unary operator of a symbol.
-pub fn unary_of(mark: Mark) -> Option<Unary>
+pub fn unary_of(mark: Terminal) -> Option<Unary>
     ensures { result ≡ unary_of mark }
 {
     match mark {
-        Mark::Plus => Some(Unary::Plus),
-        Mark::Minus => Some(Unary::Minus),
-        Mark::Bang => Some(Unary::Not),
-        Mark::Tilde => Some(Unary::Complement),
-        Mark::Ampersand => Some(Unary::And),
-        Mark::TildeAmpersand => Some(Unary::Nand),
-        Mark::Bar => Some(Unary::Or),
-        Mark::TildeBar => Some(Unary::Nor),
-        Mark::Caret => Some(Unary::Xor),
-        Mark::TildeCaret => Some(Unary::Xnor),
+        Terminal::Plus => Some(Unary::Plus),
+        Terminal::Minus => Some(Unary::Minus),
+        Terminal::Bang => Some(Unary::Not),
+        Terminal::Tilde => Some(Unary::Complement),
+        Terminal::Ampersand => Some(Unary::And),
+        Terminal::TildeAmpersand => Some(Unary::Nand),
+        Terminal::Bar => Some(Unary::Or),
+        Terminal::TildeBar => Some(Unary::Nor),
+        Terminal::Caret => Some(Unary::Xor),
+        Terminal::TildeCaret => Some(Unary::Xnor),
         _ => None,
     }
 }
 
 /// The binary operator of a symbol.
-pub fn binary_of(mark: Mark) -> Option<Binary>
+pub fn binary_of(mark: Terminal) -> Option<Binary>
     ensures { result ≡ binary_of mark }
 {
     match mark {
-        Mark::StarStar => Some(Binary::Power),
-        Mark::Star => Some(Binary::Multiply),
-        Mark::Slash => Some(Binary::Divide),
-        Mark::Percent => Some(Binary::Modulus),
-        Mark::Plus => Some(Binary::Add),
-        Mark::Minus => Some(Binary::Subtract),
-        Mark::ShiftLeft => Some(Binary::ShiftLeft),
-        Mark::ShiftRight => Some(Binary::ShiftRight),
-        Mark::SignedShiftLeft => Some(Binary::SignedShiftLeft),
-        Mark::SignedShiftRight => Some(Binary::SignedShiftRight),
-        Mark::Less => Some(Binary::Less),
-        Mark::LessEqual => Some(Binary::LessEqual),
-        Mark::Greater => Some(Binary::Greater),
-        Mark::GreaterEqual => Some(Binary::GreaterEqual),
-        Mark::EqualEqual => Some(Binary::Equal),
-        Mark::BangEqual => Some(Binary::NotEqual),
-        Mark::Ampersand => Some(Binary::And),
-        Mark::Caret => Some(Binary::Xor),
-        Mark::TildeCaret => Some(Binary::Xnor),
-        Mark::Bar => Some(Binary::Or),
-        Mark::AndAnd => Some(Binary::LogicalAnd),
-        Mark::BarBar => Some(Binary::LogicalOr),
+        Terminal::StarStar => Some(Binary::Power),
+        Terminal::Star => Some(Binary::Multiply),
+        Terminal::Slash => Some(Binary::Divide),
+        Terminal::Percent => Some(Binary::Modulus),
+        Terminal::Plus => Some(Binary::Add),
+        Terminal::Minus => Some(Binary::Subtract),
+        Terminal::ShiftLeft => Some(Binary::ShiftLeft),
+        Terminal::ShiftRight => Some(Binary::ShiftRight),
+        Terminal::SignedShiftLeft => Some(Binary::SignedShiftLeft),
+        Terminal::SignedShiftRight => Some(Binary::SignedShiftRight),
+        Terminal::Less => Some(Binary::Less),
+        Terminal::LessEqual => Some(Binary::LessEqual),
+        Terminal::Greater => Some(Binary::Greater),
+        Terminal::GreaterEqual => Some(Binary::GreaterEqual),
+        Terminal::EqualEqual => Some(Binary::Equal),
+        Terminal::BangEqual => Some(Binary::NotEqual),
+        Terminal::Ampersand => Some(Binary::And),
+        Terminal::Caret => Some(Binary::Xor),
+        Terminal::TildeCaret => Some(Binary::Xnor),
+        Terminal::Bar => Some(Binary::Or),
+        Terminal::AndAnd => Some(Binary::LogicalAnd),
+        Terminal::BarBar => Some(Binary::LogicalOr),
         _ => None,
     }
 }
@@ -80,25 +80,25 @@ pub fn strength(operator: Binary) -> u8
 }
 
 /// The system function of a token.
-pub fn system_of(mark: Mark) -> Option<SystemFunction>
+pub fn system_of(mark: Terminal) -> Option<SystemFunction>
     ensures { result ≡ system_of mark }
 {
     match mark {
-        Mark::SystemSigned => Some(SystemFunction::Signed),
-        Mark::SystemUnsigned => Some(SystemFunction::Unsigned),
-        Mark::SystemClog2 => Some(SystemFunction::Clog2),
+        Terminal::SystemSigned => Some(SystemFunction::Signed),
+        Terminal::SystemUnsigned => Some(SystemFunction::Unsigned),
+        Terminal::SystemClog2 => Some(SystemFunction::Clog2),
         _ => None,
     }
 }
 
 /// The way of a part-select, by the symbol between its two expressions.
-pub fn part_of(mark: Mark) -> Option<PartKind>
+pub fn part_of(mark: Terminal) -> Option<PartKind>
     ensures { result ≡ part_of mark }
 {
     match mark {
-        Mark::Colon => Some(PartKind::Range),
-        Mark::PlusColon => Some(PartKind::Up),
-        Mark::MinusColon => Some(PartKind::Down),
+        Terminal::Colon => Some(PartKind::Range),
+        Terminal::PlusColon => Some(PartKind::Up),
+        Terminal::MinusColon => Some(PartKind::Down),
         _ => None,
     }
 }

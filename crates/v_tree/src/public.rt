@@ -1,6 +1,6 @@
 ghost use Rattle.std.specs.Prelude.{◌≡◌, ◌≢◌, ℕ, ◌+◌, ◌<◌, ◌≤◌, ◌^◌, length, IfOk, IfErr};
 ghost use Rattle.v_tree.specs.Marks.{mark_at};
-ghost use Rattle.v_tree.specs.declared.mark.Mark.TheVariants as marks;
+ghost use Rattle.v_lexer.specs.declared.types.terminal.Terminal.TheVariants as marks;
 ghost use Rattle.v_tree.specs.declared.fault.ParseErr.TheVariants as error;
 ghost use Rattle.v_tree.specs.Operators.{binary_of};
 ghost use Rattle.v_tree.specs.Tree.{Tree, tree_of};
@@ -15,12 +15,12 @@ use crate::fault::{Fault, ParseErr, Stop, error_of};
 use crate::found::Found;
 use crate::input::{site, stands};
 use crate::make;
-use crate::mark::{Mark, mark_at};
+use crate::mark::mark_at;
 use crate::operator_of::binary_of;
 use crate::read::whole;
 use crate::text::wild_of;
 use std::alloc::Global;
-use v_lexer::types::Token;
+use v_lexer::types::{Terminal, Token};
 
 /// How deep a text may nest.
 const MOST_NESTING: u32 = 256;
@@ -38,7 +38,7 @@ fn wild(alloc: Global, tokens: &[Token], at: usize) -> Result<Found<Expr>, Stop>
     if binary_of(mark_at(tokens, at + 1)).is_some() {
         return Err(Stop::Fault(Fault::Unsupported(at)));
     }
-    if stands(tokens, at + 1, Mark::Question) {
+    if stands(tokens, at + 1, Terminal::Question) {
         return Err(Stop::Fault(Fault::Unsupported(at)));
     }
     let number = wild_of(alloc, tokens, at)?;
@@ -63,7 +63,7 @@ pub fn read_expression(
     ensures gives { Gives seen result (whole_expression tokens.now depth at) }
     ensures sized { IfOk result (Sized tokens.now 4096) }
 {
-    if stands(tokens, at, Mark::Wild) {
+    if stands(tokens, at, Terminal::Wild) {
         return wild(alloc, tokens, at);
     }
     whole(alloc, tokens, at, depth, MOST_LEVELS)

@@ -14,11 +14,11 @@ use crate::expression::{Expr, Select};
 use crate::fault::{Stop, no_place};
 use crate::found::Found;
 use crate::input::{expect, lower, stands};
-use crate::mark::{Mark, mark_at};
+use crate::mark::mark_at;
 use crate::operator::{SystemFunction, Unary};
 use crate::operator_of::{binary_of, part_of, strength, system_of, unary_of};
 use std::alloc::Global;
-use v_lexer::types::Token;
+use v_lexer::types::{Terminal, Token};
 
 /// An expression, where nesting of `depth` and `room` levels are left to it.
 #[tactic(auto, using(crate::proofs::StepLemmas::whole_over, crate::proofs::StepLemmas::below_less), unfolding(crate::specs::Reading::whole_with, crate::specs::Reading::question_at))]
@@ -36,13 +36,13 @@ pub fn whole(
     ensures sized { IfOk result (Sized tokens.now room) }
 {
     let condition = climb(alloc, tokens, at, depth, room, 1)?;
-    if !stands(tokens, condition.end, Mark::Question) {
+    if !stands(tokens, condition.end, Terminal::Question) {
         return Ok(condition);
     }
     let depth = lower(depth, condition.end)?;
     let room = above(room, condition.levels, condition.end)?;
     let then = whole(alloc, tokens, condition.end + 1, depth, room)?;
-    let colon = expect(tokens, Mark::Colon, then.end)?;
+    let colon = expect(tokens, Terminal::Colon, then.end)?;
     let other = whole(alloc, tokens, colon, depth, room)?;
     conditional(alloc, tokens, at, condition, then, other)
 }
@@ -103,17 +103,17 @@ fn operand(
     if let Some(function) = system_of(mark) {
         return system(alloc, tokens, at, depth, room, function);
     }
-    if stands(tokens, at, Mark::Number) {
+    if stands(tokens, at, Terminal::Number) {
         return number(alloc, tokens, at);
     }
-    if stands(tokens, at, Mark::Name) {
+    if stands(tokens, at, Terminal::Name) {
         let selects = selects(alloc, tokens, at + 1, depth, room)?;
         return name(alloc, tokens, at, selects);
     }
-    if stands(tokens, at, Mark::Open) {
+    if stands(tokens, at, Terminal::Open) {
         return parens(alloc, tokens, at, depth, room);
     }
-    if stands(tokens, at, Mark::OpenBrace) {
+    if stands(tokens, at, Terminal::OpenBrace) {
         return braces(alloc, tokens, at, depth, room);
     }
     Err(Stop::Fault(no_place(tokens, at)))
@@ -157,7 +157,7 @@ fn system(
 {
     let depth = lower(depth, at)?;
     let room = lower(room, at)?;
-    let open = expect(tokens, Mark::Open, at + 1)?;
+    let open = expect(tokens, Terminal::Open, at + 1)?;
     let inner = whole(alloc, tokens, open, depth, room)?;
     close_system(alloc, tokens, at, function, inner)
 }
@@ -198,7 +198,7 @@ fn braces(
     let depth = lower(depth, at)?;
     let room = lower(room, at)?;
     let first = whole(alloc, tokens, at + 1, depth, room)?;
-    if stands(tokens, first.end, Mark::OpenBrace) {
+    if stands(tokens, first.end, Terminal::OpenBrace) {
         let part = whole(alloc, tokens, first.end + 1, depth, room)?;
         let parts = parts_from(alloc, tokens, depth, room, part)?;
         close_repeat(alloc, tokens, at, first, parts)
@@ -228,7 +228,7 @@ fn parts_from(
     let mut end = first.end;
     parts.push(first.tree)?;
     for _ in 0..tokens.len() {
-        if !stands(tokens, end, Mark::Comma) {
+        if !stands(tokens, end, Terminal::Comma) {
             return Ok(Found {
                 tree: parts,
                 levels,
@@ -266,7 +266,7 @@ pub fn selects(
     let mut levels = 0;
     let mut end = at;
     for _ in 0..2_u32 {
-        if !stands(tokens, end, Mark::OpenBracket) {
+        if !stands(tokens, end, Terminal::OpenBracket) {
             return Ok(Found {
                 tree: found,
                 levels,

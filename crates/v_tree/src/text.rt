@@ -2,14 +2,14 @@
 ghost use Rattle.std.specs.Prelude.{◌≡◌, IfOk, OnErr};
 ghost use Rattle.v_tree.specs.Sites.{text_at};
 ghost use Rattle.v_tree.specs.Marks.{mark_at};
-ghost use Rattle.v_tree.specs.declared.mark.Mark.TheVariants as marks;
+ghost use Rattle.v_lexer.specs.declared.types.terminal.Terminal.TheVariants as marks;
 
 use crate::literal::{Number, WildNumber};
 use loc_base::{Bytes, Name, NoMemory};
 use std::alloc::Global;
 use v_lexer::types::{Token, TokenKind};
 
-#[tactic(auto, using(crate::proofs::ClassLemmas::name_bytes, crate::proofs::ClassLemmas::name_inside, crate::proofs::ClassLemmas::name_text, crate::proofs::ClassLemmas::text_read))]
+#[tactic(auto, using(crate::proofs::ClassLemmas::name_bytes, crate::proofs::ClassLemmas::name_inside, crate::proofs::ClassLemmas::text_read))]
 /// The name at that place.
 pub fn name_of(alloc: Global, tokens: &[Token], at: usize) -> Result<Name, NoMemory>
     requires { mark_at tokens.now at ≡ marks.Name }
@@ -22,7 +22,7 @@ pub fn name_of(alloc: Global, tokens: &[Token], at: usize) -> Result<Name, NoMem
     }
 }
 
-#[tactic(auto, using(crate::proofs::ClassLemmas::number_inside, crate::proofs::ClassLemmas::number_text, crate::proofs::ClassLemmas::text_read))]
+#[tactic(auto, using(crate::proofs::ClassLemmas::number_inside, crate::proofs::ClassLemmas::text_read))]
 /// The number at that place.
 pub fn number_of(alloc: Global, tokens: &[Token], at: usize) -> Result<Number, NoMemory>
     requires { mark_at tokens.now at ≡ marks.Number }
@@ -33,7 +33,7 @@ pub fn number_of(alloc: Global, tokens: &[Token], at: usize) -> Result<Number, N
     Ok(Number { text })
 }
 
-#[tactic(auto, using(crate::proofs::ClassLemmas::wild_inside, crate::proofs::ClassLemmas::wild_text, crate::proofs::ClassLemmas::text_read))]
+#[tactic(auto, using(crate::proofs::ClassLemmas::wild_inside, crate::proofs::ClassLemmas::text_read))]
 /// The number with wildcard digits at that place.
 pub fn wild_of(alloc: Global, tokens: &[Token], at: usize) -> Result<WildNumber, NoMemory>
     requires { mark_at tokens.now at ≡ marks.Wild }

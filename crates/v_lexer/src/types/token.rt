@@ -1,3 +1,4 @@
+use crate::types::terminal::Terminal;
 use loc_base::{Bytes, Span};
 use std::marker::Model;
 
@@ -22,6 +23,8 @@ pub enum TokenKind {
 #[derive(Debug, Drop)]
 pub struct Token {
     pub kind: TokenKind,
+    /// What it is to the grammar.
+    pub terminal: Terminal,
     /// Where its bytes stand in the text, or the macro's use that stands for it.
     pub span: Span,
     /// The line of the span's first byte, counted from 1.
@@ -35,9 +38,11 @@ impl Model for Token {
 
     ghost Value = { Lexeme };
 
+    ghost use Rattle.std.specs.Prelude.{◌≡◌};
     ghost use Rattle.v_lexer.specs.Text.{IsTokenText};
+    ghost use Rattle.v_lexer.specs.Terminals.{terminal_of};
 
     ghost view = { λ t. record { kind = t.kind; span = t.span; line = t.line; text = t.text } };
 
-    ghost invariant = { λ t. IsTokenText t.kind t.text };
+    ghost invariant = { λ t. IsTokenText t.kind t.text × (t.terminal ≡ terminal_of t.kind t.text) };
 }

@@ -1,13 +1,10 @@
 //! Expressions of texts, by the precedence of IEEE 1364-2005, table 5-4, and the refusals that README.md names.
-use crate::expression::Expr;
-use crate::fault::ParseErr;
-use crate::operator::{Binary, Unary};
-use crate::public::expr;
 use loc_base::{Bytes, NoMemory, Span};
 use std::alloc::Global;
 use std::process::Abort;
 use std::test::Fail;
 use v_lexer::tokens;
+use v_tree::{Binary, Expr, ParseErr, Unary, expr};
 
 fn unary_text(operator: Unary) -> &'static [u8] {
     match operator {

@@ -1,10 +1,10 @@
 //! Texts in the habits of real code, with the tokens or the refusal that README.md asks for.
-use crate::tokens;
-use crate::types::{LexErr, TokenKind};
 use loc_base::Span;
 use std::alloc::Global;
 use std::process::Abort;
 use std::test::Fail;
+use v_lexer::tokens;
+use v_lexer::types::{LexErr, Terminal, TokenKind};
 
 /// The texts of the tokens, each before a space.
 fn spelled(alloc: Global, text: &str) -> Result<String, Fail> {
@@ -75,6 +75,109 @@ fn names_words_symbols_and_numbers_have_their_spans_and_lines(rt: HostRuntime) -
         rt.alloc(),
         "module m;\r\n \\a+b\n$signed 8 'h f\n\n4'b?",
         &want,
+    )
+}
+
+/// The terminal of each token.
+fn means(rt: &impl Abort, alloc: Global, text: &str, want: &[Terminal]) -> Result<(), Fail> {
+    let found = tokens(alloc, text.as_bytes())?;
+    assert_eq!(rt; found.len(), want.len());
+    for (token, terminal) in found.as_slice().iter().zip(want) {
+        assert_eq!(rt; token.terminal, *terminal, "in {text}");
+    }
+    Ok(())
+}
+
+#[test]
+fn each_symbol_has_its_terminal(rt: HostRuntime) -> Result<(), Fail> {
+    let brackets = [
+        Terminal::Open,
+        Terminal::Close,
+        Terminal::OpenBracket,
+        Terminal::CloseBracket,
+        Terminal::OpenBrace,
+        Terminal::CloseBrace,
+    ];
+    means(&rt, rt.alloc(), "()[]{}", &brackets)?;
+    let orders = [
+        Terminal::Less,
+        Terminal::LessEqual,
+        Terminal::ShiftLeft,
+        Terminal::SignedShiftLeft,
+        Terminal::Greater,
+        Terminal::GreaterEqual,
+        Terminal::ShiftRight,
+        Terminal::SignedShiftRight,
+    ];
+    means(&rt, rt.alloc(), "< <= << <<< > >= >> >>>", &orders)?;
+    let bits = [
+        Terminal::Tilde,
+        Terminal::TildeAmpersand,
+        Terminal::TildeBar,
+        Terminal::TildeCaret,
+        Terminal::TildeCaret,
+        Terminal::AndAnd,
+        Terminal::BarBar,
+        Terminal::StarStar,
+    ];
+    means(&rt, rt.alloc(), "~ ~& ~| ~^ ^~ && || **", &bits)?;
+    let equals = [
+        Terminal::Equals,
+        Terminal::EqualEqual,
+        Terminal::BangEqual,
+        Terminal::PlusColon,
+        Terminal::MinusColon,
+        Terminal::Hash,
+        Terminal::At,
+        Terminal::Question,
+    ];
+    means(&rt, rt.alloc(), "= == != +: -: # @ ?", &equals)
+}
+
+#[test]
+fn each_word_has_its_terminal(rt: HostRuntime) -> Result<(), Fail> {
+    let gates = [
+        Terminal::And,
+        Terminal::Nand,
+        Terminal::Or,
+        Terminal::Nor,
+        Terminal::Xor,
+        Terminal::Xnor,
+        Terminal::Buf,
+        Terminal::Not,
+    ];
+    means(&rt, rt.alloc(), "and nand or nor xor xnor buf not", &gates)?;
+    let blocks = [
+        Terminal::Begin,
+        Terminal::End,
+        Terminal::Case,
+        Terminal::Casez,
+        Terminal::Endcase,
+        Terminal::Generate,
+        Terminal::Genvar,
+        Terminal::Endgenerate,
+    ];
+    means(
+        &rt,
+        rt.alloc(),
+        "begin end case casez endcase generate genvar endgenerate",
+        &blocks,
+    )?;
+    let others = [
+        Terminal::Refused,
+        Terminal::Refused,
+        Terminal::Name,
+        Terminal::Name,
+        Terminal::Number,
+        Terminal::Wild,
+        Terminal::SystemClog2,
+        Terminal::SystemUnsigned,
+    ];
+    means(
+        &rt,
+        rt.alloc(),
+        "casex while config \\wire 8'd3 4'b? $clog2 $unsigned",
+        &others,
     )
 }
 

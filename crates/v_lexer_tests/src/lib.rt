@@ -1,0 +1,5 @@
+//! Tests of the tokens of texts.
+#![tactic(auto)]
+
+#[cfg(test)]
+mod texts;

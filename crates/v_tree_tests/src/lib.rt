@@ -1,0 +1,5 @@
+//! Tests of the expressions of texts.
+#![tactic(auto)]
+
+#[cfg(test)]
+mod expressions;
