@@ -92,8 +92,8 @@ few-skips s span Use tail few = few
 
 few-enters : (left : ℕ) (s : State) (span : Span) (text : List ℕ) → IsFew s → StaysFew (enters left s span text)
 few-enters left s span text few =
-    few-either (left == 0) (stops _) (if nat_lt s.room (length text) then stops _ else expands text _) tt
-    (few-either (nat_lt s.room (length text)) (stops _) (expands text _) tt few)
+    few-either (left == 0) (stops _) (if nat_lt s.macro_bytes_left (length text) then stops _ else expands text _) tt
+    (few-either (nat_lt s.macro_bytes_left (length text)) (stops _) (expands text _) tt few)
 
 few-named : (found : Option (List ℕ)) (left : ℕ) (s : State) (span : Span) → IsFew s
     → StaysFew (elim found [ Some text ↦ enters left s span text | None ↦ stops (refused.Directive span) ])

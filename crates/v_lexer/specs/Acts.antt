@@ -175,8 +175,8 @@ skips s span Use tail = goes s
 abbrev pub enters : ℕ → State → Span → List ℕ → Step
 enters left s span text =
     if left == 0 then stops (refused.MacroDepth span)
-    else if nat_lt s.room (length text) then stops (refused.TooLong nowhere)
-    else expands text (record s { room = s.room - length text })
+    else if nat_lt s.macro_bytes_left (length text) then stops (refused.TooLong nowhere)
+    else expands text (record s { macro_bytes_left = s.macro_bytes_left - length text })
 
 -- the use of a macro
 abbrev pub uses : ℕ → State → Span → List ℕ → Step

@@ -43,7 +43,7 @@ pub data Reads : ℕ → State → Position → List ℕ → Result State LexErr
 
 -- before a text: no macros, no conditional, no token, and 268,435,456 bytes of macro texts to come
 abbrev pub start : State
-start = record { macros = map.empty; conditionals = []; tokens = []; room = 268435456 }
+start = record { macros = map.empty; conditionals = []; tokens = []; macro_bytes_left = 268435456 }
 
 -- a text is read from its first byte, in line 1, and 64 levels of macros may open
 abbrev pub ReadsText : List ℕ → Result State LexErr → Type 0

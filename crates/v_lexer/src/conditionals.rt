@@ -7,7 +7,7 @@ use std::alloc::Global;
 use std::marker::Model;
 
 /// How far a conditional has come.
-#[derive(Clone, Copy, Debug, PartialEq, Eq)]
+#[derive(Clone, Copy)]
 pub enum Arm {
     /// The part that is being read is taken.
     Taken,
@@ -50,7 +50,7 @@ fn is_taken(arm: Arm) -> bool
 }
 
 /// An open conditional.
-#[derive(Clone, Copy, Debug, PartialEq, Eq)]
+#[derive(Clone, Copy)]
 pub struct Conditional {
     /// The backtick and the word that opened it.
     pub opener: Span,
@@ -60,7 +60,7 @@ pub struct Conditional {
 }
 
 /// The open conditionals. Contracts see them from the innermost outwards.
-#[derive(Debug, Drop)]
+#[derive(Drop)]
 pub struct Conditionals {
     /// From the outermost inwards.
     items: Vec<Conditional>,

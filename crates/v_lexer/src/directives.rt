@@ -12,7 +12,7 @@ use crate::pieces::Piece;
 use crate::words::is_among;
 
 /// What the word behind a backtick asks for.
-#[derive(Clone, Copy, Debug, PartialEq, Eq)]
+#[derive(Clone, Copy)]
 pub enum Directive {
     Define,
     Undef,

@@ -10,7 +10,7 @@ use crate::numbers::{is_hexadecimal, is_sign, is_unknown, is_wild};
 use crate::types::TokenKind;
 
 /// What is wrong with a number.
-#[derive(Clone, Copy, Debug, PartialEq, Eq)]
+#[derive(Clone, Copy)]
 pub enum NumberFault {
     /// The base letter or the digits are missing, or a digit isn't one of the base.
     Malformed,

@@ -12,7 +12,7 @@ use crate::numbers::{based_length, number_length};
 use crate::symbols::symbol_length;
 
 /// What a piece of a text is.
-#[derive(Clone, Copy, Debug, PartialEq, Eq)]
+#[derive(Clone, Copy)]
 pub enum Piece {
     /// White space, a comment, or text of a part that isn't taken.
     Blank,

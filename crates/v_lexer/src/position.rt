@@ -6,7 +6,7 @@ ghost use Rattle.v_lexer.specs.Outcomes.{HasSpan, IsWithin};
 use loc_base::Span;
 
 /// Where a piece begins.
-#[derive(Clone, Copy, Debug, PartialEq, Eq)]
+#[derive(Clone, Copy)]
 pub enum Position {
     /// In the text itself: the offset from 0, and the line from 1.
     Text { from: u32, line: u32 },

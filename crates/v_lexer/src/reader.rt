@@ -96,11 +96,11 @@ impl State {
                 if left == 0 {
                     return Err(LexErr::MacroDepth(span));
                 }
-                if self.room < text.len() {
+                if self.macro_bytes_left < text.len() {
                     return Err(LexErr::TooLong(nowhere()));
                 }
                 let body = Bytes::copy_of(alloc, text)?;
-                self.room -= body.len();
+                self.macro_bytes_left -= body.len();
                 self.read(alloc, body.as_slice(), place.inside(piece), left - 1)
             }
         }

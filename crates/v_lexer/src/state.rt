@@ -29,7 +29,7 @@ pub struct State {
     pub conditionals: Conditionals,
     pub tokens: Tokens,
     /// How many more bytes of macro texts may be read.
-    pub room: usize,
+    pub macro_bytes_left: usize,
 }
 
 /// The most tokens of a text.
@@ -88,7 +88,7 @@ impl State {
             macros: Macros::new(alloc),
             conditionals: Conditionals::new(alloc),
             tokens: Tokens::new(alloc),
-            room: 268_435_456,
+            macro_bytes_left: 268_435_456,
         }
     }
 

@@ -5,14 +5,14 @@ use crate::site::Site;
 use loc_base::Name;
 
 /// A name that is declared, or that stands without selects.
-#[derive(Debug, Drop)]
+#[derive(Drop)]
 pub struct Identifier {
     pub site: Site,
     pub name: Name,
 }
 
 /// `[left : right]` of a declaration.
-#[derive(Debug, Drop)]
+#[derive(Drop)]
 pub struct Range {
     pub site: Site,
     pub left: Expr,
@@ -20,7 +20,7 @@ pub struct Range {
 }
 
 /// A delay, which is read and has no effect.
-#[derive(Debug, Drop)]
+#[derive(Drop)]
 pub enum Delay {
     /// `#number`
     Number { site: Site, number: Number },
@@ -31,7 +31,7 @@ pub enum Delay {
 }
 
 /// The left side of an assignment.
-#[derive(Debug, Drop)]
+#[derive(Drop)]
 pub enum Left {
     /// A name with at most two selects.
     Name {
@@ -47,7 +47,7 @@ pub enum Left {
 }
 
 /// `variable = start; condition; next = step` of a loop.
-#[derive(Debug, Drop)]
+#[derive(Drop)]
 pub struct LoopHead {
     pub site: Site,
     pub variable: Identifier,
@@ -58,7 +58,7 @@ pub struct LoopHead {
 }
 
 /// `name = value`
-#[derive(Debug, Drop)]
+#[derive(Drop)]
 pub struct NamedValue {
     pub site: Site,
     pub name: Name,

@@ -5,7 +5,7 @@ use crate::site::Site;
 use loc_base::Name;
 
 /// How a part-select names its bits.
-#[derive(Clone, Copy, Debug, PartialEq, Eq)]
+#[derive(Clone, Copy, PartialEq, Eq)]
 pub enum PartKind {
     /// `[left : right]`
     Range,
@@ -16,7 +16,7 @@ pub enum PartKind {
 }
 
 /// A select behind a name (IEEE 1364-2005, 5.2.1 and 5.2.2).
-#[derive(Debug, Drop)]
+#[derive(Drop)]
 #[cycle(syntax)]
 pub enum Select {
     /// `[index]`
@@ -34,7 +34,7 @@ pub enum Select {
 }
 
 /// An expression (IEEE 1364-2005, clause 5).
-#[derive(Debug, Drop)]
+#[derive(Drop)]
 #[cycle(syntax)]
 pub enum Expr {
     Number {

@@ -24,7 +24,7 @@ pub enum ParseErr {
 }
 
 /// Why tokens have no tree, and the number of the token that has no place; that of the end is the number of tokens.
-#[derive(Clone, Copy, Debug, PartialEq, Eq)]
+#[derive(Clone, Copy)]
 pub enum Fault {
     /// No production has the token here.
     Unexpected(usize),
@@ -35,7 +35,7 @@ pub enum Fault {
 }
 
 /// Why a reader stopped.
-#[derive(Clone, Copy, Debug, PartialEq, Eq)]
+#[derive(Clone, Copy)]
 pub enum Stop {
     Fault(Fault),
     NoMemory,

@@ -1,5 +1,5 @@
 /// What a reader found: a tree, its number of levels, and the place behind its tokens.
-#[derive(Debug, Drop)]
+#[derive(Drop)]
 pub struct Found<T> {
     pub tree: T,
     pub levels: u32,

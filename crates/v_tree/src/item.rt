@@ -6,21 +6,21 @@ use crate::statement::{Sensitivity, Statement};
 use loc_base::Name;
 
 /// The direction of a port.
-#[derive(Clone, Copy, Debug, PartialEq, Eq)]
+#[derive(Clone, Copy, PartialEq, Eq)]
 pub enum Direction {
     Input,
     Output,
 }
 
 /// What a declaration makes.
-#[derive(Clone, Copy, Debug, PartialEq, Eq)]
+#[derive(Clone, Copy, PartialEq, Eq)]
 pub enum NetKind {
     Wire,
     Reg,
 }
 
 /// Whether a parameter may be overridden.
-#[derive(Clone, Copy, Debug, PartialEq, Eq)]
+#[derive(Clone, Copy, PartialEq, Eq)]
 pub enum ParameterKind {
     /// `parameter`
     Parameter,
@@ -29,7 +29,7 @@ pub enum ParameterKind {
 }
 
 /// A gate (IEEE 1364-2005, 7.2 and 7.3).
-#[derive(Clone, Copy, Debug, PartialEq, Eq)]
+#[derive(Clone, Copy, PartialEq, Eq)]
 pub enum GateKind {
     And,
     Or,
@@ -42,7 +42,7 @@ pub enum GateKind {
 }
 
 /// The type of a parameter.
-#[derive(Debug, Drop)]
+#[derive(Drop)]
 pub enum ParameterType {
     /// Nothing, or a sign, a range or both.
     Vector { signed: bool, range: Option<Range> },
@@ -51,7 +51,7 @@ pub enum ParameterType {
 }
 
 /// A name of a wire or reg declaration: with a second range it is an array.
-#[derive(Debug, Drop)]
+#[derive(Drop)]
 pub struct Declarator {
     pub site: Site,
     pub name: Name,
@@ -60,7 +60,7 @@ pub struct Declarator {
 }
 
 /// `target = value` of a continuous assignment.
-#[derive(Debug, Drop)]
+#[derive(Drop)]
 pub struct NetAssignment {
     pub site: Site,
     pub target: Left,
@@ -68,7 +68,7 @@ pub struct NetAssignment {
 }
 
 /// `name (terminal, ..)` of a gate, at least one terminal.
-#[derive(Debug, Drop)]
+#[derive(Drop)]
 pub struct GateInstance {
     pub site: Site,
     pub name: Option<Name>,
@@ -76,7 +76,7 @@ pub struct GateInstance {
 }
 
 /// `.name(value)`
-#[derive(Debug, Drop)]
+#[derive(Drop)]
 pub struct NamedConnection {
     pub site: Site,
     pub name: Name,
@@ -84,7 +84,7 @@ pub struct NamedConnection {
 }
 
 /// The connections of an instance, or the overrides of its parameters.
-#[derive(Debug, Drop)]
+#[derive(Drop)]
 pub enum Connections {
     /// By order. One that is left out is `None`; `()` has none at all.
     Ordered { values: Vec<Option<Expr>> },
@@ -93,7 +93,7 @@ pub enum Connections {
 }
 
 /// `name (connections)` of a module instance.
-#[derive(Debug, Drop)]
+#[derive(Drop)]
 pub struct Instance {
     pub site: Site,
     pub name: Name,
@@ -101,7 +101,7 @@ pub struct Instance {
 }
 
 /// An item of a module.
-#[derive(Debug, Drop)]
+#[derive(Drop)]
 #[cycle(module_item)]
 pub enum Item {
     /// `input wire signed [7:0] name, ..;`
@@ -191,7 +191,7 @@ pub enum Item {
 }
 
 /// What a generate loop or condition holds.
-#[derive(Debug, Drop)]
+#[derive(Drop)]
 #[cycle(module_item)]
 pub enum GenerateBlock {
     /// One item.

@@ -39,4 +39,3 @@ pub use site::Site;
 pub use statement::{AssignKind, CaseItem, CaseKind, Edge, Event, Sensitivity, Statement};
 pub use text::{name_of, number_of};
 pub use v_lexer::types::Terminal;
-

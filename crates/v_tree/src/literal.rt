@@ -2,7 +2,7 @@ use loc_base::Bytes;
 use std::marker::Model;
 
 /// A number without wildcard digits, as it is written. Contracts see its bytes.
-#[derive(Debug, Drop)]
+#[derive(Drop)]
 pub struct Number {
     pub text: Bytes,
 }
@@ -20,7 +20,7 @@ impl Model for Number {
 }
 
 /// A number with wildcard digits, as it is written. Contracts see its bytes.
-#[derive(Debug, Drop)]
+#[derive(Drop)]
 pub struct WildNumber {
     pub text: Bytes,
 }

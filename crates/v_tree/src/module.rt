@@ -6,7 +6,7 @@ use crate::site::Site;
 use loc_base::Name;
 
 /// A parameter of a module's header.
-#[derive(Debug, Drop)]
+#[derive(Drop)]
 pub struct HeaderParameter {
     pub site: Site,
     /// Whether the word `parameter` stands before it.
@@ -17,7 +17,7 @@ pub struct HeaderParameter {
 }
 
 /// A port that a module's header declares.
-#[derive(Debug, Drop)]
+#[derive(Drop)]
 pub enum Port {
     /// `output reg signed [7:0] name = value`
     Declared {
@@ -38,7 +38,7 @@ pub enum Port {
 }
 
 /// The ports of a module's header.
-#[derive(Debug, Drop)]
+#[derive(Drop)]
 pub enum Ports {
     /// No list, or an empty one.
     None,
@@ -49,7 +49,7 @@ pub enum Ports {
 }
 
 /// A module.
-#[derive(Debug, Drop)]
+#[derive(Drop)]
 pub struct Module {
     pub site: Site,
     pub name: Name,
@@ -59,7 +59,7 @@ pub struct Module {
 }
 
 /// The modules of a text, in its order.
-#[derive(Debug, Drop)]
+#[derive(Drop)]
 pub struct SourceTree {
     pub modules: Vec<Module>,
 }

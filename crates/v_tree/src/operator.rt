@@ -1,5 +1,5 @@
 /// A unary operator (IEEE 1364-2005, 5.1).
-#[derive(Clone, Copy, Debug, PartialEq, Eq)]
+#[derive(Clone, Copy, PartialEq, Eq)]
 pub enum Unary {
     /// `+`
     Plus,
@@ -24,7 +24,7 @@ pub enum Unary {
 }
 
 /// A binary operator (IEEE 1364-2005, 5.1).
-#[derive(Clone, Copy, Debug, PartialEq, Eq)]
+#[derive(Clone, Copy, PartialEq, Eq)]
 pub enum Binary {
     /// `**`
     Power,
@@ -73,7 +73,7 @@ pub enum Binary {
 }
 
 /// A system function (IEEE 1364-2005, 17.7 and 17.11).
-#[derive(Clone, Copy, Debug, PartialEq, Eq)]
+#[derive(Clone, Copy, PartialEq, Eq)]
 pub enum SystemFunction {
     /// `$signed`
     Signed,

@@ -1,7 +1,7 @@
 use loc_base::Span;
 
 /// Where a node of the tree stands.
-#[derive(Clone, Copy, Debug, PartialEq, Eq)]
+#[derive(Clone, Copy, PartialEq, Eq)]
 pub struct Site {
     /// From the first byte of its first token to the last byte of its last token.
     pub span: Span,

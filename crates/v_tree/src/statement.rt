@@ -5,7 +5,7 @@ use crate::site::Site;
 use loc_base::Name;
 
 /// Which assignment stands inside a procedure.
-#[derive(Clone, Copy, Debug, PartialEq, Eq)]
+#[derive(Clone, Copy, PartialEq, Eq)]
 pub enum AssignKind {
     /// `=`
     Blocking,
@@ -14,7 +14,7 @@ pub enum AssignKind {
 }
 
 /// Which word opens a case statement.
-#[derive(Clone, Copy, Debug, PartialEq, Eq)]
+#[derive(Clone, Copy, PartialEq, Eq)]
 pub enum CaseKind {
     /// `case`
     Case,
@@ -23,7 +23,7 @@ pub enum CaseKind {
 }
 
 /// A statement.
-#[derive(Debug, Drop)]
+#[derive(Drop)]
 #[cycle(procedure)]
 pub enum Statement {
     /// `;`
@@ -73,7 +73,7 @@ pub enum Statement {
 }
 
 /// An item of a case statement.
-#[derive(Debug, Drop)]
+#[derive(Drop)]
 #[cycle(procedure)]
 pub enum CaseItem {
     /// `label, .. : body`, at least one label.
@@ -90,14 +90,14 @@ pub enum CaseItem {
 }
 
 /// Which edge an event waits for.
-#[derive(Clone, Copy, Debug, PartialEq, Eq)]
+#[derive(Clone, Copy, PartialEq, Eq)]
 pub enum Edge {
     Posedge,
     Negedge,
 }
 
 /// An event of a sensitivity list.
-#[derive(Debug, Drop)]
+#[derive(Drop)]
 pub enum Event {
     /// An edge of a name.
     Edge {
@@ -114,7 +114,7 @@ pub enum Event {
 }
 
 /// What an always block waits for.
-#[derive(Debug, Drop)]
+#[derive(Drop)]
 pub enum Sensitivity {
     /// `*` or `(*)`
     All { site: Site },

@@ -1,5 +1,5 @@
 /// What a token is to the grammar, or that there is none (IEEE 1364-2005, clause 3 and annex B).
-#[derive(Clone, Copy, Debug, PartialEq, Eq)]
+#[derive(Clone, Copy, PartialEq, Eq)]
 pub enum Terminal {
     /// No token: the place behind the last one.
     Nothing,

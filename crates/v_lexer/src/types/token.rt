@@ -1,5 +1,5 @@
 use crate::types::terminal::Terminal;
-use loc_base::{Bytes, Span};
+use loc_base::{Bytes, Items, Span};
 use std::marker::Model;
 
 /// What a token is (IEEE 1364-2005, 3.1).
@@ -20,7 +20,7 @@ pub enum TokenKind {
 }
 
 /// A token and where it stands.
-#[derive(Debug, Drop)]
+#[derive(Drop)]
 pub struct Token {
     pub kind: TokenKind,
     /// What it is to the grammar.
@@ -46,3 +46,6 @@ impl Model for Token {
 
     ghost invariant = { λ t. IsTokenText t.kind t.text × (t.terminal ≡ terminal_of t.kind t.text) };
 }
+
+/// The tokens of a text, in its order.
+pub type Tokens = Items<Token>;
