@@ -67,9 +67,9 @@ kind_told : (k other : TokenKind) (text : List ℕ) → class (terminal_of k tex
 kind_told kind.Name other text e = cc
 kind_told kind.Number other text e = cc
 kind_told kind.Wild other text e = cc
-kind_told kind.System other text e = let none = no_class _ (system-spelled text) in cc
-kind_told kind.Symbol other text e = let none = no_class _ (symbol-spelled text) in cc
-kind_told kind.Word other text e = let none = no_class _ (reserved-spelled text) in cc
+kind_told kind.System other text e = let none : None ≡ Some other = sym (no_class (unwrap_or (system_function text) Nothing) (system-spelled text)) ∙ e in cc
+kind_told kind.Symbol other text e = let none : None ≡ Some other = sym (no_class (unwrap_or (symbol text) Nothing) (symbol-spelled text)) ∙ e in cc
+kind_told kind.Word other text e = let none : None ≡ Some other = sym (no_class (unwrap_or (reserved_word text) Nothing) (reserved-spelled text)) ∙ e in cc
 
 -- the token at a place within the list is the one that its mark and its text are of
 pub mark_read : (t : List Lexeme) (n : ℕ) (x : Lexeme) → n < length t → x ≡ get_or t n x → mark_at t n ≡ terminal_of x.kind x.text

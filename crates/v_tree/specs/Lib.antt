@@ -8,3 +8,7 @@ pub mod Faults
 pub mod Reading
 pub mod Found
 pub mod Answers
+pub mod PartTree
+pub mod StatementTree
+pub mod ItemTree
+pub mod ModuleTree
