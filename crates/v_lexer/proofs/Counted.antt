@@ -1,6 +1,6 @@
 -- A text has 2,000,000 tokens at most.
-use Rattle.std.proofs.Common.{◌≡◌, ℕ, suc, ◌+◌, ◌<◌, ◌≤◌, Bool, true, false, not, ◌&&◌, ◌||◌, List, [], ◌∷◌, ◌++◌, length, refl, sym, subst, arith, Option, Some, None, Result, Ok, Err}
-use Rattle.std.specs.Prelude.{nat_lt, if◌then◌else◌, ◌==◌, drop, is_some}
+use Rattle.std.proofs.Common.{◌≡◌, ℕ, ◌≤◌, Bool, true, false, List, [], ◌∷◌, ◌++◌, length, refl, subst, arith, Option, Some, None, Result, Ok, Err}
+use Rattle.std.specs.Prelude.{nat_lt, if◌then◌else◌, ◌==◌, drop}
 use Rattle.std.proofs.lemmas.Grind.{common_steps}
 use Rattle.loc_base.specs.declared.span.Span.{Span}
 use Rattle.v_lexer.specs.declared.types.refusal.LexErr.{LexErr}
@@ -10,7 +10,6 @@ use Rattle.v_lexer.specs.declared.pieces.Piece.TheVariants as piece
 use Rattle.v_lexer.specs.declared.directives.Directive.{Directive}
 use Rattle.v_lexer.specs.declared.directives.Directive.TheVariants.{Define, Undef, Ifdef, Ifndef, Elsif, Else, Endif, ToLineEnd, Alone, Use}
 use Rattle.v_lexer.specs.declared.position.Position.{Position}
-use Rattle.v_lexer.specs.declared.conditionals.Conditional.{Conditional}
 use Rattle.v_lexer.specs.declared.state.State.{State}
 use Rattle.v_lexer.specs.declared.literals.NumberFault.{NumberFault}
 use Rattle.v_lexer.specs.declared.types.refusal.LexErr.TheVariants as refused
@@ -19,8 +18,8 @@ use Rattle.v_lexer.specs.Lexeme.{Lexeme}
 use Rattle.v_lexer.specs.Literals.{judge, skip_white}
 use Rattle.v_lexer.specs.Directives.{tail_of}
 use Rattle.v_lexer.specs.Conditionals.{is_skipping}
-use Rattle.v_lexer.specs.Acts.{Step, goes, stops, expands, adds, adds_name, adds_escaped, adds_system, adds_symbol, adds_number, opens, opens_if, goes_on, closes, defines, undefines, directs, skips, enters, uses, commands, takes, passes, does, number_refusal, span_of, word_span, is_in_text}
-use Rattle.v_lexer.specs.Tokens.{Turn, Reads, at_end, at_fault, behind_piece, within_macro, behind_macro, start, ReadsText, HasOutcome, is_long, is_faulty, is_open, is_whole, HasTokens}
+use Rattle.v_lexer.specs.Acts.{Step, goes, stops, expands, adds, opens_if, goes_on, closes, defines, undefines, directs, skips, enters, uses, commands, takes, passes, does, number_refusal, span_of, word_span, is_in_text}
+use Rattle.v_lexer.specs.Tokens.{Turn, Reads, at_end, at_fault, behind_piece, within_macro, behind_macro, HasOutcome, is_long, is_faulty, is_open, is_whole, HasTokens}
 
 abbrev pub IsFew : State → Type 0
 IsFew s = length s.tokens ≤ 2000000

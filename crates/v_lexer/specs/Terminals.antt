@@ -1,6 +1,6 @@
 -- The terminals of the grammar: what each token is to it (IEEE 1364-2005, clause 3, 17 and annex B). The tables of spellings
 -- are those of the code.
-use Rattle.std.specs.Prelude.{ℕ, Bool, true, ◌&&◌, List, [], ◌∷◌, map, Option, Some, None, unwrap_or, bytes_eq}
+use Rattle.std.specs.Prelude.{ℕ, Bool, true, ◌&&◌, List, [], ◌∷◌, map, Option, unwrap_or, bytes_eq}
 use Rattle.std.specs.Map.{lookup}
 use Rattle.std.specs.Ordering.{nat_cmp, is_lt}
 use Rattle.std.specs.Cmp.Lexicographic.{slice_cmp}

@@ -1,5 +1,5 @@
 -- Which tokens are names, numbers and numbers with wildcard digits.
-use Rattle.std.proofs.Common.{◌≡◌, ℕ, ◌<◌, Bool, true, false, ◌&&◌, cond, nat_le, leb-true, List, [], ◌∷◌, length, IsTrue, Option, Some, None, sym, ap, ◌∙◌, refl, subst, get_or}
+use Rattle.std.proofs.Common.{◌≡◌, ℕ, ◌<◌, Bool, true, false, cond, nat_le, leb-true, List, [], ◌∷◌, length, IsTrue, Option, Some, None, sym, ap, ◌∙◌, refl, subst, get_or}
 use Rattle.std.specs.List.{list_all}
 use Rattle.std.specs.Prelude.{All, unwrap_or, bytes_eq, map}
 use Rattle.std.proofs.lemmas.Bool.{and_parts}
