@@ -1,8 +1,8 @@
 -- The readers of declarations read what their productions have.
 use Rattle.std.proofs.Common.{◌≡◌, ◌≢◌, ℕ, ◌+◌, ◌≤◌, ◌⊎◌, inl, inr, Bool, true, false, ◌&&◌, if◌then◌else◌, List, length, not, Some, None, Ok, Err, sym, ap, ◌∙◌, refl, arith}
 use Rattle.v_lexer.specs.Lexeme.{Lexeme}
-use Rattle.v_tree.specs.declared.mark.Mark.{Mark}
-use Rattle.v_tree.specs.declared.mark.Mark.TheVariants as marks
+use Rattle.v_lexer.specs.declared.types.terminal.Terminal.{Terminal}
+use Rattle.v_lexer.specs.declared.types.terminal.Terminal.TheVariants as marks
 use Rattle.v_tree.specs.declared.fault.Fault.TheVariants.{Unsupported}
 use Rattle.v_tree.specs.declared.declaration.Identifier.{Identifier}
 use Rattle.v_tree.specs.declared.item.NetKind.{NetKind}
@@ -35,18 +35,18 @@ law_left_out : {A : Type 0} (base : ℕ) (t u : List Lexeme) (a : ℕ) → a ≤
 law_left_out base t u a h = record { sound = λ x b e. bad_good (Unsupported a) (x, b) e; complete = λ x b q. absurd q; steady = left_out_steady base t u a h }
 
 -- what is read where no token of that mark stands, with which it doesn't begin
-law_apart : {A : Type 0} (base : ℕ) (t u : List Lexeme) (a : ℕ) → a ≤ length t → (m : Mark) (o p : Read A) (P : A → ℕ → Type 0) → Law base t u a o p P → ((x : A) (b : ℕ) → P x b → mark_at t a ≢ m)
+law_apart : {A : Type 0} (base : ℕ) (t u : List Lexeme) (a : ℕ) → a ≤ length t → (m : Terminal) (o p : Read A) (P : A → ℕ → Type 0) → Law base t u a o p P → ((x : A) (b : ℕ) → P x b → mark_at t a ≢ m)
     → Law base t u a (unless_at t m a o) (unless_at u m a p) P
 law_apart base t u a inside m o p P l other = law_as base t u a _ _ _ _ (law_unless base t u a inside m o p P (λ none. l)) (λ x b h. h.1) (λ x b h. (other x b h, h))
 
 -- the same, where it is so
-law_apart_if : {A : Type 0} (base : ℕ) (t u : List Lexeme) (a : ℕ) → a ≤ length t → (so : Bool) (m : Mark) (o p : Read A) (P : A → ℕ → Type 0) → Law base t u a o p P → ((x : A) (b : ℕ) → P x b → mark_at t a ≢ m)
+law_apart_if : {A : Type 0} (base : ℕ) (t u : List Lexeme) (a : ℕ) → a ≤ length t → (so : Bool) (m : Terminal) (o p : Read A) (P : A → ℕ → Type 0) → Law base t u a o p P → ((x : A) (b : ℕ) → P x b → mark_at t a ≢ m)
     → Law base t u a (if so && same (mark_at t a) m then Err (Unsupported a) else o) (if so && same (mark_at u a) m then Err (Unsupported a) else p) P
 law_apart_if base t u a inside true m o p P l other = law_apart base t u a inside m o p P l other
 law_apart_if base t u a inside false m o p P l other = l
 
 -- one of two words
-taking_word : {A : Type 0} (base : ℕ) (t u : List Lexeme) (d : ℕ) (m n : Mark) → same m marks.Nothing ≡ false → same n marks.Nothing ≡ false → same n m ≡ false → (x y : A) (a : ℕ) → Start base t d a
+taking_word : {A : Type 0} (base : ℕ) (t u : List Lexeme) (d : ℕ) (m n : Terminal) → same m marks.Nothing ≡ false → same n marks.Nothing ≡ false → same n m ≡ false → (x y : A) (a : ℕ) → Start base t d a
     → Taking base t u a (if same (mark_at t a) m then Ok (x, a + 1) else if same (mark_at t a) n then Ok (y, a + 1) else Err (no_place t a))
     (if same (mark_at u a) m then Ok (x, a + 1) else if same (mark_at u a) n then Ok (y, a + 1) else Err (no_place u a))
     (λ z b. ((mark_at t a ≡ m) × ((z ≡ x) × (b ≡ a + 1))) ⊎ ((mark_at t a ≡ n) × ((z ≡ y) × (b ≡ a + 1))))
@@ -64,7 +64,7 @@ law_close_names : (base : ℕ) (t u : List Lexeme) (d : ℕ) (plain : Bool) (nam
     → Law base t u a (close_names_at t plain names a) (close_names_at u plain names a) (λ x b. (mark_at t a ≡ marks.Semicolon) × ((x ≡ names) × (b ≡ a + 1)))
 unfolding close_names_at
 law_close_names base t u d plain names a st =
-    let semicolon = λ (m : Mark) (other : same marks.Semicolon m ≡ false) (x : List Identifier) (b : ℕ) (h : (mark_at t a ≡ marks.Semicolon) × ((x ≡ names) × (b ≡ a + 1))) (e : mark_at t a ≡ m). not_by marks.Semicolon m other (sym h.0 ∙ e) in
+    let semicolon = λ (m : Terminal) (other : same marks.Semicolon m ≡ false) (x : List Identifier) (b : ℕ) (h : (mark_at t a ≡ marks.Semicolon) × ((x ≡ names) × (b ≡ a + 1))) (e : mark_at t a ≡ m). not_by marks.Semicolon m other (sym h.0 ∙ e) in
     law_apart base t u a st.inside marks.OpenBracket _ _ _
     (law_apart_if base t u a st.inside plain marks.Equals _ _ _
     (law_expect base t u d a st marks.Semicolon refl _ _ _ (λ is st2. law_found base t u (a + 1) (a + 1) names names (omega arith) st2.inside (λ b. refl)))
@@ -176,7 +176,7 @@ taking_parameters base t u d a st =
     law_node base t u d a (l + 1) st5 (omega (arith, ge, ge2, ge3)) (λ z. parameter_item z k v xs)))))
 
 -- a choice by what the token at a is, where each alternative tells it
-taking_by : {A : Type 0} (base : ℕ) (t u : List Lexeme) (a : ℕ) (f : Mark → Bool) (o p q r : Read A) (P Q : A → ℕ → Type 0)
+taking_by : {A : Type 0} (base : ℕ) (t u : List Lexeme) (a : ℕ) (f : Terminal → Bool) (o p q r : Read A) (P Q : A → ℕ → Type 0)
     → ((x : A) (b : ℕ) → P x b → f (mark_at t a) ≡ true) → ((x : A) (b : ℕ) → Q x b → f (mark_at t a) ≡ false) → Taking base t u a o q P → Taking base t u a p r Q
     → Taking base t u a (if f (mark_at t a) then o else p) (if f (mark_at u a) then q else r) (λ x b. P x b ⊎ Q x b)
 taking_by base t u a f o p q r P Q told untold k l = record {
@@ -198,25 +198,25 @@ taking_by base t u a f o p q r P Q told untold k l = record {
 }
 
 -- what is so of the marks that an item begins with is so of its first token
-ports_tell : {B : Type 0} (f : Mark → B) (v : B) → f marks.Input ≡ v → f marks.Output ≡ v → (t : List Lexeme) (d a : ℕ) (x : PlainItem) (b : ℕ) → IsPorts t d x a b → f (mark_at t a) ≡ v
+ports_tell : {B : Type 0} (f : Terminal → B) (v : B) → f marks.Input ≡ v → f marks.Output ≡ v → (t : List Lexeme) (d a : ℕ) (x : PlainItem) (b : ℕ) → IsPorts t d x a b → f (mark_at t a) ≡ v
 ports_tell f v input output t d a x b (direction, m, q, r) = elim q [ inl h ↦ ap f h.0 ∙ input | inr h ↦ ap f h.0 ∙ output ]
 
-nets_tell : {B : Type 0} (f : Mark → B) (v : B) → f marks.Wire ≡ v → f marks.Reg ≡ v → (t : List Lexeme) (d a : ℕ) (x : PlainItem) (b : ℕ) → IsNets t d x a b → f (mark_at t a) ≡ v
+nets_tell : {B : Type 0} (f : Terminal → B) (v : B) → f marks.Wire ≡ v → f marks.Reg ≡ v → (t : List Lexeme) (d a : ℕ) (x : PlainItem) (b : ℕ) → IsNets t d x a b → f (mark_at t a) ≡ v
 nets_tell f v wire reg t d a x b (net, m, q, r) = elim q [ inl h ↦ ap f h.0 ∙ wire | inr h ↦ ap f h.0 ∙ reg ]
 
-parameters_tell : {B : Type 0} (f : Mark → B) (v : B) → f marks.Parameter ≡ v → f marks.Localparam ≡ v → (t : List Lexeme) (d a : ℕ) (x : PlainItem) (b : ℕ) → IsParameters t d x a b → f (mark_at t a) ≡ v
+parameters_tell : {B : Type 0} (f : Terminal → B) (v : B) → f marks.Parameter ≡ v → f marks.Localparam ≡ v → (t : List Lexeme) (d a : ℕ) (x : PlainItem) (b : ℕ) → IsParameters t d x a b → f (mark_at t a) ≡ v
 parameters_tell f v parameter localparam t d a x b (kind, m, q, r) = elim q [ inl h ↦ ap f h.0 ∙ parameter | inr h ↦ ap f h.0 ∙ localparam ]
 
-from_genvars_tell : {B : Type 0} (f : Mark → B) (v : B) → f marks.Genvar ≡ v → f marks.Parameter ≡ v → f marks.Localparam ≡ v
+from_genvars_tell : {B : Type 0} (f : Terminal → B) (v : B) → f marks.Genvar ≡ v → f marks.Parameter ≡ v → f marks.Localparam ≡ v
     → (t : List Lexeme) (d a : ℕ) (x : PlainItem) (b : ℕ) → IsGenvars t x a b ⊎ IsParameters t d x a b → f (mark_at t a) ≡ v
 from_genvars_tell f v genvar parameter localparam t d a x b s = elim s [ inl h ↦ ap f h.0 ∙ genvar | inr h ↦ parameters_tell f v parameter localparam t d a x b h ]
 
-from_integers_tell : {B : Type 0} (f : Mark → B) (v : B) → f marks.Integer ≡ v → f marks.Genvar ≡ v → f marks.Parameter ≡ v → f marks.Localparam ≡ v
+from_integers_tell : {B : Type 0} (f : Terminal → B) (v : B) → f marks.Integer ≡ v → f marks.Genvar ≡ v → f marks.Parameter ≡ v → f marks.Localparam ≡ v
     → (t : List Lexeme) (d a : ℕ) (x : PlainItem) (b : ℕ) → IsIntegers t x a b ⊎ (IsGenvars t x a b ⊎ IsParameters t d x a b) → f (mark_at t a) ≡ v
 from_integers_tell f v integer genvar parameter localparam t d a x b s =
     elim s [ inl h ↦ ap f h.0 ∙ integer | inr h ↦ from_genvars_tell f v genvar parameter localparam t d a x b h ]
 
-from_nets_tell : {B : Type 0} (f : Mark → B) (v : B) → f marks.Wire ≡ v → f marks.Reg ≡ v → f marks.Integer ≡ v → f marks.Genvar ≡ v → f marks.Parameter ≡ v → f marks.Localparam ≡ v
+from_nets_tell : {B : Type 0} (f : Terminal → B) (v : B) → f marks.Wire ≡ v → f marks.Reg ≡ v → f marks.Integer ≡ v → f marks.Genvar ≡ v → f marks.Parameter ≡ v → f marks.Localparam ≡ v
     → (t : List Lexeme) (d a : ℕ) (x : PlainItem) (b : ℕ) → IsNets t d x a b ⊎ (IsIntegers t x a b ⊎ (IsGenvars t x a b ⊎ IsParameters t d x a b)) → f (mark_at t a) ≡ v
 from_nets_tell f v wire reg integer genvar parameter localparam t d a x b s =
     elim s [ inl h ↦ nets_tell f v wire reg t d a x b h | inr h ↦ from_integers_tell f v integer genvar parameter localparam t d a x b h ]

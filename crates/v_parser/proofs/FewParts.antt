@@ -2,8 +2,8 @@
 use Rattle.std.proofs.Common.{◌≡◌, ℕ, suc, ◌+◌, ◌<◌, ◌≤◌, inl, inr, Bool, true, false, List, [], ◌∷◌, length, refl, ap, sym, ◌∙◌, subst, arith}
 use Rattle.v_lexer.specs.Lexeme.{Lexeme}
 use Rattle.v_tree.specs.declared.declaration.Identifier.{Identifier}
-use Rattle.v_tree.specs.declared.mark.Mark.{Mark}
-use Rattle.v_tree.specs.declared.mark.Mark.TheVariants as marks
+use Rattle.v_lexer.specs.declared.types.terminal.Terminal.{Terminal}
+use Rattle.v_lexer.specs.declared.types.terminal.Terminal.TheVariants as marks
 use Rattle.v_tree.specs.Marks.{mark_at, same}
 use Rattle.v_tree.specs.Reading.{Read}
 use Rattle.v_tree.proofs.BindLemmas.{ok-one}
@@ -29,7 +29,7 @@ ends : {A : Type 0} (t : List Lexeme) (a : ℕ) (o : Read A) (P : A → ℕ → 
 ends t a o P law x b p = ahead_of 0 t a o (x, b) (law.complete x b p) law.steady.ahead
 
 -- parts up to a closing token are fewer than the tokens
-run_few : {S A : Type 0} (t : List Lexeme) (d : ℕ) (last : Mark) (r : S → ℕ → Read A) (next : S → A → S) (P : S → A → ℕ → ℕ → Type 0) → ((s : S) → TakingFrom 0 t t d (r s) (r s) (P s))
+run_few : {S A : Type 0} (t : List Lexeme) (d : ℕ) (last : Terminal) (r : S → ℕ → Read A) (next : S → A → S) (P : S → A → ℕ → ℕ → Type 0) → ((s : S) → TakingFrom 0 t t d (r s) (r s) (P s))
     → (s : S) (xs : List A) (a b : ℕ) → Start 0 t d a → AreRun t last P next s xs a b → a + length xs < b
 run_few t d last r next P parts s [] a b st (is, e) = omega (arith, e)
 run_few t d last r next P parts s (x ∷ xs) a b st (m, other, p, rest) =
@@ -56,7 +56,7 @@ names_few t (x ∷ xs) a b (m, (name, n, q, e), rest) =
     omega (arith, end, same, more)
 
 -- reading goes on behind a token
-behind : (t : List Lexeme) (d a : ℕ) (m : Mark) → same m marks.Nothing ≡ false → mark_at t a ≡ m → Start 0 t d a → Start 0 t d (a + 1)
+behind : (t : List Lexeme) (d a : ℕ) (m : Terminal) → same m marks.Nothing ≡ false → mark_at t a ≡ m → Start 0 t d a → Start 0 t d (a + 1)
 behind t d a m some is st =
     let here = marked_inside t a (λ gone. not_by m marks.Nothing some (sym is ∙ gone)) in
     later 0 t d a (a + 1) st (omega arith) (omega (arith, here))

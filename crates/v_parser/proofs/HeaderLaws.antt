@@ -2,8 +2,8 @@
 use Rattle.std.proofs.Common.{◌≡◌, ◌≢◌, ℕ, ◌+◌, ◌≤◌, ◌⊎◌, inl, inr, Bool, true, false, if◌then◌else◌, List, [], ◌∷◌, length, None, sym, ap, ◌∙◌, refl, arith}
 use Rattle.v_lexer.specs.Lexeme.{Lexeme}
 use Rattle.v_tree.specs.declared.item.Direction.{Direction}
-use Rattle.v_tree.specs.declared.mark.Mark.{Mark}
-use Rattle.v_tree.specs.declared.mark.Mark.TheVariants as marks
+use Rattle.v_lexer.specs.declared.types.terminal.Terminal.{Terminal}
+use Rattle.v_lexer.specs.declared.types.terminal.Terminal.TheVariants as marks
 use Rattle.v_tree.specs.declared.declaration.Identifier.{Identifier}
 use Rattle.v_tree.specs.Marks.{mark_at}
 use Rattle.v_tree.specs.Reading.{Read, ◌>>=◌, expect}
@@ -23,7 +23,7 @@ use Rattle.v_parser.proofs.InitialLaws.{law_unless}
 use Rattle.v_parser.proofs.TypeLaws.{law_word, taking_direction, law_net_if, law_signed_if, law_range_if, law_parameter_type}
 
 -- a choice by a test of the token at a, where each alternative tells what the test says
-law_test : {A : Type 0} (base : ℕ) (t u : List Lexeme) (a : ℕ) (test : Mark → Bool) (o p q r : Read A) (P Q : A → ℕ → Type 0)
+law_test : {A : Type 0} (base : ℕ) (t u : List Lexeme) (a : ℕ) (test : Terminal → Bool) (o p q r : Read A) (P Q : A → ℕ → Type 0)
     → Law base t u a o q P → Law base t u a p r Q
     → ((x : A) (b : ℕ) → P x b → test (mark_at t a) ≡ true) → ((x : A) (b : ℕ) → Q x b → test (mark_at t a) ≡ false)
     → Law base t u a (if test (mark_at t a) then o else p) (if test (mark_at u a) then q else r) (λ x b. P x b ⊎ Q x b)
@@ -40,7 +40,7 @@ law_test base t u a test o p q r P Q k l tells other = record {
 }
 
 -- nothing, where no token of that mark stands
-law_absent : {A : Type 0} (base : ℕ) (t u : List Lexeme) (d a : ℕ) → Start base t d a → (m : Mark) (x : A) → mark_at t a ≢ m
+law_absent : {A : Type 0} (base : ℕ) (t u : List Lexeme) (d a : ℕ) → Start base t d a → (m : Terminal) (x : A) → mark_at t a ≢ m
     → Law base t u a (good (x, a)) (good (x, a)) (λ y b. (mark_at t a ≢ m) × ((y ≡ x) × (b ≡ a)))
 law_absent {A} base t u d a s m x other =
     law_as base t u a (good {A = A × ℕ} (x, a)) (good (x, a)) (λ y b. (y ≡ x) × (b ≡ a)) _ (law_found base t u a a x x (omega arith) s.inside (λ b. refl)) (λ y b h. (other, h)) (λ y b h. h.1)

@@ -1,8 +1,8 @@
 -- The readers of initial blocks read what their productions have.
 use Rattle.std.proofs.Common.{◌≡◌, ◌≢◌, ℕ, zero, suc, ◌+◌, ◌≤◌, inl, inr, Bool, true, if◌then◌else◌, List, [], ◌∷◌, length, None, Err, sym, ap, ◌∙◌, subst, refl, arith}
 use Rattle.v_lexer.specs.Lexeme.{Lexeme}
-use Rattle.v_tree.specs.declared.mark.Mark.{Mark}
-use Rattle.v_tree.specs.declared.mark.Mark.TheVariants as marks
+use Rattle.v_lexer.specs.declared.types.terminal.Terminal.{Terminal}
+use Rattle.v_lexer.specs.declared.types.terminal.Terminal.TheVariants as marks
 use Rattle.v_tree.specs.declared.fault.Fault.TheVariants.{Unsupported, Deep}
 use Rattle.v_tree.specs.declared.statement.AssignKind.TheVariants.{Blocking}
 use Rattle.v_tree.specs.Marks.{mark_at, same}
@@ -29,7 +29,7 @@ pub left_out_steady : {A : Type 0} (base : ℕ) (t u : List Lexeme) (a : ℕ) �
 left_out_steady base t u a h = record { ahead = (omega arith, h, record { refused = λ _. refl; deep = λ e. absurd (true_false (sym e)) }); same_read = λ b. refl }
 
 -- what is read where no token of that mark stands
-pub law_unless : {A : Type 0} (base : ℕ) (t u : List Lexeme) (a : ℕ) → a ≤ length t → (m : Mark) (o p : Read A) (P : A → ℕ → Type 0) → (mark_at t a ≢ m → Law base t u a o p P)
+pub law_unless : {A : Type 0} (base : ℕ) (t u : List Lexeme) (a : ℕ) → a ≤ length t → (m : Terminal) (o p : Read A) (P : A → ℕ → Type 0) → (mark_at t a ≢ m → Law base t u a o p P)
     → Law base t u a (unless_at t m a o) (unless_at u m a p) (λ x b. (mark_at t a ≢ m) × P x b)
 law_unless base t u a inside m o p P k = record {
   sound = λ x b e. elim (if-inv (same (mark_at t a) m) _ _ _ e) [

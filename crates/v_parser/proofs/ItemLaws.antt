@@ -1,8 +1,8 @@
 -- The readers of items read what their productions have.
 use Rattle.std.proofs.Common.{◌≡◌, ◌≢◌, ℕ, zero, suc, ◌+◌, ◌≤◌, ◌⊎◌, inl, inr, Bool, true, false, if◌then◌else◌, List, [], ◌∷◌, sym, ap, subst, refl, arith}
 use Rattle.v_lexer.specs.Lexeme.{Lexeme}
-use Rattle.v_tree.specs.declared.mark.Mark.{Mark}
-use Rattle.v_tree.specs.declared.mark.Mark.TheVariants as marks
+use Rattle.v_lexer.specs.declared.types.terminal.Terminal.{Terminal}
+use Rattle.v_lexer.specs.declared.types.terminal.Terminal.TheVariants as marks
 use Rattle.v_tree.specs.declared.fault.Fault.TheVariants.{Deep}
 use Rattle.v_tree.specs.Marks.{mark_at, same}
 use Rattle.v_tree.specs.Sites.{site}
@@ -29,7 +29,7 @@ use Rattle.v_parser.proofs.StructureLaws.{taking_structure, structure_tells}
 use Rattle.v_parser.proofs.ProcedureLaws.{taking_procedure, procedure_tells}
 
 -- items up to a token of the mark `last`, behind a token
-pub law_items : (base : ℕ) (t u : List Lexeme) (d : ℕ) (last : Mark) → same last marks.Nothing ≡ false → (r s : ItemReader) (P : NestedItem) → TakingFrom base t u d r s P → (a : ℕ) → 1 ≤ a → Start base t d a
+pub law_items : (base : ℕ) (t u : List Lexeme) (d : ℕ) (last : Terminal) → same last marks.Nothing ≡ false → (r s : ItemReader) (P : NestedItem) → TakingFrom base t u d r s P → (a : ℕ) → 1 ≤ a → Start base t d a
     → Law base t u a (items_at t last r a) (items_at u last s a) (λ xs b. AreItemsUpTo t last P xs a b)
 unfolding items_at
 law_items base t u d last some r s P under a behind st =

@@ -5,8 +5,8 @@ use Rattle.std.proofs.Common.{slice_get}
 use Rattle.std.proofs.lemmas.Option.{slice_get_cases, slice_get_within}
 use Rattle.v_lexer.specs.Lexeme.{Lexeme}
 use Rattle.v_tree.specs.declared.site.Site.{Site}
-use Rattle.v_tree.specs.declared.mark.Mark.{Mark}
-use Rattle.v_tree.specs.declared.mark.Mark.TheVariants as marks
+use Rattle.v_lexer.specs.declared.types.terminal.Terminal.{Terminal}
+use Rattle.v_lexer.specs.declared.types.terminal.Terminal.TheVariants as marks
 use Rattle.v_tree.specs.Marks.{mark_at, same}
 use Rattle.v_tree.specs.Sites.{site}
 use Rattle.v_tree.specs.Faults.{no_place, Begins}
@@ -68,7 +68,7 @@ law_bind {A} {B} base t u d a s o p f g P Q l k =
     }
 
 -- a token of that mark
-pub law_token : {B : Type 0} (base : ℕ) (t u : List Lexeme) (a : ℕ) → a ≤ length t → (m : Mark) → same m marks.Nothing ≡ false → (f g : ℕ → Read B) (Q : B → ℕ → Type 0)
+pub law_token : {B : Type 0} (base : ℕ) (t u : List Lexeme) (a : ℕ) → a ≤ length t → (m : Terminal) → same m marks.Nothing ≡ false → (f g : ℕ → Read B) (Q : B → ℕ → Type 0)
     → (mark_at t a ≡ m → a + 1 ≤ length t → Law base t u (a + 1) (f (a + 1)) (g (a + 1)) Q)
     → Law base t u a (expect t m a >>= f) (expect u m a >>= g) (λ y b. (mark_at t a ≡ m) × Q y b)
 law_token {B} base t u a inside m some f g Q k =
@@ -85,13 +85,13 @@ law_token {B} base t u a inside m some f g Q k =
       steady = st_expect base t u m a f g (not_by m marks.Nothing some) inside (λ is ok. (on is).steady);
     }
 
-pub law_expect : {B : Type 0} (base : ℕ) (t u : List Lexeme) (d a : ℕ) → Start base t d a → (m : Mark) → same m marks.Nothing ≡ false → (f g : ℕ → Read B) (Q : B → ℕ → Type 0)
+pub law_expect : {B : Type 0} (base : ℕ) (t u : List Lexeme) (d a : ℕ) → Start base t d a → (m : Terminal) → same m marks.Nothing ≡ false → (f g : ℕ → Read B) (Q : B → ℕ → Type 0)
     → (mark_at t a ≡ m → Start base t d (a + 1) → Law base t u (a + 1) (f (a + 1)) (g (a + 1)) Q)
     → Law base t u a (expect t m a >>= f) (expect u m a >>= g) (λ y b. (mark_at t a ≡ m) × Q y b)
 law_expect base t u d a s m some f g Q k = law_token base t u a s.inside m some f g Q (λ is ok. k is (later base t d a (a + 1) s (omega arith) ok))
 
 -- the token at a opens one more construct; reading goes on at a or behind it
-pub law_open_at : {B : Type 0} (base : ℕ) (t u : List Lexeme) (d a : ℕ) → Start base t d a → (m : Mark) → same m marks.Refused ≡ false → mark_at t a ≡ m → (f g : ℕ → Read B) (Q : ℕ → B → ℕ → Type 0)
+pub law_open_at : {B : Type 0} (base : ℕ) (t u : List Lexeme) (d a : ℕ) → Start base t d a → (m : Terminal) → same m marks.Refused ≡ false → mark_at t a ≡ m → (f g : ℕ → Read B) (Q : ℕ → B → ℕ → Type 0)
     → ((n : ℕ) → n + 1 ≡ d → Law base t u a (f n) (g n) (Q n))
     → Law base t u a (lower d a >>= f) (lower d a >>= g) (λ y b. (n : ℕ) × (n + 1 ≡ d) × (mark_at t a ≡ m) × Q n y b)
 law_open_at {B} base t u d a s m allowed is f g Q k = record {
@@ -108,7 +108,7 @@ law_open_at {B} base t u d a s m allowed is f g Q k = record {
 pub law_before : {A : Type 0} (base : ℕ) (t u : List Lexeme) (a m : ℕ) (o p : Read A) (P : A → ℕ → Type 0) → a ≤ m → Law base t u m o p P → Law base t u a o p P
 law_before base t u a m o p P h l = record { sound = l.sound; complete = l.complete; steady = from_before base t u a m o p h l.steady }
 
-pub law_open : {B : Type 0} (base : ℕ) (t u : List Lexeme) (d a : ℕ) → Start base t d a → (m : Mark) → same m marks.Refused ≡ false → same m marks.Nothing ≡ false → mark_at t a ≡ m
+pub law_open : {B : Type 0} (base : ℕ) (t u : List Lexeme) (d a : ℕ) → Start base t d a → (m : Terminal) → same m marks.Refused ≡ false → same m marks.Nothing ≡ false → mark_at t a ≡ m
     → (f g : ℕ → Read B) (Q : ℕ → B → ℕ → Type 0)
     → ((n : ℕ) → n + 1 ≡ d → Start base t n (a + 1) → Law base t u (a + 1) (f n) (g n) (Q n))
     → Law base t u a (lower d a >>= f) (lower d a >>= g) (λ y b. (n : ℕ) × (n + 1 ≡ d) × (mark_at t a ≡ m) × Q n y b)
@@ -136,7 +136,7 @@ pub law_node : {A : Type 0} (base : ℕ) (t u : List Lexeme) (d from a : ℕ) �
 law_node base t u d from a s h node = law_found base t u a a (node (site t from a)) (node (site u from a)) (omega arith) s.inside (λ b. ap node (site_kept t u a from a b h (omega arith)))
 
 -- a choice by the token at a, where each alternative tells its mark
-pub law_choice : {A : Type 0} (base : ℕ) (t u : List Lexeme) (a : ℕ) (m : Mark) → same m marks.Nothing ≡ false → (o p q r : Read A) (P Q : A → ℕ → Type 0)
+pub law_choice : {A : Type 0} (base : ℕ) (t u : List Lexeme) (a : ℕ) (m : Terminal) → same m marks.Nothing ≡ false → (o p q r : Read A) (P Q : A → ℕ → Type 0)
     → (mark_at t a ≡ m → a < length t → Law base t u a o q P) → (mark_at t a ≢ m → Law base t u a p r Q)
     → ((x : A) (b : ℕ) → P x b → mark_at t a ≡ m) → ((x : A) (b : ℕ) → Q x b → mark_at t a ≢ m)
     → Law base t u a (if same (mark_at t a) m then o else p) (if same (mark_at u a) m then q else r) (λ x b. P x b ⊎ Q x b)
@@ -155,13 +155,13 @@ law_choice {A} base t u a m some o p q r P Q k l tells other =
           (λ n is. st_if base t u a (same n m) o p q r (λ hit. (yes (is ∙ same_true _ _ hit)).steady) (λ miss. (l (λ h. not_mark _ _ miss (sym is ∙ h))).steady));
     }
 
-optional_as : {A : Type 0} (t : List Lexeme) (m : Mark) (P : A → ℕ → ℕ → Type 0) (a : ℕ) (y : Option A) (b : ℕ) → IsOptional t m P y a b
+optional_as : {A : Type 0} (t : List Lexeme) (m : Terminal) (P : A → ℕ → ℕ → Type 0) (a : ℕ) (y : Option A) (b : ℕ) → IsOptional t m P y a b
     → ((mark_at t a ≡ m) × ((x : A) × (n : ℕ) × P x a n × ((y ≡ Some x) × (b ≡ n)))) ⊎ ((mark_at t a ≢ m) × ((y ≡ None) × (b ≡ a)))
 optional_as t m P a None b (none, e) = inr (none, (refl, e))
 optional_as t m P a (Some x) b (is, q) = inl (is, (x, b, q, (refl, refl)))
 
 -- x?
-pub law_optional : {A : Type 0} (base : ℕ) (t u : List Lexeme) (d a : ℕ) → Start base t d a → (m : Mark) → same m marks.Nothing ≡ false → (r s : ℕ → Read A) (P : A → ℕ → ℕ → Type 0)
+pub law_optional : {A : Type 0} (base : ℕ) (t u : List Lexeme) (d a : ℕ) → Start base t d a → (m : Terminal) → same m marks.Nothing ≡ false → (r s : ℕ → Read A) (P : A → ℕ → ℕ → Type 0)
     → (mark_at t a ≡ m → Law base t u a (r a) (s a) (λ x b. P x a b))
     → Law base t u a (optional_at t m r a) (optional_at u m s a) (λ x b. IsOptional t m P x a b)
 unfolding optional_at
@@ -284,7 +284,7 @@ pub record Taking {A : Type 0} (base : ℕ) (t u : List Lexeme) (a : ℕ) (o p :
 abbrev pub TakingFrom : {A : Type 0} → ℕ → List Lexeme → List Lexeme → ℕ → (ℕ → Read A) → (ℕ → Read A) → (A → ℕ → ℕ → Type 0) → Type 0
 TakingFrom base t u d r s P = (a : ℕ) → Start base t d a → Taking base t u a (r a) (s a) (λ x b. P x a b)
 
-pub taking_open : {B : Type 0} (base : ℕ) (t u : List Lexeme) (d a : ℕ) → Start base t d a → (m : Mark) → same m marks.Refused ≡ false → same m marks.Nothing ≡ false → mark_at t a ≡ m
+pub taking_open : {B : Type 0} (base : ℕ) (t u : List Lexeme) (d a : ℕ) → Start base t d a → (m : Terminal) → same m marks.Refused ≡ false → same m marks.Nothing ≡ false → mark_at t a ≡ m
     → (f g : ℕ → Read B) (Q : ℕ → B → ℕ → Type 0)
     → ((n : ℕ) → n + 1 ≡ d → Start base t n (a + 1) → Law base t u (a + 1) (f n) (g n) (Q n))
     → Taking base t u a (lower d a >>= f) (lower d a >>= g) (λ y b. (n : ℕ) × (n + 1 ≡ d) × (mark_at t a ≡ m) × Q n y b)
@@ -295,7 +295,7 @@ taking_open base t u d a s m allowed some is f g Q k =
       takes = λ y b (n, low, h, q). let more = ends_from base t u (a + 1) (f n) (g n) (Q n) (k n low (lower_start base t d n a (a + 1) low s (omega arith) (omega (arith, here)))) y b q in omega (arith, more);
     }
 
-pub taking_expect : {B : Type 0} (base : ℕ) (t u : List Lexeme) (d a : ℕ) → Start base t d a → (m : Mark) → same m marks.Nothing ≡ false → (f g : ℕ → Read B) (Q : B → ℕ → Type 0)
+pub taking_expect : {B : Type 0} (base : ℕ) (t u : List Lexeme) (d a : ℕ) → Start base t d a → (m : Terminal) → same m marks.Nothing ≡ false → (f g : ℕ → Read B) (Q : B → ℕ → Type 0)
     → (mark_at t a ≡ m → Start base t d (a + 1) → Law base t u (a + 1) (f (a + 1)) (g (a + 1)) Q)
     → Taking base t u a (expect t m a >>= f) (expect u m a >>= g) (λ y b. (mark_at t a ≡ m) × Q y b)
 taking_expect base t u d a s m some f g Q k = record {
@@ -306,7 +306,7 @@ taking_expect base t u d a s m some f g Q k = record {
       omega (arith, more);
 }
 
-pub taking_token : {B : Type 0} (base : ℕ) (t u : List Lexeme) (a : ℕ) → a ≤ length t → (m : Mark) → same m marks.Nothing ≡ false → (f g : ℕ → Read B) (Q : B → ℕ → Type 0)
+pub taking_token : {B : Type 0} (base : ℕ) (t u : List Lexeme) (a : ℕ) → a ≤ length t → (m : Terminal) → same m marks.Nothing ≡ false → (f g : ℕ → Read B) (Q : B → ℕ → Type 0)
     → (mark_at t a ≡ m → a + 1 ≤ length t → Law base t u (a + 1) (f (a + 1)) (g (a + 1)) Q)
     → Taking base t u a (expect t m a >>= f) (expect u m a >>= g) (λ y b. (mark_at t a ≡ m) × Q y b)
 taking_token base t u a inside m some f g Q k = record {
@@ -366,28 +366,28 @@ pub taking_as : {A : Type 0} (base : ℕ) (t u : List Lexeme) (a : ℕ) (o p : R
 taking_as base t u a o p P Q l to from = record { law = law_as base t u a o p P Q l.law to from; takes = λ x b q. l.takes x b (from x b q) }
 
 -- the marks that alternatives begin with
-abbrev pub one_of : List Mark → Mark → Bool
+abbrev pub one_of : List Terminal → Terminal → Bool
 one_of [] k = false
 one_of (m ∷ ms) k = if same k m then true else one_of ms k
 
-abbrev pub Tells : {A : Type 0} → List Lexeme → ℕ → List Mark → (A → ℕ → Type 0) → Type 0
+abbrev pub Tells : {A : Type 0} → List Lexeme → ℕ → List Terminal → (A → ℕ → Type 0) → Type 0
 Tells {A} t a ms P = (x : A) (b : ℕ) → P x b → one_of ms (mark_at t a) ≡ true
 
-pub tells_one : {A : Type 0} (t : List Lexeme) (a : ℕ) (m : Mark) (P : A → ℕ → Type 0) → ((x : A) (b : ℕ) → P x b → mark_at t a ≡ m) → Tells t a (m ∷ []) P
+pub tells_one : {A : Type 0} (t : List Lexeme) (a : ℕ) (m : Terminal) (P : A → ℕ → Type 0) → ((x : A) (b : ℕ) → P x b → mark_at t a ≡ m) → Tells t a (m ∷ []) P
 tells_one t a m P h x b q = then_of _ _ _ _ (same_of _ _ (h x b q)) refl
 
 by_first : (b c : Bool) → c ≡ true → (if b then true else c) ≡ true
 by_first true c e = refl
 by_first false c e = e
 
-pub tells_more : {A : Type 0} (t : List Lexeme) (a : ℕ) (m : Mark) (ms : List Mark) (P Q : A → ℕ → Type 0) → ((x : A) (b : ℕ) → P x b → mark_at t a ≡ m) → Tells t a ms Q → Tells t a (m ∷ ms) (λ x b. P x b ⊎ Q x b)
+pub tells_more : {A : Type 0} (t : List Lexeme) (a : ℕ) (m : Terminal) (ms : List Terminal) (P Q : A → ℕ → Type 0) → ((x : A) (b : ℕ) → P x b → mark_at t a ≡ m) → Tells t a ms Q → Tells t a (m ∷ ms) (λ x b. P x b ⊎ Q x b)
 tells_more t a m ms P Q h k x b s = elim s [
   | inl p ↦ then_of _ _ _ _ (same_of _ _ (h x b p)) refl
   | inr q ↦ by_first (same (mark_at t a) m) _ (k x b q)
 ]
 
 -- one more alternative, before others that begin with other marks
-pub taking_or : {A : Type 0} (base : ℕ) (t u : List Lexeme) (a : ℕ) (m : Mark) (ms : List Mark) → same m marks.Nothing ≡ false → one_of ms m ≡ false → (o p q r : Read A) (P Q : A → ℕ → Type 0)
+pub taking_or : {A : Type 0} (base : ℕ) (t u : List Lexeme) (a : ℕ) (m : Terminal) (ms : List Terminal) → same m marks.Nothing ≡ false → one_of ms m ≡ false → (o p q r : Read A) (P Q : A → ℕ → Type 0)
     → ((x : A) (b : ℕ) → P x b → mark_at t a ≡ m) → Tells t a ms Q
     → (mark_at t a ≡ m → a < length t → Taking base t u a o q P) → (mark_at t a ≢ m → Taking base t u a p r Q)
     → Taking base t u a (if same (mark_at t a) m then o else p) (if same (mark_at u a) m then q else r) (λ x b. P x b ⊎ Q x b)
@@ -402,12 +402,12 @@ taking_or {A} base t u a m ms some apart o p q r P Q tells others k l =
     }
 
 -- x*, up to a token of the mark `last`
-run_end : {S A : Type 0} (t : List Lexeme) (last : Mark) (part : S → ℕ → Read A) (next : S → A → S) (n : ℕ) (s : S) (a : ℕ) → n ≢ 0 → mark_at t a ≡ last → run_at t last part next n s a ≡ good ([], a + 1)
+run_end : {S A : Type 0} (t : List Lexeme) (last : Terminal) (part : S → ℕ → Read A) (next : S → A → S) (n : ℕ) (s : S) (a : ℕ) → n ≢ 0 → mark_at t a ≡ last → run_at t last part next n s a ≡ good ([], a + 1)
 unfolding run_at
 run_end t last part next zero s a some is = absurd (some refl)
 run_end t last part next (suc n) s a some is = then_of _ _ _ _ (same_of _ _ is) refl
 
-run_one : {S A : Type 0} (t : List Lexeme) (last : Mark) (part : S → ℕ → Read A) (next : S → A → S) (n : ℕ) (s : S) (a : ℕ) → n ≢ 0 → mark_at t a ≢ last
+run_one : {S A : Type 0} (t : List Lexeme) (last : Terminal) (part : S → ℕ → Read A) (next : S → A → S) (n : ℕ) (s : S) (a : ℕ) → n ≢ 0 → mark_at t a ≢ last
     → run_at t last part next n s a ≡ (part s a >>= λ x. run_at t last part next (n - 1) (next s x.0) x.1 >>= λ xs. good (x.0 ∷ xs.0, xs.1))
 unfolding run_at
 run_one t last part next zero s a some other = absurd (some refl)
@@ -415,7 +415,7 @@ run_one t last part next (suc n) s a some other =
     let e : suc n - 1 ≡ n = omega arith in
     else_of _ _ _ _ (apart_of _ _ other) (ap (λ k. part s a >>= λ x. run_at t last part next k (next s x.0) x.1 >>= λ xs. good (x.0 ∷ xs.0, xs.1)) (sym e))
 
-run_none : {S A : Type 0} (t : List Lexeme) (last : Mark) (part : S → ℕ → Read A) (next : S → A → S) (s : S) (a : ℕ) → run_at t last part next 0 s a ≡ bad (no_place t a)
+run_none : {S A : Type 0} (t : List Lexeme) (last : Terminal) (part : S → ℕ → Read A) (next : S → A → S) (s : S) (a : ℕ) → run_at t last part next 0 s a ≡ bad (no_place t a)
 unfolding run_at
 run_none t last part next s a = refl
 
@@ -427,20 +427,20 @@ begins_inside t u (suc m) n h k b =
       | inr (past, e) ↦ absurd (omega (arith, past, h))
     ]
 
-abbrev RunClaim : {S A : Type 0} → ℕ → List Lexeme → List Lexeme → ℕ → Mark → (S → ℕ → Read A) → (S → ℕ → Read A) → (S → A → S) → (S → A → ℕ → ℕ → Type 0) → ℕ → Type 0
+abbrev RunClaim : {S A : Type 0} → ℕ → List Lexeme → List Lexeme → ℕ → Terminal → (S → ℕ → Read A) → (S → ℕ → Read A) → (S → A → S) → (S → A → ℕ → ℕ → Type 0) → ℕ → Type 0
 RunClaim {S} {A} base t u d last r q next P n = (k : ℕ) (s : S) (a : ℕ) → length t < n + a → length u < k + a → Start base t d a
     → Law base t u a (run_at t last r next n s a) (run_at u last q next k s a) (λ xs b. AreRun t last P next s xs a b)
 
-run_ends_as : {S A : Type 0} (t : List Lexeme) (last : Mark) (P : S → A → ℕ → ℕ → Type 0) (next : S → A → S) (s : S) (a : ℕ) → mark_at t a ≡ last → (ys : List A) (b : ℕ) → AreRun t last P next s ys a b → (ys ≡ []) × (b ≡ a + 1)
+run_ends_as : {S A : Type 0} (t : List Lexeme) (last : Terminal) (P : S → A → ℕ → ℕ → Type 0) (next : S → A → S) (s : S) (a : ℕ) → mark_at t a ≡ last → (ys : List A) (b : ℕ) → AreRun t last P next s ys a b → (ys ≡ []) × (b ≡ a + 1)
 run_ends_as t last P next s a is [] b (same_mark, e) = (refl, e)
 run_ends_as t last P next s a is (x ∷ xs) b (m, other, p, r) = absurd (other is)
 
-run_goes_as : {S A : Type 0} (t : List Lexeme) (last : Mark) (P : S → A → ℕ → ℕ → Type 0) (next : S → A → S) (s : S) (a : ℕ) → mark_at t a ≢ last → (ys : List A) (b : ℕ) → AreRun t last P next s ys a b
+run_goes_as : {S A : Type 0} (t : List Lexeme) (last : Terminal) (P : S → A → ℕ → ℕ → Type 0) (next : S → A → S) (s : S) (a : ℕ) → mark_at t a ≢ last → (ys : List A) (b : ℕ) → AreRun t last P next s ys a b
     → (x : A) × (m : ℕ) × P s x a m × ((xs : List A) × (n : ℕ) × AreRun t last P next (next s x) xs m n × ((ys ≡ x ∷ xs) × (b ≡ n)))
 run_goes_as t last P next s a other [] b (is, e) = absurd (other is)
 run_goes_as t last P next s a other (x ∷ xs) b (m, h, p, r) = (x, m, p, (xs, b, r, (refl, refl)))
 
-law_run_end : {S A : Type 0} (base : ℕ) (t u : List Lexeme) (d : ℕ) (last : Mark) → same last marks.Nothing ≡ false → (r q : S → ℕ → Read A) (next : S → A → S) (P : S → A → ℕ → ℕ → Type 0) (n k : ℕ) (s : S) (a : ℕ)
+law_run_end : {S A : Type 0} (base : ℕ) (t u : List Lexeme) (d : ℕ) (last : Terminal) → same last marks.Nothing ≡ false → (r q : S → ℕ → Read A) (next : S → A → S) (P : S → A → ℕ → ℕ → Type 0) (n k : ℕ) (s : S) (a : ℕ)
     → length t < n + a → length u < k + a → Start base t d a → mark_at t a ≡ last
     → Law base t u a (run_at t last r next n s a) (run_at u last q next k s a) (λ xs b. AreRun t last P next s xs a b)
 law_run_end {S} {A} base t u d last some r q next P n k s a enough also st is =
@@ -453,7 +453,7 @@ law_run_end {S} {A} base t u d last some r q next P n k s a enough also st is =
     let in_it = marked_inside u a (λ gone. not_by last marks.Nothing some (sym there ∙ gone)) in
     run_end u last q next k s a (omega (arith, in_it, also)) there))
 
-law_run_one : {S A : Type 0} (base : ℕ) (t u : List Lexeme) (d : ℕ) (last : Mark) (r q : S → ℕ → Read A) (next : S → A → S) (P : S → A → ℕ → ℕ → Type 0) → ((s : S) → TakingFrom base t u d (r s) (q s) (P s)) → (n : ℕ)
+law_run_one : {S A : Type 0} (base : ℕ) (t u : List Lexeme) (d : ℕ) (last : Terminal) (r q : S → ℕ → Read A) (next : S → A → S) (P : S → A → ℕ → ℕ → Type 0) → ((s : S) → TakingFrom base t u d (r s) (q s) (P s)) → (n : ℕ)
     → RunClaim base t u d last r q next P n → (k : ℕ) (s : S) (a : ℕ) → length t < suc n + a → length u < k + a → Start base t d a → mark_at t a ≢ last
     → Law base t u a (run_at t last r next (suc n) s a) (run_at u last q next k s a) (λ xs b. AreRun t last P next s xs a b)
 law_run_one {S} {A} base t u d last r q next P items n again k s a enough also st other =
@@ -475,25 +475,25 @@ law_run_one {S} {A} base t u d last r q next P items n again k s a enough also s
     let there : mark_at u a ≢ last = λ e. other (sym (mark_kept t u _ a b far) ∙ e) in
     run_one u last q next k s a ((let in_it = begins_inside t u a _ st.inside far b in omega (arith, in_it, also))) there))
 
-by_last : {S A : Type 0} (base : ℕ) (t u : List Lexeme) (d : ℕ) (last : Mark) → same last marks.Nothing ≡ false → (r q : S → ℕ → Read A) (next : S → A → S) (P : S → A → ℕ → ℕ → Type 0)
+by_last : {S A : Type 0} (base : ℕ) (t u : List Lexeme) (d : ℕ) (last : Terminal) → same last marks.Nothing ≡ false → (r q : S → ℕ → Read A) (next : S → A → S) (P : S → A → ℕ → ℕ → Type 0)
     → ((s : S) → TakingFrom base t u d (r s) (q s) (P s)) → (n : ℕ) → RunClaim base t u d last r q next P n → (k : ℕ) (s : S) (a : ℕ) → length t < suc n + a → length u < k + a → Start base t d a → (b : Bool) → same (mark_at t a) last ≡ b
     → Law base t u a (run_at t last r next (suc n) s a) (run_at u last q next k s a) (λ xs b. AreRun t last P next s xs a b)
 by_last base t u d last some r q next P items n again k s a enough also st true e = law_run_end base t u d last some r q next P (suc n) k s a enough also st (same_true _ _ e)
 by_last base t u d last some r q next P items n again k s a enough also st false e = law_run_one base t u d last r q next P items n again k s a enough also st (not_mark _ _ e)
 
-law_run_by : {S A : Type 0} (base : ℕ) (t u : List Lexeme) (d : ℕ) (last : Mark) → same last marks.Nothing ≡ false → (r q : S → ℕ → Read A) (next : S → A → S) (P : S → A → ℕ → ℕ → Type 0)
+law_run_by : {S A : Type 0} (base : ℕ) (t u : List Lexeme) (d : ℕ) (last : Terminal) → same last marks.Nothing ≡ false → (r q : S → ℕ → Read A) (next : S → A → S) (P : S → A → ℕ → ℕ → Type 0)
     → ((s : S) → TakingFrom base t u d (r s) (q s) (P s)) → (n : ℕ) → RunClaim base t u d last r q next P n
 law_run_by base t u d last some r q next P items zero k s a enough also st = absurd (let h = st.inside in omega (arith, h, enough))
 law_run_by base t u d last some r q next P items (suc n) k s a enough also st = by_last base t u d last some r q next P items n (law_run_by base t u d last some r q next P items n) k s a enough also st (same (mark_at t a) last) refl
 
 -- x*, up to a token of the mark `last`, behind a token
-pub law_run : {S A : Type 0} (base : ℕ) (t u : List Lexeme) (d : ℕ) (last : Mark) → same last marks.Nothing ≡ false → (r q : S → ℕ → Read A) (next : S → A → S) (P : S → A → ℕ → ℕ → Type 0)
+pub law_run : {S A : Type 0} (base : ℕ) (t u : List Lexeme) (d : ℕ) (last : Terminal) → same last marks.Nothing ≡ false → (r q : S → ℕ → Read A) (next : S → A → S) (P : S → A → ℕ → ℕ → Type 0)
     → ((s : S) → TakingFrom base t u d (r s) (q s) (P s)) → (s : S) (a : ℕ) → 1 ≤ a → Start base t d a
     → Law base t u a (run_at t last r next (length t) s a) (run_at u last q next (length u) s a) (λ xs b. AreRun t last P next s xs a b)
 law_run base t u d last some r q next P items s a behind st = law_run_by base t u d last some r q next P items (length t) (length u) s a (omega (arith, behind)) (omega (arith, behind)) st
 
 -- a choice by the kind of the token at a, which each alternative tells
-pub taking_kind : {K A : Type 0} (base : ℕ) (t u : List Lexeme) (a : ℕ) (kind : Mark → K) (f g : K → Read A) (P : K → A → ℕ → Type 0) (Q : A → ℕ → Type 0)
+pub taking_kind : {K A : Type 0} (base : ℕ) (t u : List Lexeme) (a : ℕ) (kind : Terminal → K) (f g : K → Read A) (P : K → A → ℕ → Type 0) (Q : A → ℕ → Type 0)
     → ((k : K) → kind (mark_at t a) ≡ k → Taking base t u a (f k) (g k) (P k))
     → ((k : K) (x : A) (b : ℕ) → P k x b → Q x b) → ((x : A) (b : ℕ) → Q x b → P (kind (mark_at t a)) x b)
     → Taking base t u a (f (kind (mark_at t a))) (g (kind (mark_at u a))) Q

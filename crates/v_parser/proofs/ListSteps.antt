@@ -1,10 +1,10 @@
 -- The steps of reading a list with commas, as equations.
 use Rattle.std.proofs.Common.{◌≡◌, ◌≢◌, ℕ, zero, suc, ◌+◌, ◌-◌, true, false, if◌then◌else◌, List, [], ◌∷◌, ◌++◌, length, map, Ok, Err, sym, ap, ◌∙◌, refl, arith}
 use Rattle.v_lexer.specs.Lexeme.{Lexeme}
-use Rattle.v_tree.specs.declared.mark.Mark.TheVariants as marks
+use Rattle.v_lexer.specs.declared.types.terminal.Terminal.TheVariants as marks
 use Rattle.v_tree.specs.declared.fault.Fault.{Fault}
 use Rattle.v_tree.specs.Marks.{mark_at, same}
-use Rattle.v_tree.specs.declared.mark.Mark.{Mark}
+use Rattle.v_lexer.specs.declared.types.terminal.Terminal.{Terminal}
 use Rattle.v_tree.specs.Faults.{no_place}
 use Rattle.v_tree.specs.Reading.{Read, ◌>>=◌}
 use Rattle.v_tree.proofs.BindLemmas.{good, bad}
@@ -93,7 +93,7 @@ pub run_first : {X A : Type 0} (view : X → A) (front : List X) (x : X) (r : Re
 run_first view front x (Err f) e = refl
 run_first {X} {A} view front x (Ok xs) e = ap (λ q. good {A = List A × ℕ} (map view q ++ xs.0, xs.1)) (sym e)
 
-run_some : {S A : Type 0} (t : List Lexeme) (last : Mark) (part : S → ℕ → Read A) (next : S → A → S) (n : ℕ) (s : S) (a : ℕ) → n ≢ 0
+run_some : {S A : Type 0} (t : List Lexeme) (last : Terminal) (part : S → ℕ → Read A) (next : S → A → S) (n : ℕ) (s : S) (a : ℕ) → n ≢ 0
     → run_at t last part next n s a ≡ (if same (mark_at t a) last then good ([], a + 1) else (part s a >>= λ x. run_at t last part next (n - 1) (next s x.0) x.1 >>= λ xs. good (x.0 ∷ xs.0, xs.1)))
 unfolding run_at
 run_some t last part next zero s a some = absurd (some refl)
@@ -102,26 +102,26 @@ run_some t last part next (suc n) s a some =
     ap (λ k. if same (mark_at t a) last then good ([], a + 1) else (part s a >>= λ x. run_at t last part next k (next s x.0) x.1 >>= λ xs. good (x.0 ∷ xs.0, xs.1))) (sym e)
 
 -- one more is read
-pub run_turn : {S X A : Type 0} (t : List Lexeme) (last : Mark) (part : S → ℕ → Read A) (next : S → A → S) (view : X → A) (n : ℕ) (s : S) (a : ℕ) (front : List X) (y : X) (m : ℕ) → n ≢ 0 → same (mark_at t a) last ≡ false
+pub run_turn : {S X A : Type 0} (t : List Lexeme) (last : Terminal) (part : S → ℕ → Read A) (next : S → A → S) (view : X → A) (n : ℕ) (s : S) (a : ℕ) (front : List X) (y : X) (m : ℕ) → n ≢ 0 → same (mark_at t a) last ≡ false
     → part s a ≡ good (view y, m) → with_front view front (run_at t last part next n s a) ≡ with_front view (front ++ y ∷ []) (run_at t last part next (n - 1) (next s (view y)) m)
 run_turn t last part next view n s a front y m some other read =
     ap (with_front view front) (run_some t last part next n s a some ∙ else_of _ _ _ _ other (step (part s a) (view y, m) _ _ read refl))
     ∙ front_one view front y (run_at t last part next (n - 1) (next s (view y)) m)
 
 -- the last token follows
-pub run_ends : {S X A : Type 0} (t : List Lexeme) (last : Mark) (part : S → ℕ → Read A) (next : S → A → S) (view : X → A) (n : ℕ) (s : S) (a : ℕ) (front : List X) → n ≢ 0 → same (mark_at t a) last ≡ true
+pub run_ends : {S X A : Type 0} (t : List Lexeme) (last : Terminal) (part : S → ℕ → Read A) (next : S → A → S) (view : X → A) (n : ℕ) (s : S) (a : ℕ) (front : List X) → n ≢ 0 → same (mark_at t a) last ≡ true
     → with_front view front (run_at t last part next n s a) ≡ good (map view front, a + 1)
 run_ends {S} {X} {A} t last part next view n s a front some is =
     ap (with_front view front) (run_some t last part next n s a some ∙ then_of _ _ _ _ is refl) ∙ ap (λ q. good {A = List A × ℕ} (q, a + 1)) (append_none (map view front))
 
 -- the next one fails
-pub run_fails : {S X A : Type 0} (t : List Lexeme) (last : Mark) (part : S → ℕ → Read A) (next : S → A → S) (view : X → A) (n : ℕ) (s : S) (a : ℕ) (front : List X) (f : Fault) → n ≢ 0 → same (mark_at t a) last ≡ false
+pub run_fails : {S X A : Type 0} (t : List Lexeme) (last : Terminal) (part : S → ℕ → Read A) (next : S → A → S) (view : X → A) (n : ℕ) (s : S) (a : ℕ) (front : List X) (f : Fault) → n ≢ 0 → same (mark_at t a) last ≡ false
     → part s a ≡ bad f → with_front view front (run_at t last part next n s a) ≡ bad f
 run_fails {S} {X} {A} t last part next view n s a front f some other read =
     ap (with_front view front) (run_some t last part next n s a some ∙ else_of _ _ _ _ other (ap (λ q. q >>= λ x. run_at t last part next (n - 1) (next s x.0) x.1 >>= λ xs. good {A = List A × ℕ} (x.0 ∷ xs.0, xs.1)) read))
 
 -- as many as there are tokens were read
-pub run_done : {S X A : Type 0} (t : List Lexeme) (last : Mark) (part : S → ℕ → Read A) (next : S → A → S) (view : X → A) (n : ℕ) (s : S) (a : ℕ) (front : List X) → n ≡ 0
+pub run_done : {S X A : Type 0} (t : List Lexeme) (last : Terminal) (part : S → ℕ → Read A) (next : S → A → S) (view : X → A) (n : ℕ) (s : S) (a : ℕ) (front : List X) → n ≡ 0
     → with_front view front (run_at t last part next n s a) ≡ bad (no_place t a)
 unfolding run_at
 run_done t last part next view n s a front e = ap (λ k. with_front view front (run_at t last part next k s a)) e

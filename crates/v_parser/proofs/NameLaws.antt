@@ -1,8 +1,8 @@
 -- The readers of names, ranges, delays and left sides read what their productions have.
 use Rattle.std.proofs.Common.{◌≡◌, ◌≢◌, ℕ, zero, suc, ◌+◌, ◌<◌, ◌≤◌, ◌⊎◌, inl, inr, false, if◌then◌else◌, List, [], ◌∷◌, length, sym, ap₂, ◌∙◌, subst, refl, arith}
 use Rattle.v_lexer.specs.Lexeme.{Lexeme}
-use Rattle.v_tree.specs.declared.mark.Mark.{Mark}
-use Rattle.v_tree.specs.declared.mark.Mark.TheVariants as marks
+use Rattle.v_lexer.specs.declared.types.terminal.Terminal.{Terminal}
+use Rattle.v_lexer.specs.declared.types.terminal.Terminal.TheVariants as marks
 use Rattle.v_tree.specs.declared.fault.Fault.TheVariants.{Unsupported, Deep}
 use Rattle.v_tree.specs.Marks.{mark_at, same}
 use Rattle.v_tree.specs.Sites.{text_at}
@@ -108,7 +108,7 @@ law_number_delay base t u from a before inside is =
     law_as base t u a _ _ _ _ (law_found base t u a (a + 1) _ _ (omega arith) (omega (arith, inside))
     (λ b. ap₂ (λ z w. number_delay z w) (site_kept t u _ from (a + 1) b (omega (arith, before)) (omega arith)) (text_kept t u _ a b (omega arith)))) (λ x b h. (is, h)) (λ x b h. h.1)
 
-marks_apart : (t : List Lexeme) (a : ℕ) (m n : Mark) → mark_at t a ≡ m → same m n ≡ false → mark_at t a ≢ n
+marks_apart : (t : List Lexeme) (a : ℕ) (m n : Terminal) → mark_at t a ≡ m → same m n ≡ false → mark_at t a ≢ n
 marks_apart t a m n is apart h = not_by m n apart (sym is ∙ h)
 
 law_behind_hash : (base : ℕ) (t u : List Lexeme) (d from a : ℕ) → from ≤ a → Start base t d a

@@ -1,7 +1,7 @@
 -- The readers of always and initial blocks read what their productions have.
 use Rattle.std.proofs.Common.{◌≡◌, ℕ, ◌+◌, inl, inr, List, [], ◌∷◌, ap, refl, arith}
 use Rattle.v_lexer.specs.Lexeme.{Lexeme}
-use Rattle.v_tree.specs.declared.mark.Mark.TheVariants as marks
+use Rattle.v_lexer.specs.declared.types.terminal.Terminal.TheVariants as marks
 use Rattle.v_tree.specs.Marks.{mark_at}
 use Rattle.v_parser.specs.declared.item_kinds.ItemKind.TheVariants.{Procedure}
 use Rattle.v_parser.specs.ItemKinds.{item_kind}

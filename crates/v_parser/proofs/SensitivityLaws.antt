@@ -1,8 +1,8 @@
 -- The readers of what an always block waits for read what their productions have.
 use Rattle.std.proofs.Common.{◌≡◌, ◌≢◌, ℕ, ◌+◌, ◌<◌, ◌≤◌, ◌⊎◌, inl, inr, Bool, true, false, if◌then◌else◌, List, [], ◌∷◌, length, Result, Err, sym, ap, ◌∙◌, refl, arith}
 use Rattle.v_lexer.specs.Lexeme.{Lexeme}
-use Rattle.v_tree.specs.declared.mark.Mark.{Mark}
-use Rattle.v_tree.specs.declared.mark.Mark.TheVariants as marks
+use Rattle.v_lexer.specs.declared.types.terminal.Terminal.{Terminal}
+use Rattle.v_lexer.specs.declared.types.terminal.Terminal.TheVariants as marks
 use Rattle.v_tree.specs.declared.statement.Edge.TheVariants as edges
 use Rattle.v_tree.specs.declared.fault.Fault.{Fault}
 use Rattle.v_tree.specs.declared.fault.Fault.TheVariants.{Unsupported}
@@ -26,11 +26,11 @@ use Rattle.v_parser.proofs.NameLaws.{law_name}
 use Rattle.v_parser.proofs.InitialLaws.{law_unless, left_out_steady}
 
 -- one of two tokens
-law_either : {A : Type 0} (base : ℕ) (t u : List Lexeme) (d a : ℕ) → Start base t d a → (m n : Mark) → same m marks.Nothing ≡ false → same n marks.Nothing ≡ false → same n m ≡ false → (x y : A)
+law_either : {A : Type 0} (base : ℕ) (t u : List Lexeme) (d a : ℕ) → Start base t d a → (m n : Terminal) → same m marks.Nothing ≡ false → same n marks.Nothing ≡ false → same n m ≡ false → (x y : A)
     → Taking base t u a (if same (mark_at t a) m then good (x, a + 1) else if same (mark_at t a) n then good (y, a + 1) else bad (no_place t a)) (if same (mark_at u a) m then good (x, a + 1) else if same (mark_at u a) n then good (y, a + 1) else bad (no_place u a))
     (λ z b. ((mark_at t a ≡ m) × ((z ≡ x) × (b ≡ a + 1))) ⊎ ((mark_at t a ≡ n) × ((z ≡ y) × (b ≡ a + 1))))
 law_either {A} base t u d a st m n some also apart x y =
-    let found = λ (k : Mark) (z : A) (is : mark_at t a ≡ k) (here : a < length t). law_as base t u a (good (z, a + 1)) (good (z, a + 1)) (λ w b. (w ≡ z) × (b ≡ a + 1)) (λ w b. (mark_at t a ≡ k) × ((w ≡ z) × (b ≡ a + 1)))
+    let found = λ (k : Terminal) (z : A) (is : mark_at t a ≡ k) (here : a < length t). law_as base t u a (good (z, a + 1)) (good (z, a + 1)) (λ w b. (w ≡ z) × (b ≡ a + 1)) (λ w b. (mark_at t a ≡ k) × ((w ≡ z) × (b ≡ a + 1)))
     (law_found base t u a (a + 1) z z (omega arith) (omega (arith, here)) (λ b. refl)) (λ w b h. (is, h)) (λ w b h. h.1) in
     record {
       law = law_choice base t u a m some _ _ _ _ (λ z b. (mark_at t a ≡ m) × ((z ≡ x) × (b ≡ a + 1))) (λ z b. (mark_at t a ≡ n) × ((z ≡ y) × (b ≡ a + 1)))

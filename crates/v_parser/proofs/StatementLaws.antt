@@ -1,8 +1,8 @@
 -- The readers of statements read what their productions have.
 use Rattle.std.proofs.Common.{◌≡◌, ◌≢◌, ℕ, zero, suc, ◌+◌, ◌<◌, ◌≤◌, inl, inr, Bool, true, false, if◌then◌else◌, List, [], ◌∷◌, length, Ok, Err, sym, ap, ◌∙◌, subst, refl, arith}
 use Rattle.v_lexer.specs.Lexeme.{Lexeme}
-use Rattle.v_tree.specs.declared.mark.Mark.{Mark}
-use Rattle.v_tree.specs.declared.mark.Mark.TheVariants as marks
+use Rattle.v_lexer.specs.declared.types.terminal.Terminal.{Terminal}
+use Rattle.v_lexer.specs.declared.types.terminal.Terminal.TheVariants as marks
 use Rattle.v_tree.specs.declared.fault.Fault.TheVariants.{Unsupported, Deep}
 use Rattle.v_tree.specs.declared.statement.AssignKind.{AssignKind}
 use Rattle.v_tree.specs.declared.statement.AssignKind.TheVariants.{Blocking, Nonblocking}
@@ -145,7 +145,7 @@ law_loop base t u d r s P under a st is =
 law_assign_kind : (base : ℕ) (t u : List Lexeme) (d : ℕ) → LawFrom base t u d (assign_kind_at t) (assign_kind_at u) (IsAssignKind t)
 unfolding assign_kind_at
 law_assign_kind base t u d a s =
-    let found = λ (m : Mark) (k : AssignKind) (is : mark_at t a ≡ m) (here : a < length t). law_as base t u a (good (k, a + 1)) (good (k, a + 1)) (λ x b. (x ≡ k) × (b ≡ a + 1)) (λ x b. (mark_at t a ≡ m) × ((x ≡ k) × (b ≡ a + 1)))
+    let found = λ (m : Terminal) (k : AssignKind) (is : mark_at t a ≡ m) (here : a < length t). law_as base t u a (good (k, a + 1)) (good (k, a + 1)) (λ x b. (x ≡ k) × (b ≡ a + 1)) (λ x b. (mark_at t a ≡ m) × ((x ≡ k) × (b ≡ a + 1)))
     (law_found base t u a (a + 1) k k (omega arith) (omega (arith, here)) (λ b. refl)) (λ x b h. (is, h)) (λ x b h. h.1) in
     law_choice base t u a marks.Equals refl _ _ _ _ (λ x b. (mark_at t a ≡ marks.Equals) × ((x ≡ Blocking) × (b ≡ a + 1))) (λ x b. (mark_at t a ≡ marks.LessEqual) × ((x ≡ Nonblocking) × (b ≡ a + 1)))
     (λ is here. found marks.Equals Blocking is here)
@@ -322,25 +322,25 @@ assign_tells : (t : List Lexeme) (d a : ℕ) → Tells t a (marks.OpenBrace ∷ 
 assign_tells t d a x b (target, m, q, r) = left_tells t d a target m q
 
 -- the marks that the later kinds of statements begin with
-abbrev s1 : List Mark
+abbrev s1 : List Terminal
 s1 = marks.OpenBrace ∷ marks.Name ∷ []
 
-abbrev s2 : List Mark
+abbrev s2 : List Terminal
 s2 = marks.For ∷ s1
 
-abbrev s3 : List Mark
+abbrev s3 : List Terminal
 s3 = marks.Casez ∷ s2
 
-abbrev s4 : List Mark
+abbrev s4 : List Terminal
 s4 = marks.Case ∷ s3
 
-abbrev s5 : List Mark
+abbrev s5 : List Terminal
 s5 = marks.If ∷ s4
 
-abbrev s6 : List Mark
+abbrev s6 : List Terminal
 s6 = marks.Hash ∷ s5
 
-abbrev s7 : List Mark
+abbrev s7 : List Terminal
 s7 = marks.Begin ∷ s6
 
 taking_statement_with : (base : ℕ) (t u : List Lexeme) (d : ℕ) (r s : Inner) (P : Nested) → Within base t u d r s P → TakingFrom base t u d (statement_with t d r) (statement_with u d s) (IsStatementWith t d P)

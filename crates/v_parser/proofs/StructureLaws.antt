@@ -2,8 +2,8 @@
 use Rattle.std.proofs.Common.{◌≡◌, ◌≢◌, ℕ, ◌+◌, ◌≤◌, ◌⊎◌, inl, inr, Bool, true, false, if◌then◌else◌, List, [], length, Some, None, Option, is_some, sym, ap, ◌∙◌, subst, refl, arith}
 use Rattle.v_lexer.specs.Lexeme.{Lexeme}
 use Rattle.v_tree.specs.declared.item.GateKind.{GateKind}
-use Rattle.v_tree.specs.declared.mark.Mark.{Mark}
-use Rattle.v_tree.specs.declared.mark.Mark.TheVariants as marks
+use Rattle.v_lexer.specs.declared.types.terminal.Terminal.{Terminal}
+use Rattle.v_lexer.specs.declared.types.terminal.Terminal.TheVariants as marks
 use Rattle.v_tree.specs.Marks.{mark_at}
 use Rattle.v_tree.specs.Tree.{Tree}
 use Rattle.v_tree.specs.Faults.{no_place}
@@ -23,7 +23,7 @@ use Rattle.v_parser.proofs.Laws.{Start, Law, LawFrom, Taking, TakingFrom, law_as
 use Rattle.v_parser.proofs.NameLaws.{law_name, taking_name, law_value, law_delay, taking_left}
 
 -- a choice by what the token at a is
-law_test : {A : Type 0} (base : ℕ) (t u : List Lexeme) (a : ℕ) (test : Mark → Bool) (o p q r : Read A) (P Q : A → ℕ → Type 0)
+law_test : {A : Type 0} (base : ℕ) (t u : List Lexeme) (a : ℕ) (test : Terminal → Bool) (o p q r : Read A) (P Q : A → ℕ → Type 0)
     → (test (mark_at t a) ≡ true → Law base t u a o q P) → (test (mark_at t a) ≡ false → Law base t u a p r Q)
     → ((x : A) (b : ℕ) → P x b → test (mark_at t a) ≡ true) → ((x : A) (b : ℕ) → Q x b → test (mark_at t a) ≡ false)
     → Law base t u a (if test (mark_at t a) then o else p) (if test (mark_at u a) then q else r) (λ x b. P x b ⊎ Q x b)
@@ -203,7 +203,7 @@ gates_tell t d a x b (k, c, (e, f), r) = ap is_some e
 name_is_no_gate : (t : List Lexeme) (d a : ℕ) (x : PlainItem) (b : ℕ) → AreInstances t d x a b → is_gate (mark_at t a) ≡ false
 name_is_no_gate t d a x b (name, c, q, r) = ap is_gate q.0
 
-not_assign : (m : Mark) (k : GateKind) → gate_kind m ≡ Some k → m ≢ marks.Assign
+not_assign : (m : Terminal) (k : GateKind) → gate_kind m ≡ Some k → m ≢ marks.Assign
 not_assign m k e is = let h : gate_kind marks.Assign ≡ Some k = ap gate_kind (sym is) ∙ e in cc
 
 taking_others : (base : ℕ) (t u : List Lexeme) (d a : ℕ) → Start base t d a
@@ -232,7 +232,7 @@ taking_structure base t u d a s = record {
   ];
 }
 
-gate_is_structure : (m : Mark) (k : GateKind) → gate_kind m ≡ Some k → item_kind m ≡ Structure
+gate_is_structure : (m : Terminal) (k : GateKind) → gate_kind m ≡ Some k → item_kind m ≡ Structure
 gate_is_structure marks.And k e = refl
 gate_is_structure marks.Or k e = refl
 gate_is_structure marks.Nand k e = refl

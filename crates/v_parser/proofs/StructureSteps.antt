@@ -2,13 +2,13 @@
 use Rattle.std.proofs.Common.{◌≡◌, ◌≢◌, ℕ, ◌<◌, List, length, Some, sym, ap, ◌∙◌}
 use Rattle.v_lexer.specs.Lexeme.{Lexeme}
 use Rattle.v_tree.specs.declared.item.GateKind.{GateKind}
-use Rattle.v_tree.specs.declared.mark.Mark.{Mark}
-use Rattle.v_tree.specs.declared.mark.Mark.TheVariants.{Nothing}
+use Rattle.v_lexer.specs.declared.types.terminal.Terminal.{Terminal}
+use Rattle.v_lexer.specs.declared.types.terminal.Terminal.TheVariants.{Nothing}
 use Rattle.v_tree.specs.Marks.{mark_at}
 use Rattle.v_tree.proofs.PlaceLemmas.{marked_inside}
 use Rattle.v_parser.specs.Structures.{gate_kind}
 
-gate_nothing : (m : Mark) (k : GateKind) → gate_kind m ≡ Some k → m ≢ Nothing
+gate_nothing : (m : Terminal) (k : GateKind) → gate_kind m ≡ Some k → m ≢ Nothing
 gate_nothing m k e gone = let h : gate_kind Nothing ≡ Some k = ap gate_kind (sym gone) ∙ e in cc
 
 -- a gate's word is within the list

@@ -3,8 +3,8 @@ use Rattle.std.proofs.Common.{◌≡◌, ◌≢◌, ℕ, ◌+◌, ◌<◌, ◌�
 use Rattle.v_lexer.specs.Lexeme.{Lexeme}
 use Rattle.v_tree.specs.declared.item.Direction.TheVariants as direction
 use Rattle.v_tree.specs.declared.item.NetKind.TheVariants as net
-use Rattle.v_tree.specs.declared.mark.Mark.{Mark}
-use Rattle.v_tree.specs.declared.mark.Mark.TheVariants as marks
+use Rattle.v_lexer.specs.declared.types.terminal.Terminal.{Terminal}
+use Rattle.v_lexer.specs.declared.types.terminal.Terminal.TheVariants as marks
 use Rattle.v_tree.specs.Marks.{mark_at}
 use Rattle.v_tree.proofs.BindLemmas.{good}
 use Rattle.v_tree.proofs.SteadyLemmas.{not_by}
@@ -17,7 +17,7 @@ use Rattle.v_parser.proofs.Laws.{Law, LawFrom, TakingFrom, law_as, law_bind, law
 use Rattle.v_parser.proofs.NameLaws.{law_range}
 
 -- a word that tells what is found
-pub law_word : {A : Type 0} (base : ℕ) (t u : List Lexeme) (a : ℕ) (m : Mark) (x : A) → mark_at t a ≡ m → a < length t
+pub law_word : {A : Type 0} (base : ℕ) (t u : List Lexeme) (a : ℕ) (m : Terminal) (x : A) → mark_at t a ≡ m → a < length t
     → Law base t u a (good (x, a + 1)) (good (x, a + 1)) (λ y b. (mark_at t a ≡ m) × ((y ≡ x) × (b ≡ a + 1)))
 law_word {A} base t u a m x is here =
     law_as base t u a (good {A = A × ℕ} (x, a + 1)) (good (x, a + 1)) (λ y b. (y ≡ x) × (b ≡ a + 1)) _ (law_found base t u a (a + 1) x x (omega arith) (omega (arith, here)) (λ b. refl)) (λ y b h. (is, h)) (λ y b h. h.1)

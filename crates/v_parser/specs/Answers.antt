@@ -1,7 +1,7 @@
 -- What the reading of a production answers.
 use Rattle.std.specs.Prelude.{◌≡◌, ℕ, ◌+◌, ◌≤◌, List, true, length, Result, MatchResult}
 use Rattle.v_lexer.specs.Lexeme.{Lexeme}
-use Rattle.v_tree.specs.declared.mark.Mark.TheVariants as mark
+use Rattle.v_lexer.specs.declared.types.terminal.Terminal.TheVariants as mark
 use Rattle.v_tree.specs.declared.statement.Statement.{Statement}
 use Rattle.v_tree.specs.declared.fault.Fault.{Fault}
 use Rattle.v_tree.specs.declared.fault.ParseErr.{ParseErr}

@@ -6,8 +6,8 @@ use Rattle.v_tree.specs.declared.item.NetKind.{NetKind}
 use Rattle.v_tree.specs.declared.item.NetKind.TheVariants as nets
 use Rattle.v_tree.specs.declared.item.ParameterKind.{ParameterKind}
 use Rattle.v_tree.specs.declared.item.ParameterKind.TheVariants as kinds
-use Rattle.v_tree.specs.declared.mark.Mark.{Mark}
-use Rattle.v_tree.specs.declared.mark.Mark.TheVariants as mark
+use Rattle.v_lexer.specs.declared.types.terminal.Terminal.{Terminal}
+use Rattle.v_lexer.specs.declared.types.terminal.Terminal.TheVariants as mark
 use Rattle.v_tree.specs.declared.fault.Fault.TheVariants.{Unsupported}
 use Rattle.v_tree.specs.Marks.{mark_at, same}
 use Rattle.v_tree.specs.Sites.{site}
@@ -84,7 +84,7 @@ parameters_at tokens depth a =
     expect tokens mark.Semicolon xs.1 >>= λ b. Ok (parameter_item (site tokens a b) k.0 t.0 xs.0, b)
 
 -- the marks that nets begin with
-abbrev pub is_net : Mark → Bool
+abbrev pub is_net : Terminal → Bool
 is_net mark.Wire = true
 is_net mark.Reg = true
 is_net _ = false

@@ -8,7 +8,7 @@ use Rattle.v_tree.specs.declared.item.NetKind.{NetKind}
 use Rattle.v_tree.specs.declared.item.NetKind.TheVariants as nets
 use Rattle.v_tree.specs.declared.item.ParameterKind.{ParameterKind}
 use Rattle.v_tree.specs.declared.item.ParameterKind.TheVariants as kinds
-use Rattle.v_tree.specs.declared.mark.Mark.TheVariants.{OpenBracket, Semicolon, Equals, Hash, Genvar, Integer, Localparam, Parameter, Reg, Wire}
+use Rattle.v_lexer.specs.declared.types.terminal.Terminal.TheVariants.{OpenBracket, Semicolon, Equals, Hash, Genvar, Integer, Localparam, Parameter, Reg, Wire}
 use Rattle.v_tree.specs.Marks.{mark_at}
 use Rattle.v_tree.specs.Sites.{site}
 use Rattle.v_tree.specs.Tree.{Tree}

@@ -5,7 +5,7 @@ use Rattle.v_lexer.specs.Lexeme.{Lexeme}
 use Rattle.v_tree.specs.declared.declaration.Identifier.{Identifier}
 use Rattle.v_tree.specs.declared.item.Direction.{Direction}
 use Rattle.v_tree.specs.declared.item.NetKind.{NetKind}
-use Rattle.v_tree.specs.declared.mark.Mark.TheVariants.{Open, Close, OpenBracket, Comma, Equals, Hash, Parameter}
+use Rattle.v_lexer.specs.declared.types.terminal.Terminal.TheVariants.{Open, Close, OpenBracket, Comma, Equals, Hash, Parameter}
 use Rattle.v_tree.specs.Marks.{mark_at}
 use Rattle.v_tree.specs.Sites.{site}
 use Rattle.v_tree.specs.Tree.{Tree}

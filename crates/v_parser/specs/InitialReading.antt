@@ -2,8 +2,8 @@
 use Rattle.std.specs.Prelude.{ℕ, zero, suc, ◌+◌, List, None, Ok, Err, if◌then◌else◌}
 use Rattle.v_lexer.specs.Lexeme.{Lexeme}
 use Rattle.v_tree.specs.declared.statement.AssignKind.TheVariants.{Blocking}
-use Rattle.v_tree.specs.declared.mark.Mark.{Mark}
-use Rattle.v_tree.specs.declared.mark.Mark.TheVariants as mark
+use Rattle.v_lexer.specs.declared.types.terminal.Terminal.{Terminal}
+use Rattle.v_lexer.specs.declared.types.terminal.Terminal.TheVariants as mark
 use Rattle.v_tree.specs.declared.fault.Fault.TheVariants.{Unsupported, Deep}
 use Rattle.v_tree.specs.Marks.{mark_at, same}
 use Rattle.v_tree.specs.Sites.{site}
@@ -16,7 +16,7 @@ use Rattle.v_parser.specs.StatementReading.{Inner, label_at, body_at, close_bloc
 use Rattle.v_parser.specs.Initials.{is_left_out}
 
 -- what is read where no token of that mark stands, which is of a form that is left out
-abbrev pub unless_at : {A : Type 0} → List Lexeme → Mark → ℕ → Read A → Read A
+abbrev pub unless_at : {A : Type 0} → List Lexeme → Terminal → ℕ → Read A → Read A
 unless_at tokens out a read = if same (mark_at tokens a) out then Err (Unsupported a) else read
 
 -- the value and what stands behind it

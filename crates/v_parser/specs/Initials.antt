@@ -3,8 +3,8 @@ use Rattle.std.specs.Prelude.{◌≡◌, ◌≢◌, ℕ, zero, suc, ◌+◌, ◌
 use Rattle.v_lexer.specs.Lexeme.{Lexeme}
 use Rattle.v_tree.specs.declared.declaration.Identifier.{Identifier}
 use Rattle.v_tree.specs.declared.statement.AssignKind.TheVariants.{Blocking}
-use Rattle.v_tree.specs.declared.mark.Mark.{Mark}
-use Rattle.v_tree.specs.declared.mark.Mark.TheVariants.{OpenBracket, OpenBrace, Colon, Semicolon, Equals, LessEqual, Hash, Begin, End, If, Case, Casez, For}
+use Rattle.v_lexer.specs.declared.types.terminal.Terminal.{Terminal}
+use Rattle.v_lexer.specs.declared.types.terminal.Terminal.TheVariants.{OpenBracket, OpenBrace, Colon, Semicolon, Equals, LessEqual, Hash, Begin, End, If, Case, Casez, For}
 use Rattle.v_tree.specs.Marks.{mark_at}
 use Rattle.v_tree.specs.Sites.{site}
 use Rattle.v_tree.specs.Tree.{Tree, no_select}
@@ -34,7 +34,7 @@ IsInitialAssign tokens depth x a b =
     × ((x ≡ assignment (site tokens a (n + 1)) (name_left (site tokens a m) name no_select) Blocking None value) × (b ≡ n + 1))))))))
 
 -- the marks of statements that an initial block doesn't take
-abbrev pub is_left_out : Mark → Bool
+abbrev pub is_left_out : Terminal → Bool
 is_left_out Semicolon = true
 is_left_out Hash = true
 is_left_out If = true

@@ -1,10 +1,10 @@
 -- Which chapter an item belongs to, by its first token (IEEE 1364-2005, A.1.4).
-use Rattle.v_tree.specs.declared.mark.Mark.{Mark}
-use Rattle.v_tree.specs.declared.mark.Mark.TheVariants as mark
+use Rattle.v_lexer.specs.declared.types.terminal.Terminal.{Terminal}
+use Rattle.v_lexer.specs.declared.types.terminal.Terminal.TheVariants as mark
 use Rattle.v_parser.specs.declared.item_kinds.ItemKind.{ItemKind}
 use Rattle.v_parser.specs.declared.item_kinds.ItemKind.TheVariants.{Declaration, Structure, Procedure, Generated, Nothing}
 
-abbrev pub item_kind : Mark → ItemKind
+abbrev pub item_kind : Terminal → ItemKind
 item_kind mark.Input = Declaration
 item_kind mark.Output = Declaration
 item_kind mark.Wire = Declaration

@@ -1,8 +1,8 @@
 -- How the code reads items: the function on lists that each reader is. No public clause speaks of it.
 use Rattle.std.specs.Prelude.{ℕ, zero, suc, ◌+◌, List, length, Ok, Err, if◌then◌else◌, Bool, true}
 use Rattle.v_lexer.specs.Lexeme.{Lexeme}
-use Rattle.v_tree.specs.declared.mark.Mark.{Mark}
-use Rattle.v_tree.specs.declared.mark.Mark.TheVariants as mark
+use Rattle.v_lexer.specs.declared.types.terminal.Terminal.{Terminal}
+use Rattle.v_lexer.specs.declared.types.terminal.Terminal.TheVariants as mark
 use Rattle.v_tree.specs.declared.fault.Fault.TheVariants.{Deep}
 use Rattle.v_tree.specs.Marks.{mark_at, same}
 use Rattle.v_tree.specs.Sites.{site}
@@ -23,7 +23,7 @@ abbrev pub ItemReader : Type 0
 ItemReader = ℕ → Read PlainItem
 
 -- items up to a token of that mark
-unfoldable pub items_at : List Lexeme → Mark → ItemReader → ℕ → Read (List PlainItem)
+unfoldable pub items_at : List Lexeme → Terminal → ItemReader → ℕ → Read (List PlainItem)
 items_at tokens last inner a = run_at tokens last (λ (s : Bool). inner) (λ s x. s) (length tokens) true a
 
 unfoldable pub generate_at : List Lexeme → ℕ → ItemReader → ℕ → Read PlainItem

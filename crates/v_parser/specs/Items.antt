@@ -3,8 +3,8 @@
 use Rattle.std.specs.Prelude.{◌≡◌, ◌≢◌, ℕ, zero, suc, ◌+◌, ◌⊎◌, Bool, true, List, Option}
 use Rattle.v_lexer.specs.Lexeme.{Lexeme}
 use Rattle.v_tree.specs.declared.declaration.Identifier.{Identifier}
-use Rattle.v_tree.specs.declared.mark.Mark.{Mark}
-use Rattle.v_tree.specs.declared.mark.Mark.TheVariants.{Colon, Begin, End, Else, Endgenerate, For, Generate, If}
+use Rattle.v_lexer.specs.declared.types.terminal.Terminal.{Terminal}
+use Rattle.v_lexer.specs.declared.types.terminal.Terminal.TheVariants.{Colon, Begin, End, Else, Endgenerate, For, Generate, If}
 use Rattle.v_tree.specs.Marks.{mark_at}
 use Rattle.v_tree.specs.Sites.{site}
 use Rattle.v_tree.specs.Tree.{Tree}
@@ -21,7 +21,7 @@ abbrev pub NestedItem : Type 1
 NestedItem = PlainItem → ℕ → ℕ → Type 0
 
 -- item* and a token of the mark `last`
-abbrev pub AreItemsUpTo : List Lexeme → Mark → NestedItem → List PlainItem → ℕ → ℕ → Type 0
+abbrev pub AreItemsUpTo : List Lexeme → Terminal → NestedItem → List PlainItem → ℕ → ℕ → Type 0
 AreItemsUpTo tokens last part items a b = AreRun tokens last (λ (s : Bool). part) (λ s x. s) true items a b
 
 -- 'generate' item* 'endgenerate'

@@ -1,7 +1,7 @@
 -- How the code reads modules: the function on lists that each reader is. No public clause speaks of it.
 use Rattle.std.specs.Prelude.{ℕ, zero, suc, List, [], ◌∷◌, length, Ok, if◌then◌else◌, nat_lt}
 use Rattle.v_lexer.specs.Lexeme.{Lexeme}
-use Rattle.v_tree.specs.declared.mark.Mark.TheVariants as mark
+use Rattle.v_lexer.specs.declared.types.terminal.Terminal.TheVariants as mark
 use Rattle.v_tree.specs.Sites.{site}
 use Rattle.v_tree.specs.Reading.{Read, ◌>>=◌, expect}
 use Rattle.v_parser.specs.ModuleTree.{PlainModule}

@@ -3,7 +3,7 @@
 use Rattle.std.specs.Prelude.{◌≡◌, ℕ, ◌+◌, List, [], ◌∷◌, length, Result, MatchResult}
 use Rattle.v_lexer.specs.Lexeme.{Lexeme}
 use Rattle.v_tree.specs.declared.module.SourceTree.{SourceTree}
-use Rattle.v_tree.specs.declared.mark.Mark.TheVariants.{Semicolon, Endmodule, Module}
+use Rattle.v_lexer.specs.declared.types.terminal.Terminal.TheVariants.{Semicolon, Endmodule, Module}
 use Rattle.v_tree.specs.declared.fault.ParseErr.{ParseErr}
 use Rattle.v_tree.specs.declared.fault.ParseErr.TheVariants as error
 use Rattle.v_tree.specs.Marks.{mark_at}

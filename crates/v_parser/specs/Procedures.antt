@@ -2,7 +2,7 @@
 -- nesting of `depth` is left. Each production stands as its comment, as in Productions.
 use Rattle.std.specs.Prelude.{◌≡◌, ℕ, ◌+◌, ◌⊎◌, List}
 use Rattle.v_lexer.specs.Lexeme.{Lexeme}
-use Rattle.v_tree.specs.declared.mark.Mark.TheVariants.{At, Always, Initial}
+use Rattle.v_lexer.specs.declared.types.terminal.Terminal.TheVariants.{At, Always, Initial}
 use Rattle.v_tree.specs.Marks.{mark_at}
 use Rattle.v_tree.specs.Sites.{site}
 use Rattle.v_parser.specs.StatementTree.{PlainStatement}

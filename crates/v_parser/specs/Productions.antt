@@ -4,8 +4,8 @@
 use Rattle.std.specs.Prelude.{◌≡◌, ◌≢◌, ℕ, zero, suc, ◌+◌, ◌<◌, ◌≤◌, ◌⊎◌, List, [], ◌∷◌, Option, Some, None}
 use Rattle.v_lexer.specs.Lexeme.{Lexeme}
 use Rattle.v_tree.specs.declared.declaration.Identifier.{Identifier}
-use Rattle.v_tree.specs.declared.mark.Mark.{Mark}
-use Rattle.v_tree.specs.declared.mark.Mark.TheVariants.{Number, Name, Open, Close, OpenBracket, CloseBracket, OpenBrace, CloseBrace, Comma, Colon, Equals, Hash}
+use Rattle.v_lexer.specs.declared.types.terminal.Terminal.{Terminal}
+use Rattle.v_lexer.specs.declared.types.terminal.Terminal.TheVariants.{Number, Name, Open, Close, OpenBracket, CloseBracket, OpenBrace, CloseBrace, Comma, Colon, Equals, Hash}
 use Rattle.v_tree.specs.Marks.{mark_at}
 use Rattle.v_tree.specs.Sites.{text_at, site}
 use Rattle.v_tree.specs.Tree.{Tree, Selections}
@@ -14,7 +14,7 @@ use Rattle.v_tree.specs.Expressions.{IsExpr, AreSelects, how_many, Ends, Within}
 use Rattle.v_parser.specs.Tree.{PlainRange, PlainNamed, PlainDelay, number_delay, name_delay, parens_delay, PlainLeft, name_left, concat_left, lefts_of}
 
 -- x?
-abbrev pub IsOptional : {A : Type 0} → List Lexeme → Mark → (A → ℕ → ℕ → Type 0) → Option A → ℕ → ℕ → Type 0
+abbrev pub IsOptional : {A : Type 0} → List Lexeme → Terminal → (A → ℕ → ℕ → Type 0) → Option A → ℕ → ℕ → Type 0
 IsOptional tokens first part None a b = (mark_at tokens a ≢ first) × (b ≡ a)
 IsOptional tokens first part (Some x) a b = (mark_at tokens a ≡ first) × part x a b
 
@@ -29,7 +29,7 @@ AreListed tokens part [] a b = ⊥
 AreListed tokens part (x ∷ xs) a b = (m : ℕ) × part x a m × AreMore tokens part xs m b
 
 -- x* and a token of the mark `last`, which no x begins with; each x may change what is taken behind it
-abbrev pub AreRun : {S A : Type 0} → List Lexeme → Mark → (S → A → ℕ → ℕ → Type 0) → (S → A → S) → S → List A → ℕ → ℕ → Type 0
+abbrev pub AreRun : {S A : Type 0} → List Lexeme → Terminal → (S → A → ℕ → ℕ → Type 0) → (S → A → S) → S → List A → ℕ → ℕ → Type 0
 AreRun tokens last part next s [] a b = (mark_at tokens a ≡ last) × (b ≡ a + 1)
 AreRun tokens last part next s (x ∷ xs) a b = (m : ℕ) × (mark_at tokens a ≢ last) × part s x a m × AreRun tokens last part next (next s x) xs m b
 

@@ -2,8 +2,8 @@
 use Rattle.std.specs.Prelude.{ℕ, zero, suc, ◌+◌, List, [], ◌∷◌, length, Option, Some, None, Ok, Err, if◌then◌else◌}
 use Rattle.v_lexer.specs.Lexeme.{Lexeme}
 use Rattle.v_tree.specs.declared.declaration.Identifier.{Identifier}
-use Rattle.v_tree.specs.declared.mark.Mark.{Mark}
-use Rattle.v_tree.specs.declared.mark.Mark.TheVariants as mark
+use Rattle.v_lexer.specs.declared.types.terminal.Terminal.{Terminal}
+use Rattle.v_lexer.specs.declared.types.terminal.Terminal.TheVariants as mark
 use Rattle.v_tree.specs.declared.fault.Fault.TheVariants.{Unsupported, Deep}
 use Rattle.v_tree.specs.Marks.{mark_at, same}
 use Rattle.v_tree.specs.Sites.{text_at, site}
@@ -13,7 +13,7 @@ use Rattle.v_tree.specs.Reading.{Read, ◌>>=◌, expect, lower, below, selects_
 use Rattle.v_parser.specs.Tree.{PlainRange, PlainNamed, PlainDelay, number_delay, name_delay, parens_delay, PlainLeft, name_left, concat_left, lefts_of}
 
 -- a part, where its first token stands
-unfoldable pub optional_at : {A : Type 0} → List Lexeme → Mark → (ℕ → Read A) → ℕ → Read (Option A)
+unfoldable pub optional_at : {A : Type 0} → List Lexeme → Terminal → (ℕ → Read A) → ℕ → Read (Option A)
 optional_at tokens first part a = if same (mark_at tokens a) first then (part a >>= λ x. Ok (Some x.0, x.1)) else Ok (None, a)
 
 -- (',' part)*, at most so many
@@ -27,7 +27,7 @@ unfoldable pub list_at : {A : Type 0} → List Lexeme → (ℕ → Read A) → �
 list_at tokens part a = part a >>= λ x. more_at tokens part (length tokens) x.1 >>= λ xs. Ok (x.0 ∷ xs.0, xs.1)
 
 -- parts up to a token of the mark `last` and that token, at most so many; what is found changes what may follow
-unfoldable pub run_at : {S A : Type 0} → List Lexeme → Mark → (S → ℕ → Read A) → (S → A → S) → ℕ → S → ℕ → Read (List A)
+unfoldable pub run_at : {S A : Type 0} → List Lexeme → Terminal → (S → ℕ → Read A) → (S → A → S) → ℕ → S → ℕ → Read (List A)
 run_at tokens last part next zero s a = Err (no_place tokens a)
 run_at tokens last part next (suc n) s a =
     if same (mark_at tokens a) last then Ok ([], a + 1) else (part s a >>= λ x. run_at tokens last part next n (next s x.0) x.1 >>= λ xs. Ok (x.0 ∷ xs.0, xs.1))

@@ -4,7 +4,7 @@ use Rattle.std.specs.Prelude.{◌≡◌, ◌≢◌, ℕ, ◌+◌, ◌≤◌, ◌
 use Rattle.v_lexer.specs.Lexeme.{Lexeme}
 use Rattle.v_tree.specs.declared.statement.Edge.{Edge}
 use Rattle.v_tree.specs.declared.statement.Edge.TheVariants as edges
-use Rattle.v_tree.specs.declared.mark.Mark.TheVariants.{Name, Open, Close, OpenBracket, Comma, Or, Star, Posedge, Negedge}
+use Rattle.v_lexer.specs.declared.types.terminal.Terminal.TheVariants.{Name, Open, Close, OpenBracket, Comma, Or, Star, Posedge, Negedge}
 use Rattle.v_tree.specs.Marks.{mark_at}
 use Rattle.v_tree.specs.Sites.{site}
 use Rattle.v_tree.specs.Tree.{Selection}

@@ -6,7 +6,7 @@ use Rattle.v_tree.specs.declared.statement.AssignKind.{AssignKind}
 use Rattle.v_tree.specs.declared.statement.AssignKind.TheVariants.{Blocking, Nonblocking}
 use Rattle.v_tree.specs.declared.statement.CaseKind.{CaseKind}
 use Rattle.v_tree.specs.declared.statement.CaseKind.TheVariants as kinds
-use Rattle.v_tree.specs.declared.mark.Mark.TheVariants as mark
+use Rattle.v_lexer.specs.declared.types.terminal.Terminal.TheVariants as mark
 use Rattle.v_tree.specs.declared.fault.Fault.TheVariants.{Unsupported, Deep}
 use Rattle.v_tree.specs.Marks.{mark_at, same}
 use Rattle.v_tree.specs.Sites.{site}

@@ -7,8 +7,8 @@ use Rattle.v_tree.specs.declared.statement.AssignKind.{AssignKind}
 use Rattle.v_tree.specs.declared.statement.AssignKind.TheVariants.{Blocking, Nonblocking}
 use Rattle.v_tree.specs.declared.statement.CaseKind.{CaseKind}
 use Rattle.v_tree.specs.declared.statement.CaseKind.TheVariants as kinds
-use Rattle.v_tree.specs.declared.mark.Mark.{Mark}
-use Rattle.v_tree.specs.declared.mark.Mark.TheVariants.{Nothing, Wild, Open, Close, Comma, Colon, Semicolon, Equals, LessEqual, Hash, Begin, End, If, Else, Case, Casez, Endcase, Default, For}
+use Rattle.v_lexer.specs.declared.types.terminal.Terminal.{Terminal}
+use Rattle.v_lexer.specs.declared.types.terminal.Terminal.TheVariants.{Nothing, Wild, Open, Close, Comma, Colon, Semicolon, Equals, LessEqual, Hash, Begin, End, If, Else, Case, Casez, Endcase, Default, For}
 use Rattle.v_tree.specs.Marks.{mark_at}
 use Rattle.v_tree.specs.Sites.{site}
 use Rattle.v_tree.specs.Tree.{Tree}
@@ -68,7 +68,7 @@ IsIf tokens depth part x a b =
     × IsElse tokens part a condition then x n b))
 
 -- what may stand behind a number with wildcard digits that is a label
-abbrev pub may_follow_label : Mark → Bool
+abbrev pub may_follow_label : Terminal → Bool
 may_follow_label Comma = true
 may_follow_label Colon = true
 may_follow_label Nothing = true
@@ -115,7 +115,7 @@ AreItems tokens depth kind part first items a b =
     × ((items ≡ first ∷ others) × (b ≡ n))
 
 -- 'case' or 'casez'
-abbrev pub case_word : CaseKind → Mark
+abbrev pub case_word : CaseKind → Terminal
 case_word kinds.Case = Case
 case_word kinds.Casez = Casez
 

@@ -2,8 +2,8 @@
 use Rattle.std.specs.Prelude.{ℕ, ◌+◌, Bool, List, [], Option, Some, None, is_some, Ok, Err, if◌then◌else◌}
 use Rattle.v_lexer.specs.Lexeme.{Lexeme}
 use Rattle.v_tree.specs.declared.item.GateKind.{GateKind}
-use Rattle.v_tree.specs.declared.mark.Mark.{Mark}
-use Rattle.v_tree.specs.declared.mark.Mark.TheVariants as mark
+use Rattle.v_lexer.specs.declared.types.terminal.Terminal.{Terminal}
+use Rattle.v_lexer.specs.declared.types.terminal.Terminal.TheVariants as mark
 use Rattle.v_tree.specs.Marks.{mark_at, same}
 use Rattle.v_tree.specs.Sites.{site}
 use Rattle.v_tree.specs.Faults.{no_place}
@@ -83,7 +83,7 @@ instances_at tokens depth a =
     Ok (instance_item (site tokens a b) x.0 p.0 xs.0, b)
 
 -- whether it is a gate's word
-abbrev pub is_gate : Mark → Bool
+abbrev pub is_gate : Terminal → Bool
 is_gate word = is_some (gate_kind word)
 
 unfoldable pub structure_at : List Lexeme → ℕ → ℕ → Read PlainItem

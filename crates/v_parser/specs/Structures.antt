@@ -5,8 +5,8 @@ use Rattle.std.specs.Prelude.{◌≡◌, ◌≢◌, ℕ, ◌+◌, ◌⊎◌, Boo
 use Rattle.v_lexer.specs.Lexeme.{Lexeme}
 use Rattle.v_tree.specs.declared.item.GateKind.{GateKind}
 use Rattle.v_tree.specs.declared.item.GateKind.TheVariants as gates
-use Rattle.v_tree.specs.declared.mark.Mark.{Mark}
-use Rattle.v_tree.specs.declared.mark.Mark.TheVariants as mark
+use Rattle.v_lexer.specs.declared.types.terminal.Terminal.{Terminal}
+use Rattle.v_lexer.specs.declared.types.terminal.Terminal.TheVariants as mark
 use Rattle.v_tree.specs.Marks.{mark_at}
 use Rattle.v_tree.specs.Sites.{site}
 use Rattle.v_tree.specs.Tree.{Tree}
@@ -32,7 +32,7 @@ IsAssigns tokens depth x a b =
     × ((x ≡ assign_item (site tokens a (n + 1)) delay assignments) × (b ≡ n + 1)))))
 
 -- the gate that a word names
-abbrev pub gate_kind : Mark → Option GateKind
+abbrev pub gate_kind : Terminal → Option GateKind
 gate_kind mark.And = Some gates.And
 gate_kind mark.Or = Some gates.Or
 gate_kind mark.Nand = Some gates.Nand
@@ -66,7 +66,7 @@ AreGates tokens depth x a b =
     × ((x ≡ gate_item (site tokens a (n + 1)) kind delay list) × (b ≡ n + 1)))))
 
 -- what stands behind a connection, and where one is left out
-abbrev pub ends_connection : Mark → Bool
+abbrev pub ends_connection : Terminal → Bool
 ends_connection mark.Comma = true
 ends_connection mark.Close = true
 ends_connection _ = false

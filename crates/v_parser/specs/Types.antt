@@ -6,8 +6,8 @@ use Rattle.v_tree.specs.declared.item.Direction.{Direction}
 use Rattle.v_tree.specs.declared.item.Direction.TheVariants as direction
 use Rattle.v_tree.specs.declared.item.NetKind.{NetKind}
 use Rattle.v_tree.specs.declared.item.NetKind.TheVariants as net
-use Rattle.v_tree.specs.declared.mark.Mark.{Mark}
-use Rattle.v_tree.specs.declared.mark.Mark.TheVariants.{Input, Output, Wire, Reg, Signed, Integer, OpenBracket}
+use Rattle.v_lexer.specs.declared.types.terminal.Terminal.{Terminal}
+use Rattle.v_lexer.specs.declared.types.terminal.Terminal.TheVariants.{Input, Output, Wire, Reg, Signed, Integer, OpenBracket}
 use Rattle.v_tree.specs.Marks.{mark_at}
 use Rattle.v_parser.specs.Tree.{PlainRange}
 use Rattle.v_parser.specs.ItemTree.{PlainParameterType, vector_type, integer_type}
@@ -19,7 +19,7 @@ IsDirection tokens x a b =
     ((mark_at tokens a ≡ Input) × ((x ≡ direction.Input) × (b ≡ a + 1))) ⊎ ((mark_at tokens a ≡ Output) × ((x ≡ direction.Output) × (b ≡ a + 1)))
 
 -- the words of directions
-abbrev pub is_direction : Mark → Bool
+abbrev pub is_direction : Terminal → Bool
 is_direction Input = true
 is_direction Output = true
 is_direction _ = false

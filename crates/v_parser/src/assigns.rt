@@ -12,7 +12,7 @@ use crate::names::{Read, delay_if, value};
 use crate::structure_nodes as nodes;
 use std::alloc::Global;
 use v_lexer::types::Token;
-use v_tree::{Item, Mark, NetAssignment, expect, site_of, stands};
+use v_tree::{Item, NetAssignment, Terminal, expect, site_of, stands};
 
 /// `left '=' expr`
 #[tactic(auto, unfolding(crate::specs::StructureReading::assignment_at))]
@@ -23,7 +23,7 @@ fn assignment(alloc: Global, tokens: &[Token], at: usize, depth: u32) -> Read<Ne
     ensures inside { IfOk result (Inside tokens.now) }
 {
     let (target, equals) = left(alloc, tokens, at, depth)?;
-    let next = expect(tokens, Mark::Equals, equals)?;
+    let next = expect(tokens, Terminal::Equals, equals)?;
     let (value, end) = value(alloc, tokens, next, depth)?;
     let site = site_of(tokens, at, end);
     Ok((
@@ -48,7 +48,7 @@ fn assignments(alloc: Global, tokens: &[Token], at: usize, depth: u32) -> Read<V
     let (first, mut end) = assignment(alloc, tokens, at, depth)?;
     list.push(first)?;
     for _ in 0..tokens.len() {
-        if !stands(tokens, end, Mark::Comma) {
+        if !stands(tokens, end, Terminal::Comma) {
             return Ok((list, end));
         }
         let (part, next) = assignment(alloc, tokens, end + 1, depth)?;
@@ -66,10 +66,10 @@ pub fn assigns(alloc: Global, tokens: &[Token], at: usize, depth: u32) -> Read<I
     ensures gives { Gives seen_item result (assigns_at tokens.now depth at) }
     ensures inside { IfOk result (Inside tokens.now) }
 {
-    let next = expect(tokens, Mark::Assign, at)?;
+    let next = expect(tokens, Terminal::Assign, at)?;
     let (delay, next) = delay_if(alloc, tokens, next, depth)?;
     let (list, semicolon) = assignments(alloc, tokens, next, depth)?;
-    let end = expect(tokens, Mark::Semicolon, semicolon)?;
+    let end = expect(tokens, Terminal::Semicolon, semicolon)?;
     let site = site_of(tokens, at, end);
     Ok((nodes::assigns(site, delay, list), end))
 }

@@ -15,7 +15,7 @@ use loc_base::Name;
 use std::alloc::Global;
 use v_lexer::types::Token;
 use v_tree::{
-    Declarator, Fault, Identifier, Item, Mark, NetKind, ParameterKind, Stop, expect, mark_at,
+    Declarator, Fault, Identifier, Item, NetKind, ParameterKind, Stop, Terminal, expect, mark_at,
     no_place, site_of, stands,
 };
 
@@ -30,13 +30,13 @@ fn close_names(
     ensures gives { Gives seen_identifiers result (close_names_at tokens.now plain names.items at) }
     ensures inside { IfOk result (Inside tokens.now) }
 {
-    if stands(tokens, at, Mark::OpenBracket) {
+    if stands(tokens, at, Terminal::OpenBracket) {
         return Err(Stop::Fault(Fault::Unsupported(at)));
     }
-    if plain && stands(tokens, at, Mark::Equals) {
+    if plain && stands(tokens, at, Terminal::Equals) {
         return Err(Stop::Fault(Fault::Unsupported(at)));
     }
-    let end = expect(tokens, Mark::Semicolon, at)?;
+    let end = expect(tokens, Terminal::Semicolon, at)?;
     Ok((names, end))
 }
 
@@ -78,7 +78,7 @@ fn integers(alloc: Global, tokens: &[Token], at: usize) -> Read<Item>
     ensures gives { Gives seen_item result (integers_at tokens.now at) }
     ensures inside { IfOk result (Inside tokens.now) }
 {
-    let next = expect(tokens, Mark::Integer, at)?;
+    let next = expect(tokens, Terminal::Integer, at)?;
     let (names, end) = names(alloc, tokens, next, false)?;
     Ok((nodes::integers(site_of(tokens, at, end), names), end))
 }
@@ -91,7 +91,7 @@ fn genvars(alloc: Global, tokens: &[Token], at: usize) -> Read<Item>
     ensures gives { Gives seen_item result (genvars_at tokens.now at) }
     ensures inside { IfOk result (Inside tokens.now) }
 {
-    let next = expect(tokens, Mark::Genvar, at)?;
+    let next = expect(tokens, Terminal::Genvar, at)?;
     let (names, end) = names(alloc, tokens, next, false)?;
     Ok((nodes::genvars(site_of(tokens, at, end), names), end))
 }
@@ -102,10 +102,10 @@ fn net(tokens: &[Token], at: usize) -> Read<NetKind>
     ensures gives { Gives as_is result (net_at tokens.now at) }
     ensures inside { IfOk result (Inside tokens.now) }
 {
-    if stands(tokens, at, Mark::Wire) {
+    if stands(tokens, at, Terminal::Wire) {
         return Ok((NetKind::Wire, at + 1));
     }
-    if stands(tokens, at, Mark::Reg) {
+    if stands(tokens, at, Terminal::Reg) {
         return Ok((NetKind::Reg, at + 1));
     }
     Err(Stop::Fault(no_place(tokens, at)))
@@ -128,7 +128,7 @@ fn array(
     ensures inside { IfOk result (Inside tokens.now) }
 {
     let (range, end) = range(alloc, tokens, at, depth)?;
-    if stands(tokens, end, Mark::Equals) {
+    if stands(tokens, end, Terminal::Equals) {
         return Err(Stop::Fault(Fault::Unsupported(end)));
     }
     let site = site_of(tokens, from, end);
@@ -185,7 +185,7 @@ fn behind_name(
     ensures gives { Gives seen_declarator result (behind_name_at tokens.now depth net from name at) }
     ensures inside { IfOk result (Inside tokens.now) }
 {
-    if !stands(tokens, at, Mark::OpenBracket) {
+    if !stands(tokens, at, Terminal::OpenBracket) {
         return scalar(alloc, tokens, from, name, at, depth);
     }
     match net {
@@ -230,7 +230,7 @@ fn declarators(
     let (first, mut end) = declarator(alloc, tokens, at, depth, net)?;
     list.push(first)?;
     for _ in 0..tokens.len() {
-        if !stands(tokens, end, Mark::Comma) {
+        if !stands(tokens, end, Terminal::Comma) {
             return Ok((list, end));
         }
         let (part, next) = declarator(alloc, tokens, end + 1, depth, net)?;
@@ -253,7 +253,7 @@ fn nets(alloc: Global, tokens: &[Token], at: usize, depth: u32) -> Read<Item>
     let (range, next) = range_if(alloc, tokens, next, depth)?;
     let (delay, next) = delay_if(alloc, tokens, next, depth)?;
     let (names, semicolon) = declarators(alloc, tokens, next, depth, net)?;
-    let end = expect(tokens, Mark::Semicolon, semicolon)?;
+    let end = expect(tokens, Terminal::Semicolon, semicolon)?;
     let site = site_of(tokens, at, end);
     Ok((
         nodes::declaration(site, net, signed, range, delay, names),
@@ -267,10 +267,10 @@ fn parameter_kind(tokens: &[Token], at: usize) -> Read<ParameterKind>
     ensures gives { Gives as_is result (parameter_kind_at tokens.now at) }
     ensures inside { IfOk result (Inside tokens.now) }
 {
-    if stands(tokens, at, Mark::Parameter) {
+    if stands(tokens, at, Terminal::Parameter) {
         return Ok((ParameterKind::Parameter, at + 1));
     }
-    if stands(tokens, at, Mark::Localparam) {
+    if stands(tokens, at, Terminal::Localparam) {
         return Ok((ParameterKind::Local, at + 1));
     }
     Err(Stop::Fault(no_place(tokens, at)))
@@ -287,16 +287,16 @@ fn parameters(alloc: Global, tokens: &[Token], at: usize, depth: u32) -> Read<It
     let (kind, next) = parameter_kind(tokens, at)?;
     let (type_of, next) = parameter_type(alloc, tokens, next, depth)?;
     let (values, semicolon) = named_values(alloc, tokens, next, depth)?;
-    let end = expect(tokens, Mark::Semicolon, semicolon)?;
+    let end = expect(tokens, Terminal::Semicolon, semicolon)?;
     let site = site_of(tokens, at, end);
     Ok((nodes::parameters(site, kind, type_of, values), end))
 }
 
 /// Whether nets begin so.
-fn is_net(mark: Mark) -> bool
+fn is_net(mark: Terminal) -> bool
     ensures { result ≡ is_net mark }
 {
-    matches!(mark, Mark::Wire | Mark::Reg)
+    matches!(mark, Terminal::Wire | Terminal::Reg)
 }
 
 /// An item that declares ports, nets, registers, integers, genvars or parameters.
@@ -313,10 +313,10 @@ pub fn declaration(alloc: Global, tokens: &[Token], at: usize, depth: u32) -> Re
     if is_net(mark_at(tokens, at)) {
         return nets(alloc, tokens, at, depth);
     }
-    if stands(tokens, at, Mark::Integer) {
+    if stands(tokens, at, Terminal::Integer) {
         return integers(alloc, tokens, at);
     }
-    if stands(tokens, at, Mark::Genvar) {
+    if stands(tokens, at, Terminal::Genvar) {
         return genvars(alloc, tokens, at);
     }
     parameters(alloc, tokens, at, depth)

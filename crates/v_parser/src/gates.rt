@@ -1,7 +1,7 @@
 //! Gates (IEEE 1364-2005, 7.1 to 7.3 and A.3).
 ghost use Rattle.std.specs.Prelude.{◌≡◌, ◌<◌, ◌≤◌, ◌^◌, length, IfOk};
 ghost use Rattle.v_tree.specs.Faults.{Gives};
-ghost use Rattle.v_tree.specs.declared.mark.Mark.TheVariants as marks;
+ghost use Rattle.v_lexer.specs.declared.types.terminal.Terminal.TheVariants as marks;
 ghost use Rattle.v_parser.specs.Seen.{as_is, Inside};
 ghost use Rattle.v_parser.specs.ItemSeen.{seen_item};
 ghost use Rattle.v_parser.specs.Reading.{optional_at, list_at, name_at};
@@ -16,28 +16,28 @@ use loc_base::Name;
 use std::alloc::Global;
 use v_lexer::types::Token;
 use v_tree::{
-    GateInstance, GateKind, Item, Mark, Stop, expect, mark_at, no_place, site_of, stands,
+    GateInstance, GateKind, Item, Stop, Terminal, expect, mark_at, no_place, site_of, stands,
 };
 
 /// The gate that a word names.
-fn gate_kind(mark: Mark) -> Option<GateKind>
+fn gate_kind(mark: Terminal) -> Option<GateKind>
     ensures { result ≡ gate_kind mark }
 {
     match mark {
-        Mark::And => Some(GateKind::And),
-        Mark::Or => Some(GateKind::Or),
-        Mark::Nand => Some(GateKind::Nand),
-        Mark::Nor => Some(GateKind::Nor),
-        Mark::Xor => Some(GateKind::Xor),
-        Mark::Xnor => Some(GateKind::Xnor),
-        Mark::Buf => Some(GateKind::Buf),
-        Mark::Not => Some(GateKind::Not),
+        Terminal::And => Some(GateKind::And),
+        Terminal::Or => Some(GateKind::Or),
+        Terminal::Nand => Some(GateKind::Nand),
+        Terminal::Nor => Some(GateKind::Nor),
+        Terminal::Xor => Some(GateKind::Xor),
+        Terminal::Xnor => Some(GateKind::Xnor),
+        Terminal::Buf => Some(GateKind::Buf),
+        Terminal::Not => Some(GateKind::Not),
         _ => None,
     }
 }
 
 /// Whether it is a gate's word.
-pub fn is_gate(mark: Mark) -> bool
+pub fn is_gate(mark: Terminal) -> bool
     ensures { result ≡ is_gate mark }
 {
     gate_kind(mark).is_some()
@@ -63,7 +63,7 @@ fn name_if(alloc: Global, tokens: &[Token], at: usize) -> Read<Option<Name>>
     ensures gives { Gives as_is result (optional_at tokens.now marks.Name (name_at tokens.now) at) }
     ensures inside { IfOk result (Inside tokens.now) }
 {
-    if !stands(tokens, at, Mark::Name) {
+    if !stands(tokens, at, Terminal::Name) {
         return Ok((None, at));
     }
     let (name, end) = name(alloc, tokens, at)?;
@@ -79,9 +79,9 @@ fn gate(alloc: Global, tokens: &[Token], at: usize, depth: u32) -> Read<GateInst
     ensures inside { IfOk result (Inside tokens.now) }
 {
     let (name, open) = name_if(alloc, tokens, at)?;
-    let next = expect(tokens, Mark::Open, open)?;
+    let next = expect(tokens, Terminal::Open, open)?;
     let (terminals, close) = values(alloc, tokens, next, depth)?;
-    let end = expect(tokens, Mark::Close, close)?;
+    let end = expect(tokens, Terminal::Close, close)?;
     let site = site_of(tokens, at, end);
     Ok((
         GateInstance {
@@ -105,7 +105,7 @@ fn gate_list(alloc: Global, tokens: &[Token], at: usize, depth: u32) -> Read<Vec
     let (first, mut end) = gate(alloc, tokens, at, depth)?;
     list.push(first)?;
     for _ in 0..tokens.len() {
-        if !stands(tokens, end, Mark::Comma) {
+        if !stands(tokens, end, Terminal::Comma) {
             return Ok((list, end));
         }
         let (part, next) = gate(alloc, tokens, end + 1, depth)?;
@@ -126,7 +126,7 @@ pub fn gates(alloc: Global, tokens: &[Token], at: usize, depth: u32) -> Read<Ite
     let (kind, next) = gate_word(tokens, at)?;
     let (delay, next) = delay_if(alloc, tokens, next, depth)?;
     let (list, semicolon) = gate_list(alloc, tokens, next, depth)?;
-    let end = expect(tokens, Mark::Semicolon, semicolon)?;
+    let end = expect(tokens, Terminal::Semicolon, semicolon)?;
     let site = site_of(tokens, at, end);
     Ok((nodes::gates(site, kind, delay, list), end))
 }

@@ -15,7 +15,7 @@ use crate::types::{direction, is_direction, is_output_reg, net_if, parameter_typ
 use std::alloc::Global;
 use v_lexer::types::Token;
 use v_tree::{
-    Expr, Fault, HeaderParameter, Mark, Port, Ports, Stop, expect, mark_at, no_place, site_of,
+    Expr, Fault, HeaderParameter, Port, Ports, Stop, Terminal, expect, mark_at, no_place, site_of,
     stands,
 };
 
@@ -26,7 +26,7 @@ fn parameter_word(tokens: &[Token], at: usize) -> Read<bool>
     ensures gives { Gives as_is result (parameter_word_at tokens.now at) }
     ensures inside { IfOk result (Inside tokens.now) }
 {
-    if stands(tokens, at, Mark::Parameter) {
+    if stands(tokens, at, Terminal::Parameter) {
         return Ok((true, at + 1));
     }
     Ok((false, at))
@@ -43,7 +43,7 @@ fn header_parameter(alloc: Global, tokens: &[Token], at: usize, depth: u32) -> R
     let (opens, next) = parameter_word(tokens, at)?;
     let (type_of, next) = parameter_type(alloc, tokens, next, depth)?;
     let (name, equals) = name(alloc, tokens, next)?;
-    let next = expect(tokens, Mark::Equals, equals)?;
+    let next = expect(tokens, Terminal::Equals, equals)?;
     let (value, end) = value(alloc, tokens, next, depth)?;
     let site = site_of(tokens, at, end);
     let parameter = HeaderParameter {
@@ -73,7 +73,7 @@ fn listed_parameters(
     let (first, mut end) = header_parameter(alloc, tokens, at, depth)?;
     list.push(first)?;
     for _ in 0..tokens.len() {
-        if !stands(tokens, end, Mark::Comma) {
+        if !stands(tokens, end, Terminal::Comma) {
             return Ok((list, end));
         }
         let (part, next) = header_parameter(alloc, tokens, end + 1, depth)?;
@@ -96,11 +96,11 @@ fn parameters_behind(
     ensures gives { Gives seen_header_parameters result (parameters_behind_at tokens.now depth at) }
     ensures inside { IfOk result (Inside tokens.now) }
 {
-    if !stands(tokens, at, Mark::Parameter) {
+    if !stands(tokens, at, Terminal::Parameter) {
         return Err(Stop::Fault(no_place(tokens, at)));
     }
     let (list, close) = listed_parameters(alloc, tokens, at, depth)?;
-    let end = expect(tokens, Mark::Close, close)?;
+    let end = expect(tokens, Terminal::Close, close)?;
     Ok((list, end))
 }
 
@@ -117,11 +117,11 @@ pub fn header_parameters(
     ensures gives { Gives seen_header_parameters result (header_parameters_at tokens.now depth at) }
     ensures inside { IfOk result (Inside tokens.now) }
 {
-    if !stands(tokens, at, Mark::Hash) {
+    if !stands(tokens, at, Terminal::Hash) {
         return Ok((Vec::new(alloc), at));
     }
-    let next = expect(tokens, Mark::Hash, at)?;
-    let first = expect(tokens, Mark::Open, next)?;
+    let next = expect(tokens, Terminal::Hash, at)?;
+    let first = expect(tokens, Terminal::Open, next)?;
     parameters_behind(alloc, tokens, first, depth)
 }
 
@@ -136,7 +136,7 @@ fn value_of(alloc: Global, tokens: &[Token], at: usize, depth: u32, reg: bool) -
     if reg {
         return value_if(alloc, tokens, at, depth);
     }
-    if stands(tokens, at, Mark::Equals) {
+    if stands(tokens, at, Terminal::Equals) {
         return Err(Stop::Fault(Fault::Unsupported(at)));
     }
     Ok((None, at))
@@ -156,7 +156,7 @@ fn port_value(
     ensures gives { Gives seen_value_if result (port_value_at tokens.now depth reg at) }
     ensures inside { IfOk result (Inside tokens.now) }
 {
-    if stands(tokens, at, Mark::OpenBracket) {
+    if stands(tokens, at, Terminal::OpenBracket) {
         return Err(Stop::Fault(Fault::Unsupported(at)));
     }
     value_of(alloc, tokens, at, depth, reg)
@@ -205,7 +205,7 @@ fn next_port(alloc: Global, tokens: &[Token], at: usize, depth: u32, reg: bool) 
     ensures gives { Gives seen_port result (next_port_at tokens.now depth reg at) }
     ensures inside { IfOk result (Inside tokens.now) }
 {
-    let next = expect(tokens, Mark::Comma, at)?;
+    let next = expect(tokens, Terminal::Comma, at)?;
     if is_direction(mark_at(tokens, next)) {
         return declared_port(alloc, tokens, next, depth);
     }
@@ -225,7 +225,7 @@ fn ports(alloc: Global, tokens: &[Token], at: usize, depth: u32, first: Port) ->
     let mut end = at;
     list.push(first)?;
     for _ in 0..tokens.len() {
-        if stands(tokens, end, Mark::Close) {
+        if stands(tokens, end, Terminal::Close) {
             return Ok((list, end + 1));
         }
         let (part, next) = next_port(alloc, tokens, end, depth, reg)?;
@@ -258,10 +258,10 @@ fn name_list(alloc: Global, tokens: &[Token], at: usize) -> Read<Ports>
     ensures inside { IfOk result (Inside tokens.now) }
 {
     let (names, close) = identifiers(alloc, tokens, at)?;
-    if stands(tokens, close, Mark::Equals) {
+    if stands(tokens, close, Terminal::Equals) {
         return Err(Stop::Fault(Fault::Unsupported(close)));
     }
-    let end = expect(tokens, Mark::Close, close)?;
+    let end = expect(tokens, Terminal::Close, close)?;
     Ok((nodes::name_ports(names), end))
 }
 
@@ -273,7 +273,7 @@ fn ports_behind(alloc: Global, tokens: &[Token], at: usize, depth: u32) -> Read<
     ensures gives { Gives seen_ports result (ports_behind_at tokens.now depth at) }
     ensures inside { IfOk result (Inside tokens.now) }
 {
-    if stands(tokens, at, Mark::Close) {
+    if stands(tokens, at, Terminal::Close) {
         return Ok((Ports::None, at + 1));
     }
     if is_direction(mark_at(tokens, at)) {
@@ -290,9 +290,9 @@ pub fn header_ports(alloc: Global, tokens: &[Token], at: usize, depth: u32) -> R
     ensures gives { Gives seen_ports result (header_ports_at tokens.now depth at) }
     ensures inside { IfOk result (Inside tokens.now) }
 {
-    if !stands(tokens, at, Mark::Open) {
+    if !stands(tokens, at, Terminal::Open) {
         return Ok((Ports::None, at));
     }
-    let next = expect(tokens, Mark::Open, at)?;
+    let next = expect(tokens, Terminal::Open, at)?;
     ports_behind(alloc, tokens, next, depth)
 }

@@ -16,22 +16,22 @@ use loc_base::Name;
 use std::alloc::Global;
 use v_lexer::types::Token;
 use v_tree::{
-    AssignKind, Fault, Mark, Statement, Stop, expect, lower, mark_at, no_place, site_of, stands,
+    AssignKind, Fault, Statement, Stop, Terminal, expect, lower, mark_at, no_place, site_of, stands,
 };
 
 /// A form that another statement has.
-fn is_left_out(mark: Mark) -> bool
+fn is_left_out(mark: Terminal) -> bool
     ensures { result ≡ is_left_out mark }
 {
     matches!(
         mark,
-        Mark::Semicolon
-            | Mark::Hash
-            | Mark::If
-            | Mark::Case
-            | Mark::Casez
-            | Mark::For
-            | Mark::OpenBrace
+        Terminal::Semicolon
+            | Terminal::Hash
+            | Terminal::If
+            | Terminal::Case
+            | Terminal::Casez
+            | Terminal::For
+            | Terminal::OpenBrace
     )
 }
 
@@ -53,7 +53,7 @@ fn initial_value(
     ensures inside { IfOk result (Inside tokens.now) }
 {
     let (value, semicolon) = value(alloc, tokens, at, depth)?;
-    let end = expect(tokens, Mark::Semicolon, semicolon)?;
+    let end = expect(tokens, Terminal::Semicolon, semicolon)?;
     let target = bare(alloc, site_of(tokens, from, behind), name);
     let site = site_of(tokens, from, end);
     Ok((
@@ -78,14 +78,14 @@ fn initial_equals(
     ensures gives { Gives seen_statement result (initial_equals_at tokens.now depth from name at) }
     ensures inside { IfOk result (Inside tokens.now) }
 {
-    if stands(tokens, at, Mark::OpenBracket) {
+    if stands(tokens, at, Terminal::OpenBracket) {
         return Err(Stop::Fault(Fault::Unsupported(at)));
     }
-    if stands(tokens, at, Mark::LessEqual) {
+    if stands(tokens, at, Terminal::LessEqual) {
         return Err(Stop::Fault(Fault::Unsupported(at)));
     }
-    let next = expect(tokens, Mark::Equals, at)?;
-    if stands(tokens, next, Mark::Hash) {
+    let next = expect(tokens, Terminal::Equals, at)?;
+    if stands(tokens, next, Terminal::Hash) {
         return Err(Stop::Fault(Fault::Unsupported(next)));
     }
     initial_value(alloc, tokens, from, name, at, next, depth)
@@ -112,7 +112,7 @@ pub fn initial(alloc: Global, tokens: &[Token], at: usize, depth: u32) -> Read<S
     ensures gives { Gives seen_statement result (initial_at tokens.now depth at) }
     ensures inside { IfOk result (Inside tokens.now) }
 {
-    if stands(tokens, at, Mark::Begin) {
+    if stands(tokens, at, Terminal::Begin) {
         return initial_block(alloc, tokens, at, depth);
     }
     if is_left_out(mark_at(tokens, at)) {
@@ -148,7 +148,7 @@ fn initials(alloc: Global, tokens: &[Token], at: usize, depth: u32) -> Read<Vec<
     let mut list = Vec::new(alloc);
     let mut end = at;
     for _ in 0..tokens.len() {
-        if stands(tokens, end, Mark::End) {
+        if stands(tokens, end, Terminal::End) {
             return Ok((list, end + 1));
         }
         let (part, next) = initial(alloc, tokens, end, depth)?;

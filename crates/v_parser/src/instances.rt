@@ -1,7 +1,7 @@
 //! Module instances (IEEE 1364-2005, 12.1.2, 12.2, 12.3 and A.4.1).
 ghost use Rattle.std.specs.Prelude.{◌≡◌, ◌<◌, ◌≤◌, ◌^◌, [], length, IfOk};
 ghost use Rattle.v_tree.specs.Faults.{Gives};
-ghost use Rattle.v_tree.specs.declared.mark.Mark.TheVariants as marks;
+ghost use Rattle.v_lexer.specs.declared.types.terminal.Terminal.TheVariants as marks;
 ghost use Rattle.v_parser.specs.Seen.{seen_value_if, Inside};
 ghost use Rattle.v_parser.specs.ItemSeen.{seen_item};
 ghost use Rattle.v_parser.specs.Reading.{optional_at, list_at};
@@ -15,14 +15,14 @@ use crate::structure_nodes as nodes;
 use std::alloc::Global;
 use v_lexer::types::Token;
 use v_tree::{
-    Connections, Expr, Instance, Item, Mark, NamedConnection, expect, mark_at, site_of, stands,
+    Connections, Expr, Instance, Item, NamedConnection, Terminal, expect, mark_at, site_of, stands,
 };
 
 /// What stands behind a connection, and where one is left out.
-fn ends_connection(mark: Mark) -> bool
+fn ends_connection(mark: Terminal) -> bool
     ensures { result ≡ ends_connection mark }
 {
-    matches!(mark, Mark::Comma | Mark::Close)
+    matches!(mark, Terminal::Comma | Terminal::Close)
 }
 
 /// `expr?`, nothing where a comma or a `)` stands.
@@ -52,7 +52,7 @@ fn ordered_list(alloc: Global, tokens: &[Token], at: usize, depth: u32) -> Read<
     let (first, mut end) = connection(alloc, tokens, at, depth)?;
     list.push(first)?;
     for _ in 0..tokens.len() {
-        if !stands(tokens, end, Mark::Comma) {
+        if !stands(tokens, end, Terminal::Comma) {
             return Ok((list, end));
         }
         let (part, next) = connection(alloc, tokens, end + 1, depth)?;
@@ -82,11 +82,11 @@ fn named_connection(alloc: Global, tokens: &[Token], at: usize, depth: u32) -> R
     ensures gives { Gives seen_connection result (named_connection_at tokens.now depth at) }
     ensures inside { IfOk result (Inside tokens.now) }
 {
-    let dot = expect(tokens, Mark::Dot, at)?;
+    let dot = expect(tokens, Terminal::Dot, at)?;
     let (name, open) = name(alloc, tokens, dot)?;
-    let next = expect(tokens, Mark::Open, open)?;
+    let next = expect(tokens, Terminal::Open, open)?;
     let (value, close) = connection(alloc, tokens, next, depth)?;
-    let end = expect(tokens, Mark::Close, close)?;
+    let end = expect(tokens, Terminal::Close, close)?;
     let site = site_of(tokens, at, end);
     Ok((NamedConnection { site, name, value }, end))
 }
@@ -103,7 +103,7 @@ fn named_list(alloc: Global, tokens: &[Token], at: usize, depth: u32) -> Read<Ve
     let (first, mut end) = named_connection(alloc, tokens, at, depth)?;
     list.push(first)?;
     for _ in 0..tokens.len() {
-        if !stands(tokens, end, Mark::Comma) {
+        if !stands(tokens, end, Terminal::Comma) {
             return Ok((list, end));
         }
         let (part, next) = named_connection(alloc, tokens, end + 1, depth)?;
@@ -141,10 +141,10 @@ fn connections(alloc: Global, tokens: &[Token], at: usize, depth: u32) -> Read<C
     ensures gives { Gives seen_connections result (connections_at tokens.now depth at) }
     ensures inside { IfOk result (Inside tokens.now) }
 {
-    if stands(tokens, at, Mark::Close) {
+    if stands(tokens, at, Terminal::Close) {
         return Ok((unconnected(alloc), at));
     }
-    if stands(tokens, at, Mark::Dot) {
+    if stands(tokens, at, Terminal::Dot) {
         return by_name(alloc, tokens, at, depth);
     }
     by_order(alloc, tokens, at, depth)
@@ -158,9 +158,9 @@ fn connected(alloc: Global, tokens: &[Token], at: usize, depth: u32) -> Read<Con
     ensures gives { Gives seen_connections result (connected_at tokens.now depth at) }
     ensures inside { IfOk result (Inside tokens.now) }
 {
-    let next = expect(tokens, Mark::Open, at)?;
+    let next = expect(tokens, Terminal::Open, at)?;
     let (list, close) = connections(alloc, tokens, next, depth)?;
-    let end = expect(tokens, Mark::Close, close)?;
+    let end = expect(tokens, Terminal::Close, close)?;
     Ok((list, end))
 }
 
@@ -172,10 +172,10 @@ fn overrides_if(alloc: Global, tokens: &[Token], at: usize, depth: u32) -> Read<
     ensures gives { Gives seen_connections_if result (optional_at tokens.now marks.Hash (overrides_at tokens.now depth) at) }
     ensures inside { IfOk result (Inside tokens.now) }
 {
-    if !stands(tokens, at, Mark::Hash) {
+    if !stands(tokens, at, Terminal::Hash) {
         return Ok((None, at));
     }
-    let next = expect(tokens, Mark::Hash, at)?;
+    let next = expect(tokens, Terminal::Hash, at)?;
     let (list, end) = connected(alloc, tokens, next, depth)?;
     Ok((Some(list), end))
 }
@@ -213,7 +213,7 @@ fn instance_list(alloc: Global, tokens: &[Token], at: usize, depth: u32) -> Read
     let (first, mut end) = instance(alloc, tokens, at, depth)?;
     list.push(first)?;
     for _ in 0..tokens.len() {
-        if !stands(tokens, end, Mark::Comma) {
+        if !stands(tokens, end, Terminal::Comma) {
             return Ok((list, end));
         }
         let (part, next) = instance(alloc, tokens, end + 1, depth)?;
@@ -234,7 +234,7 @@ pub fn instances(alloc: Global, tokens: &[Token], at: usize, depth: u32) -> Read
     let (module, next) = name(alloc, tokens, at)?;
     let (parameters, next) = overrides_if(alloc, tokens, next, depth)?;
     let (list, semicolon) = instance_list(alloc, tokens, next, depth)?;
-    let end = expect(tokens, Mark::Semicolon, semicolon)?;
+    let end = expect(tokens, Terminal::Semicolon, semicolon)?;
     let site = site_of(tokens, at, end);
     Ok((nodes::instances(site, module, parameters, list), end))
 }

@@ -2,7 +2,7 @@
 ghost use Rattle.std.specs.Prelude.{◌≡◌};
 ghost use Rattle.v_parser.specs.ItemKinds.{item_kind};
 
-use v_tree::Mark;
+use v_tree::Terminal;
 
 /// The chapters of items.
 #[derive(Clone, Copy, Debug, PartialEq, Eq)]
@@ -20,30 +20,30 @@ pub enum ItemKind {
 }
 
 /// The chapter of the items that begin with a token of that mark.
-pub fn item_kind(mark: Mark) -> ItemKind
+pub fn item_kind(mark: Terminal) -> ItemKind
     ensures { result ≡ item_kind mark }
 {
     match mark {
-        Mark::Input
-        | Mark::Output
-        | Mark::Wire
-        | Mark::Reg
-        | Mark::Integer
-        | Mark::Genvar
-        | Mark::Parameter
-        | Mark::Localparam => ItemKind::Declaration,
-        Mark::Assign
-        | Mark::And
-        | Mark::Or
-        | Mark::Nand
-        | Mark::Nor
-        | Mark::Xor
-        | Mark::Xnor
-        | Mark::Buf
-        | Mark::Not
-        | Mark::Name => ItemKind::Structure,
-        Mark::Always | Mark::Initial => ItemKind::Procedure,
-        Mark::Generate | Mark::For | Mark::If => ItemKind::Generated,
+        Terminal::Input
+        | Terminal::Output
+        | Terminal::Wire
+        | Terminal::Reg
+        | Terminal::Integer
+        | Terminal::Genvar
+        | Terminal::Parameter
+        | Terminal::Localparam => ItemKind::Declaration,
+        Terminal::Assign
+        | Terminal::And
+        | Terminal::Or
+        | Terminal::Nand
+        | Terminal::Nor
+        | Terminal::Xor
+        | Terminal::Xnor
+        | Terminal::Buf
+        | Terminal::Not
+        | Terminal::Name => ItemKind::Structure,
+        Terminal::Always | Terminal::Initial => ItemKind::Procedure,
+        Terminal::Generate | Terminal::For | Terminal::If => ItemKind::Generated,
         _ => ItemKind::Nothing,
     }
 }

@@ -1,7 +1,7 @@
 //! The items of a module (IEEE 1364-2005, 12.4, A.1.4 and A.4.2).
 ghost use Rattle.std.specs.Prelude.{◌≡◌, ◌≢◌, ◌+◌, ◌<◌, ◌≤◌, ◌^◌, length, IfOk};
 ghost use Rattle.v_tree.specs.Faults.{Gives};
-ghost use Rattle.v_tree.specs.declared.mark.Mark.TheVariants as marks;
+ghost use Rattle.v_lexer.specs.declared.types.terminal.Terminal.TheVariants as marks;
 ghost use Rattle.v_parser.specs.Seen.{Inside};
 ghost use Rattle.v_parser.specs.ItemSeen.{seen_item, seen_items};
 ghost use Rattle.v_parser.specs.BlockSeen.{seen_block};
@@ -16,7 +16,9 @@ use crate::statement_parts::{in_parens, label_if, loop_head};
 use crate::structures::structure;
 use std::alloc::Global;
 use v_lexer::types::Token;
-use v_tree::{GenerateBlock, Item, Mark, Stop, expect, lower, mark_at, no_place, site_of, stands};
+use v_tree::{
+    GenerateBlock, Item, Stop, Terminal, expect, lower, mark_at, no_place, site_of, stands,
+};
 
 /// An item, where nesting of `depth` is left to it.
 #[tactic(auto, using(crate::proofs::ItemSteps::item_over), unfolding(crate::specs::ItemReading::item_with))]
@@ -45,13 +47,13 @@ fn generated(alloc: Global, tokens: &[Token], at: usize, depth: u32) -> Read<Ite
     ensures gives { Gives seen_item result (generated_at tokens.now depth (item_below tokens.now depth) at) }
     ensures inside { IfOk result (Inside tokens.now) }
 {
-    if stands(tokens, at, Mark::Generate) {
+    if stands(tokens, at, Terminal::Generate) {
         return generate(alloc, tokens, at, depth);
     }
-    if stands(tokens, at, Mark::For) {
+    if stands(tokens, at, Terminal::For) {
         return generate_for(alloc, tokens, at, depth);
     }
-    if stands(tokens, at, Mark::If) {
+    if stands(tokens, at, Terminal::If) {
         return generate_if(alloc, tokens, at, depth);
     }
     Err(Stop::Fault(no_place(tokens, at)))
@@ -60,7 +62,13 @@ fn generated(alloc: Global, tokens: &[Token], at: usize, depth: u32) -> Read<Ite
 /// `item*`, and the token that ends them.
 #[tactic(auto, unfolding(crate::specs::ItemReading::items_at))]
 #[cycle(item)]
-pub fn items(alloc: Global, tokens: &[Token], at: usize, depth: u32, last: Mark) -> Read<Vec<Item>>
+pub fn items(
+    alloc: Global,
+    tokens: &[Token],
+    at: usize,
+    depth: u32,
+    last: Terminal,
+) -> Read<Vec<Item>>
     requires short { length tokens.now < 2 ^ 32 }
     requires inside { at ≤ length tokens.now }
     requires some { last ≢ marks.Nothing }
@@ -90,7 +98,7 @@ fn generate(alloc: Global, tokens: &[Token], at: usize, depth: u32) -> Read<Item
     ensures inside { IfOk result (Inside tokens.now) }
 {
     let depth = lower(depth, at)?;
-    let (items, end) = items(alloc, tokens, at + 1, depth, Mark::Endgenerate)?;
+    let (items, end) = items(alloc, tokens, at + 1, depth, Terminal::Endgenerate)?;
     Ok((nodes::generate(site_of(tokens, at, end), items), end))
 }
 
@@ -103,9 +111,9 @@ fn several(alloc: Global, tokens: &[Token], at: usize, depth: u32) -> Read<Gener
     ensures gives { Gives seen_block result (several_at tokens.now (item_at tokens.now depth) at) }
     ensures inside { IfOk result (Inside tokens.now) }
 {
-    let next = expect(tokens, Mark::Begin, at)?;
+    let next = expect(tokens, Terminal::Begin, at)?;
     let (label, next) = label_if(alloc, tokens, next)?;
-    let (items, end) = items(alloc, tokens, next, depth, Mark::End)?;
+    let (items, end) = items(alloc, tokens, next, depth, Terminal::End)?;
     Ok((nodes::block(site_of(tokens, at, end), label, items), end))
 }
 
@@ -131,7 +139,7 @@ fn block(alloc: Global, tokens: &[Token], at: usize, depth: u32) -> Read<Generat
     ensures gives { Gives seen_block result (block_item_at tokens.now (item_at tokens.now depth) at) }
     ensures inside { IfOk result (Inside tokens.now) }
 {
-    if stands(tokens, at, Mark::Begin) {
+    if stands(tokens, at, Terminal::Begin) {
         return several(alloc, tokens, at, depth);
     }
     single(alloc, tokens, at, depth)
@@ -164,7 +172,7 @@ fn generate_if(alloc: Global, tokens: &[Token], at: usize, depth: u32) -> Read<I
     let depth = lower(depth, at)?;
     let (condition, next) = in_parens(alloc, tokens, at + 1, depth)?;
     let (first, end) = block(alloc, tokens, next, depth)?;
-    if !stands(tokens, end, Mark::Else) {
+    if !stands(tokens, end, Terminal::Else) {
         let site = site_of(tokens, at, end);
         return Ok((nodes::if_then(site, condition, first), end));
     }

@@ -11,7 +11,7 @@ use crate::names::{Read, name};
 use loc_base::Name;
 use std::alloc::Global;
 use v_lexer::types::Token;
-use v_tree::{Left, Mark, Select, Site, expect, lower, selects, site_of, stands};
+use v_tree::{Left, Select, Site, Terminal, expect, lower, selects, site_of, stands};
 
 /// Levels for the indexes of a left side or an event, each of which is an expression of its own.
 pub const INDEX_LEVELS: u32 = 4097;
@@ -65,7 +65,7 @@ fn close_left(tokens: &[Token], from: usize, parts: Vec<Left>, at: usize) -> Rea
     ensures gives { Gives seen_left result (close_left_at tokens.now from (map left_of parts.items) at) }
     ensures inside { IfOk result (Inside tokens.now) }
 {
-    let end = expect(tokens, Mark::CloseBrace, at)?;
+    let end = expect(tokens, Terminal::CloseBrace, at)?;
     let site = site_of(tokens, from, end);
     Ok((concat(site, parts), end))
 }
@@ -79,7 +79,7 @@ pub fn left(alloc: Global, tokens: &[Token], at: usize, depth: u32) -> Read<Left
     ensures gives { Gives seen_left result (left_at tokens.now depth at) }
     ensures inside { IfOk result (Inside tokens.now) }
 {
-    if stands(tokens, at, Mark::OpenBrace) {
+    if stands(tokens, at, Terminal::OpenBrace) {
         return left_concat(alloc, tokens, at, depth);
     }
     name_left(alloc, tokens, at, depth)
@@ -112,7 +112,7 @@ fn lefts(alloc: Global, tokens: &[Token], at: usize, depth: u32) -> Read<Vec<Lef
     let (first, mut end) = left(alloc, tokens, at, depth)?;
     parts.push(first)?;
     for _ in 0..tokens.len() {
-        if !stands(tokens, end, Mark::Comma) {
+        if !stands(tokens, end, Terminal::Comma) {
             return Ok((parts, end));
         }
         let (part, next) = left(alloc, tokens, end + 1, depth)?;

@@ -7,7 +7,7 @@ ghost use Rattle.v_parser.specs.Reading.{identifier_at, value_at, named_value_at
 use crate::names::{Read, identifier, name, value};
 use std::alloc::Global;
 use v_lexer::types::Token;
-use v_tree::{Expr, Identifier, Mark, NamedValue, expect, site_of, stands};
+use v_tree::{Expr, Identifier, NamedValue, Terminal, expect, site_of, stands};
 
 /// `NAME,+`
 #[tactic(auto, unfolding(crate::specs::Reading::list_at))]
@@ -21,7 +21,7 @@ pub fn identifiers(alloc: Global, tokens: &[Token], at: usize) -> Read<Vec<Ident
     let (first, mut end) = identifier(alloc, tokens, at)?;
     list.push(first)?;
     for _ in 0..tokens.len() {
-        if !stands(tokens, end, Mark::Comma) {
+        if !stands(tokens, end, Terminal::Comma) {
             return Ok((list, end));
         }
         let (part, next) = identifier(alloc, tokens, end + 1)?;
@@ -43,7 +43,7 @@ pub fn values(alloc: Global, tokens: &[Token], at: usize, depth: u32) -> Read<Ve
     let (first, mut end) = value(alloc, tokens, at, depth)?;
     list.push(first)?;
     for _ in 0..tokens.len() {
-        if !stands(tokens, end, Mark::Comma) {
+        if !stands(tokens, end, Terminal::Comma) {
             return Ok((list, end));
         }
         let (part, next) = value(alloc, tokens, end + 1, depth)?;
@@ -62,7 +62,7 @@ pub fn named_value(alloc: Global, tokens: &[Token], at: usize, depth: u32) -> Re
     ensures inside { IfOk result (Inside tokens.now) }
 {
     let (name, equals) = name(alloc, tokens, at)?;
-    let next = expect(tokens, Mark::Equals, equals)?;
+    let next = expect(tokens, Terminal::Equals, equals)?;
     let (value, end) = value(alloc, tokens, next, depth)?;
     let site = site_of(tokens, at, end);
     Ok((NamedValue { site, name, value }, end))
@@ -80,7 +80,7 @@ pub fn named_values(alloc: Global, tokens: &[Token], at: usize, depth: u32) -> R
     let (first, mut end) = named_value(alloc, tokens, at, depth)?;
     list.push(first)?;
     for _ in 0..tokens.len() {
-        if !stands(tokens, end, Mark::Comma) {
+        if !stands(tokens, end, Terminal::Comma) {
             return Ok((list, end));
         }
         let (part, next) = named_value(alloc, tokens, end + 1, depth)?;

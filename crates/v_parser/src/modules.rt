@@ -10,7 +10,7 @@ use crate::items::items;
 use crate::names::{Read, name};
 use std::alloc::Global;
 use v_lexer::types::Token;
-use v_tree::{Mark, Module, expect, site_of};
+use v_tree::{Module, Terminal, expect, site_of};
 
 /// How deep each part of a module may nest.
 const MOST_NESTING: u32 = 256;
@@ -23,12 +23,12 @@ fn module(alloc: Global, tokens: &[Token], at: usize, depth: u32) -> Read<Module
     ensures gives { Gives seen_module result (module_at tokens.now depth at) }
     ensures inside { IfOk result (Inside tokens.now) }
 {
-    let next = expect(tokens, Mark::Module, at)?;
+    let next = expect(tokens, Terminal::Module, at)?;
     let (name, next) = name(alloc, tokens, next)?;
     let (parameters, next) = header_parameters(alloc, tokens, next, depth)?;
     let (ports, semicolon) = header_ports(alloc, tokens, next, depth)?;
-    let next = expect(tokens, Mark::Semicolon, semicolon)?;
-    let (items, end) = items(alloc, tokens, next, depth, Mark::Endmodule)?;
+    let next = expect(tokens, Terminal::Semicolon, semicolon)?;
+    let (items, end) = items(alloc, tokens, next, depth, Terminal::Endmodule)?;
     let site = site_of(tokens, at, end);
     let module = Module {
         site,

@@ -2,7 +2,7 @@
 ghost use Rattle.std.specs.Prelude.{◌≡◌, ◌+◌, ◌<◌, ◌≤◌, ◌^◌, length, IfOk};
 ghost use Rattle.v_tree.specs.Faults.{Gives};
 ghost use Rattle.v_tree.specs.Marks.{mark_at};
-ghost use Rattle.v_tree.specs.declared.mark.Mark.TheVariants as marks;
+ghost use Rattle.v_lexer.specs.declared.types.terminal.Terminal.TheVariants as marks;
 ghost use Rattle.v_parser.specs.Seen.{as_is, seen_value, seen_value_if, seen_range, seen_range_if, seen_delay, seen_delay_if, Inside};
 ghost use Rattle.v_parser.specs.Reading.{name_at, identifier_at, value_at, equals_at, range_at, parens_delay_at, number_delay_at, name_delay_at, delay_at, optional_at};
 
@@ -10,8 +10,8 @@ use loc_base::Name;
 use std::alloc::Global;
 use v_lexer::types::Token;
 use v_tree::{
-    Delay, Expr, Fault, Identifier, Mark, Range, Stop, expect, lower, name_of, no_place, number_of,
-    read_expression, site_of, stands,
+    Delay, Expr, Fault, Identifier, Range, Stop, Terminal, expect, lower, name_of, no_place,
+    number_of, read_expression, site_of, stands,
 };
 
 /// A part of the tree, and the place behind its tokens.
@@ -23,7 +23,7 @@ pub fn name(alloc: Global, tokens: &[Token], at: usize) -> Read<Name>
     ensures gives { Gives as_is result (name_at tokens.now at) }
     ensures inside { IfOk result (Inside tokens.now) }
 {
-    if !stands(tokens, at, Mark::Name) {
+    if !stands(tokens, at, Terminal::Name) {
         return Err(Stop::Fault(no_place(tokens, at)));
     }
     Ok((name_of(alloc, tokens, at)?, at + 1))
@@ -49,7 +49,7 @@ pub fn value(alloc: Global, tokens: &[Token], at: usize, depth: u32) -> Read<Exp
     ensures gives { Gives seen_value result (value_at tokens.now depth at) }
     ensures inside { IfOk result (Inside tokens.now) }
 {
-    if stands(tokens, at, Mark::Wild) {
+    if stands(tokens, at, Terminal::Wild) {
         return Err(Stop::Fault(Fault::Unsupported(at)));
     }
     let found = read_expression(alloc, tokens, at, depth)?;
@@ -64,10 +64,10 @@ pub fn value_if(alloc: Global, tokens: &[Token], at: usize, depth: u32) -> Read<
     ensures gives { Gives seen_value_if result (optional_at tokens.now marks.Equals (equals_at tokens.now depth) at) }
     ensures inside { IfOk result (Inside tokens.now) }
 {
-    if !stands(tokens, at, Mark::Equals) {
+    if !stands(tokens, at, Terminal::Equals) {
         return Ok((None, at));
     }
-    let next = expect(tokens, Mark::Equals, at)?;
+    let next = expect(tokens, Terminal::Equals, at)?;
     let (value, end) = value(alloc, tokens, next, depth)?;
     Ok((Some(value), end))
 }
@@ -82,9 +82,9 @@ pub fn range(alloc: Global, tokens: &[Token], at: usize, depth: u32) -> Read<Ran
 {
     let depth = lower(depth, at)?;
     let (left, colon) = value(alloc, tokens, at + 1, depth)?;
-    let next = expect(tokens, Mark::Colon, colon)?;
+    let next = expect(tokens, Terminal::Colon, colon)?;
     let (right, close) = value(alloc, tokens, next, depth)?;
-    let end = expect(tokens, Mark::CloseBracket, close)?;
+    let end = expect(tokens, Terminal::CloseBracket, close)?;
     let site = site_of(tokens, at, end);
     Ok((Range { site, left, right }, end))
 }
@@ -97,7 +97,7 @@ pub fn range_if(alloc: Global, tokens: &[Token], at: usize, depth: u32) -> Read<
     ensures gives { Gives seen_range_if result (optional_at tokens.now marks.OpenBracket (range_at tokens.now depth) at) }
     ensures inside { IfOk result (Inside tokens.now) }
 {
-    if !stands(tokens, at, Mark::OpenBracket) {
+    if !stands(tokens, at, Terminal::OpenBracket) {
         return Ok((None, at));
     }
     let (range, end) = range(alloc, tokens, at, depth)?;
@@ -115,7 +115,7 @@ fn parens_delay(alloc: Global, tokens: &[Token], from: usize, at: usize, depth: 
 {
     let depth = lower(depth, at)?;
     let (value, close) = value(alloc, tokens, at + 1, depth)?;
-    let end = expect(tokens, Mark::Close, close)?;
+    let end = expect(tokens, Terminal::Close, close)?;
     let site = site_of(tokens, from, end);
     Ok((Delay::Parens { site, value }, end))
 }
@@ -156,11 +156,11 @@ pub fn delay(alloc: Global, tokens: &[Token], at: usize, depth: u32) -> Read<Del
     ensures gives { Gives seen_delay result (delay_at tokens.now depth at) }
     ensures inside { IfOk result (Inside tokens.now) }
 {
-    let first = expect(tokens, Mark::Hash, at)?;
-    if stands(tokens, first, Mark::Number) {
+    let first = expect(tokens, Terminal::Hash, at)?;
+    if stands(tokens, first, Terminal::Number) {
         return number_delay(alloc, tokens, at, first);
     }
-    if stands(tokens, first, Mark::Open) {
+    if stands(tokens, first, Terminal::Open) {
         return parens_delay(alloc, tokens, at, first, depth);
     }
     name_delay(alloc, tokens, at, first)
@@ -173,7 +173,7 @@ pub fn delay_if(alloc: Global, tokens: &[Token], at: usize, depth: u32) -> Read<
     ensures gives { Gives seen_delay_if result (optional_at tokens.now marks.Hash (delay_at tokens.now depth) at) }
     ensures inside { IfOk result (Inside tokens.now) }
 {
-    if !stands(tokens, at, Mark::Hash) {
+    if !stands(tokens, at, Terminal::Hash) {
         return Ok((None, at));
     }
     let (delay, end) = delay(alloc, tokens, at, depth)?;

@@ -11,7 +11,7 @@ use crate::statements::statement;
 use crate::{initials, procedure_nodes as nodes};
 use std::alloc::Global;
 use v_lexer::types::Token;
-use v_tree::{Item, Mark, expect, site_of, stands};
+use v_tree::{Item, Terminal, expect, site_of, stands};
 
 /// `'always' '@' sens stmt`
 #[tactic(auto, unfolding(crate::specs::ProcedureReading::always_at))]
@@ -21,8 +21,8 @@ fn always(alloc: Global, tokens: &[Token], at: usize, depth: u32) -> Read<Item>
     ensures gives { Gives seen_item result (always_at tokens.now depth at) }
     ensures inside { IfOk result (Inside tokens.now) }
 {
-    let next = expect(tokens, Mark::Always, at)?;
-    let next = expect(tokens, Mark::At, next)?;
+    let next = expect(tokens, Terminal::Always, at)?;
+    let next = expect(tokens, Terminal::At, next)?;
     let (events, next) = sensitivity(alloc, tokens, next, depth)?;
     let (body, end) = statement(alloc, tokens, next, depth)?;
     let site = site_of(tokens, at, end);
@@ -37,7 +37,7 @@ fn initial(alloc: Global, tokens: &[Token], at: usize, depth: u32) -> Read<Item>
     ensures gives { Gives seen_item result (initial_item_at tokens.now depth at) }
     ensures inside { IfOk result (Inside tokens.now) }
 {
-    let next = expect(tokens, Mark::Initial, at)?;
+    let next = expect(tokens, Terminal::Initial, at)?;
     let (body, end) = initials::initial(alloc, tokens, next, depth)?;
     let site = site_of(tokens, at, end);
     Ok((nodes::initial(site, body), end))
@@ -51,7 +51,7 @@ pub fn procedure(alloc: Global, tokens: &[Token], at: usize, depth: u32) -> Read
     ensures gives { Gives seen_item result (procedure_at tokens.now depth at) }
     ensures inside { IfOk result (Inside tokens.now) }
 {
-    if stands(tokens, at, Mark::Always) {
+    if stands(tokens, at, Terminal::Always) {
         return always(alloc, tokens, at, depth);
     }
     initial(alloc, tokens, at, depth)

@@ -2,7 +2,7 @@
 ghost use Rattle.std.specs.Prelude.{◌≡◌, ℕ, ◌+◌, ◌<◌, ◌≤◌, ◌^◌, length, map, List, [], ◌∷◌, IfOk};
 ghost use Rattle.v_tree.specs.Faults.{Gives};
 ghost use Rattle.v_tree.specs.Marks.{mark_at};
-ghost use Rattle.v_tree.specs.declared.mark.Mark.TheVariants as marks;
+ghost use Rattle.v_lexer.specs.declared.types.terminal.Terminal.TheVariants as marks;
 ghost use Rattle.v_parser.specs.Seen.{as_is, Inside};
 ghost use Rattle.v_parser.specs.Reading.{optional_at};
 ghost use Rattle.v_parser.specs.ItemTree.{event_of};
@@ -16,7 +16,8 @@ use loc_base::NoMemory;
 use std::alloc::Global;
 use v_lexer::types::Token;
 use v_tree::{
-    Edge, Event, Fault, Mark, Select, Sensitivity, Stop, expect, no_place, select, site_of, stands,
+    Edge, Event, Fault, Select, Sensitivity, Stop, Terminal, expect, no_place, select, site_of,
+    stands,
 };
 
 /// `'posedge' | 'negedge'`
@@ -25,10 +26,10 @@ fn edge(tokens: &[Token], at: usize) -> Read<Edge>
     ensures gives { Gives as_is result (edge_at tokens.now at) }
     ensures inside { IfOk result (Inside tokens.now) }
 {
-    if stands(tokens, at, Mark::Posedge) {
+    if stands(tokens, at, Terminal::Posedge) {
         return Ok((Edge::Posedge, at + 1));
     }
-    if stands(tokens, at, Mark::Negedge) {
+    if stands(tokens, at, Terminal::Negedge) {
         return Ok((Edge::Negedge, at + 1));
     }
     Err(Stop::Fault(no_place(tokens, at)))
@@ -40,10 +41,10 @@ fn separator(tokens: &[Token], at: usize) -> Read<bool>
     ensures gives { Gives as_is result (separator_at tokens.now at) }
     ensures inside { IfOk result (Inside tokens.now) }
 {
-    if stands(tokens, at, Mark::Or) {
+    if stands(tokens, at, Terminal::Or) {
         return Ok((true, at + 1));
     }
-    if stands(tokens, at, Mark::Comma) {
+    if stands(tokens, at, Terminal::Comma) {
         return Ok((false, at + 1));
     }
     Err(Stop::Fault(no_place(tokens, at)))
@@ -71,7 +72,7 @@ fn index_if(alloc: Global, tokens: &[Token], at: usize, depth: u32) -> Read<Opti
     ensures gives { Gives seen_index_if result (optional_at tokens.now marks.OpenBracket (index_at tokens.now depth) at) }
     ensures inside { IfOk result (Inside tokens.now) }
 {
-    if !stands(tokens, at, Mark::OpenBracket) {
+    if !stands(tokens, at, Terminal::OpenBracket) {
         return Ok((None, at));
     }
     let found = select(alloc, tokens, at, depth, INDEX_LEVELS)?;
@@ -101,10 +102,10 @@ fn next_change(alloc: Global, tokens: &[Token], at: usize, depth: u32) -> Read<E
     ensures inside { IfOk result (Inside tokens.now) }
 {
     let (_is_or, next) = separator(tokens, at)?;
-    if stands(tokens, next, Mark::Posedge) {
+    if stands(tokens, next, Terminal::Posedge) {
         return Err(Stop::Fault(Fault::Unsupported(next)));
     }
-    if stands(tokens, next, Mark::Negedge) {
+    if stands(tokens, next, Terminal::Negedge) {
         return Err(Stop::Fault(Fault::Unsupported(next)));
     }
     change(alloc, tokens, next, depth)
@@ -128,7 +129,7 @@ fn more_changes(
     let mut end = at;
     list.push(first)?;
     for _ in 0..tokens.len() {
-        if stands(tokens, end, Mark::Close) {
+        if stands(tokens, end, Terminal::Close) {
             return Ok((list, end + 1));
         }
         let (part, next) = next_change(alloc, tokens, end, depth)?;
@@ -183,13 +184,13 @@ fn edges_end(tokens: &[Token], at: usize) -> Result<usize, Stop>
     ensures gives { Gives (λ n. n) result (edges_end_at tokens.now at) }
     ensures inside { IfOk result (λ n. n ≤ length tokens.now) }
 {
-    if stands(tokens, at, Mark::Or) {
+    if stands(tokens, at, Terminal::Or) {
         return Err(Stop::Fault(Fault::Unsupported(at)));
     }
-    if stands(tokens, at, Mark::Comma) {
+    if stands(tokens, at, Terminal::Comma) {
         return Err(Stop::Fault(Fault::Unsupported(at)));
     }
-    expect(tokens, Mark::Close, at)
+    expect(tokens, Terminal::Close, at)
 }
 
 /// The list of two events.
@@ -227,7 +228,7 @@ fn second_edge(alloc: Global, tokens: &[Token], first: Event, at: usize) -> Read
     ensures inside { IfOk result (Inside tokens.now) }
 {
     let (_is_or, next) = separator(tokens, at)?;
-    if stands(tokens, next, Mark::Name) {
+    if stands(tokens, next, Terminal::Name) {
         return Err(Stop::Fault(Fault::Unsupported(next)));
     }
     let (second, end) = edge_event(alloc, tokens, next)?;
@@ -243,7 +244,7 @@ fn edges(alloc: Global, tokens: &[Token], at: usize) -> Read<Vec<Event>>
     ensures inside { IfOk result (Inside tokens.now) }
 {
     let (first, next) = edge_event(alloc, tokens, at)?;
-    if stands(tokens, next, Mark::Close) {
+    if stands(tokens, next, Terminal::Close) {
         return lone_edge(alloc, tokens, first, next);
     }
     second_edge(alloc, tokens, first, next)
@@ -257,10 +258,10 @@ fn events(alloc: Global, tokens: &[Token], at: usize, depth: u32) -> Read<Vec<Ev
     ensures gives { Gives seen_events result (events_at tokens.now depth at) }
     ensures inside { IfOk result (Inside tokens.now) }
 {
-    if stands(tokens, at, Mark::Posedge) {
+    if stands(tokens, at, Terminal::Posedge) {
         return edges(alloc, tokens, at);
     }
-    if stands(tokens, at, Mark::Negedge) {
+    if stands(tokens, at, Terminal::Negedge) {
         return edges(alloc, tokens, at);
     }
     changes(alloc, tokens, at, depth)
@@ -288,7 +289,7 @@ fn star_close(tokens: &[Token], from: usize, at: usize) -> Read<Sensitivity>
     ensures gives { Gives seen_sensitivity result (star_close_at tokens.now from at) }
     ensures inside { IfOk result (Inside tokens.now) }
 {
-    let end = expect(tokens, Mark::Close, at + 1)?;
+    let end = expect(tokens, Terminal::Close, at + 1)?;
     let site = site_of(tokens, from, end);
     Ok((Sensitivity::All { site }, end))
 }
@@ -301,12 +302,12 @@ pub fn sensitivity(alloc: Global, tokens: &[Token], at: usize, depth: u32) -> Re
     ensures gives { Gives seen_sensitivity result (sensitivity_at tokens.now depth at) }
     ensures inside { IfOk result (Inside tokens.now) }
 {
-    if stands(tokens, at, Mark::Star) {
+    if stands(tokens, at, Terminal::Star) {
         let site = site_of(tokens, at, at + 1);
         return Ok((Sensitivity::All { site }, at + 1));
     }
-    let open = expect(tokens, Mark::Open, at)?;
-    if stands(tokens, open, Mark::Star) {
+    let open = expect(tokens, Terminal::Open, at)?;
+    if stands(tokens, open, Terminal::Star) {
         return star_close(tokens, at, open);
     }
     listed(alloc, tokens, at, open, depth)

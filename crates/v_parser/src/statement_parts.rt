@@ -1,7 +1,7 @@
 //! What stands in statements beside expressions and left sides (IEEE 1364-2005, A.6).
 ghost use Rattle.std.specs.Prelude.{◌≡◌, ◌≢◌, ◌+◌, ◌<◌, ◌≤◌, ◌^◌, length, IfOk};
 ghost use Rattle.v_tree.specs.Faults.{Gives};
-ghost use Rattle.v_tree.specs.declared.mark.Mark.TheVariants as marks;
+ghost use Rattle.v_lexer.specs.declared.types.terminal.Terminal.TheVariants as marks;
 ghost use Rattle.v_parser.specs.Seen.{as_is, seen_value, seen_values, Inside};
 ghost use Rattle.v_tree.specs.Marks.{mark_at};
 ghost use Rattle.v_parser.specs.Statements.{may_follow_label};
@@ -15,7 +15,7 @@ use crate::statement_nodes::assignment;
 use std::alloc::Global;
 use v_lexer::types::Token;
 use v_tree::{
-    AssignKind, CaseKind, Expr, Fault, Identifier, LoopHead, Mark, Statement, Stop, expect,
+    AssignKind, CaseKind, Expr, Fault, Identifier, LoopHead, Statement, Stop, Terminal, expect,
     mark_at, no_place, read_expression, site_of, stands,
 };
 
@@ -27,10 +27,10 @@ pub fn label_if(alloc: Global, tokens: &[Token], at: usize) -> Read<Option<Ident
     ensures gives { Gives as_is result (optional_at tokens.now marks.Colon (label_at tokens.now) at) }
     ensures inside { IfOk result (Inside tokens.now) }
 {
-    if !stands(tokens, at, Mark::Colon) {
+    if !stands(tokens, at, Terminal::Colon) {
         return Ok((None, at));
     }
-    let next = expect(tokens, Mark::Colon, at)?;
+    let next = expect(tokens, Terminal::Colon, at)?;
     let (label, end) = identifier(alloc, tokens, next)?;
     Ok((Some(label), end))
 }
@@ -42,9 +42,9 @@ pub fn in_parens(alloc: Global, tokens: &[Token], at: usize, depth: u32) -> Read
     ensures gives { Gives seen_value result (in_parens_at tokens.now depth at) }
     ensures inside { IfOk result (Inside tokens.now) }
 {
-    let open = expect(tokens, Mark::Open, at)?;
+    let open = expect(tokens, Terminal::Open, at)?;
     let (value, close) = value(alloc, tokens, open, depth)?;
-    let end = expect(tokens, Mark::Close, close)?;
+    let end = expect(tokens, Terminal::Close, close)?;
     Ok((value, end))
 }
 
@@ -54,7 +54,7 @@ fn follows_label(tokens: &[Token], at: usize) -> bool
 {
     matches!(
         mark_at(tokens, at),
-        Mark::Comma | Mark::Colon | Mark::Nothing
+        Terminal::Comma | Terminal::Colon | Terminal::Nothing
     )
 }
 
@@ -67,7 +67,7 @@ fn casez_label(alloc: Global, tokens: &[Token], at: usize, depth: u32) -> Read<E
     ensures inside { IfOk result (Inside tokens.now) }
 {
     let found = read_expression(alloc, tokens, at, depth)?;
-    if stands(tokens, at, Mark::Wild) {
+    if stands(tokens, at, Terminal::Wild) {
         if !follows_label(tokens, found.end) {
             return Err(Stop::Fault(Fault::Unsupported(at)));
         }
@@ -106,7 +106,7 @@ pub fn labels(
     let (first, mut end) = label(alloc, tokens, at, depth, kind)?;
     list.push(first)?;
     for _ in 0..tokens.len() {
-        if !stands(tokens, end, Mark::Comma) {
+        if !stands(tokens, end, Terminal::Comma) {
             return Ok((list, end));
         }
         let (part, next) = label(alloc, tokens, end + 1, depth, kind)?;
@@ -123,7 +123,7 @@ pub fn colon_if(tokens: &[Token], at: usize) -> Read<bool>
     ensures gives { Gives as_is result (colon_at tokens.now at) }
     ensures inside { IfOk result (Inside tokens.now) }
 {
-    if stands(tokens, at, Mark::Colon) {
+    if stands(tokens, at, Terminal::Colon) {
         return Ok((true, at + 1));
     }
     Ok((false, at))
@@ -137,17 +137,17 @@ pub fn loop_head(alloc: Global, tokens: &[Token], at: usize, depth: u32) -> Read
     ensures gives { Gives seen_head result (head_at tokens.now depth at) }
     ensures inside { IfOk result (Inside tokens.now) }
 {
-    let open = expect(tokens, Mark::Open, at)?;
+    let open = expect(tokens, Terminal::Open, at)?;
     let (variable, equals) = identifier(alloc, tokens, open)?;
-    let next = expect(tokens, Mark::Equals, equals)?;
+    let next = expect(tokens, Terminal::Equals, equals)?;
     let (start, semicolon) = value(alloc, tokens, next, depth)?;
-    let next_part = expect(tokens, Mark::Semicolon, semicolon)?;
+    let next_part = expect(tokens, Terminal::Semicolon, semicolon)?;
     let (condition, semicolon) = value(alloc, tokens, next_part, depth)?;
-    let last_part = expect(tokens, Mark::Semicolon, semicolon)?;
+    let last_part = expect(tokens, Terminal::Semicolon, semicolon)?;
     let (next, equals) = identifier(alloc, tokens, last_part)?;
-    let step_at = expect(tokens, Mark::Equals, equals)?;
+    let step_at = expect(tokens, Terminal::Equals, equals)?;
     let (step, close) = value(alloc, tokens, step_at, depth)?;
-    let end = expect(tokens, Mark::Close, close)?;
+    let end = expect(tokens, Terminal::Close, close)?;
     let site = site_of(tokens, at, end);
     let head = LoopHead {
         site,
@@ -166,10 +166,10 @@ fn assign_kind(tokens: &[Token], at: usize) -> Read<AssignKind>
     ensures gives { Gives as_is result (assign_kind_at tokens.now at) }
     ensures inside { IfOk result (Inside tokens.now) }
 {
-    if stands(tokens, at, Mark::Equals) {
+    if stands(tokens, at, Terminal::Equals) {
         return Ok((AssignKind::Blocking, at + 1));
     }
-    if stands(tokens, at, Mark::LessEqual) {
+    if stands(tokens, at, Terminal::LessEqual) {
         return Ok((AssignKind::Nonblocking, at + 1));
     }
     Err(Stop::Fault(no_place(tokens, at)))
@@ -187,7 +187,7 @@ pub fn assign(alloc: Global, tokens: &[Token], at: usize, depth: u32) -> Read<St
     let (kind, next) = assign_kind(tokens, next)?;
     let (delay, next) = delay_if(alloc, tokens, next, depth)?;
     let (value, semicolon) = value(alloc, tokens, next, depth)?;
-    let end = expect(tokens, Mark::Semicolon, semicolon)?;
+    let end = expect(tokens, Terminal::Semicolon, semicolon)?;
     let site = site_of(tokens, at, end);
     Ok((assignment(site, target, kind, delay, value), end))
 }

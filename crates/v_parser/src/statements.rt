@@ -12,7 +12,9 @@ use crate::statement_nodes as nodes;
 use crate::statement_parts::{assign, colon_if, in_parens, label_if, labels, loop_head};
 use std::alloc::Global;
 use v_lexer::types::Token;
-use v_tree::{CaseItem, CaseKind, Mark, Statement, Stop, expect, lower, no_place, site_of, stands};
+use v_tree::{
+    CaseItem, CaseKind, Statement, Stop, Terminal, expect, lower, no_place, site_of, stands,
+};
 
 /// A statement, where nesting of `depth` is left to it.
 #[tactic(auto, using(crate::proofs::StatementSteps::statement_over), unfolding(crate::specs::StatementReading::statement_with))]
@@ -23,25 +25,25 @@ pub fn statement(alloc: Global, tokens: &[Token], at: usize, depth: u32) -> Read
     ensures gives { Gives seen_statement result (statement_at tokens.now depth at) }
     ensures inside { IfOk result (Inside tokens.now) }
 {
-    if stands(tokens, at, Mark::Semicolon) {
+    if stands(tokens, at, Terminal::Semicolon) {
         return Ok((nodes::empty(site_of(tokens, at, at + 1)), at + 1));
     }
-    if stands(tokens, at, Mark::Begin) {
+    if stands(tokens, at, Terminal::Begin) {
         return block(alloc, tokens, at, depth);
     }
-    if stands(tokens, at, Mark::Hash) {
+    if stands(tokens, at, Terminal::Hash) {
         return delayed(alloc, tokens, at, depth);
     }
-    if stands(tokens, at, Mark::If) {
+    if stands(tokens, at, Terminal::If) {
         return condition(alloc, tokens, at, depth);
     }
-    if stands(tokens, at, Mark::Case) {
+    if stands(tokens, at, Terminal::Case) {
         return cases(alloc, tokens, at, depth, CaseKind::Case);
     }
-    if stands(tokens, at, Mark::Casez) {
+    if stands(tokens, at, Terminal::Casez) {
         return cases(alloc, tokens, at, depth, CaseKind::Casez);
     }
-    if stands(tokens, at, Mark::For) {
+    if stands(tokens, at, Terminal::For) {
         return repeated(alloc, tokens, at, depth);
     }
     assign(alloc, tokens, at, depth)
@@ -74,7 +76,7 @@ fn statements(alloc: Global, tokens: &[Token], at: usize, depth: u32) -> Read<Ve
     let mut list = Vec::new(alloc);
     let mut end = at;
     for _ in 0..tokens.len() {
-        if stands(tokens, end, Mark::End) {
+        if stands(tokens, end, Terminal::End) {
             return Ok((list, end + 1));
         }
         let (part, next) = statement(alloc, tokens, end, depth)?;
@@ -112,7 +114,7 @@ fn condition(alloc: Global, tokens: &[Token], at: usize, depth: u32) -> Read<Sta
     let depth = lower(depth, at)?;
     let (condition, next) = in_parens(alloc, tokens, at + 1, depth)?;
     let (first, end) = statement(alloc, tokens, next, depth)?;
-    if !stands(tokens, end, Mark::Else) {
+    if !stands(tokens, end, Terminal::Else) {
         let site = site_of(tokens, at, end);
         return Ok((nodes::if_then(alloc, site, condition, first)?, end));
     }
@@ -162,7 +164,7 @@ fn case_items(
     let mut end = at;
     list.push(first)?;
     for _ in 0..tokens.len() {
-        if stands(tokens, end, Mark::Endcase) {
+        if stands(tokens, end, Terminal::Endcase) {
             return Ok((list, end + 1));
         }
         let (part, next) = case_item(alloc, tokens, end, depth, kind, had)?;
@@ -189,7 +191,7 @@ fn case_item(
     ensures gives { Gives seen_case_item result (case_item_at tokens.now depth kind (statement_at tokens.now depth) had at) }
     ensures inside { IfOk result (Inside tokens.now) }
 {
-    if stands(tokens, at, Mark::Default) {
+    if stands(tokens, at, Terminal::Default) {
         if had {
             return Err(Stop::Fault(no_place(tokens, at)));
         }
@@ -214,7 +216,7 @@ fn labelled(
     ensures inside { IfOk result (Inside tokens.now) }
 {
     let (labels, colon) = labels(alloc, tokens, at, depth, kind)?;
-    let next = expect(tokens, Mark::Colon, colon)?;
+    let next = expect(tokens, Terminal::Colon, colon)?;
     let (body, end) = statement(alloc, tokens, next, depth)?;
     Ok((nodes::labelled(site_of(tokens, at, end), labels, body), end))
 }
@@ -228,7 +230,7 @@ fn otherwise(alloc: Global, tokens: &[Token], at: usize, depth: u32) -> Read<Cas
     ensures gives { Gives seen_case_item result (default_at tokens.now (statement_at tokens.now depth) at) }
     ensures inside { IfOk result (Inside tokens.now) }
 {
-    let next = expect(tokens, Mark::Default, at)?;
+    let next = expect(tokens, Terminal::Default, at)?;
     let (_colon, next) = colon_if(tokens, next)?;
     let (body, end) = statement(alloc, tokens, next, depth)?;
     Ok((nodes::otherwise(site_of(tokens, at, end), body), end))

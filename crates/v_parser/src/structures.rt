@@ -11,7 +11,7 @@ use crate::instances::instances;
 use crate::names::Read;
 use std::alloc::Global;
 use v_lexer::types::Token;
-use v_tree::{Item, Mark, mark_at, stands};
+use v_tree::{Item, Terminal, mark_at, stands};
 
 /// A continuous assignment, gates or module instances. Another token has no place.
 #[tactic(auto, unfolding(crate::specs::StructureReading::structure_at))]
@@ -21,7 +21,7 @@ pub fn structure(alloc: Global, tokens: &[Token], at: usize, depth: u32) -> Read
     ensures gives { Gives seen_item result (structure_at tokens.now depth at) }
     ensures inside { IfOk result (Inside tokens.now) }
 {
-    if stands(tokens, at, Mark::Assign) {
+    if stands(tokens, at, Terminal::Assign) {
         return assigns(alloc, tokens, at, depth);
     }
     if is_gate(mark_at(tokens, at)) {

@@ -9,7 +9,7 @@ ghost use Rattle.v_parser.specs.TypeReading.{direction_at, net_if_at, signed_if_
 use crate::names::{Read, range_if};
 use std::alloc::Global;
 use v_lexer::types::Token;
-use v_tree::{Direction, Mark, NetKind, ParameterType, Stop, no_place, stands};
+use v_tree::{Direction, NetKind, ParameterType, Stop, Terminal, no_place, stands};
 
 /// `'input' | 'output'`
 #[tactic(auto, unfolding(crate::specs::TypeReading::direction_at))]
@@ -17,20 +17,20 @@ pub fn direction(tokens: &[Token], at: usize) -> Read<Direction>
     ensures gives { Gives as_is result (direction_at tokens.now at) }
     ensures inside { IfOk result (Inside tokens.now) }
 {
-    if stands(tokens, at, Mark::Input) {
+    if stands(tokens, at, Terminal::Input) {
         return Ok((Direction::Input, at + 1));
     }
-    if stands(tokens, at, Mark::Output) {
+    if stands(tokens, at, Terminal::Output) {
         return Ok((Direction::Output, at + 1));
     }
     Err(Stop::Fault(no_place(tokens, at)))
 }
 
 /// Whether it is the word of a direction.
-pub fn is_direction(mark: Mark) -> bool
+pub fn is_direction(mark: Terminal) -> bool
     ensures { result ≡ is_direction mark }
 {
-    matches!(mark, Mark::Input | Mark::Output)
+    matches!(mark, Terminal::Input | Terminal::Output)
 }
 
 /// `('wire' | 'reg')?`
@@ -40,10 +40,10 @@ pub fn net_if(tokens: &[Token], at: usize) -> Read<Option<NetKind>>
     ensures gives { Gives as_is result (net_if_at tokens.now at) }
     ensures inside { IfOk result (Inside tokens.now) }
 {
-    if stands(tokens, at, Mark::Wire) {
+    if stands(tokens, at, Terminal::Wire) {
         return Ok((Some(NetKind::Wire), at + 1));
     }
-    if stands(tokens, at, Mark::Reg) {
+    if stands(tokens, at, Terminal::Reg) {
         return Ok((Some(NetKind::Reg), at + 1));
     }
     Ok((None, at))
@@ -66,7 +66,7 @@ pub fn signed_if(tokens: &[Token], at: usize) -> Read<bool>
     ensures gives { Gives as_is result (signed_if_at tokens.now at) }
     ensures inside { IfOk result (Inside tokens.now) }
 {
-    if stands(tokens, at, Mark::Signed) {
+    if stands(tokens, at, Terminal::Signed) {
         return Ok((true, at + 1));
     }
     Ok((false, at))
@@ -93,7 +93,7 @@ pub fn parameter_type(alloc: Global, tokens: &[Token], at: usize, depth: u32) ->
     ensures gives { Gives seen_parameter_type result (parameter_type_at tokens.now depth at) }
     ensures inside { IfOk result (Inside tokens.now) }
 {
-    if stands(tokens, at, Mark::Integer) {
+    if stands(tokens, at, Terminal::Integer) {
         return Ok((ParameterType::Integer, at + 1));
     }
     vector_type(alloc, tokens, at, depth)

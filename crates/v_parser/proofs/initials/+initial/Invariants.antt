@@ -1,5 +1,5 @@
 use Rattle.std.proofs.Common.{◌≡◌, ◌+◌, ◌-◌, ◌*◌, ◌≤◌, length, Bool, true}
-use Rattle.v_tree.specs.declared.mark.Mark.TheVariants as marks
+use Rattle.v_lexer.specs.declared.types.terminal.Terminal.TheVariants as marks
 use Rattle.v_parser.specs.Reading.{run_at}
 use Rattle.v_parser.specs.StatementTree.{statement_of}
 use Rattle.v_parser.specs.StatementReading.{body_at}
