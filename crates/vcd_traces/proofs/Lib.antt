@@ -4,3 +4,5 @@ pub mod RealSteps
 pub mod Exits
 pub mod RunningLaws
 pub mod ChangeLaws
+pub mod ListSteps
+pub mod RowLaws

@@ -12,3 +12,5 @@ pub mod Running
 pub mod Table
 pub mod Levels
 pub mod Samples
+pub mod Moment
+pub mod Rows

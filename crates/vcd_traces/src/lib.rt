@@ -8,7 +8,9 @@ mod error;
 mod header;
 mod header_reader;
 mod kinds;
+mod moment;
 mod reals;
+mod rows;
 mod running;
 mod table;
 

@@ -1,0 +1,27 @@
+-- The bits of ports at the end of a stamp, by what is kept of their variables.
+use Rattle.std.specs.Prelude.{ℕ, Bool, not, ◌==◌, ◌&&◌, nat_le, if◌then◌else◌, slice_get}
+use Rattle.std.specs.Option.{option_map_or}
+use Rattle.vcd_words.specs.declared.level.Level.{Level}
+use Rattle.vcd_words.specs.Levels.{unknown_level, cut_level}
+use Rattle.vcd_traces.specs.declared.running.Running.{Running}
+use Rattle.vcd_traces.specs.declared.moment.Moment.{Moment}
+use Rattle.vcd_traces.specs.declared.moment.Watch.{Watch}
+use Rattle.vcd_traces.specs.Running.{before_of}
+
+-- 1 to 128 bits
+abbrev pub has_width : Watch → Bool
+has_width watch = nat_le 1 watch.width && nat_le watch.width 128
+
+-- the level that counts of what is kept: with a clock that before the stamp, else the last
+abbrev pub kept_of : Bool → ℕ → Running → Level
+kept_of clocked time r = if clocked then before_of r time else r.level
+
+abbrev pub kept_level : Moment → ℕ → Level
+kept_level m cell = option_map_or (kept_of m.clocked m.time) (slice_get m.running.now cell) unknown_level
+
+-- the bits of a port
+abbrev pub kept_sample : Moment → Watch → Level
+kept_sample m watch = cut_level watch.width (kept_level m watch.cell)
+
+abbrev pub has_unknown : Moment → Watch → Bool
+has_unknown m watch = not ((kept_sample m watch).unknowns == 0)

@@ -1,0 +1,86 @@
+//! The cycles of a trace, taken stamp by stamp.
+ghost use Rattle.std.specs.Prelude.{◌≡◌, IsTrue, OnOk};
+ghost use Rattle.std.specs.List.{list_all};
+ghost use Rattle.vcd_traces.specs.Moment.{has_width};
+ghost use Rattle.vcd_traces.specs.Rows.{pushed, with_samples, rows_of, no_rows, kept_row};
+
+use crate::moment::{Moment, Watch};
+use design_core::Trace;
+use loc_base::NoMemory;
+use std::alloc::Global;
+
+/// How many cycles a trace may have.
+pub const MOST_CYCLES: u32 = 100_000;
+
+/// An input that has an unknown bit in a cycle: the number of its signal.
+#[derive(Clone, Copy)]
+pub struct Unknown {
+    pub cycle: u32,
+    pub signal: u32,
+}
+
+/// The cycles so far, up to the first with an unknown input, of which the count goes up to one more than a trace may
+/// have.
+#[derive(Drop)]
+pub struct Rows {
+    pub trace: Trace,
+    pub unknown: Option<Unknown>,
+}
+
+/// The ports that are sampled: the cell of the clock, if there is one, and the inputs and outputs.
+#[derive(Drop)]
+pub struct Watched {
+    pub clock: Option<usize>,
+    pub inputs: Vec<Watch>,
+    pub outputs: Vec<Watch>,
+}
+
+impl Rows {
+    /// No cycle. It takes no memory.
+    pub fn new(alloc: Global) -> Rows
+        ensures { rows_of result ≡ no_rows }
+    {
+        Rows {
+            trace: Trace {
+                cycles: 0,
+                inputs: Vec::new(alloc),
+                expected: Vec::new(alloc),
+            },
+            unknown: None,
+        }
+    }
+
+    /// The samples of one more cycle.
+    fn push_row(&mut self, moment: &Moment<'_>, watched: &Watched) -> Result<(), NoMemory>
+        requires inputs { IsTrue (list_all has_width watched.now.inputs.items) }
+        requires outputs { IsTrue (list_all has_width watched.now.outputs.items) }
+        ensures { OnOk result (rows_of self.new ≡ with_samples (rows_of self.old) (kept_row moment.now watched.now)) }
+    {
+        moment.push_samples(watched.inputs.as_slice(), &mut self.trace.inputs)?;
+        moment.push_expected(watched.outputs.as_slice(), &mut self.trace.expected)?;
+        Ok(())
+    }
+
+    /// One more cycle.
+    pub fn push(&mut self, moment: &Moment<'_>, watched: &Watched) -> Result<(), NoMemory>
+        requires inputs { IsTrue (list_all has_width watched.now.inputs.items) }
+        requires outputs { IsTrue (list_all has_width watched.now.outputs.items) }
+        ensures { OnOk result (rows_of self.new ≡ pushed (rows_of self.old) (kept_row moment.now watched.now)) }
+    {
+        let cycle = self.trace.cycles;
+        if MOST_CYCLES < cycle {
+            return Ok(());
+        }
+        self.trace.cycles = cycle + 1;
+        if self.unknown.is_some() || cycle == MOST_CYCLES {
+            return Ok(());
+        }
+        match moment.unknown_in(watched.inputs.as_slice()) {
+            None => self.push_row(moment, watched),
+            Some(signal) => {
+                self.unknown = Some(Unknown { cycle, signal });
+                Ok(())
+            }
+        }
+    }
+}
