@@ -17,7 +17,7 @@ use Rattle.design_core.specs.Constant.{is_constant, constant_of}
 use Rattle.design_core.specs.Pick.{is_at, has_bit, may_pick}
 use Rattle.design_core.specs.Drives.{is_among}
 use Rattle.design_core.specs.Reads.{AgreeOn, node_reads, parts_read, reads}
-use Rattle.design_core.proofs.EvaluateNumber.{number-same}
+use Rattle.design_core.proofs.NumberLaws.{number-same}
 
 -- agreement on what either of two tests passes
 pub agree_left : (p q : ℕ → ℕ → Bool) (V W : Valuation) → AgreeOn (λ s b. p s b || q s b) V W → AgreeOn p V W

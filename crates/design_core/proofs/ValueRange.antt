@@ -19,7 +19,7 @@ use Rattle.design_core.specs.Valuation.{Valuation, number, word_at}
 use Rattle.design_core.specs.Operator.{is_true, one_if, all_ones, integer_of, unary, is_less, binary, repeated, resized}
 use Rattle.design_core.specs.Value.{picked, word_value, node_value, joined, value}
 use Rattle.design_core.specs.WellFormed.{is_width, slice_fits, words_fit, unary_fits, same_widths, binary_fits, joined_width, node_fits, parts_fit, typed_fits}
-use Rattle.design_core.proofs.EvaluateNumber.{number-below}
+use Rattle.design_core.proofs.NumberLaws.{number-below}
 
 -- a truth value fits each width
 one_if-in_range : (holds : Bool) (width : ℕ) → 1 ≤ width → one_if holds < 2 ^ width

@@ -16,6 +16,4 @@ pub mod TraceFits
 pub mod Reads
 pub mod Laws
 pub mod Words
-pub mod Evaluate
-pub mod EvaluateCycle
 pub mod Given

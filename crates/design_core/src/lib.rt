@@ -5,12 +5,9 @@
 //! of an expression (`Value`) up to the list of minimal sets (`Listing`).
 #![tactic(auto)]
 
-mod cycle;
 mod design;
 mod driver;
-mod evaluate;
 mod expression;
-mod fits;
 pub mod laws;
 mod place;
 mod signal;
@@ -19,17 +16,11 @@ mod trace;
 pub mod types;
 mod values;
 
-pub use cycle::{CycleWords, compute_cycle, is_cycle, meets};
 pub use design::Design;
 pub use driver::{Clocked, Driver, Reset};
-pub use evaluate::{run_statement, value};
 pub use expression::{BinaryOp, Node, Typed, UnaryOp};
-pub use fits::{are_chosen, can_run, is_trace_of};
 pub use place::{Place, PlaceKind};
 pub use signal::{Signal, SignalKind};
 pub use statement::{CaseItem, Label, Part, Stmt, Target};
 pub use trace::{Checked, Trace};
 pub use values::{Members, SetWithValues, Values};
-
-#[cfg(test)]
-mod tests;

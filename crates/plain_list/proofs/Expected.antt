@@ -13,7 +13,7 @@ use Rattle.design_core.specs.Valuation.{width_at}
 use Rattle.design_core.specs.Words.{valuation_of, AreWordsOf}
 use Rattle.design_core.specs.TraceFits.{expected_fit}
 use Rattle.design_core.specs.Run.{IsRight}
-use Rattle.design_core.proofs.EvaluateWords.{word-width, words-length}
+use Rattle.plain_sim.proofs.EvaluateWords.{word-width, words-length}
 use Rattle.plain_list.specs.Rightness.{IsRightWord}
 use Rattle.plain_list.proofs.Settled.{Some-same, same_or_not}
 use Rattle.plain_list.proofs.Assigning.{both_true, get_at}

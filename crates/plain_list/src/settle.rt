@@ -8,8 +8,9 @@ ghost use Rattle.design_core.specs.TraceFits.{samples_fit};
 ghost use Rattle.plain_list.specs.Trial.{choice_of, is_one_of, number_for, place_width, AreNumbersFor};
 
 use crate::samples::load_samples;
-use design_core::{Design, Driver, Part, value};
+use design_core::{Design, Driver, Part};
 use loc_base::Bits;
+use plain_sim::value;
 
 /// The number chosen for a place, if it is one of those that are freed.
 #[tactic(auto, using(crate::proofs::Numbers::search_rules))]

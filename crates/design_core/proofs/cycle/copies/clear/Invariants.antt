@@ -1,6 +1,0 @@
-use Rattle.design_core.specs.Constant.{zeros}
-use Rattle.design_core.proofs.EvaluateSweep.{Swept}
-use Rattle.design_core.proofs.cycle.copies.clear.Given as goal
-
-abbrev pub invariant-loop-i : goal.invariant-loop-i
-invariant-loop-i l = Swept zeros l.initial.words l.words l.i

@@ -1,0 +1,18 @@
+use Rattle.std.proofs.Common.{◌∙◌, ◌+◌, ap, sym, arith, drop}
+use Rattle.design_core.specs.After.{Choice}
+use Rattle.design_core.specs.Words.{valuation_of, choice_of}
+use Rattle.plain_sim.specs.EvaluateCycle.{with_bodies}
+use Rattle.plain_sim.proofs.EvaluateSteps.{slice-at, drop-some}
+use Rattle.plain_sim.proofs.cycle.advance.run_bodies.Goals as goal
+
+pub loop-i-preserved : goal.loop-i-preserved
+loop-i-preserved c =
+    let choice : Choice = choice_of c.args.freed.now c.args.chosen.now in
+    let (block, at) = slice-at c.args.design.now.clocked.items c.loop-i.i (omega (arith, c.loop-i-test.true, c.len-i-end.ensures, c.args.design.now.clocked.ok.0)) in
+    record {
+      words = c.run_body.ensures.words;
+      value =
+          ap (with_bodies c.args.design.now choice (valuation_of c.args.now.now) (drop (c.loop-i.i + 1) c.args.design.now.clocked.items)) (c.in_ok-run_body.ensures.value block at)
+          ∙ sym (ap (λ blocks. with_bodies c.args.design.now choice (valuation_of c.args.now.now) blocks (valuation_of c.loop-i.next)) (drop-some c.args.design.now.clocked.items c.loop-i.i block at))
+          ∙ c.loop-i.invariant.value;
+    }

@@ -1,0 +1,97 @@
+use Rattle.std.proofs.Common.{◌∙◌, ap, rules, sym, arith, List, refl, length}
+use Rattle.std.proofs.lemmas.Option.{slice_get_read}
+use Rattle.design_core.specs.declared.signal.Signal.{Signal}
+use Rattle.design_core.specs.declared.place.Place.{Place}
+use Rattle.design_core.specs.declared.statement.Stmt.TheViews.{the_lemmas}
+use Rattle.design_core.specs.Store.{parts_width}
+use Rattle.design_core.specs.After.{Choice, Updates, after}
+use Rattle.design_core.specs.WellFormed.{assignment_fits}
+use Rattle.design_core.specs.Words.{valuation_of, choice_of}
+use Rattle.plain_sim.specs.Evaluate.{after_list}
+use Rattle.plain_sim.proofs.EvaluateStore.{updates}
+use Rattle.plain_sim.proofs.EvaluateStatement.{block-value, block-fits, case-value, case-fits, body-fits, place-within, after_item}
+use Rattle.plain_sim.proofs.evaluate.statement.+run.Goals as goal
+
+pub run_statement-run_all-requires : goal.run_statement-run_all-requires
+run_statement-run_all-requires t c =
+    let signals : List Signal = c.args.design.now.signals.items in
+    let places : List Place = c.args.design.now.places.items in
+    let fits = sym (block-fits signals places c.in-Block.statements) ∙ (rw c.in-Block.is at c.requires.fits) in
+    (search (rules, the_lemmas), (c.requires.now, (c.requires.later, (c.requires.freed, (c.requires.chosen, rw c.deref.ensures.value fits)))))
+
+pub run_statement-returns-in-Block-clause-value : goal.run_statement-returns-in-Block-clause-value
+run_statement-returns-in-Block-clause-value t c =
+    let signals : List Signal = c.args.design.now.signals.items in
+    let choice : Choice = choice_of c.args.freed.now c.args.chosen.now in
+    let m : Updates = updates (valuation_of c.args.now.now) (valuation_of c.args.later.now) in
+    rw c.in-Block.is
+    (c.run_all.ensures.value ∙ ap (λ ss. after_list signals choice ss m) c.deref.ensures.value ∙ sym (block-value signals choice c.in-Block.statements m))
+
+pub run_statement-matching_item-requires-clause-fits : goal.run_statement-matching_item-requires-clause-fits
+run_statement-matching_item-requires-clause-fits t c =
+    let signals : List Signal = c.args.design.now.signals.items in
+    let places : List Place = c.args.design.now.places.items in
+    let fits = case-fits signals places c.in-Case.subject c.in-Case.items c.in-Case.other c.in-Case.wild (rw c.in-Case.is at c.requires.fits) in
+    rw (c.deref-in-Case-2.ensures.value, c.value-subject.ensures.width) fits
+
+pub run_statement-run_statement-requires-in-Some : goal.run_statement-run_statement-requires-in-Some
+run_statement-run_statement-requires-in-Some t c =
+    let signals : List Signal = c.args.design.now.signals.items in
+    let places : List Place = c.args.design.now.places.items in
+    let fits = case-fits signals places c.in-Case.subject c.in-Case.items c.in-Case.other c.in-Case.wild (rw c.in-Case.is at c.requires.fits) in
+    let within = rw c.deref-in-Case-2.ensures.value at c.in-Some.ensures.within in (
+      search (rules, the_lemmas),
+      (
+        c.requires.now,
+        (
+          c.requires.later,
+          (
+            c.requires.freed,
+            (
+              c.requires.chosen,
+              body-fits signals places c.in-Case.subject.width c.in-Case.items.items c.in-Some.i c.index.result.now fits within c.index.ensures,
+            ),
+          ),
+        ),
+      ),
+    )
+
+pub run_statement-returns-in-Some-clause-value : goal.run_statement-returns-in-Some-clause-value
+run_statement-returns-in-Some-clause-value t c =
+    let signals : List Signal = c.args.design.now.signals.items in
+    let choice : Choice = choice_of c.args.freed.now c.args.chosen.now in
+    let m : Updates = updates (valuation_of c.args.now.now) (valuation_of c.args.later.now) in
+    let other : Updates = after signals choice c.in-Case.other.value m in
+    let within = rw c.deref-in-Case-2.ensures.value at c.in-Some.ensures.within in
+    let first = rw (c.deref-in-Case-2.ensures.value, c.value-subject.ensures.value, c.deref-in-Case.ensures.value) at c.in-Some.ensures.first in
+    rw c.in-Case.is
+    (c.run_statement-in-Some.ensures.value
+    ∙ ap (after_item signals choice m other) (sym (slice_get_read c.in-Case.items.items (length c.in-Case.items.items) c.in-Some.i c.index.result.now refl within c.index.ensures) ∙ first)
+    ∙ sym (case-value signals choice c.in-Case.subject c.in-Case.items c.in-Case.other c.in-Case.wild m))
+
+pub run_statement-returns-in-None-clause-value : goal.run_statement-returns-in-None-clause-value
+run_statement-returns-in-None-clause-value t c =
+    let signals : List Signal = c.args.design.now.signals.items in
+    let choice : Choice = choice_of c.args.freed.now c.args.chosen.now in
+    let m : Updates = updates (valuation_of c.args.now.now) (valuation_of c.args.later.now) in
+    let other : Updates = after signals choice c.in-Case.other.value m in
+    let first = rw (c.deref-in-Case-2.ensures.value, c.value-subject.ensures.value, c.deref-in-Case.ensures.value) at c.in-None.ensures.first in
+    rw c.in-Case.is
+    (c.run_statement-in-None.ensures.value
+    ∙ ap (λ s. after signals choice s m) c.deref-in-None.ensures
+    ∙ ap (after_item signals choice m other) first
+    ∙ sym (case-value signals choice c.in-Case.subject c.in-Case.items c.in-Case.other c.in-Case.wild m))
+
+pub run_statement-assigned-word-requires-clause-freed : goal.run_statement-assigned-word-requires-clause-freed
+run_statement-assigned-word-requires-clause-freed t c =
+    let signals : List Signal = c.args.design.now.signals.items in
+    let places : List Place = c.args.design.now.places.items in
+    let within = place-within places (parts_width signals c.in-Set.target.parts.items) c.in-Set.place (assignment_fits signals c.in-Set.target.parts.items c.in-Set.computed) (rw c.in-Set.is at c.requires.fits) in
+    omega (arith, within, c.requires.freed)
+
+pub run_statement-assigned-word-requires-clause-chosen : goal.run_statement-assigned-word-requires-clause-chosen
+run_statement-assigned-word-requires-clause-chosen t c =
+    let signals : List Signal = c.args.design.now.signals.items in
+    let places : List Place = c.args.design.now.places.items in
+    let within = place-within places (parts_width signals c.in-Set.target.parts.items) c.in-Set.place (assignment_fits signals c.in-Set.target.parts.items c.in-Set.computed) (rw c.in-Set.is at c.requires.fits) in
+    omega (arith, within, c.requires.chosen)

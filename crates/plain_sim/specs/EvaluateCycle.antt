@@ -1,0 +1,164 @@
+-- Words that the contracts of the evaluator's own functions use, for cycles and runs.
+use Rattle.std.specs.Prelude.{ℕ, ◌≡◌, ◌+◌, Bool, false, not, ◌&&◌, ◌||◌, if◌then◌else◌, IsTrue, List, [], ◌∷◌, slice_get, Option, Some, None}
+use Rattle.std.specs.Option.{option_map_or}
+use Rattle.std.specs.List.{list_any}
+use Rattle.loc_base.specs.declared.bits.Bits.{Bits}
+use Rattle.loc_base.specs.Bits.{bit_of}
+use Rattle.design_core.specs.declared.signal.Signal.{Signal}
+use Rattle.design_core.specs.declared.statement.Part.{Part}
+use Rattle.design_core.specs.declared.statement.CaseItem.{CaseItem}
+use Rattle.design_core.specs.declared.driver.Driver.{Driver}
+use Rattle.design_core.specs.declared.driver.Driver.TheVariants.{Cont, Comb}
+use Rattle.design_core.specs.declared.driver.Reset.{Reset}
+use Rattle.design_core.specs.declared.driver.Clocked.{Clocked}
+use Rattle.plain_sim.specs.declared.cycle.drives.Asked.{Asked}
+use Rattle.plain_sim.specs.declared.cycle.drives.Asked.TheVariants.{Bit, Later}
+use Rattle.plain_sim.specs.declared.cycle.region.Region.{Region}
+use Rattle.plain_sim.specs.declared.cycle.region.Region.TheVariants as region
+use Rattle.design_core.specs.declared.design.Design.{Design}
+use Rattle.design_core.specs.declared.trace.Checked.{Checked}
+use Rattle.design_core.specs.declared.trace.Trace.{Trace}
+use Rattle.design_core.specs.Run.{Choices, samples_at, expected_at, IsRunFrom, IsRight}
+use Rattle.design_core.specs.TraceFits.{samples_fit, expected_fit}
+use Rattle.design_core.specs.Valuation.{Valuation, bit}
+use Rattle.design_core.specs.Value.{value}
+use Rattle.design_core.specs.Store.{store}
+use Rattle.design_core.specs.After.{Choice, after}
+use Rattle.design_core.specs.Reads.{AgreeOn}
+use Rattle.design_core.specs.WellFormed.{is_width}
+use Rattle.design_core.specs.Drives.{part_drives, part_names, some_set, driver_drives, is_driven, block_drives, block_assigns_later, is_register_bit, is_listed}
+use Rattle.design_core.specs.Cycle.{before, is_active, is_reset, is_clocked, cont_assigned, driven, left_from}
+
+-- what is asked of an assignment: whether it assigns a bit, or whether it assigns a signal by `<=`
+abbrev pub asked_of : List Signal → Asked → List Part → Bool → Bool
+asked_of signals (Bit signal position) parts later = list_any (part_drives signals signal position) parts
+asked_of signals (Later signal) parts later = later && list_any (part_names signal) parts
+
+-- whether some assignment of a case item passes a test
+abbrev pub item_passes : (List Part → Bool → Bool) → CaseItem → Bool
+item_passes test item = some_set test item.body
+
+-- whether some assignment of a clocked block passes what is asked, in its body or among its reset's values
+abbrev pub block_passes : List Signal → Asked → Clocked → Bool
+block_passes signals asked block =
+    some_set (asked_of signals asked) block.body || option_map_or (λ r. some_set (asked_of signals asked) r.values) block.reset false
+
+-- whether a bit is in a region; a reset is active by V
+abbrev pub is_in : Design → Valuation → Region → ℕ → ℕ → Bool
+is_in d V region.Listed s b = is_listed d s
+is_in d V region.Registers s b = is_register_bit d s b
+is_in d V region.Reset s b = is_register_bit d s b && is_reset d V s b
+is_in d V region.Held s b = is_register_bit d s b && not (is_reset d V s b)
+is_in d V region.Unclocked s b = is_register_bit d s b && not (is_clocked d s b)
+is_in d V region.NoRegister s b = not (is_register_bit d s b)
+is_in d V region.Undriven s b = not (is_listed d s || is_register_bit d s b || is_driven d s b)
+is_in d V (region.Driver i) s b = option_map_or (driver_drives d.signals.items s b) (slice_get d.drivers.items i) false
+is_in d V (region.Block i) s b = option_map_or (λ block. is_register_bit d s b && block_drives d.signals.items s b block) (slice_get d.clocked.items i) false
+is_in d V (region.Later i) s b = option_map_or (block_assigns_later s) (slice_get d.clocked.items i) false
+
+-- a bit of the one where a test passes, else of the other
+abbrev pub either_bit : (ℕ → Bool) → (ℕ → Bool) → (ℕ → Bool) → ℕ → Bool
+either_bit test one other b = if test b then one b else other b
+
+-- the bits of the one valuation where a test passes, else those of the other
+abbrev pub blended : (ℕ → ℕ → Bool) → Valuation → Valuation → Valuation
+blended test one other s = either_bit (test s) (one s) (other s)
+
+-- what a driver gives, begun in a valuation in which its own bits are 0; V has the bits as they are
+abbrev pub driven_from : List Signal → Choice → Valuation → Valuation → Driver → Valuation
+driven_from signals choice V rest (Cont target computed place span) =
+    store signals rest rest target.parts.items (bit (cont_assigned choice place (value signals V computed)))
+driven_from signals choice V rest (Comb body span) = (after signals choice body (record { now = rest; later = rest })).now
+
+-- the equation of the driver of a number
+abbrev pub DriverHolds : Design → Choice → Valuation → ℕ → Type 0
+DriverHolds d choice V i =
+    (driver : Driver) → slice_get d.drivers.items i ≡ Some driver
+    → AgreeOn (λ s b. driver_drives d.signals.items s b driver) V (driven d.signals.items choice V driver)
+
+-- the equation of the reset of the clocked block of a number; E is the valuation before anything is computed
+abbrev pub ResetHolds : Design → Choice → Valuation → Valuation → ℕ → Type 0
+ResetHolds d choice E V i =
+    (block : Clocked) (r : Reset) → slice_get d.clocked.items i ≡ Some block → block.reset ≡ Some r → IsTrue (is_active V block)
+    → AgreeOn (λ s b. is_register_bit d s b && block_drives d.signals.items s b block) V (left_from d.signals.items choice block E r.values)
+
+-- the equation of the body of the clocked block of a number
+abbrev pub BodyHolds : Design → Choice → Valuation → Valuation → ℕ → Type 0
+BodyHolds d choice V next i =
+    (block : Clocked) → slice_get d.clocked.items i ≡ Some block → IsTrue (not (is_active V block))
+    → AgreeOn (λ s b. is_register_bit d s b && block_drives d.signals.items s b block) next (left_from d.signals.items choice block V block.body)
+
+-- both equations of the clocked block of a number
+pub record BlockHolds (d : Design) (choice : Choice) (E V next : Valuation) (i : ℕ) : Type 0 where
+  pub reset : ResetHolds d choice E V i
+  pub body : BodyHolds d choice V next i
+
+-- ---- what is computed, step by step
+-- a valuation with the registers of a clocked block at their reset values, where its reset is active in E
+abbrev pub with_reset : Design → Choice → Valuation → Clocked → Valuation → Valuation
+with_reset d choice E block V s b =
+    if is_active E block && (is_register_bit d s b && block_drives d.signals.items s b block)
+    then option_map_or (λ r. left_from d.signals.items choice block E r.values s b) block.reset false
+    else V s b
+
+abbrev pub with_resets : Design → Choice → Valuation → List Clocked → Valuation → Valuation
+with_resets d choice E [] V = V
+with_resets d choice E (block ∷ blocks) V = with_resets d choice E blocks (with_reset d choice E block V)
+
+-- a valuation with the bits of the driver of a number as it gives them
+abbrev pub with_driver : Design → Choice → ℕ → Valuation → Valuation
+with_driver d choice i V s b =
+    option_map_or (λ driver. if driver_drives d.signals.items s b driver then driven d.signals.items choice V driver s b else V s b)
+    (slice_get d.drivers.items i) (V s b)
+
+-- the drivers carried out in an order
+abbrev pub with_drivers : Design → Choice → List ℕ → Valuation → Valuation
+with_drivers d choice [] V = V
+with_drivers d choice (i ∷ order) V = with_drivers d choice order (with_driver d choice i V)
+
+-- next states with those of the registers of a clocked block as its body leaves them, where its reset is not active
+abbrev pub with_body : Design → Choice → Valuation → Clocked → Valuation → Valuation
+with_body d choice V block next s b =
+    if not (is_active V block) && (is_register_bit d s b && block_drives d.signals.items s b block)
+    then left_from d.signals.items choice block V block.body s b
+    else next s b
+
+abbrev pub with_bodies : Design → Choice → Valuation → List Clocked → Valuation → Valuation
+with_bodies d choice V [] next = next
+with_bodies d choice V (block ∷ blocks) next = with_bodies d choice V blocks (with_body d choice V block next)
+
+-- the register states alone
+abbrev pub kept : Design → Valuation → Valuation
+kept d state s b = is_register_bit d s b && state s b
+
+-- the values of a cycle, computed in an order of the drivers
+abbrev pub computed_now : Design → List ℕ → List Bits → Valuation → Choice → Valuation
+computed_now d order samples state choice =
+    let E = before d samples state in
+    with_drivers d choice order (with_resets d choice E d.clocked.items E)
+
+-- the next states computed from the values
+abbrev pub computed_next : Design → Valuation → Choice → Valuation → Valuation
+computed_next d state choice V s b =
+    if is_register_bit d s b && is_reset d V s b then V s b else with_bodies d choice V d.clocked.items (kept d state) s b
+
+-- ---- runs
+-- each bit of an output that is checked is as expected
+abbrev pub IsRightWord : Bits → Checked → Type 0
+IsRightWord word checked = (b : ℕ) → IsTrue (bit_of checked.mask b) → bit_of word b ≡ bit_of checked.value b
+
+-- the cycles from cycle t on, begun in a state, have valuations that are right
+abbrev pub MeetsFrom : Design → Trace → (ℕ → Bool) → Choices → ℕ → Valuation → Type 0
+MeetsFrom d trace freed c t state =
+    (run : List Valuation) × IsRunFrom d trace freed c t state run
+    × ((j : ℕ) (V : Valuation) → slice_get run j ≡ Some V → IsRight d (expected_at d trace (t + j)) V)
+
+-- ---- whether a design can be carried out
+-- a width of 1 to 128 bits, where it is one
+abbrev pub small_width : ℕ → Option ℕ
+small_width width = if is_width width then Some width else None
+
+-- the samples and the entries of a cycle fit the inputs and outputs
+pub record CycleFits (d : Design) (trace : Trace) (t : ℕ) : Type 0 where
+  pub samples : IsTrue (samples_fit d.signals.items d.inputs.items (samples_at d trace t))
+  pub expected : IsTrue (expected_fit d.signals.items d.outputs.items (expected_at d trace t))
