@@ -6,3 +6,5 @@ pub mod RunningLaws
 pub mod ChangeLaws
 pub mod ListSteps
 pub mod RowLaws
+pub mod PortSteps
+pub mod NameLaws

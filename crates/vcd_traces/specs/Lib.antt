@@ -4,6 +4,8 @@ pub mod Pieces
 pub mod Header
 pub mod HeaderView
 pub mod Scopes
+pub mod NameView
+pub mod PortView
 pub mod Events
 pub mod Changes
 pub mod Reading

@@ -9,6 +9,8 @@ mod header;
 mod header_reader;
 mod kinds;
 mod moment;
+mod names;
+mod ports;
 mod reals;
 mod rows;
 mod running;
