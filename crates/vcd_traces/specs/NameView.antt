@@ -1,5 +1,5 @@
 -- What a table of variables by scope and name shows.
-use Rattle.std.specs.Prelude.{ℕ, ◌==◌, ◌&&◌, Bool, nat_eq, if◌then◌else◌, List, Option, Some, None}
+use Rattle.std.specs.Prelude.{ℕ, ◌==◌, ◌&&◌, Bool, if◌then◌else◌, List, Option, Some, None}
 use Rattle.std.specs.HashMap as hash
 use Rattle.std.specs.Option.{option_or}
 use Rattle.vcd_traces.specs.declared.names.Key.{Key}
