@@ -37,7 +37,13 @@ fn digits_beyond_128_are_lost(rt: HostRuntime) -> Result<(), Fail> {
     for _ in 0..128u8 {
         digits.push(b'0')?;
     }
-    assert_eq!(rt; read_level(digits.as_slice()), Some(Level { ones: 0, unknowns: 0 }));
+    assert_eq!(rt;
+        read_level(digits.as_slice()),
+        Some(Level {
+            ones: 0,
+            unknowns: 0
+        })
+    );
     Ok(())
 }
 
