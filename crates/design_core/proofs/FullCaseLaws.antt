@@ -32,19 +32,19 @@ all_below-at (suc n) test k all below =
     at here lower (inr (inr gt)) = absurd (omega arith)
 
 -- a value that its bits decide
-decided-at : (signals : List Signal) (V : Valuation) (width : ℕ) (e : Node) (test : ℕ → Bool) → node_fits signals width e ≡ true
+decided-at : (signals : List Signal) (V : Valuation) (width : ℕ) (signed : Bool) (e : Node) (test : ℕ → Bool) → node_fits signals width signed e ≡ true
     → all_below (2 ^ deciding_bits width e) (λ n. test (decided width e n)) ≡ true → test (node_value signals V width e) ≡ true
-decided-at signals V width (Resize' x arg_width signed arg) test fits all =
+decided-at signals V width sign (Resize' x arg_width signed arg) test fits all =
     all_below-at (2 ^ arg_width) (λ n. test (decided width (Resize' x arg_width signed arg) n)) (node_value signals V arg_width arg) all
-    (node_value-in_range signals V arg_width arg (and_parts (is_width width) (node_fits signals arg_width arg) fits).1)
-decided-at signals V width e test fits all = all_below-at (2 ^ width) test (node_value signals V width e) all (node_value-in_range signals V width e fits)
+    (node_value-in_range signals V arg_width signed arg (and_parts (is_width width) (node_fits signals arg_width signed arg) fits).1)
+decided-at signals V width sign e test fits all = all_below-at (2 ^ width) test (node_value signals V width e) all (node_value-in_range signals V width sign e fits)
 
 -- in a full case some item has a constant label that is equal to the subject
 pub is_full-matches : {shape : _} (signals : List Signal) (V : Valuation) (subject : Typed) (items : Row_of-CaseItem shape) → typed_fits signals subject ≡ true
     → is_full signals subject items ≡ true → some_matches signals (value signals V subject) items ≡ true
 is_full-matches signals V subject items fits full =
     let bits : ℕ = deciding_bits subject.width subject.node in
-    decided-at signals V subject.width subject.node (λ n. some_matches signals n items) fits
+    decided-at signals V subject.width subject.signed subject.node (λ n. some_matches signals n items) fits
     (and_parts (nat_le bits 8) (all_below (2 ^ bits) (λ n. some_matches signals (decided subject.width subject.node n) items)) full).1
 
 -- a constant label that is equal to the subject is equal to it in each valuation

@@ -10,8 +10,15 @@ pub mod ValueRange
 pub mod FullCaseLaws
 pub mod StatementAgrees
 pub mod CycleLaws
+pub mod CycleExists
+pub mod DriversForget
+pub mod ReadsWithin
+pub mod StoreOutside
+pub mod OrderLaws
+pub mod OrderExamples
 pub mod RunLaws
 pub mod Examples
 pub mod CycleExamples
 pub mod CycleFound
 pub mod EvaluateWrite
+pub mod WellFormedExamples

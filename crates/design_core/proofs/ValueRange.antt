@@ -18,7 +18,7 @@ use Rattle.design_core.specs.declared.expression.Node.TheVariants.{Const, Whole,
 use Rattle.design_core.specs.Valuation.{Valuation, number, word_at}
 use Rattle.design_core.specs.Operator.{is_true, one_if, all_ones, integer_of, unary, is_less, binary, repeated, resized}
 use Rattle.design_core.specs.Value.{picked, word_value, node_value, joined, value}
-use Rattle.design_core.specs.WellFormed.{is_width, slice_fits, words_fit, unary_fits, same_widths, binary_fits, joined_width, node_fits, parts_fit, typed_fits}
+use Rattle.design_core.specs.WellFormed.{is_width, slice_fits, words_fit, unary_fits, same_widths, binary_fits, joined_width, node_fits, parts_fit, typed_fits, signs_fit}
 use Rattle.design_core.proofs.NumberLaws.{number-below}
 
 -- a truth value fits each width
@@ -115,65 +115,68 @@ some_bits : (width : ℕ) → is_width width ≡ true → 1 ≤ width
 some_bits width fits = leb-true 1 width (and_parts (nat_le 1 width) (nat_le width 128) fits).0
 
 mutual
-  pub node_value-in_range : (signals : List Signal) (V : Valuation) (width : ℕ) (e : Node) → node_fits signals width e ≡ true
+  pub node_value-in_range : (signals : List Signal) (V : Valuation) (width : ℕ) (signed : Bool) (e : Node) → node_fits signals width signed e ≡ true
       → node_value signals V width e < 2 ^ width
-  node_value-in_range signals V width (Const word) fits =
+  node_value-in_range signals V width sign (Const word) fits =
       subst (λ w. value_of word < 2 ^ w) (eqb-true (width_of word) width (and_parts (is_width width) (width_of word == width) fits).1) (value_of-range word)
-  node_value-in_range signals V width (Whole signal) fits = number-below width (V signal)
-  node_value-in_range signals V width (Slice signal from size) fits =
+  node_value-in_range signals V width sign (Whole signal) fits = number-below width (V signal)
+  node_value-in_range signals V width sign (Slice signal from size) fits =
       subst (λ w. number size (λ b. V signal (from + b)) < 2 ^ w) (eqb-true size width (and_parts (slice_fits signals signal from size) (size == width) fits).1)
       (number-below size (λ b. V signal (from + b)))
-  node_value-in_range signals V width (Pick' signal _ index_width signed index offsets) fits =
+  node_value-in_range signals V width sign (Pick' signal _ index_width signed index offsets) fits =
       number-below width (picked signals V signal (integer_of signed index_width (node_value signals V index_width index)) offsets.items)
-  node_value-in_range signals V width (Word' first count low _ index_width signed index from size) fits =
+  node_value-in_range signals V width sign (Word' first count low _ index_width signed index from size) fits =
       let word : Option ℕ = word_at first count low (integer_of signed index_width (node_value signals V index_width index)) in
       let same = and_parts (words_fit signals first count from size) (size == width)
-      (and_parts (words_fit signals first count from size && (size == width)) (node_fits signals index_width index) fits).0 in
+      (and_parts (words_fit signals first count from size && (size == width)) (node_fits signals index_width signed index) fits).0 in
       subst (λ w. word_value V from size word < 2 ^ w) (eqb-true size width same.1) (word_value-in_range V from size word)
-  node_value-in_range signals V width (Unary' op _ arg_width _ arg) fits =
-      let fit = and_parts (is_width width && unary_fits op width arg_width) (node_fits signals arg_width arg) fits in
+  node_value-in_range signals V width sign (Unary' op _ arg_width signed arg) fits =
+      let fit = and_parts (is_width width && unary_fits op width arg_width) (node_fits signals arg_width signed arg) fits in
       let own = and_parts (is_width width) (unary_fits op width arg_width) fit.0 in
-      unary-in_range op width arg_width (node_value signals V arg_width arg) own.1 (some_bits width own.0) (node_value-in_range signals V arg_width arg fit.1)
-  node_value-in_range signals V width (Binary' op _ left_width left_signed left _ right_width right_signed right) fits =
-      let fit = and_parts (is_width width && binary_fits op width left_width right_width && node_fits signals left_width left) (node_fits signals right_width right) fits in
-      let more = and_parts (is_width width && binary_fits op width left_width right_width) (node_fits signals left_width left) fit.0 in
-      let own = and_parts (is_width width) (binary_fits op width left_width right_width) more.0 in
+      unary-in_range op width arg_width (node_value signals V arg_width arg) own.1 (some_bits width own.0) (node_value-in_range signals V arg_width signed arg fit.1)
+  node_value-in_range signals V width sign (Binary' op _ left_width left_signed left _ right_width right_signed right) fits =
+      let signs : Bool = signs_fit op sign left_signed right_signed in
+      let left_fits : Bool = node_fits signals left_width left_signed left in
+      let fit = and_parts (is_width width && binary_fits op width left_width right_width && signs && left_fits) (node_fits signals right_width right_signed right) fits in
+      let more = and_parts (is_width width && binary_fits op width left_width right_width && signs) left_fits fit.0 in
+      let widths = and_parts (is_width width && binary_fits op width left_width right_width) signs more.0 in
+      let own = and_parts (is_width width) (binary_fits op width left_width right_width) widths.0 in
       binary-in_range op width left_width right_width left_signed right_signed (node_value signals V left_width left) (node_value signals V right_width right)
-      own.1 (some_bits width own.0) (node_value-in_range signals V left_width left more.1) (node_value-in_range signals V right_width right fit.1)
-  node_value-in_range signals V width (Choose' _ cond_width _ cond _ true_width _ on_true _ false_width _ on_false) fits =
-      let fit = and_parts (same_widths width true_width false_width && node_fits signals cond_width cond && node_fits signals true_width on_true)
-      (node_fits signals false_width on_false) fits in
-      let more = and_parts (same_widths width true_width false_width && node_fits signals cond_width cond) (node_fits signals true_width on_true) fit.0 in
-      let widths = and_parts (width == true_width) (width == false_width) (and_parts (same_widths width true_width false_width) (node_fits signals cond_width cond) more.0).0 in
+      own.1 (some_bits width own.0) (node_value-in_range signals V left_width left_signed left more.1) (node_value-in_range signals V right_width right_signed right fit.1)
+  node_value-in_range signals V width sign (Choose' _ cond_width cond_signed cond _ true_width true_signed on_true _ false_width false_signed on_false) fits =
+      let fit = and_parts (same_widths width true_width false_width && node_fits signals cond_width cond_signed cond && node_fits signals true_width true_signed on_true)
+      (node_fits signals false_width false_signed on_false) fits in
+      let more = and_parts (same_widths width true_width false_width && node_fits signals cond_width cond_signed cond) (node_fits signals true_width true_signed on_true) fit.0 in
+      let widths = and_parts (width == true_width) (width == false_width) (and_parts (same_widths width true_width false_width) (node_fits signals cond_width cond_signed cond) more.0).0 in
       let yes : ℕ = node_value signals V true_width on_true in
       let no : ℕ = node_value signals V false_width on_false in
       cond_both (is_true (node_value signals V cond_width cond)) yes no (λ n. n < 2 ^ width)
-      (λ _. same_width width true_width yes widths.0 (node_value-in_range signals V true_width on_true more.1))
-      (λ _. same_width width false_width no widths.1 (node_value-in_range signals V false_width on_false fit.1))
-  node_value-in_range signals V width (Join' _ parts) fits =
+      (λ _. same_width width true_width yes widths.0 (node_value-in_range signals V true_width true_signed on_true more.1))
+      (λ _. same_width width false_width no widths.1 (node_value-in_range signals V false_width false_signed on_false fit.1))
+  node_value-in_range signals V width sign (Join' _ parts) fits =
       let fit = and_parts (is_width width && (joined_width parts == width)) (parts_fit signals parts) fits in
       let whole : 0 + joined_width parts ≡ width = omega (arith, eqb-true (joined_width parts) width (and_parts (is_width width) (joined_width parts == width) fit.0).1) in
       subst (λ w. joined signals V 0 parts < 2 ^ w) whole (joined-in_range signals V 0 0 parts fit.1 (pow_pos 0))
-  node_value-in_range signals V width (Repeat' times _ part_width _ part) fits =
-      let fit = and_parts (is_width width && (times * part_width == width)) (node_fits signals part_width part) fits in
+  node_value-in_range signals V width sign (Repeat' times _ part_width signed part) fits =
+      let fit = and_parts (is_width width && (times * part_width == width)) (node_fits signals part_width signed part) fits in
       subst (λ w. repeated times part_width (node_value signals V part_width part) < 2 ^ w)
       (eqb-true (times * part_width) width (and_parts (is_width width) (times * part_width == width) fit.0).1)
-      (repeated-in_range times part_width (node_value signals V part_width part) (node_value-in_range signals V part_width part fit.1))
-  node_value-in_range signals V width (Resize' _ arg_width signed arg) fits =
+      (repeated-in_range times part_width (node_value signals V part_width part) (node_value-in_range signals V part_width signed part fit.1))
+  node_value-in_range signals V width sign (Resize' _ arg_width signed arg) fits =
       resized-in_range width signed arg_width (node_value signals V arg_width arg)
-      (node_value-in_range signals V arg_width arg (and_parts (is_width width) (node_fits signals arg_width arg) fits).1)
+      (node_value-in_range signals V arg_width signed arg (and_parts (is_width width) (node_fits signals arg_width signed arg) fits).1)
 
   pub joined-in_range : {shape : _} (signals : List Signal) (V : Valuation) (width left : ℕ) (parts : Row_of-Typed shape) → parts_fit signals parts ≡ true
       → left < 2 ^ width → joined signals V left parts < 2 ^ (width + joined_width parts)
   joined-in_range signals V width left end_of-Typed fits below = omega (arith, below, ap (λ w. 2 ^ w) (add-zero width))
-  joined-in_range signals V width left (more_of-Typed part_width _ node rest) fits below =
-      let fit = and_parts (node_fits signals part_width node) (parts_fit signals rest) fits in
+  joined-in_range signals V width left (more_of-Typed part_width signed node rest) fits below =
+      let fit = and_parts (node_fits signals part_width signed node) (parts_fit signals rest) fits in
       let next : ℕ = left * 2 ^ part_width + node_value signals V part_width node in
       let low : next < 2 ^ (width + part_width) =
-      joined_below left (node_value signals V part_width node) width part_width below (node_value-in_range signals V part_width node fit.0) in
+      joined_below left (node_value signals V part_width node) width part_width below (node_value-in_range signals V part_width signed node fit.0) in
       let wide : width + part_width + joined_width rest ≡ width + (part_width + joined_width rest) = omega arith in
       subst (λ w. joined signals V next rest < 2 ^ w) wide (joined-in_range signals V (width + part_width) next rest fit.1 low)
 
 -- the value of an expression that has the width that it says is a number of that width
 pub value-in_range : (signals : List Signal) (V : Valuation) (e : Typed) → typed_fits signals e ≡ true → value signals V e < 2 ^ e.width
-value-in_range signals V e fits = node_value-in_range signals V e.width e.node fits
+value-in_range signals V e fits = node_value-in_range signals V e.width e.signed e.node fits

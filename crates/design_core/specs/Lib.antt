@@ -11,9 +11,14 @@ pub mod Cycle
 pub mod Run
 pub mod Works
 pub mod Listing
+pub mod Explained
 pub mod WellFormed
 pub mod TraceFits
 pub mod Reads
 pub mod Laws
+pub mod DrivenOnce
+pub mod Order
+pub mod Mentions
+pub mod Steps
 pub mod Words
 pub mod Given

@@ -74,24 +74,44 @@ is_nothing (If' _ _ _ _ _) = false
 is_nothing (Case' _ _ _ _ _ _) = false
 is_nothing (Set _ _ _ _) = false
 
--- whether a statement assigns a bit by `=` on each of its paths; where a case has no statement for other values of its
--- subject, and takes an item for each of them, no path takes none
+-- whether each path of a statement has an assignment that passes a test of its left side's parts and of its being
+-- nonblocking; where a case has no statement for other values of its subject, and takes an item for each of them, no
+-- path takes none
 abbrev mutual
-  pub assigns : List Signal → ℕ → ℕ → Stmt → Bool
-  assigns signals s b Nothing = false
-  assigns signals s b (Block' _ statements) = some_assigns signals s b statements
-  assigns signals s b (If' _ _ on_true _ on_false) = assigns signals s b on_true && assigns signals s b on_false
-  assigns signals s b (Case' subject _ items _ other _) =
-      all_assign signals s b items && ((is_nothing other && is_full signals subject items) || assigns signals s b other)
-  assigns signals s b (Set _ target _ later) = not later && list_any (part_assigns signals s b) target.parts.items
+  pub on_all_paths : List Signal → (List Part → Bool → Bool) → Stmt → Bool
+  on_all_paths signals test Nothing = false
+  on_all_paths signals test (Block' _ statements) = some_on_all_paths signals test statements
+  on_all_paths signals test (If' _ _ on_true _ on_false) = on_all_paths signals test on_true && on_all_paths signals test on_false
+  on_all_paths signals test (Case' subject _ items _ other _) =
+      all_on_all_paths signals test items && ((is_nothing other && is_full signals subject items) || on_all_paths signals test other)
+  on_all_paths signals test (Set _ target _ later) = test target.parts.items later
 
-  pub some_assigns : {shape : _} → List Signal → ℕ → ℕ → Row_of-Stmt shape → Bool
-  some_assigns signals s b end_of-Stmt = false
-  some_assigns signals s b (more_of-Stmt statement rest) = assigns signals s b statement || some_assigns signals s b rest
+  pub some_on_all_paths : {shape : _} → List Signal → (List Part → Bool → Bool) → Row_of-Stmt shape → Bool
+  some_on_all_paths signals test end_of-Stmt = false
+  some_on_all_paths signals test (more_of-Stmt statement rest) = on_all_paths signals test statement || some_on_all_paths signals test rest
 
-  pub all_assign : {shape : _} → List Signal → ℕ → ℕ → Row_of-CaseItem shape → Bool
-  all_assign signals s b end_of-CaseItem = true
-  all_assign signals s b (more_of-CaseItem _ body rest) = assigns signals s b body && all_assign signals s b rest
+  pub all_on_all_paths : {shape : _} → List Signal → (List Part → Bool → Bool) → Row_of-CaseItem shape → Bool
+  all_on_all_paths signals test end_of-CaseItem = true
+  all_on_all_paths signals test (more_of-CaseItem _ body rest) = on_all_paths signals test body && all_on_all_paths signals test rest
+
+-- whether an assignment surely assigns a bit by `=`
+abbrev pub assigns_at_once : List Signal → ℕ → ℕ → List Part → Bool → Bool
+assigns_at_once signals s b parts later = not later && list_any (part_assigns signals s b) parts
+
+-- whether a statement assigns a bit by `=` on each of its paths
+abbrev pub assigns : List Signal → ℕ → ℕ → Stmt → Bool
+assigns signals s b statement = on_all_paths signals (assigns_at_once signals s b) statement
+
+abbrev pub some_assigns : {shape : _} → List Signal → ℕ → ℕ → Row_of-Stmt shape → Bool
+some_assigns signals s b statements = some_on_all_paths signals (assigns_at_once signals s b) statements
+
+abbrev pub all_assign : {shape : _} → List Signal → ℕ → ℕ → Row_of-CaseItem shape → Bool
+all_assign signals s b items = all_on_all_paths signals (assigns_at_once signals s b) items
+
+-- whether a statement assigns a bit by `=` or by `<=` on each of its paths: a combinational block that does not would
+-- hold the bit's last value (IEEE 1364.1-2002, 5.3)
+abbrev pub assigns_either_way : List Signal → ℕ → ℕ → Stmt → Bool
+assigns_either_way signals s b statement = on_all_paths signals (λ parts later. list_any (part_assigns signals s b) parts) statement
 
 -- whether some path of a statement reads a bit before it has surely assigned it
 abbrev mutual

@@ -1,6 +1,7 @@
--- When a design is well formed: numbers in range, widths that fit, each place in exactly one driver or statement.
+-- When a design is well formed: numbers in range, widths and signs that fit, each place in exactly one driver or statement
+-- (IEEE 1364-2005, clause 5 for the widths and signs of expressions).
 -- What is drivable, driven and free of races are rules of the step that makes designs, and are not said here.
-use Rattle.std.specs.Prelude.{ℕ, ◌≡◌, ◌≢◌, ◌<◌, ◌+◌, ◌*◌, ◌==◌, Bool, true, false, ◌&&◌, if◌then◌else◌, nat_le, nat_lt, IsTrue, ℤ, pos, negsuc, List, length, take, drop, slice_get, sum_by, AllPairs}
+use Rattle.std.specs.Prelude.{ℕ, ◌≡◌, ◌≢◌, ◌<◌, ◌+◌, ◌*◌, ◌==◌, Bool, true, false, not, ◌&&◌, if◌then◌else◌, nat_le, nat_lt, IsTrue, ℤ, pos, negsuc, List, length, take, drop, slice_get, sum_by, AllPairs}
 use Rattle.std.specs.Option.{option_map_or}
 use Rattle.std.specs.List.{list_any, list_all}
 use Rattle.loc_base.specs.Bits.{width_of}
@@ -93,41 +94,57 @@ binary_fits binary_op.NotEqual width left right = compared_widths width left rig
 binary_fits binary_op.LogicalAnd width left right = width == 1
 binary_fits binary_op.LogicalOr width left right = width == 1
 
+-- two signs are one: both signed, or both unsigned
+abbrev pub same_sign : Bool → Bool → Bool
+same_sign one other = if one then other else not other
+
+-- the sign of a result beside those of its operands, as sized (5.5.2): an arithmetic shift to the right has that of its
+-- left operand (5.1.12), and the operands of a comparison have one (5.1.7, 5.1.8)
+abbrev pub signs_fit : BinaryOp → Bool → Bool → Bool → Bool
+signs_fit binary_op.ArithmeticShiftRight signed left right = same_sign signed left
+signs_fit binary_op.Less signed left right = same_sign left right
+signs_fit binary_op.LessEqual signed left right = same_sign left right
+signs_fit binary_op.Greater signed left right = same_sign left right
+signs_fit binary_op.GreaterEqual signed left right = same_sign left right
+signs_fit binary_op.Equal signed left right = same_sign left right
+signs_fit binary_op.NotEqual signed left right = same_sign left right
+signs_fit _ signed left right = true
+
 -- the number of bits of a concatenation
 abbrev pub joined_width : {shape : _} → Row_of-Typed shape → ℕ
 joined_width end_of-Typed = 0
 joined_width (more_of-Typed width _ _ rest) = width + joined_width rest
 
 abbrev mutual
-  -- whether a node is one of this width
-  pub node_fits : List Signal → ℕ → Node → Bool
-  node_fits signals width (node.Const word) = is_width width && width_of word == width
-  node_fits signals width (node.Whole s) = is_width width && is_signal signals s && width_at signals s == width
-  node_fits signals width (node.Slice s from size) = slice_fits signals s from size && size == width
-  node_fits signals width (node.Pick' s _ index_width _ index offsets) =
-      is_width width && is_signal signals s && length offsets.items == width && node_fits signals index_width index
-  node_fits signals width (node.Word' first count _ _ index_width _ index from size) =
-      words_fit signals first count from size && size == width && node_fits signals index_width index
-  node_fits signals width (node.Unary' op _ arg_width _ arg) =
-      is_width width && unary_fits op width arg_width && node_fits signals arg_width arg
-  node_fits signals width (node.Binary' op _ left_width _ left _ right_width _ right) =
-      is_width width && binary_fits op width left_width right_width
-      && node_fits signals left_width left && node_fits signals right_width right
-  node_fits signals width (node.Choose' _ cond_width _ cond _ true_width _ on_true _ false_width _ on_false) =
-      same_widths width true_width false_width && node_fits signals cond_width cond
-      && node_fits signals true_width on_true && node_fits signals false_width on_false
-  node_fits signals width (node.Join' _ parts) = is_width width && joined_width parts == width && parts_fit signals parts
-  node_fits signals width (node.Repeat' times _ part_width _ part) =
-      is_width width && times * part_width == width && node_fits signals part_width part
-  node_fits signals width (node.Resize' _ arg_width _ arg) = is_width width && node_fits signals arg_width arg
+  -- whether a node is one of this width and sign
+  pub node_fits : List Signal → ℕ → Bool → Node → Bool
+  node_fits signals width signed (node.Const word) = is_width width && width_of word == width
+  node_fits signals width signed (node.Whole s) = is_width width && is_signal signals s && width_at signals s == width
+  node_fits signals width signed (node.Slice s from size) = slice_fits signals s from size && size == width
+  node_fits signals width signed (node.Pick' s _ index_width index_signed index offsets) =
+      is_width width && is_signal signals s && length offsets.items == width && node_fits signals index_width index_signed index
+  node_fits signals width signed (node.Word' first count _ _ index_width index_signed index from size) =
+      words_fit signals first count from size && size == width && node_fits signals index_width index_signed index
+  node_fits signals width signed (node.Unary' op _ arg_width arg_signed arg) =
+      is_width width && unary_fits op width arg_width && node_fits signals arg_width arg_signed arg
+  node_fits signals width signed (node.Binary' op _ left_width left_signed left _ right_width right_signed right) =
+      is_width width && binary_fits op width left_width right_width && signs_fit op signed left_signed right_signed
+      && node_fits signals left_width left_signed left && node_fits signals right_width right_signed right
+  node_fits signals width signed (node.Choose' _ cond_width cond_signed cond _ true_width true_signed on_true _ false_width false_signed on_false) =
+      same_widths width true_width false_width && node_fits signals cond_width cond_signed cond
+      && node_fits signals true_width true_signed on_true && node_fits signals false_width false_signed on_false
+  node_fits signals width signed (node.Join' _ parts) = is_width width && joined_width parts == width && parts_fit signals parts
+  node_fits signals width signed (node.Repeat' times _ part_width part_signed part) =
+      is_width width && times * part_width == width && node_fits signals part_width part_signed part
+  node_fits signals width signed (node.Resize' _ arg_width arg_signed arg) = is_width width && node_fits signals arg_width arg_signed arg
 
   pub parts_fit : {shape : _} → List Signal → Row_of-Typed shape → Bool
   parts_fit signals end_of-Typed = true
-  parts_fit signals (more_of-Typed width _ node rest) = node_fits signals width node && parts_fit signals rest
+  parts_fit signals (more_of-Typed width signed node rest) = node_fits signals width signed node && parts_fit signals rest
 
--- whether an expression has the width that it says
+-- whether an expression has the width that it says, and a sign that its operator can have
 abbrev pub typed_fits : List Signal → Typed → Bool
-typed_fits signals e = node_fits signals e.width e.node
+typed_fits signals e = node_fits signals e.width e.signed e.node
 
 -- whether a part of a left side is one of the design's
 abbrev pub part_fits : List Signal → Part → Bool
@@ -180,11 +197,11 @@ driver_fits signals places (driver.Cont target value place _) =
     && option_map_or (place_fits places (parts_width signals target.parts.items)) place true
 driver_fits signals places (driver.Comb body _) = statement_fits signals places body
 
--- a part of a left side without a variable index
+-- a part of a left side without a variable index; by a constant one that is out of range nothing is stored (5.2.2)
 abbrev pub is_fixed : Part → Bool
 is_fixed (part.Whole _) = true
 is_fixed (part.Slice _ _ _) = true
-is_fixed (part.Pick _ _ _) = false
+is_fixed (part.Pick _ index _) = is_constant index.node
 is_fixed (part.Word _ _ _ _ _ _) = false
 
 -- a statement that assigns constants alone, without conditions and variable indexes

@@ -1,6 +1,6 @@
 -- Which sets of suspects can explain what the traces show (Smith, Veneris, Ali and Viglas, Fault diagnosis and logic
 -- debugging using Boolean satisfiability, IEEE TCAD 2005): the values are chosen for each trace and each cycle.
-use Rattle.std.specs.Prelude.{ℕ, ◌≡◌, ◌<◌, ◌≤◌, ◌-◌, ◌^◌, ◌==◌, Bool, false, IsTrue, List, length, slice_get, Some, All, Contains}
+use Rattle.std.specs.Prelude.{ℕ, ◌≡◌, ◌<◌, ◌≤◌, ◌-◌, ◌^◌, ◌==◌, Bool, false, ◌&&◌, nat_le, IsTrue, List, length, slice_get, Some, All, Contains}
 use Rattle.std.specs.Option.{option_map_or}
 use Rattle.std.specs.List.{list_any}
 use Rattle.std.specs.List.Sorted.{IsStrictlyIncreasing}
@@ -13,9 +13,10 @@ use Rattle.design_core.specs.Run.{Choices, Meets}
 abbrev pub Groups : Type 0
 Groups = List (List ℕ)
 
--- whether a suspect has a place
+-- whether a suspect has a place; there is no suspect 0
 abbrev pub suspect_has : Groups → ℕ → ℕ → Bool
-suspect_has groups place suspect = option_map_or (λ places. list_any (λ p. p == place) places) (slice_get groups (suspect - 1)) false
+suspect_has groups place suspect =
+    nat_le 1 suspect && option_map_or (λ places. list_any (λ p. p == place) places) (slice_get groups (suspect - 1)) false
 
 -- whether a place is one of a set's suspects'
 abbrev pub places_of : Groups → List ℕ → ℕ → Bool

@@ -291,6 +291,6 @@ pub driver_fits_one : (of : List ℕ → ℕ) (signals : List Signal) (places : 
 driver_fits_one of signals places i a (Cont target e place span) h one all at =
     let (is_signal, is_one) = and_parts (well.is_signal signals (of a.target)) (width_at signals (of a.target) == 1) one in
     let width : width_at signals (of a.target) ≡ 1 = eqb-true (width_at signals (of a.target)) 1 is_one in
-    let fits : well.node_fits signals 1 e.node ≡ true = ap (λ w. well.node_fits signals w e.node) (sym h.1.width) ∙ fits_from of signals a.value e h.1 all in
+    let fits : well.node_fits signals 1 e.signed e.node ≡ true = ap (λ w. well.node_fits signals w e.signed e.node) (sym h.1.width) ∙ fits_from of signals a.value e h.1 all in
     rw (h.0, h.2, h.1.width, width, is_signal, fits, at) refl
 driver_fits_one of signals places i a (Comb body span) h one all at = absurd h

@@ -12,7 +12,7 @@ use Rattle.design_core.specs.Valuation.{Valuation, number, width_at}
 use Rattle.design_core.specs.Operator.{one_if, unary, binary}
 use Rattle.design_core.specs.Value.{node_value, value}
 use Rattle.design_core.specs.Reads.{node_reads, reads}
-use Rattle.design_core.specs.WellFormed.{node_fits, typed_fits, is_signal, unary_fits, binary_fits}
+use Rattle.design_core.specs.WellFormed.{node_fits, typed_fits, is_signal, unary_fits, binary_fits, signs_fit}
 use Rattle.first_form.specs.declared.netlist.Operator.{Operator}
 use Rattle.first_form.specs.declared.netlist.Operator.TheVariants as operator
 use Rattle.first_form.specs.declared.netlist.Formula.{Formula}
@@ -114,25 +114,30 @@ all_parts test (x ∷ xs) ys all =
     let (first, second) = all_parts test xs ys rest in
     (and_from (test x) (list_all test xs) one first, second)
 
-pub node_fits_one : (of : List ℕ → ℕ) (signals : List Signal) (f : Formula) (n : Node) → IsNodeOf of f n
-    → list_all (λ name. is_one_bit signals (of name)) (formula_names f) ≡ true → node_fits signals 1 n ≡ true
-node_fits_one of signals (formula.Named name) (node.Whole s) h all =
+pub node_fits_one : (of : List ℕ → ℕ) (signals : List Signal) (f : Formula) (signed : Bool) (n : Node) → IsNodeOf of f n
+    → list_all (λ name. is_one_bit signals (of name)) (formula_names f) ≡ true → node_fits signals 1 signed n ≡ true
+node_fits_one of signals (formula.Named name) sign (node.Whole s) h all =
     let (one, rest) = and_parts (is_one_bit signals (of name)) true all in
     rw h one
-node_fits_one of signals (formula.Named name) _ h all = absurd h
-node_fits_one of signals (formula.Not' _ arg) (node.Unary' op _ width signed e) h all = rw (h.0, h.1) (node_fits_one of signals arg e h.3 all)
-node_fits_one of signals (formula.Not' _ arg) _ h all = absurd h
-node_fits_one of signals (formula.Binary' op _ left _ right) (node.Binary' word _ left_width left_signed e _ right_width right_signed f) h all =
+node_fits_one of signals (formula.Named name) sign _ h all = absurd h
+node_fits_one of signals (formula.Not' _ arg) sign (node.Unary' op _ width signed e) h all = rw (h.0, h.1) (node_fits_one of signals arg signed e h.3 all)
+node_fits_one of signals (formula.Not' _ arg) sign _ h all = absurd h
+node_fits_one of signals (formula.Binary' op _ left _ right) sign (node.Binary' word _ left_width left_signed e _ right_width right_signed f) h all =
     let (first, second) = all_parts (λ name. is_one_bit signals (of name)) (formula_names left) (formula_names right) all in
-    rw (h.0, h.1, h.3) (and_from (binary_fits (word_operator op) 1 1 1 && node_fits signals 1 e) (node_fits signals 1 f)
-    (and_from (binary_fits (word_operator op) 1 1 1) (node_fits signals 1 e) (operator_fits op) (node_fits_one of signals left e h.5 first))
-    (node_fits_one of signals right f h.6 second))
+    rw (h.0, h.1, h.3)
+    (and_from (operator_test op left_signed right_signed && node_fits signals 1 left_signed e) (node_fits signals 1 right_signed f)
+    (and_from (operator_test op left_signed right_signed) (node_fits signals 1 left_signed e) (operator_fits op left_signed right_signed)
+    (node_fits_one of signals left left_signed e h.5 first))
+    (node_fits_one of signals right right_signed f h.6 second))
   where
-    operator_fits : (op : Operator) → binary_fits (word_operator op) 1 1 1 ≡ true
-    operator_fits operator.And = refl
-    operator_fits operator.Or = refl
-    operator_fits operator.Xor = refl
-node_fits_one of signals (formula.Binary' op _ left _ right) _ h all = absurd h
+    operator_test : Operator → Bool → Bool → Bool
+    operator_test op left_signed right_signed = binary_fits (word_operator op) 1 1 1 && signs_fit (word_operator op) sign left_signed right_signed
+
+    operator_fits : (op : Operator) (left_signed right_signed : Bool) → operator_test op left_signed right_signed ≡ true
+    operator_fits operator.And left_signed right_signed = refl
+    operator_fits operator.Or left_signed right_signed = refl
+    operator_fits operator.Xor left_signed right_signed = refl
+node_fits_one of signals (formula.Binary' op _ left _ right) sign _ h all = absurd h
 
 pub formula_from : (of : List ℕ → ℕ) (signals : List Signal) (f : Formula) (e : Typed) → IsTypedOf of f e → IsFormula of signals f e
 formula_from of signals f e t = record {
@@ -144,4 +149,4 @@ formula_from of signals f e t = record {
 
 pub fits_from : (of : List ℕ → ℕ) (signals : List Signal) (f : Formula) (e : Typed) → IsTypedOf of f e
     → list_all (λ name. is_one_bit signals (of name)) (formula_names f) ≡ true → typed_fits signals e ≡ true
-fits_from of signals f e t all = ap (λ w. node_fits signals w e.node) t.width ∙ node_fits_one of signals f e.node t.node all
+fits_from of signals f e t all = ap (λ w. node_fits signals w e.signed e.node) t.width ∙ node_fits_one of signals f e.signed e.node t.node all

@@ -13,9 +13,9 @@ use Rattle.design_core.specs.declared.values.SetWithValues.{SetWithValues}
 use Rattle.design_core.specs.Works.{Groups}
 use Rattle.design_core.specs.Listing.{is_before, IsEntry, IsFront, IsList}
 use Rattle.plain_list.specs.Groups.{groups_of}
-use Rattle.plain_list.specs.Rows.{AreValuesOf}
+use Rattle.design_core.specs.Explained.{AreValuesOf}
 use Rattle.plain_list.specs.Search.{members_of}
-use Rattle.plain_list.specs.Trial.{Explains}
+use Rattle.design_core.specs.Explained.{Explains}
 use Rattle.localise_cmd.specs.declared.outcome.ListEnd.{ListEnd}
 use Rattle.localise_cmd.specs.declared.outcome.ListEnd.TheVariants.{Whole, WriteFault, Memory}
 use Rattle.localise_cmd.specs.Asked.{Asked}
@@ -169,13 +169,13 @@ none-found request d trace = record { front = front-none d (trace ∷ []) (group
 
 pub found-made : (request : Asked) (d : Design) (trace : Trace) (traces : List Trace) (found : List SetWithValues) (size : ℕ) → traces ≡ trace ∷ [] → size ≡ request.size
     → IsFront d traces (groups_of d) size (members_of found)
-    → All (λ set. Explains d traces (groups_of d) set.members set.values) found → All (λ set. AreValuesOf d traces set.members set.values) found
+    → All (λ set. Explains d traces (groups_of d) set.members set.values) found → All (λ set. AreValuesOf d traces (groups_of d) set.members set.values) found
     → AreFound request d trace found
 found-made request d trace traces found size one e front values shapes = record {
   front = subst (λ k. IsFront d (trace ∷ []) (groups_of d) k (members_of found)) e (subst (λ t. IsFront d t (groups_of d) size (members_of found)) one front);
   shown = λ i s h. record {
     explains = subst (λ t. Explains d t (groups_of d) (get_or found i s).members (get_or found i s).values) one (values i s h);
-    rows = subst (λ t. AreValuesOf d t (get_or found i s).members (get_or found i s).values) one (shapes i s h);
+    rows = subst (λ t. AreValuesOf d t (groups_of d) (get_or found i s).members (get_or found i s).values) one (shapes i s h);
   };
 }
 

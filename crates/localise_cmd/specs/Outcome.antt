@@ -8,9 +8,9 @@ use Rattle.design_core.specs.declared.trace.Trace.{Trace}
 use Rattle.design_core.specs.declared.values.SetWithValues.{SetWithValues}
 use Rattle.design_core.specs.Listing.{IsFront, IsList}
 use Rattle.plain_list.specs.Groups.{groups_of}
-use Rattle.plain_list.specs.Rows.{AreValuesOf}
+use Rattle.design_core.specs.Explained.{AreValuesOf}
 use Rattle.plain_list.specs.Search.{members_of}
-use Rattle.plain_list.specs.Trial.{Explains}
+use Rattle.design_core.specs.Explained.{Explains}
 use Rattle.localise_cmd.specs.declared.request.Usage.{Usage}
 use Rattle.localise_cmd.specs.declared.refusal.Refusal.{Refusal}
 use Rattle.localise_cmd.specs.declared.outcome.ListEnd.{ListEnd}
@@ -44,7 +44,7 @@ IsAlone left name = (other : List ℕ) → other ≢ name → left.now_written o
 -- the values of a set that are shown: they make the trace right, and are those of the set's places, a row for each cycle
 pub record IsShown (d : Design) (trace : Trace) (set : SetWithValues) : Type 0 where
   pub explains : Explains d (trace ∷ []) (groups_of d) set.members set.values
-  pub rows : AreValuesOf d (trace ∷ []) set.members set.values
+  pub rows : AreValuesOf d (trace ∷ []) (groups_of d) set.members set.values
 
 -- sets are those of a front of the list of a design and a trace
 abbrev pub IsFrontOf : Asked → Design → Trace → List (List ℕ) → Type 0

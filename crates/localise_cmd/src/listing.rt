@@ -5,9 +5,9 @@ ghost use Rattle.design_core.specs.TraceFits.{IsTraceOf};
 ghost use Rattle.io_ports.specs.Shelf.{PutCause};
 ghost use Rattle.plain_list.specs.Groups.{groups_of};
 ghost use Rattle.plain_list.specs.Network.{IsNetwork};
-ghost use Rattle.plain_list.specs.Rows.{AreValuesOf};
+ghost use Rattle.design_core.specs.Explained.{AreValuesOf};
 ghost use Rattle.plain_list.specs.Search.{IsSearch, found_of, left_of, members_of, size_of};
-ghost use Rattle.plain_list.specs.Trial.{Explains};
+ghost use Rattle.design_core.specs.Explained.{Explains};
 ghost use Rattle.localise_cmd.specs.Lines.{sets_lines};
 ghost use Rattle.localise_cmd.specs.Report.{HasRows, report_text};
 ghost use Rattle.localise_cmd.specs.Listed.{last_of, Shows, StopCause, Writes};
@@ -56,7 +56,7 @@ fn show_next<O: Sink>(
     ensures left { result ≡ Ok true → left_of search.new < left_of search.old }
     ensures front { IsFront first.now.design traces.now (groups_of first.now.design) (size_of search.new) (members_of (found_of search.new)) }
     ensures values { All (λ set. Explains first.now.design traces.now (groups_of first.now.design) set.members set.values) (found_of search.new) }
-    ensures shapes { All (λ set. AreValuesOf first.now.design traces.now set.members set.values) (found_of search.new) }
+    ensures shapes { All (λ set. AreValuesOf first.now.design traces.now (groups_of first.now.design) set.members set.values) (found_of search.new) }
     ensures list { result ≡ Ok false → IsList first.now.design traces.now (groups_of first.now.design) (size_of search.new) (members_of (found_of search.new)) }
     // Where the sets found before were shown behind some text, those found now are.
     ensures text { O.tells out.old ≡ true → (base : List ℕ) → O.written out.old ≡ base ++ sets_lines first.now.design.places.items (members_of (found_of search.old))
@@ -92,7 +92,7 @@ pub fn show_sets<O: Sink>(
     ensures size { size_of search.new ≡ size_of search.old }
     ensures front { IsFront first.now.design traces.now (groups_of first.now.design) (size_of search.new) (members_of (found_of search.new)) }
     ensures values { All (λ set. Explains first.now.design traces.now (groups_of first.now.design) set.members set.values) (found_of search.new) }
-    ensures shapes { All (λ set. AreValuesOf first.now.design traces.now set.members set.values) (found_of search.new) }
+    ensures shapes { All (λ set. AreValuesOf first.now.design traces.now (groups_of first.now.design) set.members set.values) (found_of search.new) }
     ensures list { OnOk result (IsList first.now.design traces.now (groups_of first.now.design) (size_of search.new) (members_of (found_of search.new))) }
     ensures text { O.tells out.old ≡ true → Shows first.now.design.places.items (members_of (found_of search.new)) (O.written out.old) (O.written out.new) result }
     ensures cause { StopCause (O.faults out.old) (O.faults out.new) result }

@@ -32,7 +32,8 @@ use Rattle.design_core.specs.Cycle.{cont_assigned}
 use Rattle.design_core.specs.declared.statement.Stmt.{Stmt}
 use Rattle.design_core.specs.WellFormed.{IsWellFormed, is_width, typed_fits, assignment_fits, place_fits, driver_fits}
 use Rattle.plain_list.specs.Network.{with_net, whole_of, step}
-use Rattle.plain_list.specs.Trial.{number_for, is_one_of, place_width, AreNumbersFor}
+use Rattle.plain_list.specs.Trial.{AreNumbersFor}
+use Rattle.design_core.specs.Explained.{number_for, is_one_of, place_width}
 use Rattle.plain_list.proofs.Settled.{whole_of-parts, same_or_not, lt_or_ge, Some-same, step-is, with_net-at, with_net-high, with_net-other}
 
 pub both_true : (x y : Bool) → (x && y) ≡ true → (x ≡ true) × (y ≡ true)

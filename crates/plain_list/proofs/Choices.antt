@@ -13,7 +13,7 @@ use Rattle.design_core.specs.Value.{value}
 use Rattle.design_core.specs.After.{Choice}
 use Rattle.design_core.specs.Cycle.{cont_assigned, before}
 use Rattle.plain_list.specs.Network.{with_net, whole_of, assign, settled_from, settled}
-use Rattle.plain_list.specs.Trial.{number_for, is_one_of}
+use Rattle.design_core.specs.Explained.{number_for, is_one_of}
 use Rattle.plain_list.proofs.Settled.{same_or_not}
 
 -- two choices that free the same places and choose the same for them

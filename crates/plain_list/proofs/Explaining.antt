@@ -11,7 +11,8 @@ use Rattle.design_core.specs.declared.trace.Trace.{Trace}
 use Rattle.design_core.specs.Run.{Choices, choice_at, samples_at, expected_at, IsRight, Meets}
 use Rattle.design_core.specs.Works.{AreOfWidth}
 use Rattle.plain_list.specs.Network.{IsNetwork}
-use Rattle.plain_list.specs.Trial.{choice_of, is_one_of, place_width, AreNumbersFor}
+use Rattle.plain_list.specs.Trial.{choice_of, AreNumbersFor}
+use Rattle.design_core.specs.Explained.{is_one_of, place_width}
 use Rattle.plain_list.specs.Rightness.{AreRight}
 use Rattle.plain_list.proofs.OneCycle.{list_any-member}
 use Rattle.plain_list.proofs.Cycles.{cycles-by-meets}

@@ -1,18 +1,20 @@
 -- The suspects that are places of their own, and the places of a set of them.
-use Rattle.std.proofs.Common.{◌≡◌, ℕ, zero, suc, ◌+◌, ◌-◌, ◌<◌, ◌≤◌, ◌==◌, Bool, true, false, ◌||◌, List, [], ◌∷◌, length, map, refl, ap, ◌∙◌, subst, arith}
-use Rattle.std.specs.Prelude.{All, slice_get, Some}
+use Rattle.std.proofs.Common.{◌≡◌, ℕ, zero, suc, ◌+◌, ◌-◌, ◌<◌, ◌≤◌, ◌==◌, Bool, true, false, ◌&&◌, ◌||◌, List, [], ◌∷◌, length, map, refl, ap, ◌∙◌, subst, arith}
+use Rattle.std.specs.Prelude.{All, slice_get, slice_index, Some}
 use Rattle.std.specs.List.{list_any}
+use Rattle.std.specs.List.Sorted.{IsStrictlyIncreasing}
 use Rattle.std.specs.Option.{option_map_or}
 use Rattle.std.proofs.Math.Path.{fun_ext}
+use Rattle.std.proofs.lemmas.Bool.{le-leb}
 use Rattle.std.proofs.lemmas.List.{length-map}
 use Rattle.std.proofs.lemmas.List.Elements.{All-head, All-tail, All-map}
 use Rattle.design_core.specs.declared.design.Design.{Design}
 use Rattle.design_core.specs.Works.{suspect_has, places_of, IsSet}
 use Rattle.plain_list.specs.Candidates.{numbers_from}
-use Rattle.plain_list.specs.Trial.{is_one_of}
+use Rattle.design_core.specs.Explained.{is_one_of}
 use Rattle.plain_list.specs.Groups.{groups_of, places_in}
 use Rattle.plain_list.proofs.Rising.{All-implied}
-use Rattle.plain_list.proofs.Ordered.{IsNumber}
+use Rattle.plain_list.proofs.Ordered.{IsNumber, IsStrictlyIncreasing-tail, suc-add_one}
 
 pub numbers_from-length : (first count : ℕ) → length (numbers_from first count) ≡ count
 unfolding numbers_from
@@ -41,7 +43,8 @@ or-none false = refl
 
 pub suspect_has-place : (d : Design) (place suspect : ℕ) → IsNumber (length d.places.items) suspect → suspect_has (groups_of d) place suspect ≡ ((suspect - 1) == place)
 suspect_has-place d place suspect h =
-    ap (λ o. option_map_or (λ places. list_any (λ p. p == place) places) o false) (suspect-at 0 (length d.places.items) (suspect - 1) (omega (arith, h.0, h.1)))
+    ap (λ some. some && option_map_or (λ places. list_any (λ p. p == place) places) (slice_get (groups_of d) (suspect - 1)) false) (le-leb 1 suspect h.0)
+    ∙ ap (λ o. option_map_or (λ places. list_any (λ p. p == place) places) o false) (suspect-at 0 (length d.places.items) (suspect - 1) (omega (arith, h.0, h.1)))
     ∙ ap (λ n. (n == place) || false) none_add ∙ or-none ((suspect - 1) == place)
   where
     none_add : 0 + (suspect - 1) ≡ suspect - 1
@@ -69,3 +72,15 @@ pub set-places : (d : Design) (set : List ℕ) → IsSet (groups_of d) set → A
 set-places d set s =
     All-map (λ p. p < length d.places.items) (λ suspect. suspect - 1) set
     (All-implied (IsNumber (length d.places.items)) (λ suspect. suspect - 1 < length d.places.items) set (λ x h. omega (arith, h.0, h.1)) (set-numbers d set s))
+
+-- the places of a rising set rise
+pub places_in-rising : (set : List ℕ) → All (λ suspect. 1 ≤ suspect) set → IsStrictlyIncreasing set → IsStrictlyIncreasing (places_in set)
+places_in-rising [] some up k h = absurd (omega (arith, h))
+places_in-rising (x ∷ []) some up k h = absurd (omega (arith, h))
+places_in-rising (x ∷ y ∷ set) some up zero h =
+    let low : 1 ≤ x = All-head (λ suspect. 1 ≤ suspect) x (y ∷ set) some in
+    let next : x < y = up 0 (omega arith) in
+    omega (arith, low, next)
+places_in-rising (x ∷ y ∷ set) some up (suc k) h =
+    subst (λ m. slice_index (places_in (x ∷ y ∷ set)) (suc k) < slice_index (places_in (x ∷ y ∷ set)) m) (suc-add_one k)
+    (places_in-rising (y ∷ set) (All-tail (λ suspect. 1 ≤ suspect) x (y ∷ set) some) (IsStrictlyIncreasing-tail x (y ∷ set) up) k (omega (arith, h)))

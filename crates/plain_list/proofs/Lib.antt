@@ -16,7 +16,6 @@ pub mod Rowing
 pub mod Explaining
 pub mod Grouping
 pub mod Working
-pub mod Readings
 pub mod Networks
 pub mod Inclusion
 pub mod Searching

@@ -19,7 +19,7 @@ use Rattle.plain_list.proofs.Rising.{All-implied}
 use Rattle.plain_list.proofs.Settled.{true-false, whole_of-parts, drives-at}
 use Rattle.plain_list.proofs.OneCycle.{list_any-member, assigned-driver}
 use Rattle.plain_list.proofs.Assigning.{Fits, cont_fits, list_all-at}
-use Rattle.plain_list.proofs.Readings.{reads-below}
+use Rattle.design_core.proofs.ReadsWithin.{reads-below}
 
 -- a driver that fits, and what it assigns
 pub driver-fits : (d : Design) (driver : Driver) (s : ℕ) → driver_fits d.signals.items d.places.items driver ≡ true → target_of driver ≡ Some s

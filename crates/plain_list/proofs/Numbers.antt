@@ -2,7 +2,7 @@
 use Rattle.std.proofs.Common.{◌≡◌, ◌≢◌, ℕ, zero, suc, ◌<◌, true, false, ◌==◌, List, [], ◌∷◌, length, refl, arith}
 use Rattle.std.specs.Prelude.{slice_index}
 use Rattle.std.proofs.lemmas.Grind.{common_steps}
-use Rattle.plain_list.specs.Trial.{number_for, is_one_of}
+use Rattle.design_core.specs.Explained.{number_for, is_one_of}
 
 -- none of the first `count` places is the one
 abbrev pub IsNotBefore : List ℕ → ℕ → ℕ → Type 0

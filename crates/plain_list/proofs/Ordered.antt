@@ -66,7 +66,7 @@ candidates-complete n (suc size) set h =
     smaller : length set < suc size → IsCandidate n size set
     smaller less = (h.0, omega (arith, less))
 
-suc-add_one : (k : ℕ) → suc (k + 1) ≡ suc k + 1
+pub suc-add_one : (k : ℕ) → suc (k + 1) ≡ suc k + 1
 suc-add_one k = omega arith
 
 -- a set of suspects is a rising list of their numbers, and the other way round

@@ -8,9 +8,11 @@ use Rattle.loc_base.specs.Bits.{width_of, value_of, value_of-range}
 use Rattle.design_core.specs.declared.design.Design.{Design}
 use Rattle.design_core.specs.declared.trace.Trace.{Trace}
 use Rattle.design_core.specs.Run.{samples_at, expected_at}
-use Rattle.plain_list.specs.Trial.{place_width, AreNumbersFor}
+use Rattle.plain_list.specs.Trial.{AreNumbersFor}
+use Rattle.design_core.specs.Explained.{place_width}
 use Rattle.plain_list.specs.Rightness.{AreRight}
-use Rattle.plain_list.specs.Rows.{row_of, IsRow, AreRows, IsRightRow, AreAdded}
+use Rattle.plain_list.specs.Rows.{IsRightRow, AreAdded}
+use Rattle.design_core.specs.Explained.{row_of, IsRow, AreRows}
 
 next-mul : (t n : ℕ) → t * n + n ≡ (t + 1) * n
 next-mul t n = grind arith

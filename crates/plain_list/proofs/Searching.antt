@@ -15,8 +15,8 @@ use Rattle.design_core.proofs.ListingLaws.{is_before-strict, front-list}
 use Rattle.plain_list.specs.declared.search.PlainSearch.{PlainSearch}
 use Rattle.plain_list.specs.Candidates.{candidates_of}
 use Rattle.plain_list.specs.Groups.{groups_of}
-use Rattle.plain_list.specs.Trial.{choices_in, Explains}
-use Rattle.plain_list.specs.Rows.{AreValuesOf}
+use Rattle.design_core.specs.Explained.{choices_in, Explains}
+use Rattle.design_core.specs.Explained.{AreValuesOf}
 use Rattle.plain_list.specs.Search.{found_of, members_of, passed_of, IsPassed, IsFresh, IsSearch}
 use Rattle.plain_list.proofs.Rising.{Rises, All-implied, AllPairs-nil}
 use Rattle.plain_list.proofs.Ordered.{IsCandidate, IsBefore, IsNumber, candidates-each, candidates-ordered, candidates-complete, is_before-shorter, Rises-IsStrictlyIncreasing, Rises-numbers, Rises-made}
@@ -240,7 +240,7 @@ search-passed d traces search new set s n p f e a z =
           (subst (λ fs. All (IsEntry d traces (groups_of d) search.size) (members_of fs)) (sym f) s.entries);
       ordered = subst (λ fs. AllPairs (λ one other. IsTrue (is_before one other)) (members_of fs)) (sym f) s.ordered;
       values = subst (λ fs. All (λ (x : SetWithValues). Explains d traces (groups_of d) x.members x.values) fs) (sym f) s.values;
-      shapes = subst (λ fs. All (λ (x : SetWithValues). AreValuesOf d traces x.members x.values) fs) (sym f) s.shapes;
+      shapes = subst (λ fs. All (λ (x : SetWithValues). AreValuesOf d traces (groups_of d) x.members x.values) fs) (sym f) s.shapes;
     }
   where
     more : passed_of new ≡ passed_of search ++ set ∷ []
@@ -261,7 +261,7 @@ search-kept d traces search new s f e a z =
           (subst (λ fs. All (IsEntry d traces (groups_of d) search.size) (members_of fs)) (sym f) s.entries);
       ordered = subst (λ fs. AllPairs (λ one other. IsTrue (is_before one other)) (members_of fs)) (sym f) s.ordered;
       values = subst (λ fs. All (λ (x : SetWithValues). Explains d traces (groups_of d) x.members x.values) fs) (sym f) s.values;
-      shapes = subst (λ fs. All (λ (x : SetWithValues). AreValuesOf d traces x.members x.values) fs) (sym f) s.shapes;
+      shapes = subst (λ fs. All (λ (x : SetWithValues). AreValuesOf d traces (groups_of d) x.members x.values) fs) (sym f) s.shapes;
     }
   where
     same : passed_of new ≡ passed_of search
@@ -298,9 +298,9 @@ search-found d traces search new set one s n fresh f e a z =
       values = subst (All (λ (x : SetWithValues). Explains d traces (groups_of d) x.members x.values)) (sym f)
           (All-push (λ (x : SetWithValues). Explains d traces (groups_of d) x.members x.values) (found_of search) one s.values
           (subst (λ xs. Explains d traces (groups_of d) xs one.values) (sym fresh.members) fresh.values));
-      shapes = subst (All (λ (x : SetWithValues). AreValuesOf d traces x.members x.values)) (sym f)
-          (All-push (λ (x : SetWithValues). AreValuesOf d traces x.members x.values) (found_of search) one s.shapes
-          (subst (λ xs. AreValuesOf d traces xs one.values) (sym fresh.members) fresh.shape));
+      shapes = subst (All (λ (x : SetWithValues). AreValuesOf d traces (groups_of d) x.members x.values)) (sym f)
+          (All-push (λ (x : SetWithValues). AreValuesOf d traces (groups_of d) x.members x.values) (found_of search) one s.shapes
+          (subst (λ xs. AreValuesOf d traces (groups_of d) xs one.values) (sym fresh.members) fresh.shape));
     }
   where
     old : List (List ℕ)
@@ -332,14 +332,14 @@ search-new d traces search e a f =
       entries = subst (λ fs. All (IsEntry d traces (groups_of d) search.size) (members_of fs)) (sym f) (All-nil (IsEntry d traces (groups_of d) search.size));
       ordered = subst (λ fs. AllPairs IsBefore (members_of fs)) (sym f) (AllPairs-nil IsBefore);
       values = subst (All (λ (x : SetWithValues). Explains d traces (groups_of d) x.members x.values)) (sym f) (All-nil (λ (x : SetWithValues). Explains d traces (groups_of d) x.members x.values));
-      shapes = subst (All (λ (x : SetWithValues). AreValuesOf d traces x.members x.values)) (sym f) (All-nil (λ (x : SetWithValues). AreValuesOf d traces x.members x.values));
+      shapes = subst (All (λ (x : SetWithValues). AreValuesOf d traces (groups_of d) x.members x.values)) (sym f) (All-nil (λ (x : SetWithValues). AreValuesOf d traces (groups_of d) x.members x.values));
     }
 
 -- what a search says of the sets that it has found
 pub search-values : (d : Design) (traces : List Trace) (search : PlainSearch) → IsSearch d traces search → All (λ (x : SetWithValues). Explains d traces (groups_of d) x.members x.values) (found_of search)
 search-values d traces search s = s.values
 
-pub search-shapes : (d : Design) (traces : List Trace) (search : PlainSearch) → IsSearch d traces search → All (λ (x : SetWithValues). AreValuesOf d traces x.members x.values) (found_of search)
+pub search-shapes : (d : Design) (traces : List Trace) (search : PlainSearch) → IsSearch d traces search → All (λ (x : SetWithValues). AreValuesOf d traces (groups_of d) x.members x.values) (found_of search)
 search-shapes d traces search s = s.shapes
 
 pub ruleset search_rules = (search-front, search-list, search-values, search-shapes)

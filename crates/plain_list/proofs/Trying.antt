@@ -3,7 +3,8 @@ use Rattle.std.proofs.Common.{◌≡◌, ◌≢◌, ℕ, zero, suc, ◌+◌, ◌
 use Rattle.std.specs.Prelude.{slice_set, slice_index, slice_get, Some}
 use Rattle.design_core.specs.declared.design.Design.{Design}
 use Rattle.design_core.specs.declared.place.Place.{Place}
-use Rattle.plain_list.specs.Trial.{AreNumbersFor, place_width}
+use Rattle.plain_list.specs.Trial.{AreNumbersFor}
+use Rattle.design_core.specs.Explained.{place_width}
 use Rattle.std.specs.Option.{option_map_or}
 use Rattle.std.proofs.Math.Nat.{eq-or-lt_of_le}
 use Rattle.std.proofs.Common.{true, nat_le, pow_pos}

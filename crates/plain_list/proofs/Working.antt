@@ -1,6 +1,7 @@
 -- What the rows of all traces say of a set.
 use Rattle.std.proofs.Common.{◌≡◌, ℕ, zero, suc, ◌+◌, ◌-◌, ◌*◌, ◌<◌, ◌≤◌, ◌^◌, ◌==◌, if◌then◌else◌, ◌⊎◌, inl, inr, Bool, true, false, List, [], ◌∷◌, ◌++◌, length, take, drop, map, get_or, refl, ap, sym, ◌∙◌, subst, arith, pow_pos}
 use Rattle.std.specs.Prelude.{slice_get, Some}
+use Rattle.std.specs.List.Sorted.{IsStrictlyIncreasing}
 use Rattle.std.specs.Option.{option_map_or}
 use Rattle.std.proofs.Math.Nat.{mul-le-mul_right, eq-or-lt_of_le}
 use Rattle.std.proofs.lemmas.Grind.{common_steps}
@@ -15,14 +16,16 @@ use Rattle.design_core.specs.declared.values.Values.{Values}
 use Rattle.design_core.specs.Run.{Choices, Meets, expected_at, samples_at}
 use Rattle.design_core.specs.Works.{AreOfWidth, places_of, IsSet, Works}
 use Rattle.plain_list.specs.Network.{IsNetwork}
-use Rattle.plain_list.specs.Trial.{cycles_before, choices_in, number_for, is_one_of, place_width, AreNumbersFor, Explains}
+use Rattle.plain_list.specs.Trial.{AreNumbersFor}
+use Rattle.design_core.specs.Explained.{cycles_before, choices_in, number_for, is_one_of, place_width, Explains}
 use Rattle.plain_list.specs.Rightness.{AreRight}
 use Rattle.plain_list.specs.Groups.{groups_of, places_in}
-use Rattle.plain_list.specs.Rows.{row_of, AreRows, IsRightRow, AreAdded, AreExplained, CanBeRight, AreValuesOf}
+use Rattle.plain_list.specs.Rows.{IsRightRow, AreAdded, AreExplained, CanBeRight}
+use Rattle.design_core.specs.Explained.{row_of, AreRows, AreValuesOf}
 use Rattle.plain_list.proofs.Settled.{lt_or_ge, Some-same}
 use Rattle.plain_list.proofs.Cycles.{meets-by-cycles}
 use Rattle.plain_list.proofs.Rowing.{IsRow-numbers}
-use Rattle.plain_list.proofs.Grouping.{freed-places}
+use Rattle.plain_list.proofs.Grouping.{freed-places, places_in-rising, set-positive}
 
 pub cycles_before-none : (traces : List Trace) → cycles_before traces 0 ≡ 0
 cycles_before-none [] = refl
@@ -176,10 +179,15 @@ explains-by d order traces set values n s of_set a =
     freed : places_of (groups_of d) set ≡ is_one_of values.places.items
     freed = freed-places d set s ∙ ap is_one_of (sym of_set)
 
-pub values-by : (d : Design) (order : List ℕ) (traces : List Trace) (set : List ℕ) (values : Values)
+pub values-by : (d : Design) (order : List ℕ) (traces : List Trace) (set : List ℕ) (values : Values) → IsSet (groups_of d) set
     → values.places.items ≡ places_in set → AreExplained d order traces values.places.items values.rows.items (length traces)
-    → AreValuesOf d traces set values
-values-by d order traces set values of_set a = record { places = of_set; rows = a.fit }
+    → AreValuesOf d traces (groups_of d) set values
+values-by d order traces set values s of_set a =
+    record {
+      ascending = subst IsStrictlyIncreasing (sym of_set) (places_in-rising set (set-positive d set s) s.ascending);
+      places = λ p. ap (λ places. is_one_of places p) of_set ∙ sym (ap (λ f. f p) (freed-places d set s));
+      rows = a.fit;
+    }
 
 -- and where there are none the set doesn't work
 pub works-not : (d : Design) (traces : List Trace) (set places : List ℕ) → IsSet (groups_of d) set → places ≡ places_in set

@@ -1,28 +1,13 @@
--- Rows of words for some places: one row for each cycle, all rows in one flat list.
-use Rattle.std.specs.Prelude.{ℕ, ◌≡◌, ◌<◌, ◌+◌, ◌*◌, Bool, List, length, take, drop, map, slice_get, Some, Contains}
+-- Rows of words for some places that make cycles right.
+use Rattle.std.specs.Prelude.{ℕ, ◌≡◌, ◌<◌, ◌+◌, Bool, List, map, slice_get, Some, Contains}
 use Rattle.loc_base.specs.declared.bits.Bits.{Bits}
-use Rattle.loc_base.specs.Bits.{width_of, value_of}
+use Rattle.loc_base.specs.Bits.{value_of}
 use Rattle.design_core.specs.declared.design.Design.{Design}
 use Rattle.design_core.specs.declared.trace.Trace.{Trace}
-use Rattle.design_core.specs.declared.values.Values.{Values}
 use Rattle.design_core.specs.Run.{Choices, Meets, samples_at, expected_at}
 use Rattle.design_core.specs.Works.{AreOfWidth}
-use Rattle.plain_list.specs.Trial.{place_width, cycles_before}
+use Rattle.design_core.specs.Explained.{cycles_before, row_of, AreRows}
 use Rattle.plain_list.specs.Rightness.{AreRight}
-use Rattle.plain_list.specs.Groups.{places_in}
-
--- the row of a number, counted from 0
-abbrev pub row_of : List ℕ → List Bits → ℕ → List Bits
-row_of places rows r = let width = length places in take width (drop (r * width) rows)
-
--- a word for each place, of the place's width
-abbrev pub IsRow : Design → List ℕ → List Bits → Type 0
-IsRow d places row = map width_of row ≡ map (place_width d) places
-
--- so many rows
-pub record AreRows (d : Design) (places : List ℕ) (rows : List Bits) (count : ℕ) : Type 0 where
-  pub whole : length rows ≡ count * length places
-  pub each : (r : ℕ) → r < count → IsRow d places (row_of places rows r)
 
 -- the row of a number makes a cycle of a trace right
 abbrev pub IsRightRow : Design → List ℕ → Trace → List ℕ → List Bits → ℕ → ℕ → Type 0
@@ -45,8 +30,3 @@ pub record AreExplained (d : Design) (order : List ℕ) (traces : List Trace) (p
 abbrev pub CanBeRight : Design → List Trace → (ℕ → Bool) → Type 0
 CanBeRight d traces freed =
     (trace : Trace) → Contains traces trace → (c : Choices) × AreOfWidth d freed c × Meets d trace freed c
-
--- the values are of the places of a set: a row of them for each cycle of the traces
-pub record AreValuesOf (d : Design) (traces : List Trace) (set : List ℕ) (values : Values) : Type 0 where
-  pub places : values.places.items ≡ places_in set
-  pub rows : AreRows d values.places.items values.rows.items (cycles_before traces (length traces))

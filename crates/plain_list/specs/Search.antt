@@ -8,8 +8,8 @@ use Rattle.design_core.specs.Listing.{is_before, IsEntry}
 use Rattle.plain_list.specs.declared.search.PlainSearch.{PlainSearch}
 use Rattle.plain_list.specs.Candidates.{candidates_of}
 use Rattle.plain_list.specs.Groups.{groups_of}
-use Rattle.plain_list.specs.Trial.{Explains}
-use Rattle.plain_list.specs.Rows.{AreValuesOf}
+use Rattle.design_core.specs.Explained.{Explains}
+use Rattle.design_core.specs.Explained.{AreValuesOf}
 
 -- the sets found so far, with their values
 abbrev pub found_of : PlainSearch → List SetWithValues
@@ -44,7 +44,7 @@ pub record IsFresh (d : Design) (traces : List Trace) (sets : List (List ℕ)) (
   pub members : new.members ≡ set
   pub apart : ¬ ContainsOne sets set
   pub values : Explains d traces (groups_of d) set new.values
-  pub shape : AreValuesOf d traces set new.values
+  pub shape : AreValuesOf d traces (groups_of d) set new.values
 
 pub record IsSearch (d : Design) (traces : List Trace) (search : PlainSearch) : Type 0 where
   -- the candidates are all sets of suspects up to the size
@@ -56,4 +56,4 @@ pub record IsSearch (d : Design) (traces : List Trace) (search : PlainSearch) : 
   pub entries : All (IsEntry d traces (groups_of d) search.size) (members_of (found_of search))
   pub ordered : AllPairs (λ one other. IsTrue (is_before one other)) (members_of (found_of search))
   pub values : All (λ set. Explains d traces (groups_of d) set.members set.values) (found_of search)
-  pub shapes : All (λ set. AreValuesOf d traces set.members set.values) (found_of search)
+  pub shapes : All (λ set. AreValuesOf d traces (groups_of d) set.members set.values) (found_of search)

@@ -4,9 +4,11 @@ ghost use Rattle.design_core.specs.TraceFits.{IsTraceOf};
 ghost use Rattle.design_core.specs.Run.{Choices, Meets, samples_at, expected_at};
 ghost use Rattle.design_core.specs.Works.{AreOfWidth};
 ghost use Rattle.plain_list.specs.Network.{IsNetwork};
-ghost use Rattle.plain_list.specs.Trial.{AreNumbersFor, is_one_of};
+ghost use Rattle.plain_list.specs.Trial.{AreNumbersFor};
+ghost use Rattle.design_core.specs.Explained.{is_one_of};
 ghost use Rattle.plain_list.specs.Rightness.{AreRight};
-ghost use Rattle.plain_list.specs.Rows.{AreRows, AreAdded};
+ghost use Rattle.plain_list.specs.Rows.{AreAdded};
+ghost use Rattle.design_core.specs.Explained.{AreRows};
 
 use crate::rows::{expected_of, row_for, samples_of};
 use crate::trial::try_values;

@@ -2,8 +2,9 @@ ghost use Rattle.std.specs.Prelude.{◌≡◌, ◌<◌, ◌≤◌, ◌*◌, ◌^
 ghost use Rattle.loc_base.specs.Bits.{width_of, value_of};
 ghost use Rattle.design_core.specs.WellFormed.{IsWellFormed};
 ghost use Rattle.design_core.specs.Run.{samples_at, expected_at};
-ghost use Rattle.plain_list.specs.Trial.{AreNumbersFor, place_width};
-ghost use Rattle.plain_list.specs.Rows.{IsRow};
+ghost use Rattle.plain_list.specs.Trial.{AreNumbersFor};
+ghost use Rattle.design_core.specs.Explained.{place_width};
+ghost use Rattle.design_core.specs.Explained.{IsRow};
 
 use design_core::{Checked, Design, Trace};
 use loc_base::{Bits, NoMemory};

@@ -5,9 +5,9 @@ ghost use Rattle.design_core.specs.TraceFits.{IsTraceOf};
 ghost use Rattle.design_core.specs.Works.{IsSet};
 ghost use Rattle.design_core.specs.Listing.{IsFront, IsList};
 ghost use Rattle.plain_list.specs.Network.{IsNetwork};
-ghost use Rattle.plain_list.specs.Trial.{Explains};
+ghost use Rattle.design_core.specs.Explained.{Explains};
 ghost use Rattle.plain_list.specs.Groups.{groups_of};
-ghost use Rattle.plain_list.specs.Rows.{AreValuesOf};
+ghost use Rattle.design_core.specs.Explained.{AreValuesOf};
 ghost use Rattle.plain_list.specs.Search.{found_of, members_of, size_of, left_of, IsPassed, IsFresh, IsSearch};
 
 use crate::combinations::candidates;
@@ -136,7 +136,7 @@ impl PlainSearch {
         ensures list { result ≡ Ok false → IsList design.now traces.now (groups_of design.now) (size_of self.new) (members_of (found_of self.new)) }
         ensures front { IsFront design.now traces.now (groups_of design.now) (size_of self.new) (members_of (found_of self.new)) }
         ensures values { All (λ set. Explains design.now traces.now (groups_of design.now) set.members set.values) (found_of self.new) }
-        ensures shapes { All (λ set. AreValuesOf design.now traces.now set.members set.values) (found_of self.new) }
+        ensures shapes { All (λ set. AreValuesOf design.now traces.now (groups_of design.now) set.members set.values) (found_of self.new) }
     {
         while self.at < self.candidates.len() {
             if self.try_next(alloc, design, order, traces)? {

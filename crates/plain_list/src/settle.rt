@@ -5,7 +5,8 @@ ghost use Rattle.design_core.specs.Cycle.{cont_assigned};
 ghost use Rattle.design_core.specs.WellFormed.{IsWellFormed};
 ghost use Rattle.plain_list.specs.Network.{whole_of, IsNetwork, step, settled};
 ghost use Rattle.design_core.specs.TraceFits.{samples_fit};
-ghost use Rattle.plain_list.specs.Trial.{choice_of, is_one_of, number_for, place_width, AreNumbersFor};
+ghost use Rattle.plain_list.specs.Trial.{choice_of, AreNumbersFor};
+ghost use Rattle.design_core.specs.Explained.{is_one_of, number_for, place_width};
 
 use crate::samples::load_samples;
 use design_core::{Design, Driver, Part};

@@ -3,7 +3,8 @@ ghost use Rattle.design_core.specs.Words.{AreWordsOf};
 ghost use Rattle.design_core.specs.TraceFits.{samples_fit, expected_fit};
 ghost use Rattle.design_core.specs.WellFormed.{IsWellFormed};
 ghost use Rattle.plain_list.specs.Network.{IsNetwork};
-ghost use Rattle.plain_list.specs.Trial.{AreNumbersFor, place_width};
+ghost use Rattle.plain_list.specs.Trial.{AreNumbersFor};
+ghost use Rattle.design_core.specs.Explained.{place_width};
 ghost use Rattle.plain_list.specs.Rightness.{AreRight};
 
 use crate::outputs::are_right;

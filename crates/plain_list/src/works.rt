@@ -6,9 +6,11 @@ ghost use Rattle.design_core.specs.WellFormed.{IsWellFormed, signal_fits};
 ghost use Rattle.design_core.specs.TraceFits.{IsTraceOf};
 ghost use Rattle.design_core.specs.Works.{IsSet, Works};
 ghost use Rattle.plain_list.specs.Network.{IsNetwork};
-ghost use Rattle.plain_list.specs.Trial.{AreNumbersFor, Explains, is_one_of, place_width};
+ghost use Rattle.plain_list.specs.Trial.{AreNumbersFor};
+ghost use Rattle.design_core.specs.Explained.{Explains, is_one_of, place_width};
 ghost use Rattle.plain_list.specs.Groups.{groups_of, places_in};
-ghost use Rattle.plain_list.specs.Rows.{AreExplained, AreValuesOf, CanBeRight};
+ghost use Rattle.plain_list.specs.Rows.{AreExplained, CanBeRight};
+ghost use Rattle.design_core.specs.Explained.{AreValuesOf};
 
 use crate::explain::explain;
 use design_core::{Design, Signal, Trace, Values};
@@ -90,7 +92,7 @@ pub(crate) fn works(
     requires traces { All (IsTraceOf d.now) traces.now }
     requires set { IsSet (groups_of d.now) members.now }
     ensures some { IfOk result (λ answer. IfSome answer (λ values. Explains d.now traces.now (groups_of d.now) members.now values)) }
-    ensures shape { IfOk result (λ answer. IfSome answer (λ values. AreValuesOf d.now traces.now members.now values)) }
+    ensures shape { IfOk result (λ answer. IfSome answer (λ values. AreValuesOf d.now traces.now (groups_of d.now) members.now values)) }
     ensures none { result ≡ Ok None → ¬ Works d.now traces.now (groups_of d.now) members.now }
 {
     let places = places_in(alloc, members)?;

@@ -21,9 +21,9 @@ use Rattle.plain_sim.specs.EvaluateCycle.{small_width}
 use Rattle.plain_sim.proofs.EvaluateParts.{fits-list, width-list}
 use Rattle.plain_sim.proofs.EvaluateStatement.{items-fits}
 
-pub join-test : (signals : List Signal) (width : ℕ) (parts : Vec Typed Global)
-    → node_fits signals width (Join parts) ≡ (is_width width && parts_sum parts.items == width && list_all (typed_fits signals) parts.items)
-join-test signals width parts =
+pub join-test : (signals : List Signal) (width : ℕ) (signed : Bool) (parts : Vec Typed Global)
+    → node_fits signals width signed (Join parts) ≡ (is_width width && parts_sum parts.items == width && list_all (typed_fits signals) parts.items)
+join-test signals width signed parts =
     let row = hidden-the_row-Typed-0 parts in
     let items = items_hidden-the_row-Typed-0 parts in
     ap (λ n. is_width width && n == width && parts_fit signals row) (width-list row ∙ ap parts_sum items)

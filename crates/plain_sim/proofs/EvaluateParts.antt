@@ -22,7 +22,7 @@ joined-list signals V left (more_of-Typed width signed node rest) =
 pub fits-list : {shape : _} (signals : List Signal) (row : Row_of-Typed shape)
     → parts_fit signals row ≡ list_all (typed_fits signals) (items-the_row-Typed shape row)
 fits-list signals end_of-Typed = refl
-fits-list signals (more_of-Typed width signed node rest) = ap (λ b. node_fits signals width node && b) (fits-list signals rest)
+fits-list signals (more_of-Typed width signed node rest) = ap (λ b. node_fits signals width signed node && b) (fits-list signals rest)
 
 pub width-list : {shape : _} (row : Row_of-Typed shape) → joined_width row ≡ parts_sum (items-the_row-Typed shape row)
 width-list end_of-Typed = refl
@@ -49,8 +49,8 @@ not_empty (part ∷ parts) width e h = omega arith
 tests : (width sum : ℕ) (fits : Bool) → IsTrue (is_width width && sum == width && fits) → (1 ≤ width) × (width ≤ 128) × (sum ≡ width) × IsTrue fits
 tests width sum fits h = grind (arith, nat_tests)
 
-pub join-fits : (signals : List Signal) (width : ℕ) (parts : Vec Typed Global) → IsTrue (node_fits signals width (Join parts)) → JoinFits signals width parts.items
-join-fits signals width parts h =
+pub join-fits : (signals : List Signal) (width : ℕ) (signed : Bool) (parts : Vec Typed Global) → IsTrue (node_fits signals width signed (Join parts)) → JoinFits signals width parts.items
+join-fits signals width signed parts h =
     let row = hidden-the_row-Typed-0 parts in
     let items = items_hidden-the_row-Typed-0 parts in
     let t = tests width (joined_width row) (parts_fit signals row) h in

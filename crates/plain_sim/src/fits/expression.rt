@@ -4,7 +4,9 @@ ghost use Rattle.design_core.specs.WellFormed.{is_width, typed_fits};
 ghost use Rattle.plain_sim.specs.Evaluate.{parts_sum};
 
 use crate::cycle::drives::width_at;
-use crate::fits::widths::{binary_fits, is_signal, is_width, slice_fits, unary_fits, words_fit};
+use crate::fits::widths::{
+    binary_fits, is_signal, is_width, signs_fit, slice_fits, unary_fits, words_fit,
+};
 use design_core::{Node, Signal, Typed};
 
 /// Whether some parts have together a number of bits.
@@ -21,7 +23,7 @@ fn parts_fill(parts: &[Typed], width: u8) -> bool
     left == 0
 }
 
-/// Whether an expression has the width that it says.
+/// Whether an expression has the width that it says, and a sign that its operator can have.
 #[cycle(typed)]
 pub(crate) fn typed_fits(signals: &[Signal], e: &Typed) -> bool
     ensures { result ≡ typed_fits signals.now e.now }
@@ -68,6 +70,7 @@ pub(crate) fn typed_fits(signals: &[Signal], e: &Typed) -> bool
         Node::Binary { op, left, right } => {
             is_width(usize::from(e.width))
                 && binary_fits(*op, e.width, left.width, right.width)
+                && signs_fit(*op, e.signed, left.signed, right.signed)
                 && typed_fits(signals, left)
                 && typed_fits(signals, right)
         }
@@ -88,7 +91,7 @@ pub(crate) fn typed_fits(signals: &[Signal], e: &Typed) -> bool
     }
 }
 
-/// Whether the parts of a concatenation have together its width, and each has its own.
+/// Whether the parts of a concatenation have together its width, and each fits.
 #[cycle(typed)]
 fn join_fits(signals: &[Signal], width: u8, parts: &[Typed]) -> bool
     ensures { result ≡ (is_width width && parts_sum parts.now == width && list_all (typed_fits signals.now) parts.now) }
@@ -96,7 +99,7 @@ fn join_fits(signals: &[Signal], width: u8, parts: &[Typed]) -> bool
     is_width(usize::from(width)) && parts_fill(parts, width) && all_fit(signals, parts)
 }
 
-/// Whether all of some expressions have the widths that they say.
+/// Whether all of some expressions have the widths and signs that they say.
 #[cycle(typed)]
 fn all_fit(signals: &[Signal], parts: &[Typed]) -> bool
     ensures { result ≡ list_all (typed_fits signals.now) parts.now }

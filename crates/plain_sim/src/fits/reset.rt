@@ -22,7 +22,8 @@ fn is_fixed(part: &Part) -> bool
 {
     match part {
         Part::Whole(_) | Part::Slice { .. } => true,
-        Part::Pick { .. } | Part::Word { .. } => false,
+        Part::Pick { index, .. } => is_constant(&index.node),
+        Part::Word { .. } => false,
     }
 }
 

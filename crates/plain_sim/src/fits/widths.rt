@@ -1,7 +1,7 @@
 ghost use Rattle.std.specs.Prelude.{◌≡◌, ◌==◌, ◌+◌};
 ghost use Rattle.std.specs.List.{list_all};
 ghost use Rattle.design_core.specs.Valuation.{distance_of};
-ghost use Rattle.design_core.specs.WellFormed.{is_width, spans, signal_fits, is_signal, slice_fits, words_fit, unary_fits, same_widths, compared_widths, binary_fits};
+ghost use Rattle.design_core.specs.WellFormed.{is_width, spans, signal_fits, is_signal, slice_fits, words_fit, unary_fits, same_widths, compared_widths, binary_fits, same_sign, signs_fit};
 
 use crate::cycle::drives::width_at;
 use crate::evaluate::select::distance_of;
@@ -105,5 +105,39 @@ pub(crate) fn binary_fits(op: BinaryOp, width: u8, left: u8, right: u8) -> bool
         | BinaryOp::Equal
         | BinaryOp::NotEqual => width == 1 && left == right,
         BinaryOp::LogicalAnd | BinaryOp::LogicalOr => width == 1,
+    }
+}
+
+/// Whether two signs are one.
+fn same_sign(one: bool, other: bool) -> bool
+    ensures { result ≡ same_sign one other }
+{
+    if one { other } else { !other }
+}
+
+/// Whether the sign of an operator's result stands beside those of its operands.
+pub(crate) fn signs_fit(op: BinaryOp, signed: bool, left: bool, right: bool) -> bool
+    ensures { result ≡ signs_fit op signed left right }
+{
+    match op {
+        BinaryOp::ArithmeticShiftRight => same_sign(signed, left),
+        BinaryOp::Less
+        | BinaryOp::LessEqual
+        | BinaryOp::Greater
+        | BinaryOp::GreaterEqual
+        | BinaryOp::Equal
+        | BinaryOp::NotEqual => same_sign(left, right),
+        BinaryOp::Add
+        | BinaryOp::Subtract
+        | BinaryOp::Multiply
+        | BinaryOp::And
+        | BinaryOp::Or
+        | BinaryOp::Xor
+        | BinaryOp::Xnor
+        | BinaryOp::ShiftLeft
+        | BinaryOp::ShiftRight
+        | BinaryOp::ArithmeticShiftLeft
+        | BinaryOp::LogicalAnd
+        | BinaryOp::LogicalOr => true,
     }
 }

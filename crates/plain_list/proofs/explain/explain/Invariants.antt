@@ -1,7 +1,8 @@
 use Rattle.std.proofs.Common.{ℕ}
 use Rattle.design_core.specs.Words.{AreWordsOf}
 use Rattle.plain_list.specs.Trial.{AreNumbersFor}
-use Rattle.plain_list.specs.Rows.{AreRows, AreAdded}
+use Rattle.plain_list.specs.Rows.{AreAdded}
+use Rattle.design_core.specs.Explained.{AreRows}
 use Rattle.plain_list.proofs.explain.explain.Given as goal
 
 abbrev pub invariant-loop-cycle : goal.invariant-loop-cycle

@@ -1,6 +1,6 @@
 use Rattle.std.proofs.Common.{pow_pos}
 use Rattle.std.specs.Prelude.{slice_index}
-use Rattle.plain_list.specs.Trial.{place_width}
+use Rattle.design_core.specs.Explained.{place_width}
 use Rattle.plain_list.proofs.Trying.{AreNumbersFor-chosen}
 use Rattle.plain_list.proofs.explain.zero_all.Goals as goal
 

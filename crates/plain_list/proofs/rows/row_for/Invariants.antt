@@ -1,6 +1,6 @@
 use Rattle.std.proofs.Common.{◌≡◌, map, take}
 use Rattle.loc_base.specs.Bits.{width_of, value_of}
-use Rattle.plain_list.specs.Trial.{place_width}
+use Rattle.design_core.specs.Explained.{place_width}
 use Rattle.plain_list.proofs.rows.row_for.Given as goal
 
 abbrev pub invariant-loop-i : goal.invariant-loop-i

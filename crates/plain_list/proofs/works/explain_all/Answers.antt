@@ -1,5 +1,5 @@
 use Rattle.std.proofs.Common.{ap, Ok}
-use Rattle.plain_list.specs.Trial.{is_one_of}
+use Rattle.design_core.specs.Explained.{is_one_of}
 use Rattle.plain_list.proofs.Assigning.{get_at}
 use Rattle.plain_list.proofs.Working.{nothing-explained, one_more-explained, one-wrong}
 use Rattle.plain_list.proofs.works.explain_all.Goals as goal

@@ -1,6 +1,6 @@
 use Rattle.std.proofs.Common.{◌<◌, ◌∙◌, sym, subst, ap, length, Ok}
 use Rattle.std.specs.Prelude.{All}
-use Rattle.plain_list.specs.Trial.{is_one_of}
+use Rattle.design_core.specs.Explained.{is_one_of}
 use Rattle.plain_list.specs.Rows.{AreExplained, CanBeRight}
 use Rattle.plain_list.proofs.Grouping.{set-places}
 use Rattle.plain_list.proofs.Working.{explains-by, values-by, works-not}
@@ -20,7 +20,7 @@ returns-in-Some-clause-some c =
 pub returns-in-Some-clause-shape : goal.returns-in-Some-clause-shape
 returns-in-Some-clause-shape c =
     values-by c.args.d.now c.args.order.now c.args.traces.now c.args.members.now (record { places = c.in_ok-places.places; rows = c.in-Some.rows })
-    c.in_ok-places.ensures
+    c.requires.set c.in_ok-places.ensures
     (subst (λ ps. AreExplained c.args.d.now c.args.order.now c.args.traces.now ps c.in-Some.rows.items (length c.args.traces.now)) c.deref-3.ensures.value
     (rw c.in-Some.is at c.in_ok-rows.ensures.some))
 

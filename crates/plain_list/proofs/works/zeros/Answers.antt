@@ -1,6 +1,7 @@
 use Rattle.std.proofs.Common.{◌++◌, ◌∷◌, [], take, get_or, sym, subst, pow_pos}
 use Rattle.std.proofs.lemmas.List.{take_more}
-use Rattle.plain_list.specs.Trial.{AreNumbersFor, place_width}
+use Rattle.plain_list.specs.Trial.{AreNumbersFor}
+use Rattle.design_core.specs.Explained.{place_width}
 use Rattle.plain_list.proofs.Working.{AreNumbersFor-push}
 use Rattle.plain_list.proofs.works.zeros.Goals as goal
 

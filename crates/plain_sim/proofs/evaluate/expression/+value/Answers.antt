@@ -22,13 +22,13 @@ value-part-requires-clause-within t c =
 
 pub value-joined-requires : goal.value-joined-requires
 value-joined-requires t c =
-    let fits = join-fits c.args.signals.now c.args.e.now.width c.in-Join.parts (rw c.in-Join.is at c.requires.fits) in
+    let fits = join-fits c.args.signals.now c.args.e.now.width c.args.e.now.signed c.in-Join.parts (rw c.in-Join.is at c.requires.fits) in
     let items = c.deref-in-Join.ensures.value in
     (search (rules, the_lemmas), (c.requires.words, (rw items fits.fits, (rw items fits.some, rw items (omega (arith, fits.width, fits.most))))))
 
 pub value-returns-in-Join-clause-width : goal.value-returns-in-Join-clause-width
 value-returns-in-Join-clause-width t c =
-    let fits = join-fits c.args.signals.now c.args.e.now.width c.in-Join.parts (rw c.in-Join.is at c.requires.fits) in
+    let fits = join-fits c.args.signals.now c.args.e.now.width c.args.e.now.signed c.in-Join.parts (rw c.in-Join.is at c.requires.fits) in
     c.joined.ensures.width ∙ ap parts_sum c.deref-in-Join.ensures.value ∙ fits.width
 
 pub value-returns-in-Join-clause-value : goal.value-returns-in-Join-clause-value

@@ -11,4 +11,4 @@ typed_fits-returns-in-Join t c =
     rw c.in-Join.is
     (c.join_fits.ensures
     ∙ ap (λ ps. is_width c.args.e.now.width && parts_sum ps == c.args.e.now.width && list_all (typed_fits c.args.signals.now) ps) c.deref-in-Join.ensures.value
-    ∙ sym (join-test c.args.signals.now c.args.e.now.width c.in-Join.parts))
+    ∙ sym (join-test c.args.signals.now c.args.e.now.width c.args.e.now.signed c.in-Join.parts))

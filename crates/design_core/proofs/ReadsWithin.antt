@@ -14,7 +14,7 @@ use Rattle.design_core.specs.Constant.{constant_of}
 use Rattle.design_core.specs.Pick.{is_at, has_bit, may_pick}
 use Rattle.design_core.specs.Drives.{is_among}
 use Rattle.design_core.specs.Reads.{node_reads, parts_read, reads}
-use Rattle.design_core.specs.WellFormed.{is_width, is_signal, slice_fits, words_fit, unary_fits, same_widths, binary_fits, joined_width, node_fits, parts_fit, typed_fits}
+use Rattle.design_core.specs.WellFormed.{is_width, is_signal, slice_fits, words_fit, unary_fits, same_widths, binary_fits, joined_width, node_fits, parts_fit, typed_fits, signs_fit}
 use Rattle.design_core.proofs.ValueAgrees.{position_at-below}
 
 -- the parts of three and of four tests
@@ -29,7 +29,7 @@ own : (s signal : ℕ) (t : Bool) → ((s == signal) && t) ≡ true → (s ≡ s
 own s signal t h = (eqb-true s signal (and_parts (s == signal) t h).0, (and_parts (s == signal) t h).1)
 
 -- a bit of a part that fits its signal
-slice-below : (signals : List Signal) (signal from width b : ℕ) → slice_fits signals signal from width ≡ true → is_among from width b ≡ true → b < width_at signals signal
+pub slice-below : (signals : List Signal) (signal from width b : ℕ) → slice_fits signals signal from width ≡ true → is_among from width b ≡ true → b < width_at signals signal
 slice-below signals signal from width b fits among =
     let wide : from + width ≤ width_at signals signal =
     leb-true (from + width) (width_at signals signal) (and3 (is_signal signals signal) (is_width width) (nat_le (from + width) (width_at signals signal)) fits).2 in
@@ -37,7 +37,7 @@ slice-below signals signal from width b fits among =
     omega (arith, wide, below)
 
 -- a bit that an index has
-has_bit-below : (signals : List Signal) (signal : ℕ) (index : ℤ) (offsets : List ℤ) (b : ℕ) → has_bit signals signal index offsets b ≡ true → b < width_at signals signal
+pub has_bit-below : (signals : List Signal) (signal : ℕ) (index : ℤ) (offsets : List ℤ) (b : ℕ) → has_bit signals signal index offsets b ≡ true → b < width_at signals signal
 has_bit-below signals signal index [] b h = cc
 has_bit-below signals signal index (k ∷ offsets) b h =
     either (or_cases (is_at b (position_at signals signal (index +ℤ k))) (has_bit signals signal index offsets b) h) (λ later. has_bit-below signals signal index offsets b later)
@@ -51,7 +51,7 @@ has_bit-below signals signal index (k ∷ offsets) b h =
     either (inl at) rest = here (position_at signals signal (index +ℤ k)) refl at
     either (inr later) rest = rest later
 
-may_pick-below : (signals : List Signal) (signal index_width : ℕ) (signed : Bool) (index : Node) (offsets : List ℤ) (b : ℕ)
+pub may_pick-below : (signals : List Signal) (signal index_width : ℕ) (signed : Bool) (index : Node) (offsets : List ℤ) (b : ℕ)
     → may_pick signals signal index_width signed index offsets b ≡ true → b < width_at signals signal
 may_pick-below signals signal index_width signed index offsets b h = by_index (constant_of index_width index) h
   where
@@ -76,7 +76,7 @@ word-width (signal ∷ signals) width (suc first) count k same below within =
     let next : suc first + k ≡ suc (first + k) = omega arith in
     subst (λ n. width_at (signal ∷ signals) n ≡ width) (sym next) (word-width signals width first count k same below (omega (arith, within)))
 
-word-below : (signals : List Signal) (first count from width s b : ℕ) → words_fit signals first count from width ≡ true → (is_among first count s && is_among from width b) ≡ true
+pub word-below : (signals : List Signal) (first count from width s b : ℕ) → words_fit signals first count from width ≡ true → (is_among first count s && is_among from width b) ≡ true
     → b < width_at signals s
 word-below signals first count from width s b fits among =
     let one : Bool = nat_le 1 count in
@@ -113,61 +113,62 @@ one_of p q G h f g = by_cases (or_cases p q h)
     by_cases (inr e) = g e
 
 mutual
-  pub node_reads-below : (signals : List Signal) (s b width : ℕ) (e : Node) → node_fits signals width e ≡ true → node_reads signals s b width e ≡ true → b < width_at signals s
-  node_reads-below signals s b width (Const word) fits h = cc
-  node_reads-below signals s b width (Whole signal) fits h =
+  pub node_reads-below : (signals : List Signal) (s b width : ℕ) (signed : Bool) (e : Node) → node_fits signals width signed e ≡ true → node_reads signals s b width e ≡ true → b < width_at signals s
+  node_reads-below signals s b width sign (Const word) fits h = cc
+  node_reads-below signals s b width sign (Whole signal) fits h =
       let wide : width_at signals signal ≡ width =
       eqb-true (width_at signals signal) width (and3 (is_width width) (is_signal signals signal) (width_at signals signal == width) fits).2 in
       let r : (s ≡ signal) × (nat_lt b width ≡ true) = own s signal (nat_lt b width) h in
       subst (λ n. b < n) (sym (ap (width_at signals) r.0 ∙ wide)) (ltb-true b width r.1)
-  node_reads-below signals s b width (Slice signal from size) fits h =
+  node_reads-below signals s b width sign (Slice signal from size) fits h =
       let r : (s ≡ signal) × (is_among from size b ≡ true) = own s signal (is_among from size b) h in
       subst (λ n. b < width_at signals n) (sym r.0) (slice-below signals signal from size b (and_parts (slice_fits signals signal from size) (size == width) fits).0 r.1)
-  node_reads-below signals s b width (Pick' signal _ index_width signed index offsets) fits h =
-      let f : _ = and4 (is_width width) (is_signal signals signal) (length offsets.items == width) (node_fits signals index_width index) fits in
+  node_reads-below signals s b width sign (Pick' signal _ index_width signed index offsets) fits h =
+      let f : _ = and4 (is_width width) (is_signal signals signal) (length offsets.items == width) (node_fits signals index_width signed index) fits in
       one_of ((s == signal) && may_pick signals signal index_width signed index offsets.items b) (node_reads signals s b index_width index) (b < width_at signals s) h
       (λ here. let r : (s ≡ signal) × (may_pick signals signal index_width signed index offsets.items b ≡ true) = own s signal (may_pick signals signal index_width signed index offsets.items b) here in
       subst (λ n. b < width_at signals n) (sym r.0) (may_pick-below signals signal index_width signed index offsets.items b r.1))
-      (λ later. node_reads-below signals s b index_width index f.3 later)
-  node_reads-below signals s b width (Word' first count _ _ index_width _ index from size) fits h =
-      let f : _ = and3 (words_fit signals first count from size) (size == width) (node_fits signals index_width index) fits in
+      (λ later. node_reads-below signals s b index_width signed index f.3 later)
+  node_reads-below signals s b width sign (Word' first count _ _ index_width signed index from size) fits h =
+      let f : _ = and3 (words_fit signals first count from size) (size == width) (node_fits signals index_width signed index) fits in
       one_of (is_among first count s && is_among from size b) (node_reads signals s b index_width index) (b < width_at signals s) h
       (λ here. word-below signals first count from size s b f.0 here)
-      (λ later. node_reads-below signals s b index_width index f.2 later)
-  node_reads-below signals s b width (Unary' op _ arg_width _ arg) fits h =
-      node_reads-below signals s b arg_width arg
-      (and3 (is_width width) (unary_fits op width arg_width) (node_fits signals arg_width arg) fits).2 h
-  node_reads-below signals s b width (Binary' op _ left_width _ left _ right_width _ right) fits h =
-      let f : _ = and4 (is_width width) (binary_fits op width left_width right_width) (node_fits signals left_width left) (node_fits signals right_width right) fits in
+      (λ later. node_reads-below signals s b index_width signed index f.2 later)
+  node_reads-below signals s b width sign (Unary' op _ arg_width signed arg) fits h =
+      node_reads-below signals s b arg_width signed arg
+      (and3 (is_width width) (unary_fits op width arg_width) (node_fits signals arg_width signed arg) fits).2 h
+  node_reads-below signals s b width sign (Binary' op _ left_width left_signed left _ right_width right_signed right) fits h =
+      let f : _ = and4 (is_width width && binary_fits op width left_width right_width) (signs_fit op sign left_signed right_signed)
+      (node_fits signals left_width left_signed left) (node_fits signals right_width right_signed right) fits in
       one_of (node_reads signals s b left_width left) (node_reads signals s b right_width right) (b < width_at signals s) h
-      (λ one. node_reads-below signals s b left_width left f.2 one)
-      (λ other. node_reads-below signals s b right_width right f.3 other)
-  node_reads-below signals s b width (Choose' _ cond_width _ cond _ true_width _ on_true _ false_width _ on_false) fits h =
-      let c : Bool = node_fits signals cond_width cond in
-      let t : Bool = node_fits signals true_width on_true in
-      let u : Bool = node_fits signals false_width on_false in
+      (λ one. node_reads-below signals s b left_width left_signed left f.2 one)
+      (λ other. node_reads-below signals s b right_width right_signed right f.3 other)
+  node_reads-below signals s b width sign (Choose' _ cond_width cond_signed cond _ true_width true_signed on_true _ false_width false_signed on_false) fits h =
+      let c : Bool = node_fits signals cond_width cond_signed cond in
+      let t : Bool = node_fits signals true_width true_signed on_true in
+      let u : Bool = node_fits signals false_width false_signed on_false in
       let f : _ = and4 (same_widths width true_width false_width) c t u fits in
       let arms : Bool = node_reads signals s b true_width on_true || node_reads signals s b false_width on_false in
       one_of (node_reads signals s b cond_width cond) arms (b < width_at signals s) h
-      (λ test. node_reads-below signals s b cond_width cond f.1 test)
+      (λ test. node_reads-below signals s b cond_width cond_signed cond f.1 test)
       (λ arm. one_of (node_reads signals s b true_width on_true) (node_reads signals s b false_width on_false) (b < width_at signals s) arm
-      (λ one. node_reads-below signals s b true_width on_true f.2 one)
-      (λ other. node_reads-below signals s b false_width on_false f.3 other))
-  node_reads-below signals s b width (Join' _ parts) fits h =
+      (λ one. node_reads-below signals s b true_width true_signed on_true f.2 one)
+      (λ other. node_reads-below signals s b false_width false_signed on_false f.3 other))
+  node_reads-below signals s b width sign (Join' _ parts) fits h =
       parts_read-below signals s b parts (and3 (is_width width) (joined_width parts == width) (parts_fit signals parts) fits).2 h
-  node_reads-below signals s b width (Repeat' times _ part_width _ part) fits h =
-      node_reads-below signals s b part_width part (and3 (is_width width) (times * part_width == width) (node_fits signals part_width part) fits).2 h
-  node_reads-below signals s b width (Resize' _ arg_width _ arg) fits h =
-      node_reads-below signals s b arg_width arg (and_parts (is_width width) (node_fits signals arg_width arg) fits).1 h
+  node_reads-below signals s b width sign (Repeat' times _ part_width signed part) fits h =
+      node_reads-below signals s b part_width signed part (and3 (is_width width) (times * part_width == width) (node_fits signals part_width signed part) fits).2 h
+  node_reads-below signals s b width sign (Resize' _ arg_width signed arg) fits h =
+      node_reads-below signals s b arg_width signed arg (and_parts (is_width width) (node_fits signals arg_width signed arg) fits).1 h
 
   pub parts_read-below : {shape : _} (signals : List Signal) (s b : ℕ) (parts : Row_of-Typed shape) → parts_fit signals parts ≡ true → parts_read signals s b parts ≡ true → b < width_at signals s
   parts_read-below signals s b end_of-Typed fits h = cc
-  parts_read-below signals s b (more_of-Typed width _ node rest) fits h =
-      let f : (node_fits signals width node ≡ true) × (parts_fit signals rest ≡ true) = and_parts (node_fits signals width node) (parts_fit signals rest) fits in
+  parts_read-below signals s b (more_of-Typed width signed node rest) fits h =
+      let f : (node_fits signals width signed node ≡ true) × (parts_fit signals rest ≡ true) = and_parts (node_fits signals width signed node) (parts_fit signals rest) fits in
       one_of (node_reads signals s b width node) (parts_read signals s b rest) (b < width_at signals s) h
-      (λ one. node_reads-below signals s b width node f.0 one)
+      (λ one. node_reads-below signals s b width signed node f.0 one)
       (λ later. parts_read-below signals s b rest f.1 later)
 
 -- an expression of a well-formed design reads bits that its signals have
 pub reads-below : (signals : List Signal) (s b : ℕ) (e : Typed) → typed_fits signals e ≡ true → reads signals s b e ≡ true → b < width_at signals s
-reads-below signals s b e fits h = node_reads-below signals s b e.width e.node fits h
+reads-below signals s b e fits h = node_reads-below signals s b e.width e.signed e.node fits h
