@@ -1,5 +1,5 @@
--- When each bit gets its value once. Several drivers of a net would be resolved by their strengths (IEEE 1364-2005, 4.6.1),
--- which values of two states do not have, and several blocks that assign a register would race (11.5).
+-- When each bit gets its value once. Several drivers of a net would be resolved by their strengths (IEEE 1364-2005,
+-- 4.6.1), which values of two states do not have, and several blocks that assign a register would race (11.5).
 use Rattle.std.specs.Prelude.{ℕ, ◌≡◌, not, IsTrue, slice_get, Some, Contains}
 use Rattle.design_core.specs.declared.driver.Driver.{Driver}
 use Rattle.design_core.specs.declared.driver.Clocked.{Clocked}

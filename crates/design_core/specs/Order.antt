@@ -1,12 +1,11 @@
 -- The one order in which drivers are carried out: again and again the least driver all of whose dependencies were taken.
--- It is the topological order that comes first (Kahn, Topological sorting of large networks, CACM 5, 1962); where
--- drivers depend on each other in a circle there is none.
+-- Of the topological orders it comes first by its numbers (Kahn, Topological sorting of large networks, CACM 5, 1962);
+-- where drivers depend on each other in a circle there is none.
 use Rattle.std.specs.Prelude.{ℕ, ◌<◌, List, [], ◌∷◌, ◌++◌, length, Contains}
 use Rattle.design_core.specs.declared.design.Design.{Design}
 use Rattle.design_core.specs.Reads.{Depends}
 
--- a relation of numbers below n: `D i j` says that i depends on j. A number is ready where it was not taken, and all were
--- on which it depends
+-- `D i j` says that the number i depends on j. A number is ready where it was not taken, and all were on which it depends
 pub record IsReady (D : ℕ → ℕ → Type 0) (taken : List ℕ) (i : ℕ) : Type 0 where
   pub untaken : ¬ Contains taken i
   pub met : (j : ℕ) → D i j → Contains taken j

@@ -1,5 +1,5 @@
--- When a design is well formed: numbers in range, widths and signs that fit, each place in exactly one driver or statement
--- (IEEE 1364-2005, clause 5 for the widths and signs of expressions).
+-- When a design is well formed: numbers in range, widths and signs that fit (IEEE 1364-2005, clause 5), each place in
+-- exactly one driver or statement.
 -- What is drivable, driven and free of races are rules of the step that makes designs, and are not said here.
 use Rattle.std.specs.Prelude.{ℕ, ◌≡◌, ◌≢◌, ◌<◌, ◌+◌, ◌*◌, ◌==◌, Bool, true, false, not, ◌&&◌, if◌then◌else◌, nat_le, nat_lt, IsTrue, ℤ, pos, negsuc, List, length, take, drop, slice_get, sum_by, AllPairs}
 use Rattle.std.specs.Option.{option_map_or}
@@ -197,7 +197,7 @@ driver_fits signals places (driver.Cont target value place _) =
     && option_map_or (place_fits places (parts_width signals target.parts.items)) place true
 driver_fits signals places (driver.Comb body _) = statement_fits signals places body
 
--- a part of a left side without a variable index; by a constant one that is out of range nothing is stored (5.2.2)
+-- a part of a left side without a variable index; by a constant one that is out of range nothing is stored (5.2.1)
 abbrev pub is_fixed : Part → Bool
 is_fixed (part.Whole _) = true
 is_fixed (part.Slice _ _ _) = true

@@ -15,7 +15,8 @@ use Rattle.design_core.specs.Constant.{zeros}
 use Rattle.design_core.specs.After.{Choice}
 use Rattle.design_core.specs.Drives.{driver_drives, block_drives, is_register_bit}
 use Rattle.design_core.specs.Cycle.{driven, left_from, is_active, is_reset}
-use Rattle.plain_sim.specs.EvaluateCycle.{is_in, blended, with_reset, with_driver, with_body, with_bodies, kept, computed_next}
+use Rattle.plain_sim.specs.EvaluateCycle.{is_in, blended}
+use Rattle.design_core.specs.Steps.{with_reset, with_driver, with_body, with_bodies, kept, computed_next}
 
 -- ---- places of lists
 pub slice-at : {X : Type 0} (xs : List X) (i : ℕ) → i < length xs → (x : X) × (slice_get xs i ≡ Some x)

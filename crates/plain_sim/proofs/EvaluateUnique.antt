@@ -18,7 +18,7 @@ use Rattle.design_core.specs.Drives.{driver_drives, is_driven, block_drives, is_
 use Rattle.design_core.specs.Cycle.{Cycle, sampled, before, driven, left_from, is_active, is_reset, is_clocked}
 use Rattle.design_core.specs.WellFormed.{driver_fits, clocked_fits, IsWellFormed}
 use Rattle.design_core.specs.Reads.{driver_reads, IsOrder}
-use Rattle.plain_sim.specs.EvaluateCycle.{with_reset, with_resets, with_driver, with_drivers, with_body, with_bodies, kept, computed_now, computed_next}
+use Rattle.design_core.specs.Steps.{with_reset, with_resets, with_driver, with_drivers, with_body, with_bodies, kept, computed_now, computed_next}
 use Rattle.design_core.proofs.Lists.{Contains-first, Contains-later}
 use Rattle.design_core.proofs.Widened.{list_all-member}
 use Rattle.plain_sim.proofs.EvaluateHolds.{Some-same}

@@ -1,5 +1,5 @@
 -- Words that the contracts of the evaluator's own functions use, for cycles and runs.
-use Rattle.std.specs.Prelude.{ℕ, ◌≡◌, ◌+◌, Bool, false, not, ◌&&◌, ◌||◌, if◌then◌else◌, IsTrue, List, [], ◌∷◌, slice_get, Option, Some, None}
+use Rattle.std.specs.Prelude.{ℕ, ◌≡◌, ◌+◌, Bool, false, not, ◌&&◌, ◌||◌, if◌then◌else◌, IsTrue, List, slice_get, Option, Some, None}
 use Rattle.std.specs.Option.{option_map_or}
 use Rattle.std.specs.List.{list_any}
 use Rattle.loc_base.specs.declared.bits.Bits.{Bits}
@@ -27,7 +27,7 @@ use Rattle.design_core.specs.After.{Choice, after}
 use Rattle.design_core.specs.Reads.{AgreeOn}
 use Rattle.design_core.specs.WellFormed.{is_width}
 use Rattle.design_core.specs.Drives.{part_drives, part_names, some_set, driver_drives, is_driven, block_drives, block_assigns_later, is_register_bit, is_listed}
-use Rattle.design_core.specs.Cycle.{before, is_active, is_reset, is_clocked, cont_assigned, driven, left_from}
+use Rattle.design_core.specs.Cycle.{is_active, is_reset, is_clocked, cont_assigned, driven, left_from}
 
 -- what is asked of an assignment: whether it assigns a bit, or whether it assigns a signal by `<=`
 abbrev pub asked_of : List Signal → Asked → List Part → Bool → Bool
@@ -92,55 +92,6 @@ BodyHolds d choice V next i =
 pub record BlockHolds (d : Design) (choice : Choice) (E V next : Valuation) (i : ℕ) : Type 0 where
   pub reset : ResetHolds d choice E V i
   pub body : BodyHolds d choice V next i
-
--- ---- what is computed, step by step
--- a valuation with the registers of a clocked block at their reset values, where its reset is active in E
-abbrev pub with_reset : Design → Choice → Valuation → Clocked → Valuation → Valuation
-with_reset d choice E block V s b =
-    if is_active E block && (is_register_bit d s b && block_drives d.signals.items s b block)
-    then option_map_or (λ r. left_from d.signals.items choice block E r.values s b) block.reset false
-    else V s b
-
-abbrev pub with_resets : Design → Choice → Valuation → List Clocked → Valuation → Valuation
-with_resets d choice E [] V = V
-with_resets d choice E (block ∷ blocks) V = with_resets d choice E blocks (with_reset d choice E block V)
-
--- a valuation with the bits of the driver of a number as it gives them
-abbrev pub with_driver : Design → Choice → ℕ → Valuation → Valuation
-with_driver d choice i V s b =
-    option_map_or (λ driver. if driver_drives d.signals.items s b driver then driven d.signals.items choice V driver s b else V s b)
-    (slice_get d.drivers.items i) (V s b)
-
--- the drivers carried out in an order
-abbrev pub with_drivers : Design → Choice → List ℕ → Valuation → Valuation
-with_drivers d choice [] V = V
-with_drivers d choice (i ∷ order) V = with_drivers d choice order (with_driver d choice i V)
-
--- next states with those of the registers of a clocked block as its body leaves them, where its reset is not active
-abbrev pub with_body : Design → Choice → Valuation → Clocked → Valuation → Valuation
-with_body d choice V block next s b =
-    if not (is_active V block) && (is_register_bit d s b && block_drives d.signals.items s b block)
-    then left_from d.signals.items choice block V block.body s b
-    else next s b
-
-abbrev pub with_bodies : Design → Choice → Valuation → List Clocked → Valuation → Valuation
-with_bodies d choice V [] next = next
-with_bodies d choice V (block ∷ blocks) next = with_bodies d choice V blocks (with_body d choice V block next)
-
--- the register states alone
-abbrev pub kept : Design → Valuation → Valuation
-kept d state s b = is_register_bit d s b && state s b
-
--- the values of a cycle, computed in an order of the drivers
-abbrev pub computed_now : Design → List ℕ → List Bits → Valuation → Choice → Valuation
-computed_now d order samples state choice =
-    let E = before d samples state in
-    with_drivers d choice order (with_resets d choice E d.clocked.items E)
-
--- the next states computed from the values
-abbrev pub computed_next : Design → Valuation → Choice → Valuation → Valuation
-computed_next d state choice V s b =
-    if is_register_bit d s b && is_reset d V s b then V s b else with_bodies d choice V d.clocked.items (kept d state) s b
 
 -- ---- runs
 -- each bit of an output that is checked is as expected

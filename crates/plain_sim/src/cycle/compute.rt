@@ -2,10 +2,11 @@ ghost use Rattle.std.specs.Prelude.{◌≡◌, IsTrue, OnOk, IfOk, IfSome, IfNon
 ghost use Rattle.design_core.specs.Valuation.{Valuation};
 ghost use Rattle.design_core.specs.WellFormed.{IsWellFormed};
 ghost use Rattle.design_core.specs.Reads.{IsOrder};
+ghost use Rattle.design_core.specs.DrivenOnce.{IsDrivenOnce};
 ghost use Rattle.design_core.specs.Words.{valuation_of, AreWordsOf, choice_of};
 ghost use Rattle.design_core.specs.TraceFits.{samples_fit};
 ghost use Rattle.design_core.specs.Cycle.{Cycle, before};
-ghost use Rattle.plain_sim.specs.EvaluateCycle.{computed_now, with_drivers, with_resets};
+ghost use Rattle.design_core.specs.Steps.{computed_now, with_drivers, with_resets};
 ghost use Rattle.design_core.specs.Given.{AreChosen, CanRun};
 
 use crate::cycle::advance::next_words;
@@ -76,7 +77,8 @@ fn now_words(
 /// The cycle for these samples of the inputs and states of the registers, the drivers being computed in an order.
 /// `state` has one word for each signal; `freed` and `chosen` have one entry for each place of the design: whether it is
 /// freed, and the value that it then takes. `None` where what is computed does not fulfil each equation of a cycle: in a
-/// well-formed design whose drivers stand in that order there is then no cycle.
+/// well-formed design whose drivers stand in that order there is then no cycle. Where each bit gets its value once as
+/// well, there always is one.
 pub fn compute_cycle(
     alloc: Global,
     design: &Design,
@@ -96,6 +98,7 @@ pub fn compute_cycle(
         Cycle design.now samples.now (valuation_of state.now) (choice_of freed.now chosen.now) (valuation_of words.now.items) (valuation_of words.next.items))) }
     ensures none { IfOk result (λ found. IfNone found (IsWellFormed design.now → IsOrder design.now order.now → (V next : Valuation)
         → ¬ Cycle design.now samples.now (valuation_of state.now) (choice_of freed.now chosen.now) V next)) }
+    ensures always { IfOk result (λ found. IfNone found (IsWellFormed design.now → IsDrivenOnce design.now → ¬ IsOrder design.now order.now)) }
 {
     let now = now_words(alloc, design, order, samples, state, freed, chosen)?;
     let next = next_words(alloc, design, freed, chosen, state, &now)?;

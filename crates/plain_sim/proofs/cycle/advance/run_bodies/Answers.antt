@@ -1,7 +1,7 @@
 use Rattle.std.proofs.Common.{◌∙◌, ◌+◌, ap, sym, arith, drop}
 use Rattle.design_core.specs.After.{Choice}
 use Rattle.design_core.specs.Words.{valuation_of, choice_of}
-use Rattle.plain_sim.specs.EvaluateCycle.{with_bodies}
+use Rattle.design_core.specs.Steps.{with_bodies}
 use Rattle.plain_sim.proofs.EvaluateSteps.{slice-at, drop-some}
 use Rattle.plain_sim.proofs.cycle.advance.run_bodies.Goals as goal
 

@@ -1,6 +1,6 @@
 use Rattle.std.proofs.Common.{◌≡◌, drop}
 use Rattle.design_core.specs.Words.{valuation_of, AreWordsOf, choice_of}
-use Rattle.plain_sim.specs.EvaluateCycle.{with_bodies}
+use Rattle.design_core.specs.Steps.{with_bodies}
 use Rattle.plain_sim.proofs.cycle.advance.run_bodies.Given as goal
 
 abbrev pub invariant-loop-i : goal.invariant-loop-i

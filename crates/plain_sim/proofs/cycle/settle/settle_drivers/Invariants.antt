@@ -1,6 +1,6 @@
 use Rattle.std.proofs.Common.{◌≡◌, drop}
 use Rattle.design_core.specs.Words.{valuation_of, AreWordsOf, choice_of}
-use Rattle.plain_sim.specs.EvaluateCycle.{with_drivers}
+use Rattle.design_core.specs.Steps.{with_drivers}
 use Rattle.plain_sim.proofs.cycle.settle.settle_drivers.Given as goal
 
 abbrev pub invariant-loop-i : goal.invariant-loop-i
