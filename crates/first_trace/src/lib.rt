@@ -9,8 +9,6 @@ mod levels;
 mod rows;
 mod stamps;
 mod table;
-#[cfg(test)]
-mod tests;
 mod times;
 mod trace;
 mod words;

@@ -1,6 +1,6 @@
 use Rattle.std.proofs.Common.{arith}
 use Rattle.first_trace.proofs.Readable.{readable}
-use Rattle.first_trace.proofs.tests.read_of.Goals as goal
+use Rattle.first_trace_tests.proofs.dumps.read_of.Goals as goal
 
 pub read_trace-requires-clause-few : goal.read_trace-requires-clause-few
 read_trace-requires-clause-few c =

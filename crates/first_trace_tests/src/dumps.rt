@@ -1,6 +1,8 @@
-use crate::trace::{one_trace, read_trace, words_stand};
+//! Dumps and their traces, and the texts that are none.
+
 use design_core::{Checked, Trace};
 use first_form::{Assignment, Direction, FormErr, Formula, Netlist, Port, design_of};
+use first_trace::{one_trace, read_trace, words_stand};
 use loc_base::{Bits, Name, Span};
 use std::alloc::Global;
 use std::test::Fail;
