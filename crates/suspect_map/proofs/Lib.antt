@@ -1,0 +1,4 @@
+pub mod ChooseLaws
+pub mod FirstLaws
+pub mod GroupLaws
+pub mod Steps

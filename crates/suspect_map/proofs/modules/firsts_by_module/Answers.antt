@@ -1,0 +1,25 @@
+use Rattle.std.proofs.Common.{◌≡◌, ◌<◌, ◌++◌, ◌∷◌, [], ◌∙◌, sym, ap, ap₂, arith, get_or, length, map, Option, Some, ℕ, List, nat_eq}
+use Rattle.std.specs.Cmp.Lexicographic.{pointwise}
+use Rattle.std.proofs.lemmas.List.{length-map}
+use Rattle.design_core.specs.declared.place.Place.{Place}
+use Rattle.loc_base.specs.NameTable.{number_of}
+use Rattle.loc_base.proofs.ShelfLists.{map-take_at}
+use Rattle.suspect_map.specs.Grouping.{first_by}
+use Rattle.suspect_map.specs.Kinds.{modules}
+use Rattle.suspect_map.proofs.Steps.{same_name, met-first, after-first, module-key}
+use Rattle.suspect_map.proofs.modules.firsts_by_module.Goals as goal
+
+pub loop-at-preserved : goal.loop-at-preserved
+loop-at-preserved c =
+    let keys : List (Option (List ℕ)) = map modules.key c.args.places.now in
+    let i = c.loop-at.at in
+    let key : Option (List ℕ) = Some c.as_bytes.result.now in
+    let is : key ≡ get_or keys i key = module-key c.args.places.now i c.index-places-at.result c.as_bytes.result.now c.loop-at-test.true c.index-places-at.is
+    (c.as_bytes.ensures.same ∙ ap (λ (p : Place). p.«module») (sym c.index-places-at.is)) in
+    let within : i < length keys = omega (arith, c.loop-at-test.true, length-map c.args.places.now modules.key) in (
+      c.in_ok-push.ensures.items
+          ∙ ap₂ (λ xs x. xs ++ x ∷ []) c.loop-at.invariant.0
+          (c.in_ok-first.ensures.number ∙ met-first (pointwise nat_eq) same_name keys i key (number_of c.loop-at.table) within is c.loop-at.invariant.1)
+          ∙ sym (map-take_at (first_by (pointwise nat_eq) keys) keys i key within is),
+      (λ q. c.in_ok-first.ensures.table q ∙ after-first (pointwise nat_eq) same_name keys i key (number_of c.loop-at.table) q within is (c.loop-at.invariant.1 q)),
+    )

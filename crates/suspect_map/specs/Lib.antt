@@ -1,0 +1,4 @@
+pub mod Choose
+pub mod Groups
+pub mod Grouping
+pub mod Kinds

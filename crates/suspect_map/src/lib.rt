@@ -1,0 +1,26 @@
+//! Suspects: which places of a design are looked at as one (Smith, Veneris, Ali and Viglas, IEEE TCAD 2005).
+//!
+//! A granularity groups the places of a design. It is an object behind the trait `Granularity`, so that a caller can hand
+//! in one of its own. The ones of this crate are those of Verilog texts, one in a file each.
+#![tactic(auto)]
+
+mod blocks;
+mod choose;
+mod firsts;
+mod gates;
+mod granularity;
+mod group;
+mod grouping;
+mod instance_outputs;
+mod label;
+mod modules;
+mod statements;
+
+pub use blocks::Blocks;
+pub use choose::{ChooseErr, chosen};
+pub use gates::Gates;
+pub use granularity::Granularity;
+pub use group::{Group, Groups};
+pub use instance_outputs::InstanceOutputs;
+pub use modules::Modules;
+pub use statements::Statements;

@@ -1,0 +1,65 @@
+ghost use Rattle.std.specs.Prelude.{◌≡◌, ◌<◌, ◌^◌, ℕ, List, Some, length, map, nat_eq, IfOk, OnOk, codes};
+ghost use Rattle.std.specs.Cmp.Lexicographic.{pointwise};
+ghost use Rattle.loc_base.specs.NameTable.{number_of};
+ghost use Rattle.suspect_map.specs.Groups.{groups_of};
+ghost use Rattle.suspect_map.specs.Grouping.{after, firsts_by, met};
+ghost use Rattle.suspect_map.specs.Kinds.{modules};
+
+use crate::granularity::Granularity;
+use crate::group::Groups;
+use crate::grouping::Grain;
+use crate::label::Label;
+use design_core::Place;
+use loc_base::{NameTable, NoMemory};
+use std::alloc::Global;
+
+/// A suspect for each module of the text that has a place, with all places whose text stands in it. It is called `module`,
+/// and its label is the module's name.
+#[derive(Clone, Copy, Debug, Drop)]
+pub struct Modules;
+
+/// The number of a name: the one that it has, which is the given one from now on where it had none.
+fn meet<'a>(table: &mut NameTable<'a>, name: &'a [u8], new: u32) -> Result<u32, NoMemory>
+    ensures number { IfOk result (λ number. Some number ≡ met (number_of table.old) new (Some name.now)) }
+    ensures table { OnOk result ((q : List ℕ) → number_of table.new q ≡ after (pointwise nat_eq) (number_of table.old) new (Some name.now) q) }
+{
+    if let Some(number) = table.find(name) {
+        return Ok(number);
+    }
+    table.add(name, new)?;
+    Ok(new)
+}
+
+/// For each place, the first place of its module.
+fn firsts_by_module(alloc: Global, places: &[Place]) -> Result<Vec<Option<u32>>, NoMemory>
+    requires few { length places.now < 2 ^ 32 }
+    ensures { IfOk result (λ firsts. firsts.items ≡ firsts_by (pointwise nat_eq) (map modules.key places.now)) }
+{
+    let mut firsts = Vec::new(alloc);
+    let mut table = NameTable::new(alloc);
+    for at in 0..places.len() {
+        let first = meet(&mut table, places[at].module.as_bytes(), at as u32)?;
+        firsts.push(Some(first))?;
+    }
+    Ok(firsts)
+}
+
+impl Granularity for Modules {
+    ghost called = { λ _. codes "module" };
+
+    ghost lists = { λ _ places. groups_of modules (codes "module") places };
+
+    fn name(&self) -> &str {
+        "module"
+    }
+
+    fn groups(&self, alloc: Global, places: &[Place]) -> Result<Groups, NoMemory> {
+        let firsts = firsts_by_module(alloc, places)?;
+        let grain = Grain {
+            kind: "module",
+            label: Label::Module,
+            places,
+        };
+        grain.groups(alloc, &firsts)
+    }
+}
