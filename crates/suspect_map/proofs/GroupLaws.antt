@@ -1,16 +1,16 @@
 -- The suspects that places lead are those of their keys.
-use Rattle.std.proofs.Common.{◌≡◌, ◌≢◌, ℕ, ◌+◌, ◌<◌, ◌≤◌, Bool, true, false, List, [], ◌∷◌, ◌++◌, length, take, drop, get_or, map, Option, Some, None, if◌then◌else◌, refl, sym, ◌∙◌, ap, ap₂, subst, arith, rules, inl, inr, append_assoc, nat_eq}
+use Rattle.std.proofs.Common.{◌≡◌, ◌≢◌, ℕ, ◌+◌, ◌<◌, ◌≤◌, Bool, true, false, List, [], ◌∷◌, ◌++◌, length, take, drop, get_or, map, Option, Some, None, if◌then◌else◌, refl, sym, ◌∙◌, ap, ap₂, subst, arith, inl, inr, append_assoc}
 use Rattle.std.specs.Prelude.{unwrap_or, Decides, All, Result, Ok, Err, IfOk}
 use Rattle.std.specs.Option.{option_map_or}
 use Rattle.std.specs.List.{list_any}
 use Rattle.std.proofs.lemmas.Bool.{cases_Bool, cond-true, cond-false, false≢true, false_from_ne_true, eqb-true, eq-eqb, ne_eqb}
-use Rattle.std.proofs.lemmas.List.{take_at, length-append, length_push}
+use Rattle.std.proofs.lemmas.List.{take_at, length_push}
 use Rattle.std.proofs.lemmas.List.Elements.{All-nil, All-cons, All-append}
 use Rattle.loc_base.proofs.ShelfLists.{drop-at}
 use Rattle.design_core.specs.declared.place.Place.{Place}
 use Rattle.suspect_map.specs.declared.group.Group.{Group}
 use Rattle.suspect_map.specs.declared.label.Label.{Label}
-use Rattle.suspect_map.specs.Groups.{Grouping, has_key, numbers_at, group_at, groups_from, groups_of, label_of, AreWithin}
+use Rattle.suspect_map.specs.Groups.{Grouping, has_key, numbers_at, group_at, groups_from, groups_of, AreWithin}
 use Rattle.suspect_map.specs.Grouping.{first_at, is_same, first_by, firsts_by, is_number, group_of, led_at, led_from}
 use Rattle.suspect_map.proofs.FirstLaws.{IsFirst, first_at-found, first_at-none, first_at-some, first_at-passes, first_at-map}
 

@@ -1,4 +1,4 @@
-use Rattle.std.proofs.Common.{◌≡◌, ℕ, List, [], length, get_or}
+use Rattle.std.proofs.Common.{◌≡◌, ℕ, [], length, get_or}
 use Rattle.suspect_map.proofs.grouping.empty_rows.Given as goal
 
 abbrev pub invariant-loop-row : goal.invariant-loop-row

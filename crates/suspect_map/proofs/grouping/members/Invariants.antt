@@ -1,4 +1,4 @@
-use Rattle.std.proofs.Common.{◌≡◌, ◌<◌, ℕ, List, [], length, get_or, take}
+use Rattle.std.proofs.Common.{◌≡◌, ◌<◌, ℕ, [], length, get_or, take}
 use Rattle.suspect_map.specs.Groups.{numbers_at}
 use Rattle.suspect_map.specs.Grouping.{is_number}
 use Rattle.suspect_map.proofs.grouping.members.Given as goal
