@@ -8,7 +8,7 @@ use Rattle.std.proofs.lemmas.Bool.Decides.{eqb_tells}
 use Rattle.std.proofs.lemmas.Option.{slice_get_within}
 use Rattle.loc_base.proofs.ShelfBools.{equal-true}
 use Rattle.loc_base.proofs.ShelfLists.{slice_get-some}
-use Rattle.design_core.proofs.EvaluateWrite.{slice_get-set_same, slice_get-set_other}
+use Rattle.vcd_traces.proofs.ListSteps.{get_set_same, get_set_other}
 use Rattle.std.proofs.lemmas.List.{length-set}
 use Rattle.vcd_words.specs.declared.level.Level.{Level}
 use Rattle.vcd_words.specs.Words.{Placed}
@@ -160,14 +160,14 @@ keeps_cells cells last events running cell code level r at is apart each k other
           let code_is : slice_get cells cell ≡ Some other = subst P same.1 at_k in
           let set_is : slice_get (slice_set running cell (changed_to r last level)) cell ≡ Some s = subst Q same.1 is_k in
           let put : slice_get (slice_set running cell (changed_to r last level)) cell ≡ Some (changed_to r last level) =
-          slice_get-set_same running cell (changed_to r last level) (slice_get_within running cell r is) in
+          get_set_same running cell (changed_to r last level) (slice_get_within running cell r is) in
           let code_same : code ≡ other = cc in
           let s_same : changed_to r last level ≡ s = cc in
           let F : List ℕ → Type 0 = λ q. Follows q last (events ++ event ∷ []) s in
           let G : Running → Type 0 = λ t. Follows code last (events ++ event ∷ []) t in
           subst F code_same (subst G s_same (follows_change code last events r level (each cell code r at is)))
       | inr away ↦
-          let old : slice_get running k ≡ Some s = sym (slice_get-set_other running cell k (changed_to r last level) away.1) ∙ is_k in
+          let old : slice_get running k ≡ Some s = sym (get_set_other running cell k (changed_to r last level) away.1) ∙ is_k in
           follows_other other last events s event (differ code other (apart k other at_k away.1)) (each k other s at_k old)
     ]
 

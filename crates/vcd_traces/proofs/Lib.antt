@@ -8,3 +8,6 @@ pub mod ListSteps
 pub mod RowLaws
 pub mod PortSteps
 pub mod NameLaws
+pub mod KeptLaws
+pub mod MomentLaws
+pub mod CloseLaws

@@ -1,5 +1,6 @@
 -- Steps of loops over lists.
-use Rattle.std.proofs.Common.{◌≡◌, ℕ, zero, suc, ◌+◌, ◌<◌, Bool, true, false, List, [], ◌∷◌, length, get_or, take, sym, ◌∙◌, ap, inl, inr, arith, Some, None}
+use Rattle.std.proofs.Common.{◌≡◌, ◌≢◌, ℕ, zero, suc, ◌+◌, ◌<◌, Bool, true, false, List, [], ◌∷◌, length, get_or, take, sym, ◌∙◌, ap, inl, inr, arith, Some, None}
+use Rattle.std.specs.Prelude.{slice_get, slice_set}
 use Rattle.std.specs.List.{list_all, find}
 use Rattle.std.proofs.lemmas.Bool.{cases_Bool, cond-true, cond-false, and_parts}
 use Rattle.std.proofs.lemmas.List.{map_more, take_more, take_all, map_push}
@@ -42,3 +43,16 @@ pub find_all : {X : Type 0} (p : X → Bool) (xs : List X) → find p (take (len
 find_all p xs none = ap (find p) (sym (take_all (length xs) xs (omega arith))) ∙ none
 
 pub ruleset list_steps = (all_at, find_here, find_more, find_all, map_more, map_push)
+
+-- what stands at a place after a write there, and at another
+pub get_set_same : {X : Type 0} (xs : List X) (i : ℕ) (y : X) → i < length xs → slice_get (slice_set xs i y) i ≡ Some y
+get_set_same [] i y within = absurd (omega (arith, within))
+get_set_same (x ∷ xs) zero y within = refl
+get_set_same (x ∷ xs) (suc i) y within = get_set_same xs i y (omega (arith, within))
+
+pub get_set_other : {X : Type 0} (xs : List X) (i j : ℕ) (y : X) → j ≢ i → slice_get (slice_set xs i y) j ≡ slice_get xs j
+get_set_other [] i j y apart = refl
+get_set_other (x ∷ xs) zero zero y apart = absurd (apart refl)
+get_set_other (x ∷ xs) zero (suc j) y apart = refl
+get_set_other (x ∷ xs) (suc i) zero y apart = refl
+get_set_other (x ∷ xs) (suc i) (suc j) y apart = get_set_other xs i j y (λ e. apart (ap suc e))

@@ -16,3 +16,6 @@ pub mod Levels
 pub mod Samples
 pub mod Moment
 pub mod Rows
+pub mod Kept
+pub mod Closing
+pub mod Plan

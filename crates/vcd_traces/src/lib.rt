@@ -11,6 +11,7 @@ mod kinds;
 mod moment;
 mod names;
 mod ports;
+mod reader;
 mod reals;
 mod rows;
 mod running;

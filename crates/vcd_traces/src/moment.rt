@@ -4,7 +4,8 @@ ghost use Rattle.std.specs.List.{find, list_all};
 ghost use Rattle.std.specs.Option.{option_map};
 ghost use Rattle.loc_base.specs.Bits.{width_of, value_of};
 ghost use Rattle.design_core.specs.declared.trace.Checked.{Checked as TheChecked};
-ghost use Rattle.vcd_traces.specs.Moment.{kept_level, kept_sample, has_unknown, has_width};
+ghost use Rattle.vcd_traces.specs.Events.{is_low as level_is_low, is_high as level_is_high};
+ghost use Rattle.vcd_traces.specs.Moment.{kept_level, kept_sample, kept_is_cycle, has_unknown, has_width};
 ghost use Rattle.vcd_traces.specs.declared.moment.Watch.{Watch as TheWatch};
 ghost use Rattle.vcd_traces.specs.Samples.{known_bits};
 
@@ -48,7 +49,34 @@ fn word_of(value: u128) -> Bits
     bits
 }
 
+/// Whether the lowest bit of a level is known to be 0.
+fn is_low(level: Level) -> bool
+    ensures { result ≡ level_is_low level }
+{
+    level.ones % 2 == 0 && level.unknowns % 2 == 0
+}
+
+/// Whether the lowest bit of a level is known to be 1.
+fn is_high(level: Level) -> bool
+    ensures { result ≡ level_is_high level }
+{
+    level.ones % 2 == 1 && level.unknowns % 2 == 0
+}
+
 impl Moment<'_> {
+    /// Whether the stamp is a cycle: there is no clock, or it rises.
+    pub fn is_cycle(&self, clock: Option<usize>) -> bool
+        ensures { result ≡ kept_is_cycle self.now clock }
+    {
+        let Some(cell) = clock else {
+            return true;
+        };
+        match self.running.get(cell) {
+            None => false,
+            Some(running) => is_low(running.before(self.time)) && is_high(running.level),
+        }
+    }
+
     /// The level that counts of a cell's variable; where there is no such cell, no bit is known.
     fn level(&self, cell: usize) -> Level
         ensures { result ≡ kept_level self.now cell }

@@ -1,0 +1,49 @@
+//! The times and the value changes behind a header, read piece by piece (IEEE 1364-2005, 18.2.1 and 18.2.2).
+ghost use Rattle.std.specs.Prelude.{◌≡◌, IsTrue, OnOk};
+ghost use Rattle.std.specs.List.{list_all};
+ghost use Rattle.vcd_traces.specs.Moment.{has_width};
+ghost use Rattle.vcd_traces.specs.Rows.{rows_of};
+ghost use Rattle.vcd_traces.specs.Closing.{closed};
+
+use crate::changes::Levels;
+use crate::moment::Moment;
+use crate::rows::{Rows, Watched};
+use crate::table::Table;
+use loc_base::NoMemory;
+
+/// What a header asks of its changes: the table of its codes, and the ports that are sampled.
+#[derive(Drop)]
+pub struct Plan<'a> {
+    pub table: Table<'a>,
+    pub watched: Watched,
+}
+
+/// What is kept while changes are read: the levels of variables, and the cycles of the stamps that have ended.
+#[derive(Drop)]
+pub struct Reading {
+    pub levels: Levels,
+    pub rows: Rows,
+}
+
+impl Reading {
+    /// The stamp at hand ends, where there is one: it may be a cycle.
+    pub fn close(&mut self, watched: &Watched) -> Result<(), NoMemory>
+        requires inputs { IsTrue (list_all has_width watched.now.inputs.items) }
+        requires outputs { IsTrue (list_all has_width watched.now.outputs.items) }
+        ensures levels { OnOk result (self.new.levels ≡ self.old.levels) }
+        ensures rows { OnOk result (rows_of self.new.rows ≡ closed watched.now self.old.levels (rows_of self.old.rows)) }
+    {
+        let Some(time) = self.levels.time else {
+            return Ok(());
+        };
+        let moment = Moment {
+            running: self.levels.running.as_slice(),
+            clocked: watched.clock.is_some(),
+            time,
+        };
+        if moment.is_cycle(watched.clock) {
+            self.rows.push(&moment, watched)?;
+        }
+        Ok(())
+    }
+}
