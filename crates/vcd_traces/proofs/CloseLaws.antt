@@ -6,7 +6,7 @@ use Rattle.vcd_traces.specs.declared.running.Running.{Running}
 use Rattle.vcd_traces.specs.declared.changes.Levels.{Levels}
 use Rattle.vcd_traces.specs.declared.rows.Watched.{Watched}
 use Rattle.vcd_traces.specs.Moment.{kept_is_cycle}
-use Rattle.vcd_traces.specs.Rows.{Cycle, Kept, kept_row, pushed}
+use Rattle.vcd_traces.specs.Rows.{Kept, kept_row, pushed}
 use Rattle.vcd_traces.specs.Closing.{moment_of, closed_at, closed}
 
 abbrev moment_with : List Running → Bool → ℕ → Moment

@@ -1,5 +1,5 @@
 -- The cycles that are kept are those of the stamps, one stamp after another.
-use Rattle.std.proofs.Common.{◌≡◌, ◌≢◌, ℕ, suc, ◌+◌, ◌<◌, ◌≤◌, ◌==◌, min, Bool, true, false, ◌||◌, if◌then◌else◌, List, [], ◌∷◌, ◌++◌, length, refl, sym, ◌∙◌, ap, subst, inl, inr, arith, append_assoc, length-append, Option, Some, None, is_some, nat_lt}
+use Rattle.std.proofs.Common.{◌≡◌, ℕ, suc, ◌+◌, ◌<◌, ◌≤◌, ◌==◌, Bool, true, false, ◌||◌, List, [], ◌∷◌, ◌++◌, length, refl, sym, ◌∙◌, ap, subst, inl, inr, arith, append_assoc, length-append, Option, Some, None, is_some, nat_lt}
 use Rattle.std.specs.List.{find}
 use Rattle.std.specs.Option.{option_map, option_or}
 use Rattle.std.proofs.lemmas.Bool.{cases_Bool, cond-true, cond-false, ltb-true}
@@ -12,7 +12,7 @@ use Rattle.vcd_traces.specs.declared.error.VcdErr.TheVariants.{UnknownInput}
 use Rattle.vcd_traces.specs.declared.rows.Unknown.{Unknown}
 use Rattle.vcd_traces.specs.Events.{Event}
 use Rattle.vcd_traces.specs.Samples.{Watch, Watches, is_unknown, unknown_in, unknown_from}
-use Rattle.vcd_traces.specs.Rows.{Row, Cycle, Kept, no_row, no_rows, joined, with_samples, with_cycle, pushed}
+use Rattle.vcd_traces.specs.Rows.{Row, Kept, no_row, no_rows, joined, with_cycle, pushed}
 use Rattle.vcd_traces.specs.Kept.{row_at, cycle_at, rows_at, refusal_by, AreKept}
 use Rattle.vcd_traces.proofs.RowLaws.{row_with}
 
@@ -83,21 +83,22 @@ kept_counted : (w : Watches) (events : List Event) (times : List ℕ) (time : �
 kept_counted w events times time kept are within stays = record {
   cycles = omega (arith, are.cycles, length_more times time);
   unknown = λ few.
-    let less : kept.cycles < 100000 = omega (arith, are.cycles, length_more times time) in
-    let some = is_some-true kept.unknown (some_of (is_some kept.unknown) kept.cycles less stays) in
-    let before : unknown_from w events 0 times ≡ Some (UnknownInput some.0.cycle some.0.signal) =
-        sym (are.unknown (omega (arith, are.cycles, length_more times time))) ∙ ap refusal_by some.1 in
-    ap refusal_by some.1
-    ∙ sym (unknown_more w events 0 times time ∙ ap (λ o. option_or o (unknown_in (0 + length times) (find (is_unknown w.clock events time) w.inputs))) before);
+      let less : kept.cycles < 100000 = omega (arith, are.cycles, length_more times time) in
+      let some = is_some-true kept.unknown (some_of (is_some kept.unknown) kept.cycles less stays) in
+      let before : unknown_from w events 0 times ≡ Some (UnknownInput some.0.cycle some.0.signal) =
+      sym (are.unknown (omega (arith, are.cycles, length_more times time))) ∙ ap refusal_by some.1 in
+      ap refusal_by some.1
+      ∙ sym (unknown_more w events 0 times time ∙ ap (λ o. option_or o (unknown_in (0 + length times) (find (is_unknown w.clock events time) w.inputs))) before);
   rows = λ few none.
-    let less : kept.cycles < 100000 = omega (arith, are.cycles, length_more times time) in
-    let some = some_of (is_some kept.unknown) kept.cycles less stays in
-    absurd (false_some kept.unknown none some);
+      let less : kept.cycles < 100000 = omega (arith, are.cycles, length_more times time) in
+      let some = some_of (is_some kept.unknown) kept.cycles less stays in
+      absurd (false_some kept.unknown none some);
 }
   where
     some_of : (b : Bool) (n : ℕ) → n < 100000 → (b || n == 100000) ≡ true → b ≡ true
     some_of true n less either = refl
     some_of false n less either = absurd (omega (arith, equal-true n 100000 either))
+
     false_some : (o : Option Unknown) → o ≡ None → is_some o ≡ true → ⊥
     false_some o none some = let e : is_some o ≡ false = ap is_some none in cc
 
@@ -109,20 +110,20 @@ kept_taken : (w : Watches) (events : List Event) (times : List ℕ) (time : ℕ)
 kept_taken w events times time kept None are less none is = record {
   cycles = omega (arith, are.cycles, length_more times time);
   unknown = λ few.
-    are.unknown (omega (arith, are.cycles)) ∙ sym (or_none (unknown_from w events 0 times))
-    ∙ ap (λ f. option_or (unknown_from w events 0 times) (unknown_in (0 + length times) f)) is ∙ sym (unknown_more w events 0 times time);
+      are.unknown (omega (arith, are.cycles)) ∙ sym (or_none (unknown_from w events 0 times))
+      ∙ ap (λ f. option_or (unknown_from w events 0 times) (unknown_in (0 + length times) f)) is ∙ sym (unknown_more w events 0 times time);
   rows = λ few still.
-    ap (λ r. joined r (row_at w events time)) (are.rows (omega (arith, are.cycles)) none) ∙ sym (rows_more w events times time);
+      ap (λ r. joined r (row_at w events time)) (are.rows (omega (arith, are.cycles)) none) ∙ sym (rows_more w events times time);
 }
 kept_taken w events times time kept (Some watch) are less none is = record {
   cycles = omega (arith, are.cycles, length_more times time);
   unknown = λ few.
-    let before : unknown_from w events 0 times ≡ None = sym (are.unknown (omega (arith, are.cycles))) ∙ ap refusal_by none in
-    let count : kept.cycles ≡ 0 + length times = omega (arith, are.cycles) in
-    ap (λ n. Some (UnknownInput n watch.signal)) count
-    ∙ sym
-    (unknown_more w events 0 times time ∙ ap (λ o. option_or o (unknown_in (0 + length times) (find (is_unknown w.clock events time) w.inputs))) before
-    ∙ ap (unknown_in (0 + length times)) (sym is));
+      let before : unknown_from w events 0 times ≡ None = sym (are.unknown (omega (arith, are.cycles))) ∙ ap refusal_by none in
+      let count : kept.cycles ≡ 0 + length times = omega (arith, are.cycles) in
+      ap (λ n. Some (UnknownInput n watch.signal)) count
+      ∙ sym
+      (unknown_more w events 0 times time ∙ ap (λ o. option_or o (unknown_in (0 + length times) (find (is_unknown w.clock events time) w.inputs))) before
+      ∙ ap (unknown_in (0 + length times)) (sym is));
   rows = λ few still. cc;
 }
 
@@ -151,5 +152,6 @@ kept_more w events times time kept are =
   where
     not_above : (n : ℕ) → nat_lt 100000 n ≡ false → n ≤ 100000
     not_above n e = grind (arith, nat_tests)
+
     below : (n : ℕ) → n ≤ 100000 → (n == 100000) ≡ false → n < 100000
     below n within e = grind (arith, nat_tests)

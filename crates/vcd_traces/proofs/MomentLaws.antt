@@ -1,7 +1,7 @@
 -- What is kept at the end of a stamp is what counts there.
-use Rattle.std.proofs.Common.{◌≡◌, ℕ, ◌<◌, ◌≤◌, ◌==◌, Bool, true, false, not, ◌&&◌, if◌then◌else◌, List, [], ◌∷◌, ◌++◌, length, map, refl, sym, ◌∙◌, ap, subst, inl, inr, arith, Option, Some, None, is_some, unwrap_or, nat_lt, bit_and}
+use Rattle.std.proofs.Common.{◌≡◌, ℕ, ◌<◌, ◌==◌, Bool, true, false, not, ◌&&◌, if◌then◌else◌, List, [], ◌∷◌, ◌++◌, length, map, refl, sym, ◌∙◌, ap, subst, inl, inr, arith, Option, Some, None, is_some, unwrap_or, bit_and}
 use Rattle.std.specs.Prelude.{slice_get}
-use Rattle.std.specs.List.{list_all, find, filter}
+use Rattle.std.specs.List.{list_all, find}
 use Rattle.std.specs.Option.{option_map, option_map_or}
 use Rattle.std.proofs.lemmas.Bool.{cases_Bool, cond-true, cond-false, and_parts, ltb-true}
 use Rattle.std.proofs.lemmas.List.{append-nil}
@@ -12,16 +12,14 @@ use Rattle.vcd_words.specs.Levels.{unknown_level, cut_level}
 use Rattle.vcd_traces.specs.declared.moment as code
 use Rattle.vcd_traces.specs.declared.running.Running.{Running}
 use Rattle.vcd_traces.specs.declared.rows.Watched.{Watched}
-use Rattle.vcd_traces.specs.declared.changes.Levels.{Levels}
-use Rattle.vcd_traces.specs.Events.{Event, level_before, level_after, is_low, is_high, rises}
-use Rattle.vcd_traces.specs.Changes.{Past, stamps_of}
+use Rattle.vcd_traces.specs.Events.{Event, level_after, is_low, is_high, rises}
 use Rattle.vcd_traces.specs.Samples.{Watch, Watches, sample, is_unknown, known_bits, level_at, moments}
 use Rattle.vcd_traces.specs.Running.{Follows, are_past, before_of}
-use Rattle.vcd_traces.specs.Levels.{Keeps, KeepsAll}
+use Rattle.vcd_traces.specs.Levels.{KeepsAll}
 use Rattle.vcd_traces.specs.Moment.{kept_of, kept_level, kept_sample, has_unknown, kept_rises, kept_is_cycle}
 use Rattle.vcd_traces.specs.Rows.{Row, Cycle, Kept, kept_rows, kept_row, pushed}
 use Rattle.vcd_traces.specs.Kept.{row_at, cycle_at, AreKept}
-use Rattle.vcd_traces.specs.Closing.{moment_of, closed_at, closed}
+use Rattle.vcd_traces.specs.Closing.{moment_of, closed_at}
 use Rattle.vcd_traces.specs.Plan.{cell_code, watch_in, has_cell, IsWatched}
 use Rattle.vcd_traces.proofs.RunningLaws.{after_last}
 use Rattle.vcd_traces.proofs.KeptLaws.{row_same, kept_more}
@@ -106,26 +104,26 @@ cycle_is w cells time events running watched end =
     let outs = watched.outputs.items in
     let is = sample_is w cells time events running watched end in
     let unknown_is : option_map (λ (watch : code.Watch.Watch). watch.signal) (find (has_unknown m) ins) ≡ option_map (λ (watch : Watch). watch.signal) (find (is_unknown w.clock events time) w.inputs) =
-        find_through (has_cell cells) (has_unknown m) (watch_in cells) (is_unknown w.clock events time) (λ (watch : code.Watch.Watch). watch.signal) (λ (watch : Watch). watch.signal) ins end.watches.input_cells
-        (λ watch within. ap (λ (l : Level). not (l.unknowns == 0)) (is watch within)) (λ watch. refl)
-        ∙ ap (λ l. option_map (λ (watch : Watch). watch.signal) (find (is_unknown w.clock events time) l)) (sym end.watches.inputs) in
+    find_through (has_cell cells) (has_unknown m) (watch_in cells) (is_unknown w.clock events time) (λ (watch : code.Watch.Watch). watch.signal) (λ (watch : Watch). watch.signal) ins end.watches.input_cells
+    (λ watch within. ap (λ (l : Level). not (l.unknowns == 0)) (is watch within)) (λ watch. refl)
+    ∙ ap (λ l. option_map (λ (watch : Watch). watch.signal) (find (is_unknown w.clock events time) l)) (sym end.watches.inputs) in
     let row_is : kept_rows m ins outs ≡ row_at w events time =
-        row_same _ _ _ _ _ _ _ _ _ _ _ _
-        (map_through (has_cell cells) (λ watch. (kept_sample m watch).ones) (watch_in cells) (λ watch. (sample w.clock events time watch).ones) ins end.watches.input_cells
-        (λ watch within. ap (λ (l : Level). l.ones) (is watch within))
-        ∙ ap (map (λ watch. (sample w.clock events time watch).ones)) (sym end.watches.inputs))
-        (map_through (has_cell cells) (λ (watch : code.Watch.Watch). watch.width) (watch_in cells) (λ (watch : Watch). watch.width) ins end.watches.input_cells (λ watch within. refl)
-        ∙ ap (map (λ (watch : Watch). watch.width)) (sym end.watches.inputs))
-        (map_through (has_cell cells) (λ (watch : code.Watch.Watch). known_bits watch.width (kept_sample m watch)) (watch_in cells) (λ (watch : Watch). known_bits watch.width (sample w.clock events time watch)) outs end.watches.output_cells
-        (λ watch within. ap (known_bits watch.width) (is watch within))
-        ∙ ap (map (λ (watch : Watch). known_bits watch.width (sample w.clock events time watch))) (sym end.watches.outputs))
-        (map_through (has_cell cells) (λ (watch : code.Watch.Watch). watch.width) (watch_in cells) (λ (watch : Watch). watch.width) outs end.watches.output_cells (λ watch within. refl)
-        ∙ ap (map (λ (watch : Watch). watch.width)) (sym end.watches.outputs))
-        (map_through (has_cell cells) (λ (watch : code.Watch.Watch). bit_and (kept_sample m watch).ones (known_bits watch.width (kept_sample m watch))) (watch_in cells) (λ (watch : Watch). bit_and (sample w.clock events time watch).ones (known_bits watch.width (sample w.clock events time watch))) outs end.watches.output_cells
-        (λ watch within. ap (λ (l : Level). bit_and l.ones (known_bits watch.width l)) (is watch within))
-        ∙ ap (map (λ (watch : Watch). bit_and (sample w.clock events time watch).ones (known_bits watch.width (sample w.clock events time watch)))) (sym end.watches.outputs))
-        (map_through (has_cell cells) (λ (watch : code.Watch.Watch). watch.width) (watch_in cells) (λ (watch : Watch). watch.width) outs end.watches.output_cells (λ watch within. refl)
-        ∙ ap (map (λ (watch : Watch). watch.width)) (sym end.watches.outputs)) in
+    row_same _ _ _ _ _ _ _ _ _ _ _ _
+    (map_through (has_cell cells) (λ watch. (kept_sample m watch).ones) (watch_in cells) (λ watch. (sample w.clock events time watch).ones) ins end.watches.input_cells
+    (λ watch within. ap (λ (l : Level). l.ones) (is watch within))
+    ∙ ap (map (λ watch. (sample w.clock events time watch).ones)) (sym end.watches.inputs))
+    (map_through (has_cell cells) (λ (watch : code.Watch.Watch). watch.width) (watch_in cells) (λ (watch : Watch). watch.width) ins end.watches.input_cells (λ watch within. refl)
+    ∙ ap (map (λ (watch : Watch). watch.width)) (sym end.watches.inputs))
+    (map_through (has_cell cells) (λ (watch : code.Watch.Watch). known_bits watch.width (kept_sample m watch)) (watch_in cells) (λ (watch : Watch). known_bits watch.width (sample w.clock events time watch)) outs end.watches.output_cells
+    (λ watch within. ap (known_bits watch.width) (is watch within))
+    ∙ ap (map (λ (watch : Watch). known_bits watch.width (sample w.clock events time watch))) (sym end.watches.outputs))
+    (map_through (has_cell cells) (λ (watch : code.Watch.Watch). watch.width) (watch_in cells) (λ (watch : Watch). watch.width) outs end.watches.output_cells (λ watch within. refl)
+    ∙ ap (map (λ (watch : Watch). watch.width)) (sym end.watches.outputs))
+    (map_through (has_cell cells) (λ (watch : code.Watch.Watch). bit_and (kept_sample m watch).ones (known_bits watch.width (kept_sample m watch))) (watch_in cells) (λ (watch : Watch). bit_and (sample w.clock events time watch).ones (known_bits watch.width (sample w.clock events time watch))) outs end.watches.output_cells
+    (λ watch within. ap (λ (l : Level). bit_and l.ones (known_bits watch.width l)) (is watch within))
+    ∙ ap (map (λ (watch : Watch). bit_and (sample w.clock events time watch).ones (known_bits watch.width (sample w.clock events time watch)))) (sym end.watches.outputs))
+    (map_through (has_cell cells) (λ (watch : code.Watch.Watch). watch.width) (watch_in cells) (λ (watch : Watch). watch.width) outs end.watches.output_cells (λ watch within. refl)
+    ∙ ap (map (λ (watch : Watch). watch.width)) (sym end.watches.outputs)) in
     let C : Option ℕ → Row → Cycle = λ u r. record { unknown = u; row = r } in
     ap (λ u. C u (kept_rows m ins outs)) unknown_is ∙ ap (C (cycle_at w events time).unknown) row_is
 
@@ -144,8 +142,8 @@ cycle_or_not (Some cell) w cells time events running watched end is =
     let found = cell_follows cells time events running cell end.count end.each (end.watches.clock_cell cell is) in
     let code = cell_code cells cell in
     let up : rises code events time ≡ kept_rises time found.0 =
-        ap (λ l. is_low l && is_high (level_after time code events)) (sym (found.2.before time refl))
-        ∙ ap (λ l. is_low (before_of found.0 time) && is_high l) (after_last code time events end.past ∙ sym found.2.level) in
+    ap (λ l. is_low l && is_high (level_after time code events)) (sym (found.2.before time refl))
+    ∙ ap (λ l. is_low (before_of found.0 time) && is_high l) (after_last code time events end.past ∙ sym found.2.level) in
     ap (λ clock. moments clock events (time ∷ [])) (end.watches.clock ∙ ap (option_map (cell_code cells)) is)
     ∙ ap (λ b. if b then time ∷ [] else []) (up ∙ sym (ap (λ o. option_map_or (kept_rises time) o false) found.1))
 
@@ -161,7 +159,7 @@ closes_at w cells time events running watched ended kept end are =
     elim (cases_Bool test) [
       | inl here ↦
           let times : moments w.clock events (ended ++ time ∷ []) ≡ moments w.clock events ended ++ time ∷ [] =
-              more ∙ ap (λ l. moments w.clock events ended ++ l) (cond-true _ _ _ here) in
+          more ∙ ap (λ l. moments w.clock events ended ++ l) (cond-true _ _ _ here) in
           let P : List ℕ → Type 0 = λ l. K l (closed_at watched running (Some time) kept) in
           let Q : Kept → Type 0 = K (moments w.clock events ended ++ time ∷ []) in
           let R : Cycle → Type 0 = λ cycle. K (moments w.clock events ended ++ time ∷ []) (pushed kept cycle) in
@@ -170,7 +168,7 @@ closes_at w cells time events running watched ended kept end are =
           (subst R (sym (cycle_is w cells time events running watched end)) (kept_more w events (moments w.clock events ended) time kept are)))
       | inr away ↦
           let times : moments w.clock events (ended ++ time ∷ []) ≡ moments w.clock events ended =
-              more ∙ ap (λ l. moments w.clock events ended ++ l) (cond-false _ _ _ away) ∙ append-nil (moments w.clock events ended) in
+          more ∙ ap (λ l. moments w.clock events ended ++ l) (cond-false _ _ _ away) ∙ append-nil (moments w.clock events ended) in
           let P : List ℕ → Type 0 = λ l. K l (closed_at watched running (Some time) kept) in
           let Q : Kept → Type 0 = K (moments w.clock events ended) in
           subst P (sym times) (subst Q (sym (cond-false _ _ _ away)) are)

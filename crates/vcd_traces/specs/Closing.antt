@@ -4,7 +4,7 @@ use Rattle.vcd_traces.specs.declared.changes.Levels.{Levels}
 use Rattle.vcd_traces.specs.declared.moment.Moment.{Moment}
 use Rattle.vcd_traces.specs.declared.running.Running.{Running}
 use Rattle.vcd_traces.specs.declared.rows.Watched.{Watched}
-use Rattle.vcd_traces.specs.Moment.{kept_of, kept_is_cycle}
+use Rattle.vcd_traces.specs.Moment.{kept_is_cycle}
 use Rattle.vcd_traces.specs.Rows.{Kept, kept_row, pushed}
 
 -- the end of the stamp at a time

@@ -1,5 +1,5 @@
 -- What the cycles that are kept say of the stamps so far.
-use Rattle.std.specs.Prelude.{ℕ, ◌≡◌, ◌≤◌, min, List, [], ◌∷◌, length, map, Option, Some, None, bit_and}
+use Rattle.std.specs.Prelude.{ℕ, ◌≡◌, ◌≤◌, min, List, [], ◌∷◌, length, map, Option, None, bit_and}
 use Rattle.std.specs.List.{find}
 use Rattle.std.specs.Option.{option_map}
 use Rattle.vcd_traces.specs.declared.error.VcdErr.{VcdErr}

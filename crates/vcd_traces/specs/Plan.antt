@@ -1,20 +1,17 @@
 -- What is read while the changes of a dump are read: the table of its codes, and the ports that are sampled.
-use Rattle.std.specs.Prelude.{ℕ, ◌≡◌, ◌<◌, IsTrue, Bool, nat_lt, List, [], length, map, Option, Some, None, Result, Ok, Err, unwrap_or, slice_get}
+use Rattle.std.specs.Prelude.{ℕ, ◌≡◌, ◌<◌, IsTrue, Bool, nat_lt, List, [], length, map, Option, Some, None, unwrap_or, slice_get}
 use Rattle.std.specs.List.{list_all}
 use Rattle.std.specs.Option.{option_map}
-use Rattle.vcd_traces.specs.declared.error.VcdErr.{VcdErr}
 use Rattle.vcd_traces.specs.declared.moment as code
 use Rattle.vcd_traces.specs.declared.rows.Watched.{Watched}
 use Rattle.vcd_traces.specs.declared.reader.Reading.{Reading}
 use Rattle.vcd_traces.specs.declared.reader.Plan.{Plan}
 use Rattle.vcd_traces.specs.Header.{Header}
 use Rattle.vcd_traces.specs.Scopes.{Port}
-use Rattle.vcd_traces.specs.Events.{Event}
 use Rattle.vcd_traces.specs.Changes.{Past}
 use Rattle.vcd_traces.specs.Samples.{Watch, Watches, moments}
 use Rattle.vcd_traces.specs.Table.{IsTable, cell_codes}
 use Rattle.vcd_traces.specs.Levels.{Keeps}
-use Rattle.vcd_traces.specs.Moment.{has_width}
 use Rattle.vcd_traces.specs.Rows.{rows_of}
 use Rattle.vcd_traces.specs.Kept.{AreKept}
 
