@@ -45,7 +45,7 @@ differ one other apart =
     ]
 
 -- a deed that is another
-pub does_by : (one other : Result Past ℕ) (keeps : Past → Levels → Type 0) (r : Result (Unit {0}) VcdErr) (new : Levels) → one ≡ other
+pub does_by : {R : Type 0} (one other : Result Past ℕ) (keeps : Past → R → Type 0) (r : Result (Unit {0}) VcdErr) (new : R) → one ≡ other
     → Does other keeps r new → Does one keeps r new
 does_by one other keeps r new same fact = let P : Result Past ℕ → Type 0 = λ d. Does d keeps r new in subst P (sym same) fact
 

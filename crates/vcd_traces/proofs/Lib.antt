@@ -11,3 +11,5 @@ pub mod NameLaws
 pub mod KeptLaws
 pub mod MomentLaws
 pub mod CloseLaws
+pub mod StableLaws
+pub mod HoldLaws

@@ -111,7 +111,7 @@ level_other test code events event other =
     last_more test code events event ∙ cond-false _ _ _ (ap (λ b. b && test event.time) other)
 
 -- nor does one whose time does not pass
-level_out : (test : Option ℕ → Bool) (code : List ℕ) (events : List Event) (event : Event) → test event.time ≡ false
+pub level_out : (test : Option ℕ → Bool) (code : List ℕ) (events : List Event) (event : Event) → test event.time ≡ false
     → last_level test code (events ++ event ∷ []) ≡ last_level test code events
 level_out test code events event out =
     last_more test code events event ∙ cond-false _ _ _ (ap (λ b. same_bytes event.code code && b) out ∙ and-false (same_bytes event.code code))

@@ -30,7 +30,7 @@ pub record Keeps (cells : List (List ℕ)) (past : Past) (levels : Levels) : Typ
   pub each : KeepsAll cells past.time past.events levels.running.items
 
 -- a call leaves what a deed leaves, or refuses the word that it refuses
-abbrev pub Does : Result Past ℕ → (Past → Levels → Type 0) → Result (Unit {0}) VcdErr → Levels → Type 0
+abbrev pub Does : {R : Type 0} → Result Past ℕ → (Past → R → Type 0) → Result (Unit {0}) VcdErr → R → Type 0
 Does (Ok next) keeps (Ok done) new = keeps next new
 Does (Ok next) keeps (Err fault) new = IsAt (λ at. ⊥) fault
 Does (Err at) keeps (Ok done) new = ⊥

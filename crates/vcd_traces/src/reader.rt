@@ -1,11 +1,16 @@
 //! The times and the value changes behind a header, read piece by piece (IEEE 1364-2005, 18.2.1 and 18.2.2).
-ghost use Rattle.std.specs.Prelude.{◌≡◌, IsTrue, OnOk};
+ghost use Rattle.std.specs.Prelude.{◌≡◌, ℕ, List, IsTrue, OnOk};
 ghost use Rattle.std.specs.List.{list_all};
 ghost use Rattle.vcd_traces.specs.Moment.{has_width};
 ghost use Rattle.vcd_traces.specs.Rows.{rows_of};
 ghost use Rattle.vcd_traces.specs.Closing.{closed};
+ghost use Rattle.vcd_traces.specs.Changes.{Past, timed};
+ghost use Rattle.vcd_traces.specs.Samples.{Watches};
+ghost use Rattle.vcd_traces.specs.Levels.{Does};
+ghost use Rattle.vcd_traces.specs.Plan.{IsWatched, Holds};
 
 use crate::changes::Levels;
+use crate::error::VcdErr;
 use crate::moment::Moment;
 use crate::rows::{Rows, Watched};
 use crate::table::Table;
@@ -44,6 +49,26 @@ impl Reading {
         if moment.is_cycle(watched.clock) {
             self.rows.push(&moment, watched)?;
         }
+        Ok(())
+    }
+
+    /// A time stands at an offset: one that is greater than the last ends a stamp and begins another.
+    pub fn take_time(&mut self, watched: &Watched, time: u64, at: usize) -> Result<(), VcdErr>
+        requires inputs { IsTrue (list_all has_width watched.now.inputs.items) }
+        requires outputs { IsTrue (list_all has_width watched.now.outputs.items) }
+        ensures { (w : Watches) (cells : List (List ℕ)) (past : Past) → IsWatched w cells watched.now → Holds w cells past self.old
+            → Does (timed past time at) (Holds w cells) result self.new }
+    {
+        if let Some(last) = self.levels.time {
+            if time < last {
+                return Err(VcdErr::Syntax { offset: at });
+            }
+            if time == last {
+                return Ok(());
+            }
+        }
+        self.close(watched)?;
+        self.levels.time = Some(time);
         Ok(())
     }
 }
