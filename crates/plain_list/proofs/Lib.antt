@@ -5,12 +5,10 @@ pub mod Settled
 pub mod OneCycle
 pub mod Cycles
 pub mod Choices
-pub mod Masked
 pub mod Numbers
 pub mod Assigning
 pub mod Sampling
 pub mod Settling
-pub mod Expected
 pub mod Trying
 pub mod Rowing
 pub mod Explaining
@@ -19,5 +17,3 @@ pub mod Working
 pub mod Networks
 pub mod Inclusion
 pub mod Searching
-pub mod FirstDesigns
-pub mod Fitting

@@ -1,16 +1,11 @@
 -- When the numbers chosen for some places make a cycle of a network right.
-use Rattle.std.specs.Prelude.{ℕ, ◌≡◌, IsTrue, List}
+use Rattle.std.specs.Prelude.{ℕ, List}
 use Rattle.loc_base.specs.declared.bits.Bits.{Bits}
-use Rattle.loc_base.specs.Bits.{bit_of}
 use Rattle.design_core.specs.declared.design.Design.{Design}
 use Rattle.design_core.specs.declared.trace.Checked.{Checked}
 use Rattle.design_core.specs.Run.{IsRight}
 use Rattle.plain_list.specs.Network.{settled}
 use Rattle.plain_list.specs.Trial.{choice_of}
-
--- each bit of an output that is checked is as expected
-abbrev pub IsRightWord : Bits → Checked → Type 0
-IsRightWord word checked = (b : ℕ) → IsTrue (bit_of checked.mask b) → bit_of word b ≡ bit_of checked.value b
 
 -- with these numbers for the places, the outputs are as expected
 abbrev pub AreRight : Design → List ℕ → List Bits → List Checked → List ℕ → List ℕ → Type 0

@@ -6,14 +6,11 @@
 mod combinations;
 mod explain;
 pub mod laws;
-mod outputs;
 mod rows;
 mod samples;
 mod search;
 mod settle;
 mod subsets;
-#[cfg(test)]
-mod tests;
 mod trial;
 mod works;
 

@@ -7,10 +7,10 @@ ghost use Rattle.plain_list.specs.Trial.{AreNumbersFor};
 ghost use Rattle.design_core.specs.Explained.{place_width};
 ghost use Rattle.plain_list.specs.Rightness.{AreRight};
 
-use crate::outputs::are_right;
 use crate::settle::settle;
 use design_core::{Checked, Design};
 use loc_base::Bits;
+use plain_sim::are_right;
 
 /// The largest number that a place can take.
 fn largest_for(d: &Design, place: u32) -> u128

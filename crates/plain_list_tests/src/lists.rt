@@ -1,19 +1,17 @@
-ghost use Rattle.std.specs.Prelude.{◌≡◌, ◌<◌, ◌+◌, ◌*◌, ◌^◌, All, IfOk, IsTrue, List, ℕ, length, true, false, slice_get, Some};
-ghost use Rattle.loc_base.specs.Bits.{width_of, value_of};
-ghost use Rattle.design_core.specs.Valuation.{width_at};
-ghost use Rattle.design_core.specs.TraceFits.{IsTraceOf, samples_fit, expected_fit};
-ghost use Rattle.plain_list.specs.Network.{IsNetwork};
-ghost use Rattle.plain_list.specs.Search.{IsSearch};
+//! Networks of the first form, and the sets and values that the search finds for what is seen of them.
 
-use crate::combinations::candidates;
-use crate::laws::is_network;
-use crate::rows::{expected_of, samples_of};
-use crate::search::PlainSearch;
-use design_core::{Checked, Design, SetWithValues, Signal, Trace};
+ghost use Rattle.std.specs.Prelude.{All, IfOk};
+ghost use Rattle.design_core.specs.TraceFits.{IsTraceOf};
+ghost use Rattle.plain_list.specs.Network.{IsNetwork};
+
+use design_core::{Checked, Design, SetWithValues, Trace};
 use first_form::{
     Assignment, Direction, FirstDesign, FormErr, Formula, Netlist, Operator, Port, design_of,
 };
 use loc_base::{Bits, Name, Span};
+use plain_list::laws::is_network;
+use plain_list::{PlainSearch, candidates};
+use plain_sim::is_trace_of;
 use std::alloc::Global;
 use std::test::Fail;
 
@@ -133,86 +131,6 @@ fn network(alloc: Global, netlist: &Netlist) -> Result<FirstDesign, FormErr>
     Ok(first)
 }
 
-/// Whether a word is of a signal's width.
-#[tactic(auto, using(crate::proofs::Fitting::fit_rules))]
-fn is_word_of(signals: &[Signal], signal: u32, word: Bits) -> bool
-    ensures { IsTrue result → width_of word ≡ width_at signals.now signal }
-{
-    if signal as usize >= signals.len() {
-        return false;
-    }
-    signals[signal as usize].width == word.width()
-}
-
-/// Whether there is a word for each input, of its width.
-#[tactic(auto, using(crate::proofs::Fitting::fit_rules))]
-fn are_samples(signals: &[Signal], inputs: &[u32], samples: &[Bits]) -> bool
-    ensures { IsTrue result → samples_fit signals.now inputs.now samples.now ≡ true }
-{
-    if inputs.len() != samples.len() {
-        return false;
-    }
-    for i in 0..inputs.len() {
-        if !is_word_of(signals, inputs[i], samples[i]) {
-            return false;
-        }
-    }
-    true
-}
-
-/// Whether there is an entry for each output, of its width and 0 where it is not checked.
-#[tactic(auto, using(crate::proofs::Fitting::fit_rules))]
-fn are_expected(signals: &[Signal], outputs: &[u32], expected: &[Checked]) -> bool
-    ensures { IsTrue result → expected_fit signals.now outputs.now expected.now ≡ true }
-{
-    if outputs.len() != expected.len() {
-        return false;
-    }
-    for i in 0..outputs.len() {
-        let checked = expected[i];
-        if !is_word_of(signals, outputs[i], checked.value)
-            || !is_word_of(signals, outputs[i], checked.mask)
-        {
-            return false;
-        }
-        if checked.value.and(checked.mask).value() != checked.value.value() {
-            return false;
-        }
-    }
-    true
-}
-
-/// Whether a list has so many entries for each cycle.
-fn has_rows(len: usize, cycles: u32, width: usize) -> bool
-    ensures { IsTrue result → len ≡ cycles * width }
-{
-    match (cycles as usize).checked_mul(width) {
-        Some(count) => len == count,
-        None => false,
-    }
-}
-
-/// Whether a trace is one of a design.
-fn fits(d: &Design, trace: &Trace) -> bool
-    ensures { IsTrue result → IsTraceOf d.now trace.now }
-{
-    if !has_rows(trace.inputs.len(), trace.cycles, d.inputs.len()) {
-        return false;
-    }
-    if !has_rows(trace.expected.len(), trace.cycles, d.outputs.len()) {
-        return false;
-    }
-    for cycle in 0..trace.cycles {
-        if !are_samples(&d.signals, &d.inputs, samples_of(d, trace, cycle)) {
-            return false;
-        }
-        if !are_expected(&d.signals, &d.outputs, expected_of(d, trace, cycle)) {
-            return false;
-        }
-    }
-    true
-}
-
 /// A word of one bit.
 fn word(one: bool) -> Result<Bits, FormErr> {
     match Bits::new(1, one as u128) {
@@ -249,7 +167,7 @@ fn trace(alloc: Global, d: &Design, cycles: &[&str]) -> Result<Trace, FormErr>
         }
         trace.cycles = trace.cycles.wrapping_add(1);
     }
-    if !fits(d, &trace) {
+    if !is_trace_of(d, &trace) {
         return Err(FormErr::Form);
     }
     Ok(trace)
