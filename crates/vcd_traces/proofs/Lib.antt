@@ -13,3 +13,4 @@ pub mod MomentLaws
 pub mod CloseLaws
 pub mod StableLaws
 pub mod HoldLaws
+pub mod TakeLaws

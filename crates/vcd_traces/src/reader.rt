@@ -4,17 +4,20 @@ ghost use Rattle.std.specs.List.{list_all};
 ghost use Rattle.vcd_traces.specs.Moment.{has_width};
 ghost use Rattle.vcd_traces.specs.Rows.{rows_of};
 ghost use Rattle.vcd_traces.specs.Closing.{closed};
-ghost use Rattle.vcd_traces.specs.Changes.{Past, timed};
+ghost use Rattle.vcd_traces.specs.Changes.{Past, timed, changed, passed_over};
 ghost use Rattle.vcd_traces.specs.Samples.{Watches};
 ghost use Rattle.vcd_traces.specs.Levels.{Does};
+ghost use Rattle.vcd_traces.specs.Scopes.{Port};
+ghost use Rattle.vcd_traces.specs.Table.{IsTable, cell_codes};
 ghost use Rattle.vcd_traces.specs.Plan.{IsWatched, Holds};
 
-use crate::changes::Levels;
+use crate::changes::{Change, Levels};
 use crate::error::VcdErr;
 use crate::moment::Moment;
 use crate::rows::{Rows, Watched};
 use crate::table::Table;
 use loc_base::NoMemory;
+use vcd_words::Level;
 
 /// What a header asks of its changes: the table of its codes, and the ports that are sampled.
 #[derive(Drop)]
@@ -69,6 +72,30 @@ impl Reading {
         }
         self.close(watched)?;
         self.levels.time = Some(time);
+        Ok(())
+    }
+
+    /// A variable changes to a level of some digits.
+    fn take_change(
+        &mut self,
+        table: &Table<'_>,
+        change: &Change<'_>,
+        level: Level,
+        digits: usize,
+    ) -> Result<(), VcdErr>
+        ensures { (ports : List Port) (w : Watches) (past : Past) → IsTable past.header ports table.now → Holds w (cell_codes table.now) past self.old
+            → Does (changed ports past level digits change.now.value_at (record { at = change.now.code_at; word = change.now.code.now })) (Holds w (cell_codes table.now)) result self.new }
+    {
+        self.levels.change(table, change, level, digits)?;
+        Ok(())
+    }
+
+    /// A variable has a value that is no bits.
+    fn take_pass(&self, table: &Table<'_>, change: &Change<'_>) -> Result<(), VcdErr>
+        ensures { (ports : List Port) (w : Watches) (past : Past) → IsTable past.header ports table.now → Holds w (cell_codes table.now) past self.now
+            → Does (passed_over ports past change.now.value_at (record { at = change.now.code_at; word = change.now.code.now })) (Holds w (cell_codes table.now)) result self.now }
+    {
+        self.levels.pass(table, change)?;
         Ok(())
     }
 }
