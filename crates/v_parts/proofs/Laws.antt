@@ -1,6 +1,6 @@
 -- What a reader's steps read: exactly what a production has, and that it looks no farther than the token behind it, or at the
 -- one that it names.
-use Rattle.std.proofs.Common.{◌≡◌, ◌≢◌, ℕ, zero, suc, ◌+◌, ◌-◌, ◌<◌, ◌≤◌, ◌⊎◌, inl, inr, false, if◌then◌else◌, List, length, Some, None, Option, sym, ap, ◌∙◌, subst, refl, arith, slice_get}
+use Rattle.std.proofs.Common.{◌≡◌, ◌≢◌, ℕ, zero, suc, ◌+◌, ◌-◌, ◌<◌, ◌≤◌, ◌⊎◌, inl, inr, Bool, true, false, if◌then◌else◌, List, length, Some, None, Option, sym, ap, ◌∙◌, subst, refl, arith, slice_get}
 use Rattle.std.proofs.lemmas.Option.{slice_get_cases, slice_get_within}
 use Rattle.v_lexer.specs.Lexeme.{Lexeme}
 use Rattle.v_tree.specs.declared.site.Site.{Site}
