@@ -21,7 +21,7 @@ use Rattle.v_statements.specs.Statements.{Nested, IsLabel}
 use Rattle.v_statements.specs.StatementReading.{Inner, label_at, body_at, close_block_at}
 use Rattle.v_statements.specs.Initials.{IsInitialBlock, IsInitialAssign, is_left_out, IsInitialWith, IsInitial}
 use Rattle.v_statements.specs.InitialReading.{initial_value_at, initial_right_at, initial_equals_at, initial_assign_at, initial_block_at, initial_with, initial_at}
-use Rattle.v_parts.proofs.Laws.{Start, Law, law_bind, law_expect, law_found, law_node}
+use Rattle.v_parts.proofs.Laws.{law_unless, left_out_steady, Start, Law, law_bind, law_expect, law_found, law_node}
 use Rattle.v_parts.proofs.TakingLaws.{Taking, TakingFrom, taking_open, taking_bind, taking_or, Tells, tells_one}
 use Rattle.v_parts.proofs.RunLaws.{law_run}
 use Rattle.v_parts.proofs.NameLaws.{taking_name, law_value}

@@ -10,7 +10,7 @@ use Rattle.v_tree.specs.Sites.{site}
 use Rattle.v_tree.specs.Tree.{no_select}
 use Rattle.v_tree.specs.Reading.{Read, ◌>>=◌, expect, lower}
 use Rattle.v_tree.specs.PartTree.{name_left}
-use Rattle.v_parts.specs.Reading.{optional_at, name_at, value_at}
+use Rattle.v_parts.specs.Reading.{optional_at, unless_at, name_at, value_at}
 use Rattle.v_tree.specs.StatementTree.{PlainStatement, assignment}
 use Rattle.v_statements.specs.StatementReading.{Inner, label_at, body_at, close_block_at}
 use Rattle.v_statements.specs.Initials.{is_left_out}
