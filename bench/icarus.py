@@ -3,12 +3,13 @@
 
     bench/icarus.py
 
-The texts are those of the tests named `.._are_read` in crates/v_parser/src/text_tests.rt. Each is given to
-`iverilog -g2005 -t null`, which must take it; those of `texts_that_icarus_refuses_are_read` it must refuse. Debian's package
+The texts are those of the tables READ in the files `.._texts.rt` of crates/v_parser_tests/src. Each is given to
+`iverilog -g2005 -t null`, which must take it; those of the table READ_HERE it must refuse. Debian's package
 `iverilog` must be installed. The status is 1 where one differs.
 """
 
 import ast
+import glob
 import os
 import re
 import shutil
@@ -17,16 +18,17 @@ import sys
 import tempfile
 
 HERE = os.path.dirname(os.path.abspath(__file__))
-TESTS = os.path.join(HERE, "..", "crates", "v_parser", "src", "text_tests.rt")
-REFUSED = "texts_that_icarus_refuses"
+TESTS = os.path.join(HERE, "..", "crates", "v_parser_tests", "src", "*_texts.rt")
+REFUSED = "READ_HERE"
 
 
 def tables():
     """Each test that accepts, and its texts."""
-    with open(TESTS) as file:
-        source = file.read()
-    for name, body in re.findall(r"fn (\w+)_are_read\(.*?\[\n(.*?)\n    \];", source, re.DOTALL):
-        yield name, [ast.literal_eval(text) for text in re.findall(r'b"(?:[^"\\]|\\.)*"', body)]
+    for path in sorted(glob.glob(TESTS)):
+        with open(path) as file:
+            source = file.read()
+        for name, body in re.findall(r"const (READ\w*): \[&\[u8\]; \d+\] = \[\n(.*?)\n\];", source, re.DOTALL):
+            yield name, [ast.literal_eval(text) for text in re.findall(r'b"(?:[^"\\]|\\.)*"', body)]
 
 
 def is_taken(icarus, text):

@@ -1,8 +1,8 @@
 -- How many ports, wires and assignments a netlist has.
 use Rattle.std.proofs.Common.{◌≡◌, ℕ, ◌+◌, ◌-◌, ◌<◌, ◌≤◌, List, [], ◌∷◌, length, drop, Option, Some, None, ap, arith}
 use Rattle.std.proofs.lemmas.List.{length-drop}
-use Rattle.v_parser.specs.ItemTree.{PlainItem}
-use Rattle.v_parser.specs.ModuleTree.{PlainHeaderParameter, PlainPorts, no_ports, name_ports, declared_ports, PlainModule, count_ports, parts_of}
+use Rattle.v_tree.specs.ItemTree.{PlainItem}
+use Rattle.v_tree.specs.ModuleTree.{PlainHeaderParameter, PlainPorts, no_ports, name_ports, declared_ports, PlainModule, count_ports, parts_of}
 use Rattle.first_form.specs.declared.netlist.Port.{Port}
 use Rattle.first_text.specs.Netlists.{all_of, port_of, ports_of, wire_of, wires_from, wires_of, assignment_of, netlist_from, module_netlist}
 use Rattle.first_text.specs.Seen.{PlainAssignment, PlainNetlist}

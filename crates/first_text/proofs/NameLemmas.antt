@@ -12,7 +12,7 @@ use Rattle.v_tree.specs.declared.expression.Select.{Select}
 use Rattle.v_tree.specs.declared.expression.Expr.TheFolds.{fold-roll-Expr}
 use Rattle.v_tree.specs.declared.expression.Expr.TheOpen.{Expr-F}
 use Rattle.v_tree.specs.Tree.{Tree, Selection, expr_step, select_step, tree_of, selection_of, selections_of, name}
-use Rattle.v_parser.specs.Tree.{PlainLeft, left_step, left_of, name_left}
+use Rattle.v_tree.specs.PartTree.{PlainLeft, left_step, left_of, name_left}
 use Rattle.first_text.specs.Formulas.{named, formula_of}
 use Rattle.first_text.specs.Netlists.{target_of}
 

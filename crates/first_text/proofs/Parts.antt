@@ -3,8 +3,8 @@ use Rattle.std.proofs.Common.{◌≡◌, ℕ, ◌+◌, ◌<◌, ◌≤◌, ◌-�
 use Rattle.std.proofs.lemmas.List.{drop-map, length-drop, length-map, take_all}
 use Rattle.v_tree.specs.declared.item.Item.{Item}
 use Rattle.v_tree.specs.declared.module.Module.{Module}
-use Rattle.v_parser.specs.ItemTree.{item_of}
-use Rattle.v_parser.specs.ModuleTree.{PlainHeaderParameter, header_parameter_of, ports_of as plain_ports, PlainModule, module_of, parts_of}
+use Rattle.v_tree.specs.ItemTree.{item_of}
+use Rattle.v_tree.specs.ModuleTree.{PlainHeaderParameter, header_parameter_of, ports_of as plain_ports, PlainModule, module_of, parts_of}
 use Rattle.first_form.specs.declared.error.FormErr.{FormErr}
 use Rattle.first_form.specs.declared.netlist.Port.{Port}
 use Rattle.first_form.specs.declared.netlist.Netlist.{Netlist}

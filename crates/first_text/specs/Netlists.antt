@@ -6,9 +6,9 @@ use Rattle.v_tree.specs.declared.item.Direction.{Direction as TreeDirection}
 use Rattle.v_tree.specs.declared.item.Direction.TheVariants as direction
 use Rattle.v_tree.specs.declared.item.NetKind.TheVariants as net
 use Rattle.v_tree.specs.Tree.{Tree, no_select}
-use Rattle.v_parser.specs.Tree.{PlainRange, PlainLeft, name_left}
-use Rattle.v_parser.specs.ItemTree.{PlainAssignment as NetAssignment, PlainDeclarator, PlainItem, net_item, assign_item}
-use Rattle.v_parser.specs.ModuleTree.{PlainHeaderParameter, PlainPort, declared_port, PlainPorts, declared_ports, PlainModule}
+use Rattle.v_tree.specs.PartTree.{PlainRange, PlainLeft, name_left}
+use Rattle.v_tree.specs.ItemTree.{PlainAssignment as NetAssignment, PlainDeclarator, PlainItem, net_item, assign_item}
+use Rattle.v_tree.specs.ModuleTree.{PlainHeaderParameter, PlainPort, declared_port, PlainPorts, declared_ports, PlainModule}
 use Rattle.first_form.specs.declared.netlist.Direction.{Direction}
 use Rattle.first_form.specs.declared.netlist.Direction.TheVariants.{Input, Output}
 use Rattle.first_form.specs.declared.netlist.Port.{Port}

@@ -1,7 +1,7 @@
 //! The continuous assignments.
 ghost use Rattle.std.specs.Prelude.{◌≡◌, Some, None, Err, IfOk, map};
-ghost use Rattle.v_parser.specs.Tree.{left_of};
-ghost use Rattle.v_parser.specs.ItemTree.{assignment_of as tree_assignment, item_of};
+ghost use Rattle.v_tree.specs.PartTree.{left_of};
+ghost use Rattle.v_tree.specs.ItemTree.{assignment_of as tree_assignment, item_of};
 ghost use Rattle.first_form.specs.declared.error.FormErr.TheVariants.{Form};
 ghost use Rattle.first_text.specs.Netlists.{all_of, assignment_of, net_assignment_of, target_of};
 ghost use Rattle.first_text.specs.Seen.{plain_assignment};

@@ -1,6 +1,6 @@
 //! The module that a source is.
 ghost use Rattle.std.specs.Prelude.{◌≡◌, ◌+◌, ◌<◌, ◌^◌, Some, None, Err, IfOk, length};
-ghost use Rattle.v_parser.specs.ModuleTree.{module_of, parts_of, source_of};
+ghost use Rattle.v_tree.specs.ModuleTree.{module_of, parts_of, source_of};
 ghost use Rattle.first_form.specs.declared.error.FormErr.TheVariants.{Form};
 ghost use Rattle.first_text.specs.Netlists.{module_netlist, netlist_of};
 ghost use Rattle.first_text.specs.Seen.{plain_netlist};

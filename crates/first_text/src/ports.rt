@@ -1,6 +1,6 @@
 //! The ports of a module's header.
 ghost use Rattle.std.specs.Prelude.{◌≡◌, Some, None, Err, IfOk, map};
-ghost use Rattle.v_parser.specs.ModuleTree.{port_of as plain_port, ports_of as plain_ports};
+ghost use Rattle.v_tree.specs.ModuleTree.{port_of as plain_port, ports_of as plain_ports};
 ghost use Rattle.first_form.specs.declared.error.FormErr.TheVariants.{Form};
 ghost use Rattle.first_text.specs.Netlists.{all_of, direction_of, port_of, ports_of};
 

@@ -1,6 +1,6 @@
 //! The declarations of wires.
 ghost use Rattle.std.specs.Prelude.{◌≡◌, ◌≤◌, IfOk, length, map};
-ghost use Rattle.v_parser.specs.ItemTree.{declarator_of, item_of};
+ghost use Rattle.v_tree.specs.ItemTree.{declarator_of, item_of};
 ghost use Rattle.first_text.specs.Netlists.{declared_name, wire_of, wires_of};
 
 use loc_base::{Name, NoMemory};

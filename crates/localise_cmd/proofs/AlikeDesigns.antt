@@ -16,7 +16,7 @@ use Rattle.first_form.specs.Meaning.{IsSignalOf, IsDesignOf, place_of, ports_fro
 use Rattle.first_text.specs.Netlists.{netlist_of}
 use Rattle.first_text.specs.Seen.{PlainNetlist, plain_assignment, plain_netlist}
 use Rattle.first_trace.specs.Dump.{AreVariables, IsTraceText, Variable, input_names, levels_at, name_at, names_of, output_names}
-use Rattle.v_parser.specs.ModuleTree.{PlainModule}
+use Rattle.v_tree.specs.ModuleTree.{PlainModule}
 use Rattle.localise_cmd.specs.Means.{IsModuleDesign}
 use Rattle.localise_cmd.specs.Inputs.{AreAlike}
 use Rattle.localise_cmd.proofs.SameModule.{one-netlist}

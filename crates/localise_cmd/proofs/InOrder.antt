@@ -4,7 +4,7 @@ use Rattle.std.specs.Prelude.{IsSomeAnd}
 use Rattle.v_lexer.specs.Tokens.{HasFault}
 use Rattle.v_lexer.proofs.Unique.{no_fault, no_other_tokens}
 use Rattle.v_tree.specs.declared.fault.ParseErr.{ParseErr}
-use Rattle.v_parser.specs.ModuleTree.{PlainModule}
+use Rattle.v_tree.specs.ModuleTree.{PlainModule}
 use Rattle.v_parser.specs.Modules.{IsSource}
 use Rattle.first_trace.specs.Dump.{IsTraceText}
 use Rattle.design_core.specs.declared.trace.Trace.{Trace}

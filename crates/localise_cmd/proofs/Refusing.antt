@@ -1,7 +1,7 @@
 -- Why the texts give no list.
 use Rattle.std.proofs.Common.{◌≡◌, ℕ, ◌<◌, List, length, sym, subst, Option, Some, Result, Ok, Err}
 use Rattle.std.specs.Prelude.{IsSomeAnd, IfErr}
-use Rattle.v_parser.specs.ModuleTree.{PlainModule}
+use Rattle.v_tree.specs.ModuleTree.{PlainModule}
 use Rattle.design_core.specs.declared.design.Design.{Design}
 use Rattle.design_core.specs.declared.trace.Trace.{Trace}
 use Rattle.first_form.specs.declared.design.FirstDesign.{FirstDesign}

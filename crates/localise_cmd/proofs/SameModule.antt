@@ -11,7 +11,7 @@ use Rattle.first_form.specs.Formula.{formula_names}
 use Rattle.first_form.specs.Names.{is_in, number_in, AreDistinct}
 use Rattle.first_form.specs.Circles.{IsWay}
 use Rattle.first_form.specs.Netlists.{declarations, names, targets, sources, DependsOn, is_assigned_rightly, AreDeclared, IsOfForm, Declaration, port_declaration, wire_declaration}
-use Rattle.v_parser.specs.ModuleTree.{PlainModule}
+use Rattle.v_tree.specs.ModuleTree.{PlainModule}
 use Rattle.design_core.specs.declared.design.Design.{Design}
 use Rattle.first_text.specs.Netlists.{netlist_of}
 use Rattle.localise_cmd.specs.Means.{IsModuleDesign}

@@ -5,7 +5,7 @@ use Rattle.v_lexer.specs.Lexeme.{Lexeme}
 use Rattle.v_lexer.specs.Tokens.{HasTokens}
 use Rattle.v_lexer.proofs.Unique.{no_other_tokens}
 use Rattle.v_tree.specs.declared.module.SourceTree.{SourceTree}
-use Rattle.v_parser.specs.ModuleTree.{PlainModule, parts_of, source_of}
+use Rattle.v_tree.specs.ModuleTree.{PlainModule, parts_of, source_of}
 use Rattle.v_parser.specs.Modules.{IsSource}
 use Rattle.v_parser.proofs.FewParts.{few_parts}
 use Rattle.localise_cmd.specs.declared.refusal.Refusal.{Refusal}

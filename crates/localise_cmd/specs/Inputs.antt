@@ -4,7 +4,7 @@ use Rattle.io_ports.specs.Faults.{Rose}
 use Rattle.v_lexer.specs.Lexeme.{Lexeme}
 use Rattle.v_lexer.specs.Tokens.{HasFault}
 use Rattle.v_tree.specs.declared.module.SourceTree.{SourceTree}
-use Rattle.v_parser.specs.ModuleTree.{PlainModule, source_of}
+use Rattle.v_tree.specs.ModuleTree.{PlainModule, source_of}
 use Rattle.v_parser.specs.Modules.{ShowsNoSource}
 use Rattle.design_core.specs.declared.design.Design.{Design}
 use Rattle.design_core.specs.declared.trace.Trace.{Trace}

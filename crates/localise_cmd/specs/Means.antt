@@ -3,7 +3,7 @@ use Rattle.std.specs.Prelude.{ℕ, ◌≡◌, ◌<◌, List, length, Option, Som
 use Rattle.v_lexer.specs.Lexeme.{Lexeme}
 use Rattle.v_lexer.specs.Tokens.{HasTokens, HasFault}
 use Rattle.v_tree.specs.declared.fault.ParseErr.{ParseErr}
-use Rattle.v_parser.specs.ModuleTree.{PlainModule}
+use Rattle.v_tree.specs.ModuleTree.{PlainModule}
 use Rattle.v_parser.specs.Modules.{IsSource, ShowsNoSource}
 use Rattle.design_core.specs.declared.design.Design.{Design}
 use Rattle.design_core.specs.declared.trace.Trace.{Trace}

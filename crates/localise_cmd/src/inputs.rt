@@ -1,6 +1,6 @@
 //! Reading the texts: the design and the trace that they mean.
 ghost use Rattle.std.specs.Prelude.{◌≡◌, ◌≤◌, ◌<◌, ◌^◌, true, Err, IfOk, IfErr, MatchResult, length};
-ghost use Rattle.v_parser.specs.ModuleTree.{parts_of, source_of};
+ghost use Rattle.v_tree.specs.ModuleTree.{parts_of, source_of};
 ghost use Rattle.design_core.specs.declared.design.Design.{Design as SomeDesign};
 ghost use Rattle.first_form.specs.declared.error.FormErr.TheVariants.{Form};
 ghost use Rattle.design_core.specs.TraceFits.{IsTraceOf};

@@ -3,7 +3,7 @@ ghost use Rattle.std.specs.Prelude.{◌≡◌, ◌≢◌, ◌≤◌, ◌<◌, �
 ghost use Rattle.v_lexer.specs.declared.types.refusal.LexErr.TheVariants as lex;
 ghost use Rattle.v_lexer.specs.Tokens.{HasTokens};
 ghost use Rattle.v_tree.specs.declared.fault.ParseErr.TheVariants as parse;
-ghost use Rattle.v_parser.specs.ModuleTree.{PlainModule, parts_of, source_of};
+ghost use Rattle.v_tree.specs.ModuleTree.{PlainModule, parts_of, source_of};
 ghost use Rattle.v_parser.specs.Modules.{IsSource};
 ghost use Rattle.localise_cmd.specs.declared.refusal.Refusal.TheVariants as refusal;
 ghost use Rattle.localise_cmd.specs.Means.{IsSourceText};

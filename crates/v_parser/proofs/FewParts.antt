@@ -9,18 +9,19 @@ use Rattle.v_tree.specs.Reading.{Read}
 use Rattle.v_tree.proofs.BindLemmas.{ok-one}
 use Rattle.v_tree.proofs.PlaceLemmas.{marked_inside}
 use Rattle.v_tree.proofs.SteadyLemmas.{not_by}
-use Rattle.v_parser.proofs.NameLaws.{law_name}
-use Rattle.v_parser.specs.ModuleTree.{PlainPorts, PlainModule, no_ports, count_ports, parts_of}
-use Rattle.v_parser.specs.Reading.{name_at}
-use Rattle.v_parser.specs.Productions.{AreMore, AreListed, AreRun, IsIdentifier}
-use Rattle.v_parser.specs.Headers.{IsHeaderPorts, IsNextPort, is_reg}
-use Rattle.v_parser.specs.HeaderReading.{declared_port_at, next_port_at, header_parameters_at, header_ports_at}
+use Rattle.v_parts.proofs.NameLaws.{law_name}
+use Rattle.v_tree.specs.ModuleTree.{PlainPorts, PlainModule, no_ports, count_ports, parts_of}
+use Rattle.v_parts.specs.Reading.{name_at}
+use Rattle.v_parts.specs.Productions.{AreMore, AreListed, AreRun, IsIdentifier}
+use Rattle.v_declarations.specs.Headers.{IsHeaderPorts, IsNextPort, is_reg}
+use Rattle.v_declarations.specs.HeaderReading.{declared_port_at, next_port_at, header_parameters_at, header_ports_at}
 use Rattle.v_parser.specs.Items.{IsItem}
 use Rattle.v_parser.specs.ItemReading.{item_at}
 use Rattle.v_parser.specs.Modules.{IsModule, AreModules, IsSource}
 use Rattle.v_parser.specs.ModuleReading.{module_at}
-use Rattle.v_parser.proofs.Laws.{Start, Law, TakingFrom, ahead_of, later}
-use Rattle.v_parser.proofs.HeaderLaws.{law_declared_port, taking_next_port, law_header_parameters, law_header_ports}
+use Rattle.v_parts.proofs.Laws.{Start, Law, ahead_of, later}
+use Rattle.v_parts.proofs.TakingLaws.{TakingFrom}
+use Rattle.v_declarations.proofs.HeaderLaws.{law_declared_port, taking_next_port, law_header_parameters, law_header_ports}
 use Rattle.v_parser.proofs.ItemLaws.{taking_item}
 use Rattle.v_parser.proofs.ModuleLaws.{taking_module, source_law}
 

@@ -1,5 +1,5 @@
 -- The readers of items read what their productions have.
-use Rattle.std.proofs.Common.{◌≡◌, ◌≢◌, ℕ, zero, suc, ◌+◌, ◌≤◌, ◌⊎◌, inl, inr, Bool, true, false, if◌then◌else◌, List, [], ◌∷◌, sym, ap, subst, refl, arith}
+use Rattle.std.proofs.Common.{◌≡◌, ◌≢◌, ℕ, zero, suc, ◌+◌, ◌≤◌, ◌⊎◌, inl, inr, Bool, true, false, if◌then◌else◌, List, [], ◌∷◌, Some, sym, ap, subst, refl, arith}
 use Rattle.v_lexer.specs.Lexeme.{Lexeme}
 use Rattle.v_lexer.specs.declared.types.terminal.Terminal.{Terminal}
 use Rattle.v_lexer.specs.declared.types.terminal.Terminal.TheVariants as marks
@@ -12,21 +12,24 @@ use Rattle.v_tree.proofs.BindLemmas.{bad}
 use Rattle.v_parser.specs.declared.item_kinds.ItemKind.{ItemKind}
 use Rattle.v_parser.specs.declared.item_kinds.ItemKind.TheVariants as kinds
 use Rattle.v_parser.specs.ItemKinds.{item_kind}
-use Rattle.v_parser.specs.ItemTree.{PlainItem, PlainBlock, generate_item, loop_item, if_item, if_else_item, single, several, items_of}
-use Rattle.v_parser.specs.Reading.{optional_at}
-use Rattle.v_parser.specs.Productions.{IsOptional}
-use Rattle.v_parser.specs.Statements.{IsLabel, IsInParens, IsHead}
-use Rattle.v_parser.specs.StatementReading.{label_at, head_at, in_parens_at}
-use Rattle.v_parser.specs.Declarations.{IsDeclaration}
-use Rattle.v_parser.specs.Structures.{IsStructure}
-use Rattle.v_parser.specs.Procedures.{IsProcedure}
+use Rattle.v_tree.specs.ItemTree.{PlainItem, PlainBlock, generate_item, loop_item, if_item, if_else_item, single, several, items_of}
+use Rattle.v_parts.specs.Reading.{optional_at}
+use Rattle.v_parts.specs.Productions.{IsOptional}
+use Rattle.v_statements.specs.Statements.{IsLabel, IsInParens, IsHead}
+use Rattle.v_statements.specs.StatementReading.{label_at, head_at, in_parens_at}
+use Rattle.v_declarations.specs.Declarations.{IsDeclaration}
+use Rattle.v_tree.specs.declared.item.GateKind.{GateKind}
+use Rattle.v_declarations.specs.Structures.{IsStructure, gate_kind}
+use Rattle.v_statements.specs.Procedures.{IsProcedure}
 use Rattle.v_parser.specs.Items.{NestedItem, AreItemsUpTo, IsGenerate, IsSeveral, IsSingle, IsBlockItem, IsLoopItem, IsElseItem, IsIfItem, IsGenerated, IsItemWith, IsItem}
 use Rattle.v_parser.specs.ItemReading.{ItemReader, items_at, generate_at, several_at, single_at, block_item_at, loop_item_at, else_item_at, if_item_at, generated_at, item_of_kind, item_with, item_at}
-use Rattle.v_parser.proofs.Laws.{Start, Law, LawFrom, Taking, TakingFrom, later, law_as, law_before, law_bind, law_expect, law_no_place, law_node, law_choice, law_run, taking_open, taking_as, taking_or, taking_kind, Tells, tells_one, tells_more}
-use Rattle.v_parser.proofs.StatementLaws.{law_label_if, law_in_parens, law_head}
-use Rattle.v_parser.proofs.DeclarationLaws.{taking_declaration, declaration_tells}
-use Rattle.v_parser.proofs.StructureLaws.{taking_structure, structure_tells}
-use Rattle.v_parser.proofs.ProcedureLaws.{taking_procedure, procedure_tells}
+use Rattle.v_parts.proofs.Laws.{Start, Law, LawFrom, later, law_as, law_before, law_bind, law_expect, law_no_place, law_node, law_choice}
+use Rattle.v_parts.proofs.TakingLaws.{Taking, TakingFrom, taking_open, taking_as, taking_or, taking_kind, Tells, tells_one, tells_more}
+use Rattle.v_parts.proofs.RunLaws.{law_run}
+use Rattle.v_statements.proofs.StatementLaws.{law_label_if, law_in_parens, law_head}
+use Rattle.v_declarations.proofs.DeclarationLaws.{taking_declaration, declaration_tells}
+use Rattle.v_declarations.proofs.StructureLaws.{taking_structure, structure_tells}
+use Rattle.v_statements.proofs.ProcedureLaws.{taking_procedure, procedure_tells}
 
 -- items up to a token of the mark `last`, behind a token
 pub law_items : (base : ℕ) (t u : List Lexeme) (d : ℕ) (last : Terminal) → same last marks.Nothing ≡ false → (r s : ItemReader) (P : NestedItem) → TakingFrom base t u d r s P → (a : ℕ) → 1 ≤ a → Start base t d a
@@ -143,15 +146,26 @@ of_chapter t d P a kinds.Nothing x b h = absurd h
 generated_kind : (t : List Lexeme) (d : ℕ) (P : NestedItem) (a : ℕ) (x : PlainItem) (b : ℕ) → IsGenerated t d P x a b → item_kind (mark_at t a) ≡ kinds.Generated
 generated_kind t d P a x b h = elim h [ inl h ↦ ap item_kind h.2 | inr h ↦ elim h [ inl h ↦ ap item_kind h.2 | inr h ↦ ap item_kind h.2 ] ]
 
+gate_is_structure : (m : Terminal) (k : GateKind) → gate_kind m ≡ Some k → item_kind m ≡ kinds.Structure
+gate_is_structure marks.And k e = refl
+gate_is_structure marks.Or k e = refl
+gate_is_structure marks.Nand k e = refl
+gate_is_structure marks.Nor k e = refl
+gate_is_structure marks.Xor k e = refl
+gate_is_structure marks.Xnor k e = refl
+gate_is_structure marks.Buf k e = refl
+gate_is_structure marks.Not k e = refl
+gate_is_structure _ k e = cc
+
 to_chapter : (t : List Lexeme) (d : ℕ) (P : NestedItem) (a : ℕ) (x : PlainItem) (b : ℕ) → IsItemWith t d P x a b → IsItemOf t d P a (item_kind (mark_at t a)) x b
 to_chapter t d P a x b h =
     let of = λ (k : ItemKind) (e : item_kind (mark_at t a) ≡ k) (q : IsItemOf t d P a k x b). subst (λ v. IsItemOf t d P a v x b) (sym e) q in
     elim h [
-      | inl h ↦ of kinds.Declaration (declaration_tells t d a x b h) h
+      | inl h ↦ of kinds.Declaration (declaration_tells item_kind kinds.Declaration refl refl refl refl refl refl refl refl t d a x b h) h
       | inr h ↦ elim h [
-        | inl h ↦ of kinds.Structure (structure_tells t d a x b h) h
+        | inl h ↦ of kinds.Structure (structure_tells item_kind kinds.Structure refl gate_is_structure refl t d a x b h) h
         | inr h ↦ elim h [
-          | inl h ↦ of kinds.Procedure (procedure_tells t d a x b h) h
+          | inl h ↦ of kinds.Procedure (procedure_tells item_kind kinds.Procedure refl refl t d a x b h) h
           | inr h ↦ of kinds.Generated (generated_kind t d P a x b h) h
         ]
       ]

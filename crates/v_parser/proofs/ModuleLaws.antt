@@ -10,24 +10,25 @@ use Rattle.v_tree.proofs.BindLemmas.{good}
 use Rattle.v_tree.proofs.CompleteLemmas.{then_of, else_of}
 use Rattle.v_tree.proofs.PlaceLemmas.{marked_inside}
 use Rattle.v_tree.proofs.SteadyLemmas.{reach_more, begins_less, not_by}
-use Rattle.v_parser.specs.ModuleTree.{PlainModule}
-use Rattle.v_parser.specs.Reading.{name_at}
-use Rattle.v_parser.specs.Productions.{IsName}
-use Rattle.v_parser.specs.Headers.{AreHeaderParameters, IsHeaderPorts}
-use Rattle.v_parser.specs.HeaderReading.{header_parameters_at, header_ports_at}
+use Rattle.v_tree.specs.ModuleTree.{PlainModule}
+use Rattle.v_parts.specs.Reading.{name_at}
+use Rattle.v_parts.specs.Productions.{IsName}
+use Rattle.v_declarations.specs.Headers.{AreHeaderParameters, IsHeaderPorts}
+use Rattle.v_declarations.specs.HeaderReading.{header_parameters_at, header_ports_at}
 use Rattle.v_parser.specs.Items.{AreItemsUpTo, IsItem}
 use Rattle.v_parser.specs.ItemReading.{items_at, item_at}
 use Rattle.v_parser.specs.Modules.{IsModule, AreModules, ShowsNoSource}
-use Rattle.v_parser.specs.ModuleReading.{module_at, modules_at, source_at}
-use Rattle.v_parser.specs.Answers.{ShowsFault}
-use Rattle.v_parser.proofs.Laws.{Start, Law, TakingFrom, law_as, law_bind, law_expect, law_found, law_node, law_same, law_there, taking_expect}
-use Rattle.v_parser.proofs.NameLaws.{law_name}
-use Rattle.v_parser.proofs.HeaderLaws.{law_header_parameters, law_header_ports}
+use Rattle.v_parser.specs.ModuleReading.{module_items_at, module_at, modules_at, source_at}
+use Rattle.v_parts.specs.Answers.{ShowsFault}
+use Rattle.v_parts.proofs.Laws.{Start, Law, law_as, law_bind, law_expect, law_found, law_node, law_same, law_there}
+use Rattle.v_parts.proofs.TakingLaws.{TakingFrom, taking_expect}
+use Rattle.v_parts.proofs.NameLaws.{law_name}
+use Rattle.v_declarations.proofs.HeaderLaws.{law_header_parameters, law_header_ports}
 use Rattle.v_parser.proofs.ItemLaws.{law_items, taking_item}
-use Rattle.v_parser.proofs.PublicLemmas.{LawAt}
+use Rattle.v_parts.proofs.AnswerLemmas.{LawAt}
 
 pub taking_module : (base : ℕ) (t u : List Lexeme) (d : ℕ) → TakingFrom base t u d (module_at t d) (module_at u d) (IsModule t d)
-unfolding module_at
+unfolding module_at module_items_at
 taking_module base t u d a st =
     taking_expect base t u d a st marks.Module refl _ _ _ (λ is st2.
     law_bind base t u d (a + 1) st2 (name_at t (a + 1)) (name_at u (a + 1)) _ _ (λ x b. IsName t x (a + 1) b) _ (law_name base t u d (a + 1) st2) (λ x m q ge st3.

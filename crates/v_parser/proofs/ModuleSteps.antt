@@ -6,9 +6,9 @@ use Rattle.v_tree.specs.declared.module.Module.{Module}
 use Rattle.v_tree.specs.Reading.{◌>>=◌}
 use Rattle.v_tree.proofs.BindLemmas.{good, bad}
 use Rattle.v_tree.proofs.CompleteLemmas.{step, then_of, else_of}
-use Rattle.v_parser.specs.ModuleTree.{PlainModule, module_of}
+use Rattle.v_tree.specs.ModuleTree.{PlainModule, module_of}
 use Rattle.v_parser.specs.ModuleReading.{module_at, modules_at}
-use Rattle.v_parser.proofs.ListSteps.{with_front, front_one, append_none}
+use Rattle.v_parts.proofs.ListSteps.{with_front, front_one, append_none}
 
 modules_some : (t : List Lexeme) (n a : ℕ) → n ≢ 0
     → modules_at t n a ≡ (if nat_lt a (length t) then (module_at t 256 a >>= λ x. modules_at t (n - 1) x.1 >>= λ xs. good (x.0 ∷ xs.0, xs.1)) else good ([], a))

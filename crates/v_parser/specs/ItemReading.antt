@@ -12,12 +12,12 @@ use Rattle.v_tree.specs.Reading.{Read, ◌>>=◌, expect, lower}
 use Rattle.v_parser.specs.declared.item_kinds.ItemKind.{ItemKind}
 use Rattle.v_parser.specs.declared.item_kinds.ItemKind.TheVariants as kind
 use Rattle.v_parser.specs.ItemKinds.{item_kind}
-use Rattle.v_parser.specs.ItemTree.{PlainItem, PlainBlock, generate_item, loop_item, if_item, if_else_item, single, several, items_of}
-use Rattle.v_parser.specs.Reading.{optional_at, run_at}
-use Rattle.v_parser.specs.StatementReading.{label_at, head_at, in_parens_at}
-use Rattle.v_parser.specs.DeclarationReading.{declaration_at}
-use Rattle.v_parser.specs.StructureReading.{structure_at}
-use Rattle.v_parser.specs.ProcedureReading.{procedure_at}
+use Rattle.v_tree.specs.ItemTree.{PlainItem, PlainBlock, generate_item, loop_item, if_item, if_else_item, single, several, items_of}
+use Rattle.v_parts.specs.Reading.{optional_at, run_at}
+use Rattle.v_statements.specs.StatementReading.{label_at, head_at, in_parens_at}
+use Rattle.v_declarations.specs.DeclarationReading.{declaration_at}
+use Rattle.v_declarations.specs.StructureReading.{structure_at}
+use Rattle.v_statements.specs.ProcedureReading.{procedure_at}
 
 abbrev pub ItemReader : Type 0
 ItemReader = ℕ → Read PlainItem

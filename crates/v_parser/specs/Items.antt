@@ -8,13 +8,13 @@ use Rattle.v_lexer.specs.declared.types.terminal.Terminal.TheVariants.{Colon, Be
 use Rattle.v_tree.specs.Marks.{mark_at}
 use Rattle.v_tree.specs.Sites.{site}
 use Rattle.v_tree.specs.Tree.{Tree}
-use Rattle.v_parser.specs.Productions.{IsOptional, AreRun}
-use Rattle.v_parser.specs.StatementTree.{PlainHead}
-use Rattle.v_parser.specs.Statements.{IsLabel, IsInParens, IsHead}
-use Rattle.v_parser.specs.ItemTree.{PlainItem, PlainBlock, generate_item, loop_item, if_item, if_else_item, single, several, items_of}
-use Rattle.v_parser.specs.Declarations.{IsDeclaration}
-use Rattle.v_parser.specs.Structures.{IsStructure}
-use Rattle.v_parser.specs.Procedures.{IsProcedure}
+use Rattle.v_parts.specs.Productions.{IsOptional, AreRun}
+use Rattle.v_tree.specs.StatementTree.{PlainHead}
+use Rattle.v_statements.specs.Statements.{IsLabel, IsInParens, IsHead}
+use Rattle.v_tree.specs.ItemTree.{PlainItem, PlainBlock, generate_item, loop_item, if_item, if_else_item, single, several, items_of}
+use Rattle.v_declarations.specs.Declarations.{IsDeclaration}
+use Rattle.v_declarations.specs.Structures.{IsStructure}
+use Rattle.v_statements.specs.Procedures.{IsProcedure}
 
 -- which items nest in one
 abbrev pub NestedItem : Type 1

@@ -8,12 +8,12 @@ use Rattle.v_tree.specs.declared.fault.ParseErr.{ParseErr}
 use Rattle.v_tree.specs.declared.fault.ParseErr.TheVariants as error
 use Rattle.v_tree.specs.Marks.{mark_at}
 use Rattle.v_tree.specs.Sites.{site}
-use Rattle.v_parser.specs.Productions.{IsName}
-use Rattle.v_parser.specs.ItemTree.{PlainItem}
-use Rattle.v_parser.specs.ModuleTree.{PlainHeaderParameter, PlainPorts, PlainModule, source_of}
-use Rattle.v_parser.specs.Headers.{AreHeaderParameters, IsHeaderPorts}
+use Rattle.v_parts.specs.Productions.{IsName}
+use Rattle.v_tree.specs.ItemTree.{PlainItem}
+use Rattle.v_tree.specs.ModuleTree.{PlainHeaderParameter, PlainPorts, PlainModule, source_of}
+use Rattle.v_declarations.specs.Headers.{AreHeaderParameters, IsHeaderPorts}
 use Rattle.v_parser.specs.Items.{AreItemsUpTo, IsItem}
-use Rattle.v_parser.specs.Answers.{ShowsFault}
+use Rattle.v_parts.specs.Answers.{ShowsFault}
 
 -- 'module' NAME ('#' '(' hparam,+ ')')? ('(' ports? ')')? ';' item* 'endmodule', where nesting of `depth` is left to each part
 abbrev pub IsModule : List Lexeme → ℕ → PlainModule → ℕ → ℕ → Type 0

@@ -1,8 +1,8 @@
 //! The nodes of generate items, once what nests in them is read.
 ghost use Rattle.std.specs.Prelude.{◌≡◌, map, IfOk};
 ghost use Rattle.v_tree.specs.Tree.{tree_of};
-ghost use Rattle.v_parser.specs.StatementTree.{head_of};
-ghost use Rattle.v_parser.specs.ItemTree.{item_of, block_of, items_of, generate_item, loop_item, if_item, if_else_item, single, several};
+ghost use Rattle.v_tree.specs.StatementTree.{head_of};
+ghost use Rattle.v_tree.specs.ItemTree.{item_of, block_of, items_of, generate_item, loop_item, if_item, if_else_item, single, several};
 
 use loc_base::NoMemory;
 use std::alloc::Global;

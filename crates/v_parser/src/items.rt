@@ -2,20 +2,18 @@
 ghost use Rattle.std.specs.Prelude.{◌≡◌, ◌≢◌, ◌+◌, ◌<◌, ◌≤◌, ◌^◌, length, IfOk};
 ghost use Rattle.v_tree.specs.Faults.{Gives};
 ghost use Rattle.v_lexer.specs.declared.types.terminal.Terminal.TheVariants as marks;
-ghost use Rattle.v_parser.specs.Seen.{Inside};
-ghost use Rattle.v_parser.specs.ItemSeen.{seen_item, seen_items};
+ghost use Rattle.v_parts.specs.Seen.{Inside};
+ghost use Rattle.v_parts.specs.ItemSeen.{seen_item, seen_items};
 ghost use Rattle.v_parser.specs.BlockSeen.{seen_block};
 ghost use Rattle.v_parser.specs.ItemReading.{item_at, item_below, items_at, generate_at, several_at, single_at, block_item_at, loop_item_at, if_item_at, generated_at};
 
-use crate::declarations::declaration;
 use crate::item_kinds::{ItemKind, item_kind};
 use crate::item_nodes as nodes;
-use crate::names::Read;
-use crate::procedures::procedure;
-use crate::statement_parts::{in_parens, label_if, loop_head};
-use crate::structures::structure;
 use std::alloc::Global;
+use v_declarations::{declaration, structure};
 use v_lexer::types::Token;
+use v_parts::Read;
+use v_statements::{in_parens, label_if, loop_head, procedure};
 use v_tree::{
     GenerateBlock, Item, Stop, Terminal, expect, lower, mark_at, no_place, site_of, stands,
 };

@@ -1,35 +1,54 @@
 //! Modules (IEEE 1364-2005, 12.1 and A.1.2).
 ghost use Rattle.std.specs.Prelude.{◌≡◌, ◌+◌, ◌<◌, ◌≤◌, ◌^◌, length, map, IfOk};
 ghost use Rattle.v_tree.specs.Faults.{Gives};
-ghost use Rattle.v_parser.specs.Seen.{Inside};
+ghost use Rattle.v_tree.specs.ModuleTree.{header_parameter_of, ports_of};
+ghost use Rattle.v_parts.specs.Seen.{Inside};
 ghost use Rattle.v_parser.specs.ModuleSeen.{seen_module, seen_modules};
-ghost use Rattle.v_parser.specs.ModuleReading.{module_at, source_at};
+ghost use Rattle.v_parser.specs.ModuleReading.{module_items_at, module_at, source_at};
 
-use crate::headers::{header_parameters, header_ports};
 use crate::items::items;
-use crate::names::{Read, name};
+use loc_base::Name;
 use std::alloc::Global;
+use v_declarations::{header_parameters, header_ports};
 use v_lexer::types::Token;
-use v_tree::{Module, Terminal, expect, site_of};
+use v_parts::{Read, name};
+use v_tree::{HeaderParameter, Module, Ports, Terminal, expect, site_of};
 
 /// How deep each part of a module may nest.
 const MOST_NESTING: u32 = 256;
 
-/// `'module' NAME ('#' '(' hparam,+ ')')? ('(' ports? ')')? ';' item* 'endmodule'`
-#[tactic(auto, unfolding(crate::specs::ModuleReading::module_at))]
-fn module(alloc: Global, tokens: &[Token], at: usize, depth: u32) -> Read<Module>
+/// `'module' NAME ('#' '(' hparam,+ ')')? ('(' ports? ')')? ';'` from `from` on.
+#[derive(Drop)]
+struct Header {
+    from: usize,
+    name: Name,
+    parameters: Vec<HeaderParameter>,
+    ports: Ports,
+}
+
+/// `item* 'endmodule'` behind the header.
+#[tactic(auto, unfolding(crate::specs::ModuleReading::module_items_at))]
+fn module_items(
+    alloc: Global,
+    tokens: &[Token],
+    header: Header,
+    at: usize,
+    depth: u32,
+) -> Read<Module>
     requires short { length tokens.now < 2 ^ 32 }
+    requires before { header.from < 2 ^ 32 }
     requires inside { at ≤ length tokens.now }
-    ensures gives { Gives seen_module result (module_at tokens.now depth at) }
+    ensures gives { Gives seen_module result (module_items_at tokens.now depth header.from header.name (map header_parameter_of header.parameters.items) (ports_of header.ports) at) }
     ensures inside { IfOk result (Inside tokens.now) }
 {
-    let next = expect(tokens, Terminal::Module, at)?;
-    let (name, next) = name(alloc, tokens, next)?;
-    let (parameters, next) = header_parameters(alloc, tokens, next, depth)?;
-    let (ports, semicolon) = header_ports(alloc, tokens, next, depth)?;
-    let next = expect(tokens, Terminal::Semicolon, semicolon)?;
-    let (items, end) = items(alloc, tokens, next, depth, Terminal::Endmodule)?;
-    let site = site_of(tokens, at, end);
+    let Header {
+        from,
+        name,
+        parameters,
+        ports,
+    } = header;
+    let (items, end) = items(alloc, tokens, at, depth, Terminal::Endmodule)?;
+    let site = site_of(tokens, from, end);
     let module = Module {
         site,
         name,
@@ -38,6 +57,28 @@ fn module(alloc: Global, tokens: &[Token], at: usize, depth: u32) -> Read<Module
         items,
     };
     Ok((module, end))
+}
+
+/// `'module' NAME ('#' '(' hparam,+ ')')? ('(' ports? ')')? ';' item* 'endmodule'`
+#[tactic(auto, unfolding(crate::specs::ModuleReading::module_at))]
+fn module(alloc: Global, tokens: &[Token], from: usize, depth: u32) -> Read<Module>
+    requires short { length tokens.now < 2 ^ 32 }
+    requires inside { from ≤ length tokens.now }
+    ensures gives { Gives seen_module result (module_at tokens.now depth from) }
+    ensures inside { IfOk result (Inside tokens.now) }
+{
+    let next = expect(tokens, Terminal::Module, from)?;
+    let (name, next) = name(alloc, tokens, next)?;
+    let (parameters, next) = header_parameters(alloc, tokens, next, depth)?;
+    let (ports, semicolon) = header_ports(alloc, tokens, next, depth)?;
+    let next = expect(tokens, Terminal::Semicolon, semicolon)?;
+    let header = Header {
+        from,
+        name,
+        parameters,
+        ports,
+    };
+    module_items(alloc, tokens, header, next, depth)
 }
 
 /// `module*`, up to the end of the tokens.

@@ -1,7 +1,7 @@
 use Rattle.std.proofs.Common.{◌≡◌, map, None, ap, ◌∙◌, arith}
 use Rattle.std.proofs.lemmas.Grind.{common_steps}
 use Rattle.std.proofs.lemmas.List.{map_push}
-use Rattle.v_parser.specs.ItemTree.{item_of}
+use Rattle.v_tree.specs.ItemTree.{item_of}
 use Rattle.first_text.specs.Netlists.{assignment_of}
 use Rattle.first_text.specs.Seen.{plain_assignment}
 use Rattle.first_text.proofs.Lists.{all_more, none_at}

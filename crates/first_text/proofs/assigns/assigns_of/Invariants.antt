@@ -1,5 +1,5 @@
 use Rattle.std.proofs.Common.{◌≡◌, Some, map, take}
-use Rattle.v_parser.specs.ItemTree.{item_of}
+use Rattle.v_tree.specs.ItemTree.{item_of}
 use Rattle.first_text.specs.Netlists.{all_of, assignment_of}
 use Rattle.first_text.specs.Seen.{plain_assignment}
 use Rattle.first_text.proofs.assigns.assigns_of.Given as goal

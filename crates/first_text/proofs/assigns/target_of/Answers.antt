@@ -1,5 +1,5 @@
 use Rattle.std.proofs.Common.{sym, ap, ◌∙◌, Some}
-use Rattle.v_parser.specs.Tree.{left_of}
+use Rattle.v_tree.specs.PartTree.{left_of}
 use Rattle.first_text.specs.Netlists.{target_of}
 use Rattle.first_text.proofs.NameLemmas.{left_with_select, left_without_select}
 use Rattle.first_text.proofs.assigns.target_of.Goals as goal

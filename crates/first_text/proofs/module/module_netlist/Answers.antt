@@ -1,7 +1,7 @@
 use Rattle.std.proofs.Common.{◌≡◌, ◌-◌, length, map, take, drop, None, Some, sym, ap, ◌∙◌, arith, eqb-true}
 use Rattle.std.proofs.lemmas.Grind.{common_steps}
 use Rattle.std.specs.Vec.{vec_len}
-use Rattle.v_parser.specs.ItemTree.{item_of}
+use Rattle.v_tree.specs.ItemTree.{item_of}
 use Rattle.first_text.specs.Netlists.{all_of, assignment_of, wires_of}
 use Rattle.first_text.specs.Seen.{plain_assignment}
 use Rattle.first_text.proofs.Parts.{Behind, behind_from, module_is, module_none}

@@ -1,5 +1,5 @@
 use Rattle.std.proofs.Common.{◌<◌, ◌^◌, ◌∙◌, ap, List, map, subst, sym}
-use Rattle.v_parser.specs.ModuleTree.{PlainModule, module_of, parts_of}
+use Rattle.v_tree.specs.ModuleTree.{PlainModule, module_of, parts_of}
 use Rattle.first_text.proofs.Parts.{few_nets, few_assigns, only_module}
 use Rattle.first_text.proofs.module.netlist_of.Goals as goal
 

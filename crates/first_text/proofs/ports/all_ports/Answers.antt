@@ -1,6 +1,6 @@
 use Rattle.std.proofs.Common.{◌≡◌, None, arith}
 use Rattle.std.proofs.lemmas.Grind.{common_steps}
-use Rattle.v_parser.specs.ModuleTree.{port_of as plain_port}
+use Rattle.v_tree.specs.ModuleTree.{port_of as plain_port}
 use Rattle.first_text.specs.Netlists.{port_of}
 use Rattle.first_text.proofs.Lists.{all_more, none_at}
 use Rattle.first_text.proofs.ports.all_ports.Goals as goal

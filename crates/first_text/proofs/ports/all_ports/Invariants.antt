@@ -1,5 +1,5 @@
 use Rattle.std.proofs.Common.{◌≡◌, Some, map, take}
-use Rattle.v_parser.specs.ModuleTree.{port_of as plain_port}
+use Rattle.v_tree.specs.ModuleTree.{port_of as plain_port}
 use Rattle.first_text.specs.Netlists.{all_of, port_of}
 use Rattle.first_text.proofs.ports.all_ports.Given as goal
 

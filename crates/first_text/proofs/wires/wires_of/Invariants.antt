@@ -1,5 +1,5 @@
 use Rattle.std.proofs.Common.{◌≡◌, ◌++◌, drop, length, map}
-use Rattle.v_parser.specs.ItemTree.{item_of}
+use Rattle.v_tree.specs.ItemTree.{item_of}
 use Rattle.first_text.specs.Netlists.{wires_of}
 use Rattle.first_text.proofs.wires.wires_of.Given as goal
 

@@ -1,6 +1,6 @@
 use Rattle.std.proofs.Common.{rules, ◌≡◌, Err, arith}
 use Rattle.first_form.specs.declared.error.FormErr.TheVariants.{Form}
-use Rattle.v_parser.specs.ModuleTree.{source_of}
+use Rattle.v_tree.specs.ModuleTree.{source_of}
 use Rattle.localise_cmd.specs.Means.{IsDesignText}
 use Rattle.localise_cmd.proofs.Refusing.{design-text, no-design, text-alike, too-large}
 use Rattle.localise_cmd.proofs.inputs.read_design.Goals as goal

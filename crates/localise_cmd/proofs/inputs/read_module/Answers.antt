@@ -1,6 +1,6 @@
 use Rattle.std.proofs.Common.{rules, ◌≡◌, Err}
 use Rattle.first_form.specs.declared.error.FormErr.TheVariants.{Form}
-use Rattle.v_parser.specs.ModuleTree.{source_of}
+use Rattle.v_tree.specs.ModuleTree.{source_of}
 use Rattle.localise_cmd.proofs.SameModule.{no-module, no-form}
 use Rattle.localise_cmd.proofs.AlikeDesigns.{module-alike}
 use Rattle.localise_cmd.proofs.inputs.read_module.Goals as goal

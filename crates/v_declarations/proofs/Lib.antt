@@ -1,0 +1,5 @@
+pub mod TypeLaws
+pub mod DeclarationLaws
+pub mod HeaderLaws
+pub mod StructureSteps
+pub mod StructureLaws

@@ -1,0 +1,12 @@
+pub mod Types
+pub mod TypeReading
+pub mod TypeSeen
+pub mod Declarations
+pub mod DeclarationReading
+pub mod DeclarationSeen
+pub mod Headers
+pub mod HeaderReading
+pub mod HeaderSeen
+pub mod Structures
+pub mod StructureReading
+pub mod StructureSeen

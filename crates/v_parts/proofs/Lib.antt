@@ -1,0 +1,9 @@
+pub mod Marks
+pub mod ListSteps
+pub mod LeftSteps
+pub mod Laws
+pub mod TakingLaws
+pub mod ListLaws
+pub mod RunLaws
+pub mod NameLaws
+pub mod AnswerLemmas

@@ -1,0 +1,18 @@
+use Rattle.std.proofs.Common.{◌≡◌, ◌+◌, ◌-◌, ◌*◌, ◌≤◌, length}
+use Rattle.v_tree.specs.PartTree.{left_of}
+use Rattle.v_parts.specs.Reading.{left_at}
+use Rattle.v_parts.proofs.ListSteps.{Listing}
+use Rattle.v_parts.proofs.left_sides.+left.Given as goal
+
+abbrev pub decreases-left : goal.decreases-left
+decreases-left l = 3 * l.depth + 1
+
+abbrev pub decreases-left_concat : goal.decreases-left_concat
+decreases-left_concat l = 3 * l.depth
+
+abbrev pub decreases-lefts : goal.decreases-lefts
+decreases-lefts l = 3 * l.depth + 2
+
+abbrev pub invariant-lefts-loop : goal.invariant-lefts-loop
+invariant-lefts-loop l =
+    Listing l.tokens (left_at l.tokens l.depth) left_of l.at l.parts.items (l.end - l.counter) l.end-2

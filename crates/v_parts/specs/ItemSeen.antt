@@ -1,0 +1,21 @@
+-- What contracts see of the items and the parts of a header that a reader found.
+use Rattle.std.specs.Prelude.{ℕ, List, map}
+use Rattle.std.specs.declared.vec.Vec.{Vec}
+use Rattle.std.specs.declared.alloc.Global.{Global}
+use Rattle.v_tree.specs.declared.item.Item.{Item}
+use Rattle.v_tree.specs.declared.module.HeaderParameter.{HeaderParameter}
+use Rattle.v_tree.specs.declared.module.Ports.{Ports}
+use Rattle.v_tree.specs.ItemTree.{PlainItem, item_of}
+use Rattle.v_tree.specs.ModuleTree.{PlainHeaderParameter, header_parameter_of, PlainPorts, ports_of}
+
+abbrev pub seen_item : Item × ℕ → PlainItem × ℕ
+seen_item x = (item_of x.0, x.1)
+
+abbrev pub seen_items : Vec Item Global × ℕ → List PlainItem × ℕ
+seen_items x = (map item_of x.0.items, x.1)
+
+abbrev pub seen_header_parameters : Vec HeaderParameter Global × ℕ → List PlainHeaderParameter × ℕ
+seen_header_parameters x = (map header_parameter_of x.0.items, x.1)
+
+abbrev pub seen_ports : Ports × ℕ → PlainPorts × ℕ
+seen_ports x = (ports_of x.0, x.1)

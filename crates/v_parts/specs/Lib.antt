@@ -1,0 +1,5 @@
+pub mod Productions
+pub mod Reading
+pub mod Seen
+pub mod ItemSeen
+pub mod Answers

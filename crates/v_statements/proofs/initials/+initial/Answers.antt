@@ -1,0 +1,62 @@
+use Rattle.std.proofs.Common.{◌≡◌, ◌≢◌, ◌+◌, ◌-◌, ◌++◌, ◌∷◌, [], true, false, Bool, length, Err, sym, ap, ◌∙◌, arith, rules}
+use Rattle.std.proofs.lemmas.Result.{err_from_is_err_and}
+use Rattle.v_lexer.specs.declared.types.terminal.Terminal.TheVariants as marks
+use Rattle.v_tree.specs.declared.fault.Fault.{Fault}
+use Rattle.v_tree.specs.Marks.{mark_at, same}
+use Rattle.v_tree.specs.Faults.{no_place}
+use Rattle.v_tree.proofs.BindLemmas.{bad}
+use Rattle.v_tree.proofs.StepLemmas.{fails_along}
+use Rattle.v_parts.specs.Reading.{run_at}
+use Rattle.v_tree.specs.StatementTree.{statement_of}
+use Rattle.v_statements.specs.StatementReading.{body_at}
+use Rattle.v_statements.specs.InitialReading.{initial_at}
+use Rattle.v_parts.proofs.ListSteps.{with_front, run_turn, run_ends, run_fails, run_done}
+use Rattle.v_statements.proofs.initials.+initial.Goals as goal
+
+pub initials-returns-then-stands-clause-gives : goal.initials-returns-then-stands-clause-gives
+initials-returns-then-stands-clause-gives t c =
+    let ts = c.args.tokens.now in
+    let inner = initial_at ts c.args.depth in
+    let n = length ts - c.loop.counter in
+    let some : n ≢ 0 = omega (arith, c.loop-test.true) in
+    let last : same (mark_at ts c.loop.end) marks.End ≡ true = grind arith in
+    c.loop.invariant.goes_on ∙ run_ends ts marks.End (λ (s : Bool). inner) (λ s x. s) statement_of n true c.loop.end c.loop.list.items some last
+
+pub initials-returns-in_err-part-clause-gives : goal.initials-returns-in_err-part-clause-gives
+initials-returns-in_err-part-clause-gives t c =
+    let ts = c.args.tokens.now in
+    let inner = initial_at ts c.args.depth in
+    let n = length ts - c.loop.counter in
+    let some : n ≢ 0 = omega (arith, c.loop-test.true) in
+    let other : same (mark_at ts c.loop.end) marks.End ≡ false = grind arith in
+    let fact : (g : Fault) → inner c.loop.end ≡ Err g → body_at ts inner c.args.at ≡ Err g =
+    λ g h. c.loop.invariant.goes_on ∙ run_fails ts marks.End (λ (s : Bool). inner) (λ s x. s) statement_of n true c.loop.end c.loop.list.items g some other h in
+    let p = err_from_is_err_and c.from_residual.result c.from_residual.ensures.1 in
+    rw (p.1, p.2) (fails_along c.in_err-part.field-0.0 _ _ fact c.in_err-part.ensures.gives)
+
+pub initials-loop-preserved : goal.initials-loop-preserved
+initials-loop-preserved t c =
+    let ts = c.args.tokens.now in
+    let inner = initial_at ts c.args.depth in
+    let front = c.loop.list.items in
+    let y = c.in_ok-part.part in
+    let m = c.in_ok-part.next in
+    let n = length ts - c.loop.counter in
+    let pushed : c.push.new.self.items ≡ front ++ y ∷ [] = search rules in
+    let some : n ≢ 0 = omega (arith, c.loop-test.true) in
+    let other : same (mark_at ts c.loop.end) marks.End ≡ false = grind arith in
+    let turn = run_turn ts marks.End (λ (s : Bool). inner) (λ s x. s) statement_of n true c.loop.end front y m some other c.in_ok-part.ensures.gives in
+    let fewer : n - 1 ≡ length ts - (c.loop.counter + 1) = omega arith in
+    record {
+      inside = c.in_ok-part.ensures.inside;
+      goes_on = c.loop.invariant.goes_on ∙ turn ∙ ap (λ k. with_front statement_of (front ++ y ∷ []) (run_at ts marks.End (λ (s : Bool). inner) (λ s x. s) k true m)) fewer
+          ∙ ap (λ q. with_front statement_of q (run_at ts marks.End (λ (s : Bool). inner) (λ s x. s) (length ts - (c.loop.counter + 1)) true m)) (sym pushed);
+    }
+
+pub initials-returns-clause-gives : goal.initials-returns-clause-gives
+initials-returns-clause-gives t c =
+    let ts = c.args.tokens.now in
+    let inner = initial_at ts c.args.depth in
+    let shown : c.no_place.result ≡ no_place ts c.loop.end = search rules in
+    c.loop.invariant.goes_on ∙ run_done ts marks.End (λ (s : Bool). inner) (λ s x. s) statement_of (length ts - c.loop.counter) true c.loop.end c.loop.list.items (omega (arith, c.loop-test.false))
+    ∙ ap (λ f. bad f) (sym shown)

@@ -1,0 +1,61 @@
+use Rattle.std.proofs.Common.{◌≡◌, ◌≢◌, ◌+◌, ◌-◌, ◌++◌, ◌∷◌, [], true, false, Bool, length, Err, sym, ap, ◌∙◌, arith, rules}
+use Rattle.std.proofs.lemmas.Result.{err_from_is_err_and}
+use Rattle.v_lexer.specs.declared.types.terminal.Terminal.TheVariants as marks
+use Rattle.v_tree.specs.declared.fault.Fault.{Fault}
+use Rattle.v_tree.specs.Marks.{mark_at, same}
+use Rattle.v_tree.specs.Faults.{no_place}
+use Rattle.v_tree.proofs.BindLemmas.{bad}
+use Rattle.v_tree.proofs.StepLemmas.{fails_along}
+use Rattle.v_parts.specs.Reading.{run_at}
+use Rattle.v_tree.specs.ItemTree.{event_of}
+use Rattle.v_statements.specs.SensitivityReading.{next_change_at, more_changes_at}
+use Rattle.v_parts.proofs.ListSteps.{with_front, run_turn, run_ends, run_fails, run_done}
+use Rattle.v_statements.proofs.sensitivity.more_changes.Goals as goal
+
+pub returns-then-stands-clause-gives : goal.returns-then-stands-clause-gives
+returns-then-stands-clause-gives c =
+    let ts = c.args.tokens.now in
+    let inner = next_change_at ts c.args.depth in
+    let n = length ts - c.loop.counter in
+    let some : n ≢ 0 = omega (arith, c.loop-test.true) in
+    let last : same (mark_at ts c.loop.end) marks.Close ≡ true = grind arith in
+    c.loop.invariant.goes_on ∙ run_ends ts marks.Close (λ (s : Bool). inner) (λ s x. s) event_of n true c.loop.end c.loop.list.items some last
+
+pub returns-in_err-part-clause-gives : goal.returns-in_err-part-clause-gives
+returns-in_err-part-clause-gives c =
+    let ts = c.args.tokens.now in
+    let inner = next_change_at ts c.args.depth in
+    let n = length ts - c.loop.counter in
+    let some : n ≢ 0 = omega (arith, c.loop-test.true) in
+    let other : same (mark_at ts c.loop.end) marks.Close ≡ false = grind arith in
+    let fact : (g : Fault) → inner c.loop.end ≡ Err g → more_changes_at ts c.args.depth (event_of c.args.first) c.args.at ≡ Err g =
+    λ g h. c.loop.invariant.goes_on ∙ run_fails ts marks.Close (λ (s : Bool). inner) (λ s x. s) event_of n true c.loop.end c.loop.list.items g some other h in
+    let p = err_from_is_err_and c.from_residual-in_err-part.result c.from_residual-in_err-part.ensures.1 in
+    rw (p.1, p.2) (fails_along c.in_err-part.field-0.0 _ _ fact c.in_err-part.ensures.gives)
+
+pub loop-preserved : goal.loop-preserved
+loop-preserved c =
+    let ts = c.args.tokens.now in
+    let inner = next_change_at ts c.args.depth in
+    let front = c.loop.list.items in
+    let y = c.in_ok-part.part in
+    let m = c.in_ok-part.next in
+    let n = length ts - c.loop.counter in
+    let pushed : c.push-in-loop.new.self.items ≡ front ++ y ∷ [] = search rules in
+    let some : n ≢ 0 = omega (arith, c.loop-test.true) in
+    let other : same (mark_at ts c.loop.end) marks.Close ≡ false = grind arith in
+    let turn = run_turn ts marks.Close (λ (s : Bool). inner) (λ s x. s) event_of n true c.loop.end front y m some other c.in_ok-part.ensures.gives in
+    let fewer : n - 1 ≡ length ts - (c.loop.counter + 1) = omega arith in
+    record {
+      inside = c.in_ok-part.ensures.inside;
+      goes_on = c.loop.invariant.goes_on ∙ turn ∙ ap (λ k. with_front event_of (front ++ y ∷ []) (run_at ts marks.Close (λ (s : Bool). inner) (λ s x. s) k true m)) fewer
+          ∙ ap (λ q. with_front event_of q (run_at ts marks.Close (λ (s : Bool). inner) (λ s x. s) (length ts - (c.loop.counter + 1)) true m)) (sym pushed);
+    }
+
+pub returns-clause-gives : goal.returns-clause-gives
+returns-clause-gives c =
+    let ts = c.args.tokens.now in
+    let inner = next_change_at ts c.args.depth in
+    let shown : c.no_place.result ≡ no_place ts c.loop.end = search rules in
+    c.loop.invariant.goes_on ∙ run_done ts marks.Close (λ (s : Bool). inner) (λ s x. s) event_of (length ts - c.loop.counter) true c.loop.end c.loop.list.items (omega (arith, c.loop-test.false))
+    ∙ ap (λ f. bad f) (sym shown)

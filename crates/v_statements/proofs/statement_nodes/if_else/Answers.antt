@@ -1,0 +1,16 @@
+use Rattle.std.proofs.Common.{◌∙◌, ap, ap₂, sym, Some}
+use Rattle.v_tree.specs.Tree.{tree_of}
+use Rattle.v_tree.specs.declared.statement.Statement.TheVariants as variant
+use Rattle.v_tree.specs.declared.statement.CaseItem.TheFolds.{fold-roll-Statement}
+use Rattle.v_tree.specs.declared.statement.CaseItem.TheOpen.{Statement-F}
+use Rattle.v_tree.specs.StatementTree.{PlainStatement, PlainCaseItem, if_else, case_step, statement_step, statement_of}
+use Rattle.v_statements.proofs.statement_nodes.if_else.Goals as goal
+
+pub returns : goal.returns
+returns c =
+    let s = c.args.site in
+    let e = c.args.condition in
+    let b = c.in_ok-then.then in
+    let o = c.in_ok-other.other in
+    ap statement_of (sym (variant.rolls-If s e b (Some o))) ∙ fold-roll-Statement PlainCaseItem PlainStatement case_step statement_step (Statement-F.If s e b (Some o))
+    ∙ ap₂ (λ q r. if_else s (tree_of e) (statement_of q) (statement_of r)) c.in_ok-then.ensures.ok c.in_ok-other.ensures.ok

@@ -1,0 +1,10 @@
+pub mod Statements
+pub mod StatementReading
+pub mod StatementSeen
+pub mod Initials
+pub mod InitialReading
+pub mod Sensitivities
+pub mod SensitivityReading
+pub mod SensitivitySeen
+pub mod Procedures
+pub mod ProcedureReading
