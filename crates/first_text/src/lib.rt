@@ -7,8 +7,6 @@ mod assigns;
 mod formula;
 mod module;
 mod ports;
-#[cfg(test)]
-mod tests;
 mod wires;
 
 pub use module::netlist_of;

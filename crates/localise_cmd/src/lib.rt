@@ -12,8 +12,6 @@ mod report;
 mod request;
 mod run;
 mod sources;
-#[cfg(test)]
-mod tests;
 mod words;
 
 pub use run::run_words;

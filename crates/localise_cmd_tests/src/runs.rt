@@ -1,7 +1,8 @@
 //! Runs over a shelf and a sink in memory.
-use crate::run::run_words;
+
 use io_ports::{MemShelf, MemSink, Numbers, Texts};
 use loc_base::Bytes;
+use localise_cmd::run_words;
 use std::alloc::Global;
 use std::test::Fail;
 

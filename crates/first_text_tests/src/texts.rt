@@ -1,6 +1,7 @@
 //! Texts and their netlists, and the texts that are none.
-use crate::module::netlist_of;
+
 use first_form::{Assignment, Direction, FormErr, Formula, Netlist, Operator, design_of};
+use first_text::netlist_of;
 use loc_base::{Bytes, Name, NoMemory, Span};
 use std::alloc::Global;
 use std::test::Fail;
