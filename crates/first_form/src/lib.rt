@@ -14,8 +14,6 @@ mod netlist;
 mod numbers;
 mod signals;
 mod state;
-#[cfg(test)]
-mod tests;
 mod walk;
 
 pub use design::{FirstDesign, design_of};

@@ -1,7 +1,9 @@
-use crate::design::{FirstDesign, design_of};
-use crate::error::FormErr;
-use crate::netlist::{Assignment, Direction, Formula, Netlist, Operator, Port};
+//! Netlists, and the designs that they mean.
+
 use design_core::{Driver, Node, Part, PlaceKind, SignalKind, UnaryOp};
+use first_form::{
+    Assignment, Direction, FirstDesign, FormErr, Formula, Netlist, Operator, Port, design_of,
+};
 use loc_base::{Name, Span};
 use std::alloc::Global;
 use std::test::Fail;

@@ -1,0 +1,5 @@
+//! Worked examples of `first_form`.
+#![tactic(auto)]
+
+#[cfg(test)]
+mod designs;
