@@ -4,21 +4,10 @@
 
 ghost use Rattle.std.specs.Prelude.{◌<◌, ◌^◌, IfOk};
 
-mod error;
-mod form;
-mod model;
-mod report;
-mod request;
-mod run;
-#[cfg(test)]
-mod tests;
-mod words;
-
-use crate::error::{Failure, failure_status, failure_text};
-use crate::form::read_form;
-use crate::report::{report_text, status_of};
-use crate::request::{Request, request_of};
-use crate::run::{check, report_on, solve};
+use cnf_solve::{
+    Failure, Request, check, failure_status, failure_text, read_form, report_on, report_text,
+    request_of, solve, status_of,
+};
 use loc_base::Bytes;
 use std::io::Read;
 use std::process::ExitCode;
