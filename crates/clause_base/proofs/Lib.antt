@@ -1,5 +1,4 @@
 pub mod Accepted
 pub mod Aligned
-pub mod Cut
 pub mod Sets
 pub mod Soundness

@@ -1,5 +1,4 @@
 pub mod Literal
-pub mod Rows
 pub mod Steps
 pub mod Satisfaction
 pub mod Resolution

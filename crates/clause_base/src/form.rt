@@ -1,8 +1,7 @@
 ghost use Rattle.std.specs.Prelude.{◌≡◌, ◌<◌, ◌↔◌, IsTrue, length, [], ◌∷◌, ◌++◌, slice_index_or, OnOk, OnErr};
 
 use crate::literal::Lit;
-use crate::rows::Rows;
-use loc_base::NoMemory;
+use loc_base::{NoMemory, Rows};
 use std::alloc::Global;
 use std::marker::Model;
 

@@ -8,16 +8,10 @@ mod clause;
 mod form;
 mod literal;
 mod log;
-mod numbers;
-mod rows;
-#[cfg(test)]
-mod tests;
 mod variables;
 
 pub use clause::Clause;
 pub use form::{Clauses, Form};
 pub use literal::Lit;
 pub use log::{Log, Step, StepKind};
-pub use numbers::Numbers;
-pub use rows::Rows;
 pub use variables::{are_within, blocks_are_within, has_distinct_variables, is_within};

@@ -2,9 +2,7 @@ ghost use Rattle.std.specs.Prelude.{◌≡◌, ◌<◌, ◌↔◌, IsTrue, lengt
 
 use crate::clause::Clause;
 use crate::literal::Lit;
-use crate::numbers::Numbers;
-use crate::rows::Rows;
-use loc_base::NoMemory;
+use loc_base::{Items, NoMemory, Rows};
 use std::alloc::Global;
 use std::marker::Model;
 
@@ -24,7 +22,7 @@ pub enum StepKind {
 pub struct Step {
     pub kind: StepKind,
     pub clause: Clause,
-    pub chain: Numbers,
+    pub chain: Items<u32>,
 }
 
 /// A list of steps, in a few pieces of memory. Contracts see it as the list of the steps.

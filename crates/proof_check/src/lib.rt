@@ -9,8 +9,6 @@ mod checker;
 mod marks;
 mod resolve;
 mod sets;
-#[cfg(test)]
-mod tests;
 mod text;
 pub mod types;
 

@@ -1,8 +1,9 @@
 -- Logs that grow by steps of a search.
-use Rattle.std.proofs.Common.{◌≡◌, ℕ, ◌+◌, ◌<◌, ◌≤◌, Bool, true, false, cond, List, [], ◌∷◌, ◌++◌, map, length, take, drop, refl, sym, ap, ◌∙◌, subst, arith, inl, inr, IsTrue}
+use Rattle.std.proofs.Common.{◌≡◌, ℕ, ◌+◌, ◌-◌, ◌^◌, ◌<◌, ◌≤◌, zero, suc, Bool, true, false, cond, List, [], ◌∷◌, ◌++◌, map, length, get_or, take, drop, Result, Ok, Err, refl, sym, ap, ◌∙◌, subst, arith, ◌⊎◌, inl, inr, IsTrue}
 use Rattle.std.specs.List.{filter, count_by}
-use Rattle.std.proofs.lemmas.Bool.{cases_lt}
-use Rattle.std.proofs.lemmas.List.{drop_at, drop_all, take_at, take_all, take-take, take-append-drop, get_or-take, get_or_at, get_or_push, length_push, length-take, length-drop, length-map, append-nil, drop-append-le, map_push}
+use Rattle.std.specs.Result.{IfOk}
+use Rattle.std.proofs.lemmas.Bool.{cases_lt, false_from_ne_true}
+use Rattle.std.proofs.lemmas.List.{drop_at, drop_all, take_at, take_all, take-take, take-append-drop, get_or-take, get_or-drop, nil_from_length, get_or_at, get_or_push, length_push, length-take, length-drop, length-map, append-nil, drop-append-le, map_push}
 use Rattle.std.proofs.lemmas.List.Elements.{All-push, filter-append}
 use Rattle.std.proofs.lemmas.List.Sums.{sum_by-append, sum_by-cons, length-filter}
 use Rattle.clause_base.specs.declared.literal.Lit.{Lit}
@@ -16,9 +17,12 @@ use Rattle.clause_base.specs.Progress.{IsFresh}
 use Rattle.clause_base.proofs.Accepted.{clauses_of-push, each_step-push, accepted-more_blocks}
 use Rattle.trail_core.specs.TrailState.{TrailState}
 use Rattle.sat_core.specs.SolverState.{SolverState, IsSolver, blocks_of}
-use Rattle.sat_core.specs.Outcome.{is_learned, is_learned_kind, is_derived, is_derived_kind, added}
+use Rattle.sat_core.specs.declared.verdict.Verdict.{Verdict}
+use Rattle.sat_core.specs.declared.verdict.Verdict.TheVariants as verdict
+use Rattle.loc_base.proofs.ShelfBools.{count-true}
+use Rattle.loc_base.specs.declared.memory.NoMemory.{NoMemory}
+use Rattle.sat_core.specs.Outcome.{is_learned, is_learned_kind, is_derived, is_derived_kind, added, Grows, LearnedBeforeLast, Says, closings}
 use Rattle.sat_core.specs.Engines.{LearnsStep}
-use Rattle.sat_core.specs.Searching.{Grows}
 
 -- the steps added by one
 added_push : (old new : List Step) (s : Step) → new ≡ old ++ s ∷ [] → added old new ≡ s ∷ []
@@ -123,12 +127,14 @@ Grows-unspent form old new left derived r = record { prefix = r.prefix; no_block
 pub blocks_counted : (log : List Step) → blocks_in log ≡ length (blocks_of log)
 blocks_counted log = sym (length-map (filter is_block log) (λ (s : Step). s.clause) ∙ length-filter is_block log)
 
-blocks_push : (log : List Step) (s : Step) → is_block s ≡ false → blocks_of (log ++ s ∷ []) ≡ blocks_of log
+-- a step that is no block adds none
+pub blocks_push : (log : List Step) (s : Step) → is_block s ≡ false → blocks_of (log ++ s ∷ []) ≡ blocks_of log
 blocks_push log s n =
     let none : filter is_block (s ∷ []) ≡ [] = rw n refl in
     ap (map (λ (x : Step). x.clause)) (filter-append is_block log (s ∷ []) ∙ (ap (λ xs. filter is_block log ++ xs) none ∙ append-nil (filter is_block log)))
 
-blocks_push_block : (log : List Step) (s : Step) → is_block s ≡ true → blocks_of (log ++ s ∷ []) ≡ blocks_of log ++ s.clause ∷ []
+-- a block more
+pub blocks_push_block : (log : List Step) (s : Step) → is_block s ≡ true → blocks_of (log ++ s ∷ []) ≡ blocks_of log ++ s.clause ∷ []
 blocks_push_block log s y =
     let one : filter is_block (s ∷ []) ≡ s ∷ [] = rw y refl in
     ap (map (λ (x : Step). x.clause)) (filter-append is_block log (s ∷ []) ∙ ap (λ xs. filter is_block log ++ xs) one)
@@ -142,19 +148,21 @@ distinct_push form log s h w = subst AllDistinct (sym (clauses_of-push form log 
 
 -- what a solver's invariant says, of its parts
 pub record IsLogged (vars : ℕ) (form : List (List Lit)) (log : List Step) : Type 0 where
+  pub small : vars < 2 ^ 32
   pub accepted : IsAccepted form (blocks_of log) log
   pub within : AreWithin vars (clauses_of form log)
   pub distinct : AllDistinct (clauses_of form log)
 
 pub logged : (s : SolverState) → IsSolver s → IsLogged s.vars s.form s.log
-logged s h = record { accepted = h.accepted; within = h.within; distinct = h.distinct }
+logged s h = record { small = h.small; accepted = h.accepted; within = h.within; distinct = h.distinct }
 
 pub solver_from : (s : SolverState) → IsLogged s.vars s.form s.log → IsSolver s
-solver_from s h = record { accepted = h.accepted; within = h.within; distinct = h.distinct }
+solver_from s h = record { small = h.small; accepted = h.accepted; within = h.within; distinct = h.distinct }
 
 -- one step more, which is no block
 pub IsLogged-push : (vars : ℕ) (form : List (List Lit)) (log after : List Step) (s : Step) → IsLogged vars form log → is_block s ≡ false → IsAcceptedStep form (blocks_of log) log s → IsWithin vars s.clause → has_distinct_variables s.clause ≡ true → after ≡ log ++ s ∷ [] → IsLogged vars form after
 IsLogged-push vars form log after s h n a w d e = subst (IsLogged vars form) (sym e) record {
+  small = h.small;
   accepted = subst (λ bs. IsAccepted form bs (log ++ s ∷ [])) (sym (blocks_push log s n)) record {
     each_step = each_step-push form (blocks_of log) log s h.accepted.each_step a;
     every_block = blocks_counted (log ++ s ∷ []) ∙ ap length (blocks_push log s n);
@@ -166,6 +174,7 @@ IsLogged-push vars form log after s h n a w d e = subst (IsLogged vars form) (sy
 -- one block more
 pub IsLogged-block : (vars : ℕ) (form : List (List Lit)) (log after : List Step) (s : Step) → IsLogged vars form log → s.kind ≡ Block → IsWithin vars s.clause → has_distinct_variables s.clause ≡ true → after ≡ log ++ s ∷ [] → IsLogged vars form after
 IsLogged-block vars form log after s h k w d e = subst (IsLogged vars form) (sym e) record {
+  small = h.small;
   accepted = record {
     each_step = subst (λ bs. (place : ℕ) → place < length (log ++ s ∷ []) → IsAcceptedAt form bs (log ++ s ∷ []) place) (sym (blocks_push_block log s is))
         (each_step-push form (blocks_of log ++ s.clause ∷ []) log s (λ place l. accepted-more_blocks form (blocks_of log) (s.clause ∷ []) (take place log) (step_at log place) (h.accepted.each_step place l)) here);
@@ -200,3 +209,59 @@ pub Grows-length : (form : List (List Lit)) (old new : List Step) (budget left d
 Grows-length form old new budget left derived r =
     let low : length old ≤ length new = omega (arith, ap length (sym r.prefix), length-take (length old) new) in
     omega (arith, r.no_block, r.units, r.derived_steps, kinds_counted (added old new), length-drop (length old) new, low)
+
+-- a search adds no block
+pub blocks_kept : (form : List (List Lit)) (old new : List Step) (budget left derived : ℕ) → Grows form old new budget left derived → blocks_of new ≡ blocks_of old
+blocks_kept form old new budget left derived r =
+    let none : filter is_block (added old new) ≡ [] = nil_from_length (filter is_block (added old new)) (length-filter is_block (added old new) ∙ r.no_block) in
+    let whole : new ≡ old ++ added old new = sym (take-append-drop (length old) new) ∙ ap (λ xs. xs ++ added old new) r.prefix in
+    ap blocks_of whole
+    ∙ ap (map (λ (x : Step). x.clause)) (filter-append is_block old (added old new) ∙ (ap (λ xs. filter is_block old ++ xs) none ∙ append-nil (filter is_block old)))
+
+count_at : {X : Type 0} (p : X → Bool) (xs : List X) (i : ℕ) (d : X) → i < length xs → p (get_or xs i d) ≡ true → 1 ≤ count_by p xs
+count_at p [] i d l t = absurd (omega (arith, l))
+count_at p (x ∷ xs) zero d l t = omega (arith, count-true (p x) t, sum_by-cons (λ y. cond (p y) 1 0) x xs)
+count_at p (x ∷ xs) (suc i) d l t = omega (arith, count_at p xs i d (omega (arith, l)) t, sum_by-cons (λ y. cond (p y) 1 0) x xs)
+
+count_two : {X : Type 0} (p : X → Bool) (xs : List X) (i j : ℕ) (d : X) → i < j → j < length xs → p (get_or xs i d) ≡ true → p (get_or xs j d) ≡ true → 2 ≤ count_by p xs
+count_two p [] i j d a l s t = absurd (omega (arith, l))
+count_two p (x ∷ xs) i zero d a l s t = absurd (omega (arith, a))
+count_two p (x ∷ xs) zero (suc j) d a l s t = omega (arith, count-true (p x) s, count_at p xs j d (omega (arith, l)) t, sum_by-cons (λ y. cond (p y) 1 0) x xs)
+count_two p (x ∷ xs) (suc i) (suc j) d a l s t = omega (arith, count_two p xs i j d (omega (arith, a)) (omega (arith, l)) s t, sum_by-cons (λ y. cond (p y) 1 0) x xs)
+
+learned_else : (k : StepKind) → is_block_kind k ≡ false → is_derived_kind k ≡ false → k ≡ Learned
+learned_else Block b d = cc
+learned_else Learned b d = refl
+learned_else Derived b d = cc
+
+-- the number of derived steps is 0, or it is 1 and the last step is derived
+abbrev pub OnlyLast : List Step → ℕ → Type 0
+OnlyLast new derived = (derived ≡ 0) ⊎ ((derived ≡ 1) × ((step_at new (length new - 1)).kind ≡ Derived))
+
+pub learned_before_last : (form : List (List Lit)) (old new : List Step) (budget left derived : ℕ) → Grows form old new budget left derived → OnlyLast new derived → LearnedBeforeLast old new
+learned_before_last form old new budget left derived r o place low high =
+    learned_else (step_at new place).kind
+    (false_from_ne_true (is_block (step_at new place)) (λ t. absurd (omega (arith, r.no_block, count_at is_block (added old new) (place - length old) no_step within (ap is_block here ∙ t)))))
+    (false_from_ne_true (is_derived (step_at new place)) (λ t. elim o [
+      | inl none ↦ absurd (omega (arith, none, r.derived_steps, count_at is_derived (added old new) (place - length old) no_step within (ap is_derived here ∙ t)))
+      | inr one ↦ absurd (omega (arith, one.0, r.derived_steps, count_two is_derived (added old new) (place - length old) (length new - 1 - length old) no_step (omega (arith, low, high)) (omega (arith, low, high, length-drop (length old) new)) (ap is_derived here ∙ t) (ap is_derived last ∙ ap is_derived_kind one.1)))
+    ]))
+  where
+    within : place - length old < length (added old new)
+    within = omega (arith, low, high, length-drop (length old) new)
+
+    here : get_or (added old new) (place - length old) no_step ≡ step_at new place
+    here = let q : length old + (place - length old) ≡ place = omega (arith, low) in get_or-drop (length old) new (place - length old) no_step ∙ ap (step_at new) q
+
+    last : get_or (added old new) (length new - 1 - length old) no_step ≡ step_at new (length new - 1)
+    last = let q : length old + (length new - 1 - length old) ≡ length new - 1 = omega (arith, low, high) in get_or-drop (length old) new (length new - 1 - length old) no_step ∙ ap (step_at new) q
+
+only_last : (s : SolverState) (assume : List Lit) (left : ℕ) (r : Result Verdict NoMemory) → IfOk r (Says s assume left) → OnlyLast s.log (closings r)
+only_last s assume left (Ok verdict.Model) h = inl refl
+only_last s assume left (Ok (verdict.Closed step)) h = inr (refl, subst (λ n. (step_at s.log (n - 1)).kind ≡ Derived) h.1.last h.1.derived)
+only_last s assume left (Ok verdict.Spent) h = inl refl
+only_last s assume left (Err e) h = inl refl
+
+-- the derived step of an answer comes last
+pub learned_before_answer : (form : List (List Lit)) (old : List Step) (s : SolverState) (assume : List Lit) (budget left : ℕ) (r : Result Verdict NoMemory) → Grows form old s.log budget left (closings r) → IfOk r (Says s assume left) → LearnedBeforeLast old s.log
+learned_before_answer form old s assume budget left r g h = learned_before_last form old s.log budget left (closings r) g (only_last s assume left r h)

@@ -24,11 +24,11 @@ use Rattle.sat_core.specs.declared.engine.Engine.{Engine}
 use Rattle.sat_core.specs.declared.verdict.Verdict.{Verdict}
 use Rattle.sat_core.specs.declared.verdict.Verdict.TheVariants as verdict
 use Rattle.sat_core.specs.SolverState.{SolverState}
-use Rattle.sat_core.specs.Outcome.{IsRefuted, Says, closings_of, closings}
+use Rattle.sat_core.specs.Outcome.{Grows, IsRefuted, Says, closings_of, closings}
 use Rattle.sat_core.specs.Derivation.{IsDenied}
 use Rattle.sat_core.specs.Choices.{choice_at, no_literal, AreChosen, MayChoose, IsContrary}
 use Rattle.sat_core.specs.Engines.{IsFit, LearnsStep, Learned, KeptLog, same, step}
-use Rattle.sat_core.specs.Searching.{form_of, state_of, IsReady, IsUnderWay, IsAtStart, Keeps, Grows, DerivesStep, Ends, measure, GoesOn, StepGives, closings_at}
+use Rattle.sat_core.specs.Searching.{form_of, state_of, IsReady, IsUnderWay, IsAtStart, Keeps, DerivesStep, Ends, measure, GoesOn, StepGives, closings_at}
 use Rattle.sat_core.proofs.Growing.{IsLogged, logged, solver_from, IsLogged-push, Grows-none, Grows-learned, Grows-trans, Grows-length}
 use Rattle.sat_core.proofs.Sets.{not_both}
 use Rattle.sat_core.proofs.OrderLemmas.{choice_assume, contrary_member}

@@ -9,13 +9,12 @@ use Rattle.clause_base.specs.declared.log.Step.{Step}
 use Rattle.clause_base.specs.declared.log.StepKind.TheVariants.{Block}
 use Rattle.clause_base.specs.Literal.{has_distinct_variables, IsWithin, AreWithin, AllDistinct}
 use Rattle.clause_base.specs.Acceptance.{clauses_of}
-use Rattle.clause_base.specs.Progress.{LearnedAreFresh}
 use Rattle.trail_core.specs.TrailState.{TrailState, IsTrail}
 use Rattle.sat_core.specs.declared.engine.Engine.{Engine}
 use Rattle.sat_core.specs.SolverState.{IsSolver}
-use Rattle.sat_core.specs.Outcome.{Searches}
+use Rattle.sat_core.specs.Outcome.{Searches, Grows}
 use Rattle.sat_core.specs.Analyses.{IsEmpty}
-use Rattle.sat_core.specs.Searching.{form_of, state_of, IsReady, Keeps, Grows}
+use Rattle.sat_core.specs.Searching.{form_of, state_of, IsReady, Keeps}
 use Rattle.sat_core.proofs.Growing.{IsLogged, logged, solver_from, IsLogged-block}
 use Rattle.sat_core.proofs.SearchLemmas.{StaysFit, IsReady-same, IsReady-pushed}
 
@@ -29,8 +28,9 @@ IsReady-blocked e log after found (Ok x) h w d p q =
     (IsLogged-block e.trail.vars (form_of e) log after record { kind = Block; clause = found; chain = [] } (logged (state_of e log) h.solver) refl w d p)
 IsReady-blocked e log after found (Err x) h w d p q = IsReady-same e e log after h (stays e log h) refl refl q
 
-no_step_logged : (vars : ℕ) (form : List (List Lit)) → AreWithin vars form → AllDistinct form → IsLogged vars form []
-no_step_logged vars form w d = record {
+no_step_logged : (vars : ℕ) (form : List (List Lit)) → vars < 2 ^ 32 → AreWithin vars form → AllDistinct form → IsLogged vars form []
+no_step_logged vars form small w d = record {
+  small = small;
   accepted = record { each_step = λ place l. absurd (omega (arith, l)); every_block = refl };
   within = subst (AreWithin vars) (sym (append-nil form)) w;
   distinct = subst AllDistinct (sym (append-nil form)) d;
@@ -46,7 +46,7 @@ IsReady-begins e log vars form preferred t h a m n k p o l w d q f = record {
   preferred = subst (λ x. All (λ v. (1 ≤ v) × (v ≤ x)) e.preferred.items) (sym vars_are) (subst (All (λ v. (1 ≤ v) × (v ≤ vars))) (sym p) q);
   few = omega (arith, ap length p, f);
   size = o ∙ sym vars_are;
-  solver = solver_from (state_of e log) (subst (λ x. IsLogged x (form_of e) log) (sym vars_are) (subst (λ x. IsLogged vars x log) (sym form_is) (subst (IsLogged vars form) (sym l) (no_step_logged vars form w d))));
+  solver = solver_from (state_of e log) (subst (λ x. IsLogged x (form_of e) log) (sym vars_are) (subst (λ x. IsLogged vars x log) (sym form_is) (subst (IsLogged vars form) (sym l) (no_step_logged vars form (omega (arith, vars_are, h.small)) w d))));
 }
   where
     vars_are : e.trail.vars ≡ vars
@@ -67,11 +67,7 @@ Searches-from old new log after budget left derived k g = record {
   vars = k.vars;
   form = k.form;
   preferred = k.preferred;
-  prefix = g.prefix;
-  no_block = g.no_block;
-  units = g.units;
-  fresh = subst (λ f. LearnedAreFresh f after (length log)) (sym k.form) g.fresh;
-  derived_steps = g.derived_steps;
+  grows = g;
 }
 
 pub solver_of : (e : Engine) (log : List Step) → IsReady e log → IsSolver (state_of e log)

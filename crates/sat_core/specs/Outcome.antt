@@ -1,5 +1,5 @@
 -- What a call of `solve` answers, and what it adds to the log.
-use Rattle.std.specs.Prelude.{◌≡◌, ℕ, ◌+◌, ◌-◌, ◌<◌, Bool, true, false, List, length, take, drop, count_by, Result, Ok, Err}
+use Rattle.std.specs.Prelude.{◌≡◌, ℕ, ◌+◌, ◌-◌, ◌<◌, ◌≤◌, Bool, true, false, List, length, take, drop, count_by, Result, Ok, Err}
 use Rattle.clause_base.specs.declared.literal.Lit.{Lit}
 use Rattle.clause_base.specs.declared.log.Step.{Step}
 use Rattle.clause_base.specs.declared.log.StepKind.{StepKind}
@@ -35,18 +35,25 @@ is_derived step = is_derived_kind step.kind
 abbrev pub added : List Step → List Step → List Step
 added old new = drop (length old) new
 
+-- the log grew by no block, by as many learned steps as units were taken, each of which tells unit propagation something new,
+-- and by so many derived steps
+pub record Grows (form : List (List Lit)) (old new : List Step) (budget left derived : ℕ) : Type 0 where
+  pub prefix : take (length old) new ≡ old
+  pub no_block : count_by is_block (added old new) ≡ 0
+  pub units : count_by is_learned (added old new) + left ≡ budget
+  pub fresh : LearnedAreFresh form new (length old)
+  pub derived_steps : count_by is_derived (added old new) ≡ derived
+
+-- each step that was added, but the last, is learned
+abbrev pub LearnedBeforeLast : List Step → List Step → Type 0
+LearnedBeforeLast old new = (place : ℕ) → length old ≤ place → place + 1 < length new → (step_at new place).kind ≡ Learned
+
 -- what a call of `solve` changes, `derived` being the number of derived steps that it adds
 pub record Searches (old new : SolverState) (budget left derived : ℕ) : Type 0 where
   pub vars : new.vars ≡ old.vars
   pub form : new.form ≡ old.form
   pub preferred : new.preferred ≡ old.preferred
-  -- the log grew, by no block
-  pub prefix : take (length old.log) new.log ≡ old.log
-  pub no_block : count_by is_block (added old.log new.log) ≡ 0
-  -- as many learned steps as units taken, each of which tells unit propagation something new
-  pub units : count_by is_learned (added old.log new.log) + left ≡ budget
-  pub fresh : LearnedAreFresh new.form new.log (length old.log)
-  pub derived_steps : count_by is_derived (added old.log new.log) ≡ derived
+  pub grows : Grows old.form old.log new.log budget left derived
 
 -- the log's last step has this number, counted from 1, and is derived, of negated assumptions alone
 pub record IsRefuted (log : List Step) (number : ℕ) (assume : List Lit) : Type 0 where

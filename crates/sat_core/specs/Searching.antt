@@ -4,15 +4,14 @@ use Rattle.loc_base.specs.declared.memory.NoMemory.{NoMemory}
 use Rattle.clause_base.specs.declared.literal.Lit.{Lit}
 use Rattle.clause_base.specs.declared.log.Step.{Step}
 use Rattle.clause_base.specs.declared.log.StepKind.TheVariants.{Derived as derived_kind}
-use Rattle.clause_base.specs.Acceptance.{clauses_of, is_block}
-use Rattle.clause_base.specs.Progress.{LearnedAreFresh}
+use Rattle.clause_base.specs.Acceptance.{clauses_of}
 use Rattle.trail_core.specs.Values.{IsVariable}
 use Rattle.trail_core.specs.TrailState.{TrailState, values_of}
 use Rattle.sat_core.specs.declared.engine.Engine.{Engine}
 use Rattle.sat_core.specs.declared.verdict.Verdict.{Verdict}
 use Rattle.sat_core.specs.declared.verdict.Verdict.TheVariants as verdict
 use Rattle.sat_core.specs.SolverState.{SolverState, IsSolver, IsGreatestModel, assignment_of}
-use Rattle.sat_core.specs.Outcome.{is_learned, is_derived, added, IsRefuted, Says, closings_of}
+use Rattle.sat_core.specs.Outcome.{IsRefuted, Says, closings_of}
 use Rattle.sat_core.specs.Derivation.{Denies}
 use Rattle.sat_core.specs.Choices.{AreChosen}
 use Rattle.sat_core.specs.Engines.{IsFit}
@@ -54,14 +53,6 @@ pub record Keeps (old new : Engine) : Type 0 where
   pub size : new.form_len ≡ old.form_len
   pub form : form_of new ≡ form_of old
   pub preferred : new.preferred.items ≡ old.preferred.items
-
--- the log grew by no block, by as many learned steps as units were taken, each fresh, and by so many derived steps
-pub record Grows (form : List (List Lit)) (old new : List Step) (budget left derived : ℕ) : Type 0 where
-  pub prefix : take (length old) new ≡ old
-  pub no_block : count_by is_block (added old new) ≡ 0
-  pub units : count_by is_learned (added old new) + left ≡ budget
-  pub fresh : LearnedAreFresh form new (length old)
-  pub derived_steps : count_by is_derived (added old new) ≡ derived
 
 -- the log has one derived step more: its chain gives its clause of the head and of opposites of decisions
 pub record DerivesStep (t : TrailState) (head : List Lit) (old new : List Step) : Type 0 where

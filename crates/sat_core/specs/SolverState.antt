@@ -1,5 +1,5 @@
 -- What a solver knows: a form, the variables that are to be true where they can be, and a log of steps.
-use Rattle.std.specs.Prelude.{◌≡◌, ℕ, ◌-◌, ◌<◌, Bool, true, false, List, map, filter, length, slice_index_or, IsTrue, All}
+use Rattle.std.specs.Prelude.{◌≡◌, ℕ, ◌-◌, ◌^◌, ◌<◌, Bool, true, false, List, map, filter, length, slice_index_or, IsTrue, All}
 use Rattle.clause_base.specs.declared.literal.Lit.{Lit}
 use Rattle.clause_base.specs.declared.log.Step.{Step}
 use Rattle.clause_base.specs.Literal.{AllDistinct, AreWithin}
@@ -20,6 +20,8 @@ blocks_of log = map (λ step. step.clause) (filter is_block log)
 
 -- what holds of each solver: its log is accepted, with the clauses that were blocked
 pub record IsSolver (s : SolverState) : Type 0 where
+  -- the variables are numbers of 32 bits
+  pub small : s.vars < 2 ^ 32
   pub accepted : IsAccepted s.form (blocks_of s.log) s.log
   pub within : AreWithin s.vars (clauses_of s.form s.log)
   pub distinct : AllDistinct (clauses_of s.form s.log)

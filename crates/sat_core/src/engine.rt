@@ -33,10 +33,10 @@ impl Engine {
     ghost use Rattle.clause_base.specs.Acceptance.{numbered};
     ghost use Rattle.trail_core.specs.Values.{IsVariable, IsUnassignedIn, IsFalseIn, IsFalsified};
     ghost use Rattle.trail_core.specs.TrailState.{AllRest, IsNumber, values_of, reason_in, with_decision};
-    ghost use Rattle.sat_core.specs.Outcome.{Says, closings};
+    ghost use Rattle.sat_core.specs.Outcome.{Grows, Says, closings};
     ghost use Rattle.sat_core.specs.Choices.{AreChosen, ChoiceGives};
     ghost use Rattle.sat_core.specs.Engines.{IsFit, Learned, KeptLog, KeepsPace};
-    ghost use Rattle.sat_core.specs.Searching.{form_of, state_of, IsReady, IsUnderWay, IsAtStart, Keeps, Grows, DerivesStep, ExtendGives, StepGives, closings_at};
+    ghost use Rattle.sat_core.specs.Searching.{form_of, state_of, IsReady, IsUnderWay, IsAtStart, Keeps, DerivesStep, ExtendGives, StepGives, closings_at};
 
     /// Searches for a model under assumptions, or for a clause of negated assumptions, while units are left.
     pub(crate) fn search(

@@ -8,8 +8,6 @@ mod engine;
 mod laws;
 mod order;
 mod solver;
-#[cfg(test)]
-mod tests;
 mod verdict;
 
 pub use budget::Budget;

@@ -34,7 +34,7 @@ impl Model for Solver {
 
 impl Solver {
     ghost use Rattle.sat_core.specs.SolverState.{IsSolver};
-    ghost use Rattle.sat_core.specs.Outcome.{Searches, Says, closings};
+    ghost use Rattle.sat_core.specs.Outcome.{Searches, LearnedBeforeLast, Says, closings};
     ghost use Rattle.sat_core.specs.Calls.{Begins, with_block};
 
     /// A solver of a form, with an empty log. Of the preferred variables, which are to be true where they can be, the
@@ -83,11 +83,13 @@ impl Solver {
         ensures searches { Searches self.old self.new budget.old budget.new (closings result) }
         ensures solver { IsSolver self.new }
         ensures says { IfOk result (Says self.new assume.now budget.new) }
+        ensures learned { LearnedBeforeLast self.old.log self.new.log }
     {
         self.engine.search(assume, &mut self.log, budget)
     }
 
-    /// The values of the variables from 1 on in the last model; all are false before the first.
+    /// The values of the variables from 1 on: all are false in a new solver, and after `Model` they are the model's. No
+    /// clause says what they are after another answer.
     pub fn model(&self) -> &[bool]
         ensures value { result.now ≡ self.now.model }
         ensures size { length self.now.model ≡ self.now.vars }

@@ -2,23 +2,14 @@
 //! tells what came of it.
 #![tactic(auto)]
 
-ghost use Rattle.std.specs.Prelude.{◌<◌, ◌^◌, IfOk};
+ghost use Rattle.std.specs.Prelude.{◌<◌, ◌^◌, IfOk, length};
+ghost use Rattle.clause_base.specs.Literal.{AreWithin};
 
-mod error;
-mod form;
-mod model;
-mod report;
-mod request;
-mod run;
-#[cfg(test)]
-mod tests;
-mod words;
-
-use crate::error::{Failure, failure_status, failure_text};
-use crate::form::read_form;
-use crate::report::{report_text, status_of};
-use crate::request::{Request, request_of};
-use crate::run::{check, report_on, solve};
+use clause_base::Form;
+use cnf_solve::{
+    Failure, Report, Request, check, failure_status, failure_text, read_form, report_on,
+    report_text, request_of, solve, status_of,
+};
 use loc_base::Bytes;
 use std::io::Read;
 use std::process::ExitCode;
@@ -67,24 +58,50 @@ fn print_time(rt: &HostRuntime, name: &str, time: Duration) -> Result<(), Failur
     Ok(())
 }
 
+/// What came of a formula, and how long solving and checking took.
+#[derive(Clone, Copy)]
+struct Told {
+    report: Report,
+    solving: Duration,
+    checking: Duration,
+}
+
+/// Solves and checks.
+fn tell(rt: &HostRuntime, form: &Form, units: u32) -> Result<Told, Failure>
+    requires within { AreWithin form.now.vars form.now.clauses }
+    requires few { length form.now.clauses < 2 ^ 31 }
+    requires units { units < 2 ^ 31 }
+{
+    let begin = Instant::now(rt)?;
+    let solved = solve(rt.alloc(), form, units)?;
+    let middle = Instant::now(rt)?;
+    let checked = check(rt.alloc(), form, solved.solver.log())?;
+    let end = Instant::now(rt)?;
+    Ok(Told {
+        report: report_on(form, &solved, units, checked),
+        solving: middle.duration_since(begin),
+        checking: end.duration_since(middle),
+    })
+}
+
+/// Prints what came of a formula, and the times where they are asked for.
+fn print_told(rt: &HostRuntime, told: &Told, times: bool) -> Result<(), Failure> {
+    let text = report_text(rt.alloc(), &told.report)?;
+    print_text(rt, &text)?;
+    if times {
+        print_time(rt, "solve", told.solving)?;
+        print_time(rt, "check", told.checking)?;
+    }
+    Ok(())
+}
+
 /// Solves, checks, prints, and gives the exit status.
 fn answer(rt: &HostRuntime) -> Result<u8, Failure> {
-    let alloc = rt.alloc();
     let request = read_request(rt)?;
-    let form = read_form(alloc, read_input(rt)?)?;
-    let begin = Instant::now(rt)?;
-    let solved = solve(alloc, &form, request.units)?;
-    let middle = Instant::now(rt)?;
-    let checked = check(alloc, &form, solved.solver.log())?;
-    let end = Instant::now(rt)?;
-    let report = report_on(&form, &solved, request.units, checked);
-    let text = report_text(alloc, &report)?;
-    print_text(rt, &text)?;
-    if request.times {
-        print_time(rt, "solve", middle.duration_since(begin))?;
-        print_time(rt, "check", end.duration_since(middle))?;
-    }
-    Ok(status_of(&report))
+    let form = read_form(rt.alloc(), read_input(rt)?)?;
+    let told = tell(rt, &form, request.units)?;
+    print_told(rt, &told, request.times)?;
+    Ok(status_of(&told.report))
 }
 
 fn main(rt: HostRuntime) -> ExitCode {

@@ -1,7 +1,8 @@
 use Rattle.std.proofs.Common.{◌≡◌, ◌∙◌, [], ap, sym, subst, arith}
 use Rattle.std.proofs.lemmas.Result.{err_from_is_err_and}
 use Rattle.trail_core.specs.TrailState.{TrailState}
-use Rattle.sat_core.specs.Searching.{Grows, form_of}
+use Rattle.sat_core.specs.Outcome.{Grows}
+use Rattle.sat_core.specs.Searching.{form_of}
 use Rattle.sat_core.proofs.Growing.{Grows-derived}
 use Rattle.sat_core.proofs.SearchLemmas.{StaysFit-from, IsReady-derived, refuted_closed, Keeps-same, Keeps-learned, IsReady-kept, Grows-kept, clauses_kept, IsReady-learned, IsUnderWay-learned, Grows-learned_at, smaller_learned, closings_err}
 use Rattle.sat_core.proofs.engine.Engine.meet.Goals as goal

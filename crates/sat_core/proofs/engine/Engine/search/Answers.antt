@@ -1,6 +1,7 @@
 use Rattle.std.proofs.Common.{sym, subst, Ok}
 use Rattle.std.proofs.lemmas.Result.{err_from_is_err_and}
-use Rattle.sat_core.specs.Searching.{form_of, Grows, GoesOn, closings_at}
+use Rattle.sat_core.specs.Outcome.{Grows}
+use Rattle.sat_core.specs.Searching.{form_of, GoesOn, closings_at}
 use Rattle.sat_core.proofs.SearchLemmas.{closings_some, closings_failed, Grows-step, room_left, goes_on, Keeps-trans}
 use Rattle.sat_core.proofs.engine.Engine.search.Goals as goal
 

@@ -1,5 +1,6 @@
 use Rattle.std.proofs.Common.{◌+◌, ◌^◌, ◌<◌, length}
-use Rattle.sat_core.specs.Searching.{form_of, IsUnderWay, Keeps, Grows, measure}
+use Rattle.sat_core.specs.Outcome.{Grows}
+use Rattle.sat_core.specs.Searching.{form_of, IsUnderWay, Keeps, measure}
 use Rattle.sat_core.proofs.engine.Engine.search.Given as goal
 
 abbrev pub invariant-loop-verdict : goal.invariant-loop-verdict

@@ -24,7 +24,7 @@ loop-place-preserved c =
 everything-within : (places : List Place) → AreWithin (length places) (everything places)
 everything-within places =
     All-cons (λ group. All (λ number. number < length places) group.places) (record { kind = codes "all"; label = codes "all"; places = numbers_at (λ _. true) 0 places }) []
-        (numbers_at-within (λ _. true) 0 places (length places) (omega arith)) (All-nil _)
+    (numbers_at-within (λ _. true) 0 places (length places) (omega arith)) (All-nil _)
 
 suspect : List ℕ → List ℕ → List ℕ → List Group
 suspect kind label places = record { kind = kind; label = label; places = places } ∷ []
@@ -33,7 +33,7 @@ pub returns-clause-lists : goal.returns-clause-lists
 unfolding suspect
 returns-clause-lists c =
     let numbers : c.loop-place.numbers ≡ numbers_at (λ _. true) 0 c.args.places.now =
-          c.loop-place.invariant ∙ ap (numbers_at (λ _. true) 0) (take_all c.loop-place.place c.args.places.now c.loop-place-test.false) in
+    c.loop-place.invariant ∙ ap (numbers_at (λ _. true) 0) (take_all c.loop-place.place c.args.places.now c.loop-place-test.false) in
     c.in_ok-push-2.ensures.ok ∙ ap (λ (groups : List Group). groups ++ suspect c.in_ok-name_of.field-0 c.in_ok-name_of-2.field-0 c.loop-place.numbers) c.new-groups.ensures
     ∙ ap (λ kind. suspect kind c.in_ok-name_of-2.field-0 c.loop-place.numbers) c.in_ok-name_of.ensures
     ∙ ap (λ label. suspect (codes "all") label c.loop-place.numbers) c.in_ok-name_of-2.ensures ∙ ap (suspect (codes "all") (codes "all")) numbers

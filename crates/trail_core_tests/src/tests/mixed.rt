@@ -1,0 +1,102 @@
+//! Clauses and decisions from a fixed sequence of numbers, by the trail and by rounds over all clauses.
+
+ghost use Rattle.std.specs.Prelude.{◌≡◌, ◌<◌, length, IfOk};
+
+use super::{add, decide, plain};
+use clause_base::{Lit, has_distinct_variables};
+use loc_base::NoMemory;
+use std::alloc::Global;
+use std::process::Abort;
+use std::test::Fail;
+use trail_core::Trail;
+
+/// How many variables there are.
+const VARS: u32 = 8;
+
+/// The number after this one in a fixed sequence (Park and Miller 1988).
+fn following(number: u64) -> u64 {
+    number % 2147483647 * 48271 % 2147483647
+}
+
+/// The literal that a number gives.
+fn literal(number: u64) -> Lit {
+    Lit {
+        var: (number % u64::from(VARS)) as u32 + 1,
+        negated: number / 8 % 2 == 1,
+    }
+}
+
+/// Up to three literals, by a number.
+fn clause_of(alloc: Global, start: u64) -> Result<Vec<Lit>, NoMemory> {
+    let mut number = start;
+    let mut clause = Vec::new(alloc);
+    for _ in 0..start % 3 + 1 {
+        number = following(number);
+        clause.push(literal(number))?;
+    }
+    Ok(clause)
+}
+
+/// Clauses of distinct variables, from the sequence that begins with this number.
+fn clauses_of(alloc: Global, start: u64) -> Result<Vec<Vec<Lit>>, NoMemory> {
+    let mut number = start;
+    let mut clauses = Vec::new(alloc);
+    for _ in 0..16 {
+        number = following(number);
+        let clause = clause_of(alloc, number)?;
+        if has_distinct_variables(&clause) {
+            clauses.push(clause)?;
+        }
+    }
+    Ok(clauses)
+}
+
+/// A trail with these clauses.
+fn trail_of(rt: &impl Abort, alloc: Global, clauses: &[Vec<Lit>]) -> Result<Trail, NoMemory> {
+    assert!(rt; clauses.len() < 100);
+    let mut trail = Trail::new(alloc, VARS)?;
+    for clause in clauses {
+        add(rt, &mut trail, clause)?;
+    }
+    Ok(trail)
+}
+
+/// Whether the trail gives each variable its value.
+fn has_values(trail: &Trail, values: &[Option<bool>]) -> bool {
+    for var in 1..=trail.vars() {
+        if values.get(var as usize - 1) != Some(&trail.value(var)) {
+            return false;
+        }
+    }
+    true
+}
+
+/// Whether the two come to the same after each of the decisions, up to the first after which a clause is false.
+fn agrees(rt: &impl Abort, alloc: Global, start: u64) -> Result<bool, NoMemory> {
+    let clauses = clauses_of(alloc, start)?;
+    let mut trail = trail_of(rt, alloc, &clauses)?;
+    let mut values = vec![in alloc; None; VARS as usize]?;
+    let mut number = start;
+    for _ in 0..VARS {
+        let rests = plain::propagate(&mut values, &clauses);
+        if trail.propagate().is_some() || !rests {
+            return Ok(!rests && trail.propagate().is_some());
+        }
+        if !has_values(&trail, &values) {
+            return Ok(false);
+        }
+        number = following(number);
+        if decide(rt, &mut trail, literal(number)) {
+            plain::set(&mut values, literal(number));
+        }
+    }
+    Ok(true)
+}
+
+#[test]
+fn both_propagations_come_to_the_same_values(rt: HostRuntime) -> Result<(), Fail> {
+    for start in 1..40 {
+        assert!(rt; agrees(&rt, rt.alloc(), start)?, "{start}");
+    }
+    Ok(())
+}
