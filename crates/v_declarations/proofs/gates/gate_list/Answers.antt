@@ -13,7 +13,7 @@ returns-in_err-part-clause-gives c =
 
 pub loop-preserved : goal.loop-preserved
 loop-preserved c =
-    listing_turn c.loop.invariant (omega (arith, c.loop-test.true)) (grind arith) c.in_ok-part.ensures.gives c.in_ok-part.ensures.inside (search rules) (omega arith)
+    listing_turn {y = c.in_ok-part.part} c.loop.invariant (omega (arith, c.loop-test.true)) (grind arith) c.in_ok-part.ensures.gives c.in_ok-part.ensures.inside (search rules) (omega arith)
 
 pub returns-clause-gives : goal.returns-clause-gives
 returns-clause-gives c = listing_done c.loop.invariant (omega (arith, c.loop-test.false))
