@@ -4,7 +4,7 @@ use Rattle.std.specs.Prelude.{is_some}
 use Rattle.std.specs.List.{count_by}
 use Rattle.std.specs.Vec.{vec_capacity}
 use Rattle.std.proofs.lemmas.List.{length-take-le}
-use Rattle.trail_core.specs.declared.trail.Trail.TheInside.{Inside}
+use Rattle.trail_core.specs.declared.plain.PlainTrail.TheInside.{Inside}
 use Rattle.trail_core.specs.TrailState.{IsTrail, back_at, up_to}
 use Rattle.trail_core.specs.Layout.{state_of, IsIndex, AreStarts, IsLaidOut}
 use Rattle.trail_core.proofs.Back.{IsStart, up_to_start, IsTrail-back_at, AreStarts-take}

@@ -7,7 +7,7 @@ use Rattle.std.proofs.lemmas.List.{length-set}
 use Rattle.std.proofs.lemmas.List.Sums.{count_by-le-length}
 use Rattle.clause_base.specs.declared.literal.Lit.{Lit}
 use Rattle.trail_core.specs.declared.entry.Entry.{Entry}
-use Rattle.trail_core.specs.declared.trail.Trail.TheInside.{Inside}
+use Rattle.trail_core.specs.declared.plain.PlainTrail.TheInside.{Inside}
 use Rattle.trail_core.specs.Values.{IsVariable, IsUnassignedIn}
 use Rattle.trail_core.specs.TrailState.{TrailState, IsTrail, IsReason, AllRest, entry_of, values_of, is_decision}
 use Rattle.trail_core.specs.Layout.{state_of, IsIndex, AreStarts, IsLaidOut}

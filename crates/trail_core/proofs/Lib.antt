@@ -8,3 +8,10 @@ pub mod Back
 pub mod BackFields
 pub mod Looks
 pub mod RoundLemmas
+pub mod Keeping
+pub mod Listing
+pub mod Visiting
+pub mod Passing
+pub mod Placing
+pub mod Giving
+pub mod Going

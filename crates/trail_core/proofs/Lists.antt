@@ -1,5 +1,5 @@
 -- Lists: what `find` and `filter` give for a part of a list, and counts.
-use Rattle.std.proofs.Common.{◌≡◌, ℕ, zero, suc, ◌+◌, ◌<◌, ◌≤◌, Bool, true, false, cond, List, [], ◌∷◌, length, get_or, set, take, Option, Some, None, refl, ap, arith}
+use Rattle.std.proofs.Common.{◌≡◌, ℕ, zero, suc, ◌+◌, ◌<◌, ◌≤◌, Bool, true, false, cond, List, [], ◌∷◌, length, get_or, set, take, Option, Some, None, refl, sym, ap, ◌∙◌, subst, arith}
 use Rattle.std.proofs.Common.{◌⊎◌, inl, inr}
 use Rattle.std.specs.List.{find, filter, count_by}
 use Rattle.std.proofs.lemmas.Bool.{false_from_ne_true, false≢true, both_ways}
@@ -121,3 +121,31 @@ filter_front p (x ∷ xs) h =
     prefix_step (p x) x (filter p xs) xs
     (λ t. filter_front p xs (λ i j d l m e. h (suc i) (suc j) d (omega arith) (omega arith) e))
     (λ t. filter_none p xs (λ k d l. false_from_ne_true (p (get_or xs k d)) (λ e. both_ways (p x) t (h 0 (suc k) d (omega arith) (omega arith) e))))
+
+passes_step : {X : Type 0} (b : Bool) (x y : X) (zs : List X) (p q : X → Bool) → (b ≡ true → q x ≡ true) → (find p zs ≡ Some y → q y ≡ true) → find p (cond b (x ∷ zs) zs) ≡ Some y → q y ≡ true
+passes_step true x y zs p q f g h = elim (some_parts (p x) x y (find p zs) h) [ inl t ↦ subst (λ z. q z ≡ true) t.1 (f refl) | inr t ↦ g t.1 ]
+passes_step false x y zs p q f g h = g h
+
+-- what is found in a filtered list passes the filter
+pub find-filter_passes : {X : Type 0} (p q : X → Bool) (xs : List X) (y : X) → find p (filter q xs) ≡ Some y → q y ≡ true
+find-filter_passes p q [] y h = cc
+find-filter_passes p q (x ∷ xs) y h = passes_step (q x) x y (filter q xs) p q (λ e. e) (find-filter_passes p q xs y) h
+
+keeps_step : {X : Type 0} (b : Bool) (x y : X) (xs zs : List X) (p q : X → Bool) → q x ≡ b → (find p xs ≡ Some y → find p zs ≡ Some y) → q y ≡ true → cond (p x) (Some x) (find p xs) ≡ Some y → find p (cond b (x ∷ zs) zs) ≡ Some y
+keeps_step true x y xs zs p q e f t h = some_step (p x) x y (find p xs) (find p zs) f h
+keeps_step false x y xs zs p q e f t h = elim (some_parts (p x) x y (find p xs) h) [ inl s ↦ absurd (false≢true (subst (λ z. false ≡ q z) s.1 (sym e) ∙ t)) | inr s ↦ f s.1 ]
+
+-- what is found, and passes a filter, is found in the filtered list
+pub find-filter_keeps : {X : Type 0} (p q : X → Bool) (xs : List X) (y : X) → find p xs ≡ Some y → q y ≡ true → find p (filter q xs) ≡ Some y
+find-filter_keeps p q [] y h t = h
+find-filter_keeps p q (x ∷ xs) y h t = keeps_step (q x) x y xs (filter q xs) p q refl (λ e. find-filter_keeps p q xs y e t) t h
+
+at_step : {X : Type 0} (b : Bool) (x : X) (zs : List X) (q : X → Bool) (i : ℕ) (d : X) → (b ≡ true → q x ≡ true) → ((j : ℕ) → j < length zs → q (get_or zs j d) ≡ true) → i < length (cond b (x ∷ zs) zs) → q (get_or (cond b (x ∷ zs) zs) i d) ≡ true
+at_step true x zs q zero d f g l = f refl
+at_step true x zs q (suc i) d f g l = g i (omega (arith, l))
+at_step false x zs q i d f g l = g i l
+
+-- each element of a filtered list passes the filter
+pub filter_at : {X : Type 0} (q : X → Bool) (xs : List X) (i : ℕ) (d : X) → i < length (filter q xs) → q (get_or (filter q xs) i d) ≡ true
+filter_at q [] i d l = absurd (omega (arith, l))
+filter_at q (x ∷ xs) i d l = at_step (q x) x (filter q xs) q i d (λ e. e) (λ j m. filter_at q xs j d m) l

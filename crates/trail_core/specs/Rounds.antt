@@ -2,10 +2,10 @@
 use Rattle.std.specs.Prelude.{ℕ, ◌<◌, length}
 use Rattle.clause_base.specs.declared.literal.Lit.{Lit}
 use Rattle.clause_base.specs.Acceptance.{numbered}
-use Rattle.trail_core.specs.declared.trail.propagate.Look.{Look}
-use Rattle.trail_core.specs.declared.trail.propagate.Look.TheVariants as look
-use Rattle.trail_core.specs.declared.trail.propagate.Round.{Round}
-use Rattle.trail_core.specs.declared.trail.propagate.Round.TheVariants as round
+use Rattle.trail_core.specs.declared.plain.propagate.Look.{Look}
+use Rattle.trail_core.specs.declared.plain.propagate.Look.TheVariants as look
+use Rattle.trail_core.specs.declared.plain.propagate.Round.{Round}
+use Rattle.trail_core.specs.declared.plain.propagate.Round.TheVariants as round
 use Rattle.trail_core.specs.Values.{IsVariable, IsFalsified, Rests}
 use Rattle.trail_core.specs.TrailState.{TrailState, IsNumber, IsReason, AllRest, values_of}
 

@@ -2,15 +2,13 @@ ghost use Rattle.std.specs.Prelude.{◌≡◌, ℕ, ◌+◌, ◌-◌, ◌^◌, �
 ghost use Rattle.std.specs.Option.{option_map};
 ghost use Rattle.clause_base.specs.Literal.{IsWithin, has_distinct_variables};
 ghost use Rattle.clause_base.specs.Acceptance.{numbered};
-ghost use Rattle.trail_core.specs.Values.{IsVariable};
-ghost use Rattle.trail_core.specs.TrailState.{TrailState, IsTrail, IsNumber, MayAdd, with_clause, values_of, level_in, reason_in, entry_of};
+ghost use Rattle.trail_core.specs.Values.{IsVariable, IsUnassignedIn, IsFalsified};
+ghost use Rattle.trail_core.specs.TrailState.{TrailState, IsTrail, IsNumber, MayAdd, AllRest, Propagates, with_clause, with_decision, back_at, values_of, level_in, reason_in};
 
-mod append;
-mod back;
-mod propagate;
-
-use crate::entry::Entry;
-use clause_base::{Clauses, Lit};
+use crate::plain::PlainTrail;
+use crate::watch::{Watched, watch};
+use crate::watches::{Watches, give_up_behind, go_back, make_room, watches_of};
+use clause_base::Lit;
 use loc_base::NoMemory;
 use std::alloc::Global;
 use std::marker::Model;
@@ -20,25 +18,19 @@ use std::marker::Model;
 /// Contracts see it as its number of variables, its clauses, its entries and its decision level.
 #[derive(Drop)]
 pub struct Trail {
-    clauses: Clauses,
-    /// The entry of each variable, at the variable less 1.
-    assigned: Vec<Option<Entry>>,
-    /// The true literals, in order.
-    entries: Vec<Entry>,
-    /// The place of each level's decision, from level 1.
-    starts: Vec<u32>,
+    plain: PlainTrail,
+    watches: Watches,
 }
 
 impl Model for Trail {
     ghost use Rattle.trail_core.specs.TrailState.{TrailState};
+    ghost use Rattle.trail_core.specs.Visits.{IsWatching};
 
     ghost Value = { TrailState };
 
-    ghost use Rattle.trail_core.specs.Layout.{state_of, IsLaidOut};
+    ghost view = { λ t. t.plain };
 
-    ghost view = { state_of };
-
-    ghost invariant = { IsLaidOut };
+    ghost invariant = { λ t. IsWatching t.plain t.watches };
 }
 
 impl Trail {
@@ -47,15 +39,9 @@ impl Trail {
         ensures empty { IfOk result (λ t. t ≡ record { vars = vars; clauses = []; entries = []; level = 0 }) }
         ensures trail { IfOk result IsTrail }
     {
-        let size = vars as usize;
-        let assigned = vec![in alloc; None; size]?;
-        let entries = Vec::with_capacity(alloc, size)?;
-        let starts = Vec::with_capacity(alloc, size)?;
         Ok(Trail {
-            clauses: Clauses::new(alloc),
-            assigned,
-            entries,
-            starts,
+            plain: PlainTrail::new(alloc, vars)?,
+            watches: watches_of(alloc, vars)?,
         })
     }
 
@@ -70,8 +56,51 @@ impl Trail {
         ensures err { OnErr result (self.new ≡ self.old) }
         ensures trail { IsTrail self.new }
     {
-        self.clauses.push(literals)?;
-        Ok(self.clauses.len() as u32)
+        make_room(&mut self.watches, self.plain.count(), literals)?;
+        self.plain.add_clause(literals)
+    }
+
+    /// Makes literals true at the present level for as long as a clause is unit, each with that clause as its
+    /// reason. Answers the number of a clause whose literals are all false, or none, where no clause is unit or
+    /// false. It takes no memory.
+    pub fn propagate(&mut self) -> Option<u32>
+        ensures appends { Propagates self.old self.new }
+        ensures falsified { IfSome result (IsNumber self.new.clauses) }
+        ensures conflict { IfSome result (λ n. IsFalsified (values_of self.new.entries) (numbered self.new.clauses n)) }
+        ensures rest { IfNone result (AllRest self.new.clauses (values_of self.new.entries)) }
+        ensures trail { IsTrail self.new }
+    {
+        if self.watches.are_kept {
+            match watch(&mut self.plain, &mut self.watches) {
+                Watched::Rests => return None,
+                Watched::Falsified(number) => return Some(number),
+                Watched::Lost => self.watches.are_kept = false,
+            }
+        }
+        self.plain.propagate()
+    }
+
+    /// Raises the decision level by one, and makes a literal true there as its decision. It takes no memory.
+    pub fn decide(&mut self, l: Lit)
+        requires variable { IsVariable self.old.vars l.var }
+        requires unassigned { IsUnassignedIn (values_of self.old.entries) l }
+        requires rest { AllRest self.old.clauses (values_of self.old.entries) }
+        ensures after { self.new ≡ with_decision self.old l }
+        ensures trail { IsTrail self.new }
+    {
+        give_up_behind(&mut self.watches, self.plain.len());
+        self.plain.decide(l);
+    }
+
+    /// Makes a level the present one, and leaves exactly the true literals whose level is at most that one, in
+    /// their order. It takes no memory.
+    pub fn back_to(&mut self, level: u32)
+        requires { level ≤ self.old.level }
+        ensures after { self.new ≡ back_at self.old level }
+        ensures trail { IsTrail self.new }
+    {
+        self.plain.back_to(level);
+        go_back(&mut self.watches, self.plain.len());
     }
 
     /// The literals of the clause of that number.
@@ -81,42 +110,42 @@ impl Trail {
         ensures within { IsWithin self.now.vars result.now }
         ensures distinct { IsTrue (has_distinct_variables result.now) }
     {
-        self.clauses.clause(number as usize - 1)
+        self.plain.clause(number)
     }
 
     /// The number of variables.
     pub fn vars(&self) -> u32
         ensures { result ≡ self.now.vars }
     {
-        self.assigned.len() as u32
+        self.plain.vars()
     }
 
     /// The number of true literals.
     pub fn len(&self) -> u32
         ensures { result ≡ length self.now.entries }
     {
-        self.entries.len() as u32
+        self.plain.len()
     }
 
     /// Whether no literal is true.
     pub fn is_empty(&self) -> bool
         ensures { IsTrue result ↔ (self.now.entries ≡ []) }
     {
-        self.entries.is_empty()
+        self.plain.is_empty()
     }
 
     /// The present decision level.
     pub fn level(&self) -> u32
         ensures { result ≡ self.now.level }
     {
-        self.starts.len() as u32
+        self.plain.level()
     }
 
     /// The true literal at a place, counted from 0; none past the last.
     pub fn at(&self, place: u32) -> Option<Lit>
         ensures { result ≡ option_map (λ e. e.lit) (slice_get self.now.entries place) }
     {
-        self.entries.get(place as usize).map(|e| e.lit)
+        self.plain.at(place)
     }
 
     /// The value of a variable; none where it is unassigned.
@@ -124,7 +153,7 @@ impl Trail {
         requires { IsVariable self.now.vars var }
         ensures { result ≡ values_of self.now.entries var }
     {
-        self.entry(var).map(|e| !e.lit.negated)
+        self.plain.value(var)
     }
 
     /// The clause that made the variable's literal true, whose other literals became false before it; none for a
@@ -133,7 +162,7 @@ impl Trail {
         requires { IsVariable self.now.vars var }
         ensures { result ≡ reason_in self.now.entries var }
     {
-        self.entry(var)?.reason
+        self.plain.reason(var)
     }
 
     /// The decision level at which the variable's literal became true; none where it is unassigned.
@@ -141,14 +170,6 @@ impl Trail {
         requires { IsVariable self.now.vars var }
         ensures { result ≡ level_in self.now.entries var }
     {
-        self.entry(var).map(|e| e.decision_level)
-    }
-
-    /// The entry of a variable.
-    fn entry(&self, var: u32) -> Option<Entry>
-        requires { IsVariable self.now.vars var }
-        ensures { result ≡ entry_of self.now.entries var }
-    {
-        self.assigned[var as usize - 1]
+        self.plain.level_of(var)
     }
 }

@@ -1,0 +1,51 @@
+-- The literal at which propagation goes on.
+use Rattle.std.proofs.Common.{◌≡◌, ℕ, zero, suc, ◌+◌, ◌<◌, ◌≤◌, Bool, true, false, not, cond, eqb, List, [], ◌∷◌, ◌++◌, length, get_or, take, drop, Option, Some, None, refl, sym, ap, ◌∙◌, subst, arith}
+use Rattle.std.specs.Prelude.{slice_get}
+use Rattle.std.specs.Option.{option_map, option_or}
+use Rattle.std.proofs.lemmas.Bool.{eq-eqb}
+use Rattle.std.proofs.lemmas.List.{take-append-drop, drop_more}
+use Rattle.std.proofs.lemmas.List.Folds.{find-append}
+use Rattle.loc_base.proofs.ShelfOptions.{option_map-some}
+use Rattle.clause_base.specs.declared.literal.Lit.{Lit}
+use Rattle.clause_base.specs.Literal.{opposite}
+use Rattle.trail_core.specs.declared.entry.Entry.{Entry}
+use Rattle.trail_core.specs.TrailState.{TrailState, IsTrail, entry_of, values_of, level_in}
+use Rattle.trail_core.specs.Visits.{IsGone}
+use Rattle.trail_core.proofs.Truth.{mapped_none}
+use Rattle.trail_core.proofs.Listing.{at_any}
+
+-- an entry is that of its variable
+entry_there : (es : List Entry) (g : ℕ) (d : Entry) → g < length es → entry_of (take g es) (get_or es g d).lit.var ≡ None → entry_of es (get_or es g d).lit.var ≡ Some (get_or es g d)
+entry_there es g d l none =
+    let e : Entry = get_or es g d in
+    let p : Entry → Bool = λ (x : Entry). eqb x.lit.var e.lit.var in
+    let split : take g es ++ (e ∷ drop (g + 1) es) ≡ es = ap (λ xs. take g es ++ xs) (sym (drop_more es g d l)) ∙ take-append-drop g es in
+    let yes : p e ≡ true = eq-eqb e.lit.var e.lit.var refl in
+    ap (λ xs. entry_of xs e.lit.var) (sym split)
+    ∙ (find-append p (take g es) (e ∷ drop (g + 1) es) ∙ (ap (λ o. option_or o (entry_of (e ∷ drop (g + 1) es) e.lit.var)) none ∙ rw yes refl))
+
+-- the opposite of the literal at the place is gone
+pub gone_at : (t : TrailState) (g : ℕ) (d : Entry) → IsTrail t → g < length t.entries → (get_or t.entries g d).decision_level ≡ t.level → IsGone t g (opposite (get_or t.entries g d).lit)
+gone_at t g d h l level = record {
+  is_false = ap (option_map (λ (x : Entry). not x.lit.negated)) there;
+  level = ap (option_map (λ (x : Entry). x.decision_level)) there ∙ ap Some level;
+  later = (h.justified g d l).unassigned;
+  here = λ e. ap (λ (x : Entry). x.lit.var) (at_any t.entries g e d l);
+}
+  where
+    there : entry_of t.entries (get_or t.entries g d).lit.var ≡ Some (get_or t.entries g d)
+    there = entry_there t.entries g d l (mapped_none (λ (x : Entry). not x.lit.negated) (entry_of (take g t.entries) (get_or t.entries g d).lit.var) (h.justified g d l).unassigned)
+
+-- what an option of a list's element says of its place
+got : {X : Type 0} (xs : List X) (i : ℕ) (x : X) → slice_get xs i ≡ Some x → (i < length xs) × ((d : X) → get_or xs i d ≡ x)
+got [] zero x h = cc
+got [] (suc i) x h = cc
+got (y ∷ ys) zero x h = (omega arith, λ d. cc)
+got (y ∷ ys) (suc i) x h = let p = got ys i x h in (omega (arith, p.0), p.1)
+
+-- the literal that is told at the place
+pub gone_told : (t : TrailState) (g : ℕ) (l : Lit) → IsTrail t → ((place : ℕ) (d : Entry) → g ≤ place → place < length t.entries → (get_or t.entries place d).decision_level ≡ t.level) → option_map (λ (e : Entry). e.lit) (slice_get t.entries g) ≡ Some l → IsGone t g (opposite l)
+gone_told t g l h present q =
+    let m = option_map-some (λ (e : Entry). e.lit) (slice_get t.entries g) l q in
+    let p = got t.entries g m.0 m.1 in
+    subst (λ x. IsGone t g (opposite x)) (ap (λ (e : Entry). e.lit) (p.1 m.0) ∙ m.2) (gone_at t g m.0 h p.0 (present g m.0 (omega arith) p.0))

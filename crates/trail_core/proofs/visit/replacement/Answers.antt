@@ -1,0 +1,15 @@
+use Rattle.std.proofs.Common.{◌≡◌, true, false, get_or, subst, arith, rules}
+use Rattle.clause_base.specs.declared.literal.Lit.{Lit}
+use Rattle.clause_base.specs.Literal.{has}
+use Rattle.trail_core.proofs.Looks.{has_at}
+use Rattle.trail_core.proofs.visit.replacement.Goals as goal
+
+abbrev none : Lit
+none = record { var = 0; negated = false }
+
+pub returns-then-not-is_false : goal.returns-then-not-is_false
+returns-then-not-is_false c = record {
+  member = subst (λ xs. has xs (get_or c.clause-l-items.result.now c.loop-l.l-index none) ≡ true) c.clause-l-items.ensures.value (has_at c.clause-l-items.result.now c.loop-l.l-index none c.loop-l-test.true);
+  apart = search rules;
+  not_false = search rules;
+}

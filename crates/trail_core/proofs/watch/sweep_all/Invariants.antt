@@ -1,0 +1,15 @@
+use Rattle.std.proofs.Common.{◌-◌, ◌≤◌, length}
+use Rattle.trail_core.specs.TrailState.{IsTrail, Propagates}
+use Rattle.trail_core.specs.Visits.{AreKept}
+use Rattle.trail_core.proofs.watch.sweep_all.Given as goal
+
+abbrev pub invariant-loop-watches : goal.invariant-loop-watches
+invariant-loop-watches l = record {
+  trail : IsTrail l.trail;
+  appends : Propagates l.fn.trail l.trail;
+  kept : AreKept l.trail l.watches l.watches.gone_over;
+  all : length l.trail.clauses ≤ length l.watches.pairs.items;
+}
+
+abbrev pub decreases-loop-watches : goal.decreases-loop-watches
+decreases-loop-watches l = l.trail.vars - l.watches.gone_over
