@@ -14,3 +14,5 @@ pub mod CloseLaws
 pub mod StableLaws
 pub mod HoldLaws
 pub mod TakeLaws
+pub mod PieceLaws
+pub mod GoingLaws

@@ -19,3 +19,4 @@ pub mod Rows
 pub mod Kept
 pub mod Closing
 pub mod Plan
+pub mod Going

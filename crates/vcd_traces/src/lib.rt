@@ -10,6 +10,7 @@ mod header_reader;
 mod kinds;
 mod moment;
 mod names;
+mod pieces;
 mod ports;
 mod reader;
 mod reals;

@@ -76,7 +76,7 @@ impl Reading {
     }
 
     /// A variable changes to a level of some digits.
-    fn take_change(
+    pub fn take_change(
         &mut self,
         table: &Table<'_>,
         change: &Change<'_>,
@@ -91,7 +91,7 @@ impl Reading {
     }
 
     /// A variable has a value that is no bits.
-    fn take_pass(&self, table: &Table<'_>, change: &Change<'_>) -> Result<(), VcdErr>
+    pub fn take_pass(&self, table: &Table<'_>, change: &Change<'_>) -> Result<(), VcdErr>
         ensures { (ports : List Port) (w : Watches) (past : Past) → IsTable past.header ports table.now → Holds w (cell_codes table.now) past self.now
             → Does (passed_over ports past change.now.value_at (record { at = change.now.code_at; word = change.now.code.now })) (Holds w (cell_codes table.now)) result self.now }
     {
