@@ -16,3 +16,4 @@ pub mod HoldLaws
 pub mod TakeLaws
 pub mod PieceLaws
 pub mod GoingLaws
+mod Examples
