@@ -16,4 +16,5 @@ pub mod HoldLaws
 pub mod TakeLaws
 pub mod PieceLaws
 pub mod GoingLaws
+pub mod IndexLaws
 mod Examples

@@ -20,3 +20,4 @@ pub mod Kept
 pub mod Closing
 pub mod Plan
 pub mod Going
+pub mod Found

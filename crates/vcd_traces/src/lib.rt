@@ -5,6 +5,7 @@ mod changes;
 mod codes;
 mod commands;
 mod error;
+mod found;
 mod header;
 mod header_reader;
 mod kinds;
