@@ -17,4 +17,5 @@ pub mod TakeLaws
 pub mod PieceLaws
 pub mod GoingLaws
 pub mod IndexLaws
+pub mod OneReading
 mod Examples
