@@ -18,4 +18,5 @@ pub mod PieceLaws
 pub mod GoingLaws
 pub mod IndexLaws
 pub mod OneReading
+pub mod TraceLaws
 mod Examples
