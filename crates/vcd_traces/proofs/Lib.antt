@@ -19,4 +19,5 @@ pub mod GoingLaws
 pub mod IndexLaws
 pub mod OneReading
 pub mod TraceLaws
+pub mod BeginLaws
 mod Examples

@@ -1,5 +1,7 @@
 //! The times and the value changes behind a header, read piece by piece (IEEE 1364-2005, 18.2.1 and 18.2.2).
-ghost use Rattle.std.specs.Prelude.{◌≡◌, ℕ, List, IsTrue, OnOk};
+ghost use Rattle.std.specs.Prelude.{◌≡◌, ◌≤◌, ◌<◌, ℕ, List, IsTrue, OnOk, IfOk, length};
+ghost use Rattle.vcd_traces.specs.Header.{Header};
+ghost use Rattle.vcd_traces.specs.Outcomes.{begun};
 ghost use Rattle.std.specs.List.{list_all};
 ghost use Rattle.vcd_traces.specs.Moment.{has_width};
 ghost use Rattle.vcd_traces.specs.Rows.{rows_of};
@@ -15,8 +17,10 @@ use crate::changes::{Change, Levels};
 use crate::error::VcdErr;
 use crate::moment::Moment;
 use crate::rows::{Rows, Watched};
+use crate::running::Running;
 use crate::table::Table;
 use loc_base::NoMemory;
+use std::alloc::Global;
 use vcd_words::Level;
 
 /// What a header asks of its changes: the table of its codes, and the ports that are sampled.
@@ -34,6 +38,24 @@ pub struct Reading {
 }
 
 impl Reading {
+    /// What is kept of the variables of some cells before the first change.
+    #[tactic(auto, using(crate::proofs::BeginLaws::begin_steps))]
+    pub fn new(alloc: Global, cells: usize) -> Result<Reading, NoMemory>
+        ensures { IfOk result (λ reading. (w : Watches) (codes : List (List ℕ)) (h : Header) → length codes ≡ cells → Holds w codes (begun h) reading) }
+    {
+        let mut running = Vec::new(alloc);
+        while running.len() < cells {
+            running.push(Running::new())?;
+        }
+        Ok(Reading {
+            levels: Levels {
+                time: None,
+                running,
+            },
+            rows: Rows::new(alloc),
+        })
+    }
+
     /// The stamp at hand ends, where there is one: it may be a cycle.
     pub fn close(&mut self, watched: &Watched) -> Result<(), NoMemory>
         requires inputs { IsTrue (list_all has_width watched.now.inputs.items) }
