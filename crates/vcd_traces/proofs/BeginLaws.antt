@@ -5,7 +5,7 @@ use Rattle.vcd_traces.specs.declared.reader.Reading.{Reading}
 use Rattle.vcd_traces.specs.declared.running.Running.{Running}
 use Rattle.vcd_traces.specs.Header.{Header}
 use Rattle.vcd_traces.specs.Samples.{Watches, moments}
-use Rattle.vcd_traces.specs.Running.{Follows, first_running, are_past}
+use Rattle.vcd_traces.specs.Running.{Follows, first_running}
 use Rattle.vcd_traces.specs.Rows.{Kept, no_rows, rows_of}
 use Rattle.vcd_traces.specs.Kept.{AreKept}
 use Rattle.vcd_traces.specs.Outcomes.{begun}

@@ -20,4 +20,5 @@ pub mod IndexLaws
 pub mod OneReading
 pub mod TraceLaws
 pub mod BeginLaws
+pub mod FinishLaws
 mod Examples

@@ -1,5 +1,5 @@
 -- A text reads in one way.
-use Rattle.std.proofs.Common.{◌≡◌, ℕ, List, refl, sym, ◌∙◌, ap, subst, Result, Ok, Err}
+use Rattle.std.proofs.Common.{◌≡◌, ℕ, List, refl, sym, ◌∙◌, ap, subst, Result, Err}
 use Rattle.vcd_words.specs.Words.{Placed}
 use Rattle.vcd_traces.specs.Scopes.{Port}
 use Rattle.vcd_traces.specs.Changes.{Past}

@@ -1,5 +1,5 @@
 -- What is kept of the cycles of a whole text is its trace.
-use Rattle.std.proofs.Common.{◌≡◌, ℕ, ◌≤◌, List, [], ◌∷◌, ◌++◌, length, min, refl, sym, ◌∙◌, ap, arith, Option, None}
+use Rattle.std.proofs.Common.{◌≡◌, ℕ, ◌≤◌, List, [], ◌∷◌, ◌++◌, length, min, refl, ◌∙◌, ap, arith, None}
 use Rattle.std.specs.List.{flat_map}
 use Rattle.design_core.specs.declared.trace.Trace.{Trace}
 use Rattle.vcd_traces.specs.declared.rows.Rows.{Rows}

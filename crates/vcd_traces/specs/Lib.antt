@@ -21,3 +21,4 @@ pub mod Closing
 pub mod Plan
 pub mod Going
 pub mod Found
+pub mod Finish

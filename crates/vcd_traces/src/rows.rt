@@ -1,9 +1,14 @@
 //! The cycles of a trace, taken stamp by stamp.
-ghost use Rattle.std.specs.Prelude.{◌≡◌, IsTrue, OnOk};
+ghost use Rattle.std.specs.Prelude.{◌≡◌, ℕ, List, IsTrue, OnOk};
+ghost use Rattle.vcd_traces.specs.Events.{Event};
+ghost use Rattle.vcd_traces.specs.Samples.{Watches};
+ghost use Rattle.vcd_traces.specs.Kept.{AreKept};
+ghost use Rattle.vcd_traces.specs.Finish.{Finishes};
 ghost use Rattle.std.specs.List.{list_all};
 ghost use Rattle.vcd_traces.specs.Moment.{has_width};
 ghost use Rattle.vcd_traces.specs.Rows.{pushed, with_samples, rows_of, no_rows, kept_row};
 
+use crate::error::VcdErr;
 use crate::moment::{Moment, Watch};
 use design_core::Trace;
 use loc_base::NoMemory;
@@ -81,6 +86,27 @@ impl Rows {
                 self.unknown = Some(Unknown { cycle, signal });
                 Ok(())
             }
+        }
+    }
+
+    /// The trace of the cycles that are kept, at a text's end.
+    #[tactic(auto, using(crate::proofs::FinishLaws::finish_steps))]
+    pub fn finish(self) -> Result<Trace, VcdErr>
+        ensures { (w : Watches) (events : List Event) (times : List ℕ) → AreKept w events times (rows_of self) → Finishes w events times result }
+    {
+        let cycles = self.trace.cycles;
+        if cycles == 0 {
+            return Err(VcdErr::NoCycle);
+        }
+        if MOST_CYCLES < cycles {
+            return Err(VcdErr::Cycles);
+        }
+        match self.unknown {
+            Some(unknown) => Err(VcdErr::UnknownInput {
+                cycle: unknown.cycle,
+                port: unknown.signal,
+            }),
+            None => Ok(self.trace),
         }
     }
 }
