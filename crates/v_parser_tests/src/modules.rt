@@ -128,7 +128,7 @@ fn a_loop_holds_one_item_or_a_block(rt: HostRuntime) -> Result<(), Fail> {
             token: 19,
             line: 3,
         };
-        assert_eq!(rt; held(&tree), Some((site, is_item)));
+        assert!(rt; held(&tree) == Some((site, is_item)));
     }
     Ok(())
 }
