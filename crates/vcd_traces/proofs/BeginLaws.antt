@@ -3,12 +3,12 @@ use Rattle.std.proofs.Common.{◌≡◌, ℕ, zero, suc, List, [], ◌∷◌, �
 use Rattle.std.specs.Prelude.{slice_get}
 use Rattle.vcd_traces.specs.declared.reader.Reading.{Reading}
 use Rattle.vcd_traces.specs.declared.running.Running.{Running}
-use Rattle.vcd_traces.specs.Header.{Header}
+use Rattle.vcd_reading.specs.Header.{Header}
 use Rattle.vcd_traces.specs.Samples.{Watches, moments}
 use Rattle.vcd_traces.specs.Running.{Follows, first_running}
 use Rattle.vcd_traces.specs.Rows.{Kept, no_rows, rows_of}
 use Rattle.vcd_traces.specs.Kept.{AreKept}
-use Rattle.vcd_traces.specs.Outcomes.{begun}
+use Rattle.vcd_reading.specs.Outcomes.{begun}
 use Rattle.vcd_traces.specs.Plan.{Holds}
 
 -- one more element that is as all others are

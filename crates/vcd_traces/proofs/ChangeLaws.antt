@@ -8,41 +8,26 @@ use Rattle.std.proofs.lemmas.Bool.Decides.{eqb_tells}
 use Rattle.std.proofs.lemmas.Option.{slice_get_within}
 use Rattle.loc_base.proofs.ShelfBools.{equal-true}
 use Rattle.loc_base.proofs.ShelfLists.{slice_get-some}
-use Rattle.vcd_traces.proofs.ListSteps.{get_set_same, get_set_other}
+use Rattle.vcd_reading.proofs.ListSteps.{get_set_same, get_set_other}
 use Rattle.std.proofs.lemmas.List.{length-set}
 use Rattle.vcd_words.specs.declared.level.Level.{Level}
 use Rattle.vcd_words.specs.Words.{Placed}
-use Rattle.vcd_traces.specs.declared.error.VcdErr.{VcdErr}
+use Rattle.vcd_reading.specs.declared.error.VcdErr.{VcdErr}
 use Rattle.vcd_traces.specs.declared.running.Running.{Running}
 use Rattle.vcd_traces.specs.declared.changes.Levels.{Levels}
 use Rattle.vcd_traces.specs.declared.table.Table.{Table}
 use Rattle.vcd_traces.specs.declared.codes.Role.{Role}
 use Rattle.vcd_traces.specs.declared.codes.Role.TheVariants.{Other, Port as OfPort}
-use Rattle.vcd_traces.specs.Commands.{same_bytes}
-use Rattle.vcd_traces.specs.Header.{Header}
-use Rattle.vcd_traces.specs.Scopes.{Port, has_code, is_declared}
-use Rattle.vcd_traces.specs.Changes.{Past, changed, passed_over, with_event}
-use Rattle.vcd_traces.specs.Events.{Event}
+use Rattle.vcd_reading.specs.Commands.{same_bytes}
+use Rattle.vcd_reading.proofs.ByteLaws.{same_means, differ}
+use Rattle.vcd_reading.specs.Header.{Header}
+use Rattle.vcd_reading.specs.Scopes.{Port, has_code, is_declared}
+use Rattle.vcd_reading.specs.Changes.{Past, changed, passed_over, with_event}
+use Rattle.vcd_reading.specs.Events.{Event}
 use Rattle.vcd_traces.specs.Running.{Follows, changed_to}
 use Rattle.vcd_traces.specs.Table.{IsTable, role_of, cell_of, cell_codes}
 use Rattle.vcd_traces.specs.Levels.{Keeps, KeepsAll, Does, with_change, put_change}
 use Rattle.vcd_traces.proofs.RunningLaws.{follows_change, follows_other, past_more}
-
-pub same_means : (one other : List ℕ) → same_bytes one other ≡ true → one ≡ other
-same_means [] [] same = refl
-same_means [] (y ∷ ys) same = absurd (false≢true same)
-same_means (x ∷ xs) [] same = absurd (false≢true same)
-same_means (x ∷ xs) (y ∷ ys) same =
-    let parts = and_parts (x == y) (same_bytes xs ys) same in
-    let first = equal-true x y parts.0 in
-    let rest = same_means xs ys parts.1 in cc
-
-pub differ : (one other : List ℕ) → one ≢ other → same_bytes one other ≡ false
-differ one other apart =
-    elim (cases_Bool (same_bytes one other)) [
-      | inl same ↦ absurd (apart (same_means one other same))
-      | inr away ↦ away
-    ]
 
 -- a deed that is another
 pub does_by : {R : Type 0} (one other : Result Past ℕ) (keeps : Past → R → Type 0) (r : Result (Unit {0}) VcdErr) (new : R) → one ≡ other

@@ -1,11 +1,11 @@
 -- Examples, computed.
 use Rattle.std.proofs.Common.{◌≡◌, ℕ, true, false, List, [], ◌∷◌, map, refl, Some, None, Err}
 use Rattle.std.specs.Prelude.{codes}
-use Rattle.vcd_traces.specs.Commands.{named_command, is_dump, is_end}
-use Rattle.vcd_traces.specs.Pieces.{behind_end}
-use Rattle.vcd_traces.specs.Events.{Event, rises}
-use Rattle.vcd_traces.specs.Changes.{Past}
-use Rattle.vcd_traces.specs.Reading.{stops, step, ReadsText, at_fault}
+use Rattle.vcd_reading.specs.Commands.{named_command, is_dump, is_end}
+use Rattle.vcd_reading.specs.Pieces.{behind_end}
+use Rattle.vcd_reading.specs.Events.{Event, rises}
+use Rattle.vcd_reading.specs.Changes.{Past}
+use Rattle.vcd_reading.specs.Reading.{stops, step, ReadsText, at_fault}
 use Rattle.vcd_traces.specs.Samples.{Watch, Watches, moments, sample, known_bits}
 
 -- a change to known bits, and one to unknown ones

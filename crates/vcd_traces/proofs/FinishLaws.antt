@@ -3,10 +3,10 @@ use Rattle.std.proofs.Common.{◌≡◌, ℕ, ◌<◌, ◌≤◌, List, length, 
 use Rattle.std.specs.Option.{option_or}
 use Rattle.std.proofs.lemmas.Bool.{cond-true, cond-false}
 use Rattle.loc_base.proofs.ShelfBools.{equal-false}
-use Rattle.vcd_traces.specs.declared.error.VcdErr.TheVariants.{NoCycle, Cycles, UnknownInput}
+use Rattle.vcd_reading.specs.declared.error.VcdErr.TheVariants.{NoCycle, Cycles, UnknownInput}
 use Rattle.vcd_traces.specs.declared.rows.Rows.{Rows}
 use Rattle.vcd_traces.specs.declared.rows.Unknown.{Unknown}
-use Rattle.vcd_traces.specs.Events.{Event}
+use Rattle.vcd_reading.specs.Events.{Event}
 use Rattle.vcd_traces.specs.Samples.{Watches, cycle_refusal, unknown_from}
 use Rattle.vcd_traces.specs.Rows.{rows_of}
 use Rattle.vcd_traces.specs.Kept.{AreKept, refusal_by}

@@ -3,22 +3,22 @@ use Rattle.std.proofs.Common.{◌≡◌, ℕ, true, List, [], ◌∷◌, length,
 use Rattle.std.specs.Result.{IsErrAnd}
 use Rattle.std.proofs.lemmas.Bool.{cases_Bool}
 use Rattle.vcd_words.specs.Words.{Placed, words_left}
-use Rattle.vcd_traces.specs.declared.error.VcdErr.{VcdErr}
+use Rattle.vcd_reading.specs.declared.error.VcdErr.{VcdErr}
 use Rattle.vcd_traces.specs.declared.reader.Reading.{Reading}
 use Rattle.vcd_traces.specs.declared.reader.Plan.{Plan}
-use Rattle.vcd_traces.specs.Header.{Header}
-use Rattle.vcd_traces.specs.Scopes.{Port}
-use Rattle.vcd_traces.specs.Changes.{Past, stamps_of}
+use Rattle.vcd_reading.specs.Header.{Header}
+use Rattle.vcd_reading.specs.Scopes.{Port}
+use Rattle.vcd_reading.specs.Changes.{Past, stamps_of}
 use Rattle.vcd_traces.specs.Samples.{Watches, moments}
 use Rattle.vcd_traces.specs.Table.{cell_codes}
 use Rattle.vcd_traces.specs.Rows.{Kept, rows_of}
 use Rattle.vcd_traces.specs.Kept.{AreKept}
 use Rattle.vcd_traces.specs.Closing.{closed_at, closed}
-use Rattle.vcd_traces.specs.Reading.{step, ReadsText}
-use Rattle.vcd_traces.specs.Outcomes.{IsAt}
+use Rattle.vcd_reading.specs.Reading.{step, ReadsText}
+use Rattle.vcd_reading.specs.Outcomes.{IsAt}
 use Rattle.vcd_traces.specs.Plan.{IsPlan}
 use Rattle.vcd_traces.specs.Going.{Goes, Holding, Going, Gone, Ends}
-use Rattle.vcd_traces.proofs.ReadSteps.{reads_on, reads_end, reads_refused}
+use Rattle.vcd_reading.proofs.ReadSteps.{reads_on, reads_end, reads_refused}
 use Rattle.vcd_traces.proofs.HoldLaws.{rows_later}
 
 -- where a word is left, the definitions have ended

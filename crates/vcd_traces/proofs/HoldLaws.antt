@@ -10,8 +10,8 @@ use Rattle.vcd_traces.specs.declared.changes.Levels.{Levels}
 use Rattle.vcd_traces.specs.declared.reader.Reading.{Reading}
 use Rattle.vcd_traces.specs.declared.running.Running.{Running}
 use Rattle.vcd_traces.specs.declared.rows.Watched.{Watched}
-use Rattle.vcd_traces.specs.Events.{Event}
-use Rattle.vcd_traces.specs.Changes.{Past, is_later, is_earlier, timed, stamps_of, with_event}
+use Rattle.vcd_reading.specs.Events.{Event}
+use Rattle.vcd_reading.specs.Changes.{Past, is_later, is_earlier, timed, stamps_of, with_event}
 use Rattle.vcd_traces.specs.Samples.{Watches, moments}
 use Rattle.vcd_traces.specs.Running.{are_past}
 use Rattle.vcd_traces.specs.Levels.{Keeps, KeepsAll}

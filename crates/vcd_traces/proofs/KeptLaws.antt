@@ -7,10 +7,10 @@ use Rattle.std.proofs.lemmas.Bool.Decides.{nat_tests}
 use Rattle.std.proofs.lemmas.List.{append-nil}
 use Rattle.loc_base.proofs.ShelfBools.{equal-true}
 use Rattle.loc_base.proofs.ShelfOptions.{is_some-true, is_some-false}
-use Rattle.vcd_traces.specs.declared.error.VcdErr.{VcdErr}
-use Rattle.vcd_traces.specs.declared.error.VcdErr.TheVariants.{UnknownInput}
+use Rattle.vcd_reading.specs.declared.error.VcdErr.{VcdErr}
+use Rattle.vcd_reading.specs.declared.error.VcdErr.TheVariants.{UnknownInput}
 use Rattle.vcd_traces.specs.declared.rows.Unknown.{Unknown}
-use Rattle.vcd_traces.specs.Events.{Event}
+use Rattle.vcd_reading.specs.Events.{Event}
 use Rattle.vcd_traces.specs.Samples.{Watch, Watches, is_unknown, unknown_in, unknown_from}
 use Rattle.vcd_traces.specs.Rows.{Row, Kept, no_row, no_rows, joined, with_cycle, pushed}
 use Rattle.vcd_traces.specs.Kept.{row_at, cycle_at, rows_at, refusal_by, AreKept}

@@ -1,13 +1,6 @@
-pub mod HeaderSteps
-pub mod ReadSteps
-pub mod RealSteps
-pub mod Exits
 pub mod RunningLaws
 pub mod ChangeLaws
-pub mod ListSteps
 pub mod RowLaws
-pub mod PortSteps
-pub mod NameLaws
 pub mod KeptLaws
 pub mod MomentLaws
 pub mod CloseLaws
@@ -16,8 +9,6 @@ pub mod HoldLaws
 pub mod TakeLaws
 pub mod PieceLaws
 pub mod GoingLaws
-pub mod IndexLaws
-pub mod OneReading
 pub mod TraceLaws
 pub mod BeginLaws
 pub mod FinishLaws

@@ -12,7 +12,7 @@ use Rattle.vcd_words.specs.Levels.{unknown_level, cut_level}
 use Rattle.vcd_traces.specs.declared.moment as code
 use Rattle.vcd_traces.specs.declared.running.Running.{Running}
 use Rattle.vcd_traces.specs.declared.rows.Watched.{Watched}
-use Rattle.vcd_traces.specs.Events.{Event, level_after, is_low, is_high, rises}
+use Rattle.vcd_reading.specs.Events.{Event, level_after, is_low, is_high, rises}
 use Rattle.vcd_traces.specs.Samples.{Watch, Watches, sample, is_unknown, known_bits, level_at, moments}
 use Rattle.vcd_traces.specs.Running.{Follows, are_past, before_of}
 use Rattle.vcd_traces.specs.Levels.{KeepsAll}

@@ -7,26 +7,26 @@ use Rattle.vcd_words.specs.declared.level.Level.{Level}
 use Rattle.vcd_words.specs.Words.{Placed, words_left, placed}
 use Rattle.vcd_words.specs.Levels.{level_in, is_level_digit}
 use Rattle.vcd_words.specs.Times.{time_in}
-use Rattle.vcd_traces.specs.declared.commands.Command.{Command}
-use Rattle.vcd_traces.specs.declared.commands.Command.TheVariants as command
-use Rattle.vcd_traces.specs.declared.kinds.Kind.{Kind}
-use Rattle.vcd_traces.specs.declared.kinds.Kind.TheVariants.{Time, Scalar, Vector, Real, Text, Mark, Section}
-use Rattle.vcd_traces.specs.declared.error.VcdErr.{VcdErr}
+use Rattle.vcd_reading.specs.declared.commands.Command.{Command}
+use Rattle.vcd_reading.specs.declared.commands.Command.TheVariants as command
+use Rattle.vcd_reading.specs.declared.kinds.Kind.{Kind}
+use Rattle.vcd_reading.specs.declared.kinds.Kind.TheVariants.{Time, Scalar, Vector, Real, Text, Mark, Section}
+use Rattle.vcd_reading.specs.declared.error.VcdErr.{VcdErr}
 use Rattle.vcd_traces.specs.declared.reader.Reading.{Reading}
 use Rattle.vcd_traces.specs.declared.reader.Plan.{Plan}
-use Rattle.vcd_traces.specs.Commands.{named_command}
-use Rattle.vcd_traces.specs.Reals.{is_real}
-use Rattle.vcd_traces.specs.Pieces.{mark_of, letter_kind, kind_of, behind_code, behind_end}
-use Rattle.vcd_traces.specs.Scopes.{Port, is_declared, is_of_port, is_too_long}
-use Rattle.vcd_traces.specs.Changes.{Past, is_later, is_earlier, at_time, timed, stamps_of, changed, passed_over, with_event}
+use Rattle.vcd_reading.specs.Commands.{named_command}
+use Rattle.vcd_reading.specs.Reals.{is_real}
+use Rattle.vcd_reading.specs.Pieces.{mark_of, letter_kind, kind_of, behind_code, behind_end}
+use Rattle.vcd_reading.specs.Scopes.{Port, is_declared, is_of_port, is_too_long}
+use Rattle.vcd_reading.specs.Changes.{Past, is_later, is_earlier, at_time, timed, stamps_of, changed, passed_over, with_event}
 use Rattle.vcd_traces.specs.Samples.{Watches}
 use Rattle.vcd_traces.specs.Levels.{Does}
 use Rattle.vcd_traces.specs.Table.{cell_codes}
-use Rattle.vcd_traces.specs.Reading.{Step, stops, step, step_of, step_done, step_behind}
-use Rattle.vcd_traces.specs.Outcomes.{IsAt}
+use Rattle.vcd_reading.specs.Reading.{Step, stops, step, step_of, step_done, step_behind}
+use Rattle.vcd_reading.specs.Outcomes.{IsAt}
 use Rattle.vcd_traces.specs.Plan.{Holds}
 use Rattle.vcd_traces.specs.Going.{Goes, Holding}
-use Rattle.vcd_traces.proofs.ReadSteps.{at_map}
+use Rattle.vcd_reading.proofs.ReadSteps.{at_map}
 use Rattle.vcd_traces.proofs.ChangeLaws.{does_by}
 
 -- a deed leaves the header as it is

@@ -8,9 +8,9 @@ use Rattle.loc_base.proofs.ShelfBools.{and-false}
 use Rattle.vcd_words.specs.declared.level.Level.{Level}
 use Rattle.vcd_words.specs.Levels.{unknown_level}
 use Rattle.vcd_traces.specs.declared.running.Running.{Running}
-use Rattle.vcd_traces.specs.Commands.{same_bytes}
-use Rattle.vcd_traces.specs.Events.{Event, level_by, last_level, level_before, level_after, is_before, is_up_to}
-use Rattle.vcd_traces.specs.Changes.{is_later}
+use Rattle.vcd_reading.specs.Commands.{same_bytes}
+use Rattle.vcd_reading.specs.Events.{Event, level_by, last_level, level_before, level_after, is_before, is_up_to}
+use Rattle.vcd_reading.specs.Changes.{is_later}
 use Rattle.vcd_traces.specs.Running.{same_time, first_running, changed_to, before_of, always, is_past, are_past, Follows}
 
 pub lt_from : (a b : ℕ) → a < b → nat_lt a b ≡ true

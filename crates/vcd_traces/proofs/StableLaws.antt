@@ -6,7 +6,7 @@ use Rattle.std.proofs.lemmas.Bool.{cases_Bool, cond-true, cond-false, and_parts,
 use Rattle.std.proofs.lemmas.Bool.Decides.{nat_tests}
 use Rattle.vcd_words.specs.declared.level.Level.{Level}
 use Rattle.vcd_words.specs.Levels.{cut_level}
-use Rattle.vcd_traces.specs.Events.{Event, level_before, level_after, is_before, is_up_to, is_low, is_high, rises}
+use Rattle.vcd_reading.specs.Events.{Event, level_before, level_after, is_before, is_up_to, is_low, is_high, rises}
 use Rattle.vcd_traces.specs.Samples.{Watch, Watches, sample, is_unknown, known_bits, level_at, moments, unknown_in, unknown_from}
 use Rattle.vcd_traces.specs.Rows.{Kept, joined}
 use Rattle.vcd_traces.specs.Kept.{row_at, rows_at, AreKept}

@@ -3,10 +3,10 @@ use Rattle.std.proofs.Common.{◌≡◌, ℕ, not, List, refl, sym, ◌∙◌, s
 use Rattle.std.proofs.lemmas.Bool.{cases_Bool, cond-true, cond-false}
 use Rattle.vcd_words.specs.declared.level.Level.{Level}
 use Rattle.vcd_words.specs.Words.{Placed}
-use Rattle.vcd_traces.specs.declared.error.VcdErr.{VcdErr}
+use Rattle.vcd_reading.specs.declared.error.VcdErr.{VcdErr}
 use Rattle.vcd_traces.specs.declared.reader.Reading.{Reading}
-use Rattle.vcd_traces.specs.Scopes.{Port, is_declared, is_of_port, is_too_long}
-use Rattle.vcd_traces.specs.Changes.{Past, changed, passed_over, with_event}
+use Rattle.vcd_reading.specs.Scopes.{Port, is_declared, is_of_port, is_too_long}
+use Rattle.vcd_reading.specs.Changes.{Past, changed, passed_over, with_event}
 use Rattle.vcd_traces.specs.Samples.{Watches}
 use Rattle.vcd_traces.specs.Levels.{Keeps, Does}
 use Rattle.vcd_traces.specs.Plan.{Holds}

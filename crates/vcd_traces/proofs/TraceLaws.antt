@@ -3,7 +3,7 @@ use Rattle.std.proofs.Common.{◌≡◌, ℕ, ◌≤◌, List, [], ◌∷◌, �
 use Rattle.std.specs.List.{flat_map}
 use Rattle.design_core.specs.declared.trace.Trace.{Trace}
 use Rattle.vcd_traces.specs.declared.rows.Rows.{Rows}
-use Rattle.vcd_traces.specs.Events.{Event}
+use Rattle.vcd_reading.specs.Events.{Event}
 use Rattle.vcd_traces.specs.Samples.{Watches, AreSamples}
 use Rattle.vcd_traces.specs.Rows.{Row, no_row, joined, row_of, rows_of}
 use Rattle.vcd_traces.specs.Kept.{row_at, rows_at, AreKept}

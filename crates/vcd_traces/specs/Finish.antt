@@ -2,8 +2,8 @@
 use Rattle.std.specs.Prelude.{ℕ, ◌≡◌, List, length, Option, Some, None, Result, Ok, Err}
 use Rattle.std.specs.Option.{option_or}
 use Rattle.design_core.specs.declared.trace.Trace.{Trace}
-use Rattle.vcd_traces.specs.declared.error.VcdErr.{VcdErr}
-use Rattle.vcd_traces.specs.Events.{Event}
+use Rattle.vcd_reading.specs.declared.error.VcdErr.{VcdErr}
+use Rattle.vcd_reading.specs.Events.{Event}
 use Rattle.vcd_traces.specs.Samples.{Watches, AreSamples, cycle_refusal, unknown_from}
 
 -- why some cycles are no trace

@@ -1,17 +1,17 @@
 -- What the reading of changes says of the text, piece by piece.
 use Rattle.std.specs.Prelude.{ℕ, ◌≡◌, false, List, [], Result, Ok, Err}
 use Rattle.vcd_words.specs.Words.{words_left}
-use Rattle.vcd_traces.specs.declared.error.VcdErr.{VcdErr}
+use Rattle.vcd_reading.specs.declared.error.VcdErr.{VcdErr}
 use Rattle.vcd_traces.specs.declared.reader.Reading.{Reading}
 use Rattle.vcd_traces.specs.declared.reader.Plan.{Plan}
-use Rattle.vcd_traces.specs.Scopes.{Port}
-use Rattle.vcd_traces.specs.Changes.{Past, stamps_of}
+use Rattle.vcd_reading.specs.Scopes.{Port}
+use Rattle.vcd_reading.specs.Changes.{Past, stamps_of}
 use Rattle.vcd_traces.specs.Samples.{Watches, moments}
 use Rattle.vcd_traces.specs.Table.{cell_codes}
 use Rattle.vcd_traces.specs.Rows.{rows_of}
 use Rattle.vcd_traces.specs.Kept.{AreKept}
-use Rattle.vcd_traces.specs.Reading.{Step, goes, stops, ReadsText}
-use Rattle.vcd_traces.specs.Outcomes.{IsAt, ReadsOn}
+use Rattle.vcd_reading.specs.Reading.{Step, goes, stops, ReadsText}
+use Rattle.vcd_reading.specs.Outcomes.{IsAt, ReadsOn}
 use Rattle.vcd_traces.specs.Plan.{Holds}
 
 -- a call does what a step says: it leaves what stands behind a piece, or refuses its wrong word

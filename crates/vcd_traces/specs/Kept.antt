@@ -2,10 +2,10 @@
 use Rattle.std.specs.Prelude.{ℕ, ◌≡◌, ◌≤◌, min, List, [], ◌∷◌, length, map, Option, None, bit_and}
 use Rattle.std.specs.List.{find}
 use Rattle.std.specs.Option.{option_map}
-use Rattle.vcd_traces.specs.declared.error.VcdErr.{VcdErr}
-use Rattle.vcd_traces.specs.declared.error.VcdErr.TheVariants.{UnknownInput}
+use Rattle.vcd_reading.specs.declared.error.VcdErr.{VcdErr}
+use Rattle.vcd_reading.specs.declared.error.VcdErr.TheVariants.{UnknownInput}
 use Rattle.vcd_traces.specs.declared.rows.Unknown.{Unknown}
-use Rattle.vcd_traces.specs.Events.{Event}
+use Rattle.vcd_reading.specs.Events.{Event}
 use Rattle.vcd_traces.specs.Samples.{Watch, Watches, sample, is_unknown, known_bits, unknown_from}
 use Rattle.vcd_traces.specs.Rows.{Row, Cycle, Kept, no_row, joined}
 

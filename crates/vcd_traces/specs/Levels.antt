@@ -1,12 +1,12 @@
 -- What is kept of all variables of ports while a dump's changes are read.
 use Rattle.std.specs.Prelude.{ℕ, ◌≡◌, IsTrue, List, length, Option, Some, None, Result, Ok, Err, slice_get, slice_set}
 use Rattle.vcd_words.specs.declared.level.Level.{Level}
-use Rattle.vcd_traces.specs.declared.error.VcdErr.{VcdErr}
+use Rattle.vcd_reading.specs.declared.error.VcdErr.{VcdErr}
 use Rattle.vcd_traces.specs.declared.running.Running.{Running}
 use Rattle.vcd_traces.specs.declared.changes.Levels.{Levels}
-use Rattle.vcd_traces.specs.Changes.{Past}
-use Rattle.vcd_traces.specs.Events.{Event}
-use Rattle.vcd_traces.specs.Outcomes.{IsAt}
+use Rattle.vcd_reading.specs.Changes.{Past}
+use Rattle.vcd_reading.specs.Events.{Event}
+use Rattle.vcd_reading.specs.Outcomes.{IsAt}
 use Rattle.vcd_traces.specs.Running.{Follows, are_past, changed_to}
 
 -- what is kept of the variables, with that of one cell changed

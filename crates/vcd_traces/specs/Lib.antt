@@ -1,15 +1,3 @@
-pub mod Commands
-pub mod Reals
-pub mod Pieces
-pub mod Header
-pub mod HeaderView
-pub mod Scopes
-pub mod NameView
-pub mod PortView
-pub mod Events
-pub mod Changes
-pub mod Reading
-pub mod Outcomes
 pub mod Running
 pub mod Table
 pub mod Levels
@@ -20,5 +8,4 @@ pub mod Kept
 pub mod Closing
 pub mod Plan
 pub mod Going
-pub mod Found
 pub mod Finish

@@ -6,7 +6,7 @@ use Rattle.vcd_words.specs.Levels.{unknown_level, cut_level}
 use Rattle.vcd_traces.specs.declared.running.Running.{Running}
 use Rattle.vcd_traces.specs.declared.moment.Moment.{Moment}
 use Rattle.vcd_traces.specs.declared.moment.Watch.{Watch}
-use Rattle.vcd_traces.specs.Events.{is_low, is_high}
+use Rattle.vcd_reading.specs.Events.{is_low, is_high}
 use Rattle.vcd_traces.specs.Running.{before_of}
 
 -- 1 to 128 bits

@@ -6,9 +6,9 @@ use Rattle.vcd_traces.specs.declared.moment as code
 use Rattle.vcd_traces.specs.declared.rows.Watched.{Watched}
 use Rattle.vcd_traces.specs.declared.reader.Reading.{Reading}
 use Rattle.vcd_traces.specs.declared.reader.Plan.{Plan}
-use Rattle.vcd_traces.specs.Header.{Header}
-use Rattle.vcd_traces.specs.Scopes.{Port}
-use Rattle.vcd_traces.specs.Changes.{Past}
+use Rattle.vcd_reading.specs.Header.{Header}
+use Rattle.vcd_reading.specs.Scopes.{Port}
+use Rattle.vcd_reading.specs.Changes.{Past}
 use Rattle.vcd_traces.specs.Samples.{Watch, Watches, moments}
 use Rattle.vcd_traces.specs.Table.{IsTable, cell_codes}
 use Rattle.vcd_traces.specs.Levels.{Keeps}

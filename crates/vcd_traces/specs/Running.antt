@@ -4,7 +4,7 @@ use Rattle.std.specs.List.{list_all}
 use Rattle.vcd_words.specs.declared.level.Level.{Level}
 use Rattle.vcd_words.specs.Levels.{unknown_level}
 use Rattle.vcd_traces.specs.declared.running.Running.{Running}
-use Rattle.vcd_traces.specs.Events.{Event, last_level, level_before, is_up_to}
+use Rattle.vcd_reading.specs.Events.{Event, last_level, level_before, is_up_to}
 
 -- whether two times are one
 abbrev pub same_time : Option ℕ → Option ℕ → Bool

@@ -9,13 +9,13 @@ use Rattle.design_core.specs.declared.trace.Trace.{Trace}
 use Rattle.design_core.specs.declared.trace.Checked.{Checked}
 use Rattle.vcd_words.specs.declared.level.Level.{Level}
 use Rattle.vcd_words.specs.Levels.{cut_level}
-use Rattle.vcd_traces.specs.declared.error.VcdErr.{VcdErr}
-use Rattle.vcd_traces.specs.declared.error.VcdErr.TheVariants.{Syntax, MissingPort, PortWidth, NoCycle, UnknownInput, Cycles}
-use Rattle.vcd_traces.specs.Header.{Header}
-use Rattle.vcd_traces.specs.Scopes.{Port, ports_of, input_ports, output_ports, clock_port, scope_of, code_of, is_unfit}
-use Rattle.vcd_traces.specs.Events.{Event, level_before, level_after, rises}
-use Rattle.vcd_traces.specs.Changes.{Past, stamps_of}
-use Rattle.vcd_traces.specs.Reading.{ReadsText}
+use Rattle.vcd_reading.specs.declared.error.VcdErr.{VcdErr}
+use Rattle.vcd_reading.specs.declared.error.VcdErr.TheVariants.{Syntax, MissingPort, PortWidth, NoCycle, UnknownInput, Cycles}
+use Rattle.vcd_reading.specs.Header.{Header}
+use Rattle.vcd_reading.specs.Scopes.{Port, ports_of, input_ports, output_ports, clock_port, scope_of, code_of, is_unfit}
+use Rattle.vcd_reading.specs.Events.{Event, level_before, level_after, rises}
+use Rattle.vcd_reading.specs.Changes.{Past, stamps_of}
+use Rattle.vcd_reading.specs.Reading.{ReadsText}
 
 -- a port that is sampled: the number of its signal, its width, and the code of its variable
 pub record Watch : Type 0 where

@@ -8,8 +8,8 @@ use Rattle.vcd_traces.specs.declared.codes.Codes.{Codes}
 use Rattle.vcd_traces.specs.declared.codes.Role.{Role}
 use Rattle.vcd_traces.specs.declared.codes.Role.TheVariants.{Other, Port as OfPort}
 use Rattle.vcd_traces.specs.declared.table.Table.{Table}
-use Rattle.vcd_traces.specs.Header.{Header}
-use Rattle.vcd_traces.specs.Scopes.{Port, is_declared, is_of_port, is_too_long}
+use Rattle.vcd_reading.specs.Header.{Header}
+use Rattle.vcd_reading.specs.Scopes.{Port, is_declared, is_of_port, is_too_long}
 
 -- the role of a code, where it is declared
 abbrev pub role_of : Codes → List ℕ → Option Role

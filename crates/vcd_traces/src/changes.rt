@@ -1,14 +1,14 @@
 //! Times and value changes (IEEE 1364-2005, 18.2.1), by the levels that are kept of each variable of a port.
 ghost use Rattle.std.specs.Prelude.{◌≡◌, ◌≤◌, ◌<◌, ℕ, List, Ok, Err, OnOk, length};
-ghost use Rattle.vcd_traces.specs.Changes.{Past, changed, passed_over};
-ghost use Rattle.vcd_traces.specs.Scopes.{Port};
+ghost use Rattle.vcd_reading.specs.Changes.{Past, changed, passed_over};
+ghost use Rattle.vcd_reading.specs.Scopes.{Port};
 ghost use Rattle.vcd_traces.specs.Table.{IsTable, cell_codes};
 ghost use Rattle.vcd_traces.specs.Levels.{Keeps, Does, with_change};
 
 use crate::codes::Role;
-use crate::error::VcdErr;
 use crate::running::Running;
 use crate::table::Table;
+use vcd_reading::VcdErr;
 use vcd_words::Level;
 
 /// The last time, and what is kept of the variable of each cell of a table.

@@ -3,20 +3,9 @@
 
 mod changes;
 mod codes;
-mod commands;
-mod error;
-mod found;
-mod header;
-mod header_reader;
-mod kinds;
 mod moment;
-mod names;
 mod pieces;
-mod ports;
 mod reader;
-mod reals;
 mod rows;
 mod running;
 mod table;
-
-pub use error::VcdErr;

@@ -4,7 +4,7 @@ ghost use Rattle.std.specs.List.{find, list_all};
 ghost use Rattle.std.specs.Option.{option_map};
 ghost use Rattle.loc_base.specs.Bits.{width_of, value_of};
 ghost use Rattle.design_core.specs.declared.trace.Checked.{Checked as TheChecked};
-ghost use Rattle.vcd_traces.specs.Events.{is_low as level_is_low, is_high as level_is_high};
+ghost use Rattle.vcd_reading.specs.Events.{is_low as level_is_low, is_high as level_is_high};
 ghost use Rattle.vcd_traces.specs.Moment.{kept_level, kept_sample, kept_is_cycle, has_unknown, has_width};
 ghost use Rattle.vcd_traces.specs.declared.moment.Watch.{Watch as TheWatch};
 ghost use Rattle.vcd_traces.specs.Samples.{known_bits};
@@ -133,7 +133,7 @@ impl Moment<'_> {
     }
 
     /// The signal of the first of some ports that has an unknown bit.
-    #[tactic(auto, using(crate::proofs::ListSteps::list_steps))]
+    #[tactic(auto, using(vcd_reading::proofs::ListSteps::list_steps))]
     pub fn unknown_in(&self, watches: &[Watch]) -> Option<u32>
         requires { IsTrue (list_all has_width watches.now) }
         ensures { result ≡ option_map (λ (watch : TheWatch). watch.signal) (find (has_unknown self.now) watches.now) }
@@ -147,7 +147,7 @@ impl Moment<'_> {
     }
 
     /// One more sample for each of some inputs.
-    #[tactic(auto, using(crate::proofs::ListSteps::list_steps))]
+    #[tactic(auto, using(vcd_reading::proofs::ListSteps::list_steps))]
     pub fn push_samples(&self, watches: &[Watch], samples: &mut Vec<Bits>) -> Result<(), NoMemory>
         requires { IsTrue (list_all has_width watches.now) }
         ensures values { OnOk result (map value_of samples.new.items ≡ map value_of samples.old.items ++ map (λ watch. (kept_sample self.now watch).ones) watches.now) }
@@ -160,7 +160,7 @@ impl Moment<'_> {
     }
 
     /// What is expected of each of some outputs.
-    #[tactic(auto, using(crate::proofs::ListSteps::list_steps))]
+    #[tactic(auto, using(vcd_reading::proofs::ListSteps::list_steps))]
     pub fn push_expected(
         &self,
         watches: &[Watch],

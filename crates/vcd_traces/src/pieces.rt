@@ -3,19 +3,17 @@ ghost use Rattle.std.specs.Prelude.{◌≡◌, ◌≤◌, ◌<◌, ℕ, List, tr
 ghost use Rattle.std.specs.List.{list_all};
 ghost use Rattle.vcd_words.specs.Words.{words_left, placed};
 ghost use Rattle.vcd_traces.specs.Moment.{has_width};
-ghost use Rattle.vcd_traces.specs.Scopes.{Port};
+ghost use Rattle.vcd_reading.specs.Scopes.{Port};
 ghost use Rattle.vcd_traces.specs.Samples.{Watches};
-ghost use Rattle.vcd_traces.specs.Changes.{Past, timed, scalar, vector, other_value};
-ghost use Rattle.vcd_traces.specs.Pieces.{behind_code, behind_end};
-ghost use Rattle.vcd_traces.specs.Reading.{step, step_done, step_behind};
+ghost use Rattle.vcd_reading.specs.Changes.{Past, timed, scalar, vector, other_value};
+ghost use Rattle.vcd_reading.specs.Pieces.{behind_code, behind_end};
+ghost use Rattle.vcd_reading.specs.Reading.{step, step_done, step_behind};
 ghost use Rattle.vcd_traces.specs.Plan.{IsPlan};
 ghost use Rattle.vcd_traces.specs.Going.{Goes, Holding, Going, Ends};
 
 use crate::changes::Change;
-use crate::error::VcdErr;
-use crate::header::{bytes_at, section_end};
-use crate::kinds::{Kind, change_at};
 use crate::reader::{Plan, Reading};
+use vcd_reading::{Kind, VcdErr, bytes_at, change_at, section_end};
 use vcd_words::{Extent, Level, word_at};
 
 /// The bytes of a word behind its first.

@@ -1,26 +1,26 @@
 //! The times and the value changes behind a header, read piece by piece (IEEE 1364-2005, 18.2.1 and 18.2.2).
 ghost use Rattle.std.specs.Prelude.{◌≡◌, ◌≤◌, ◌<◌, ℕ, List, IsTrue, OnOk, IfOk, length};
-ghost use Rattle.vcd_traces.specs.Header.{Header};
-ghost use Rattle.vcd_traces.specs.Outcomes.{begun};
+ghost use Rattle.vcd_reading.specs.Header.{Header};
+ghost use Rattle.vcd_reading.specs.Outcomes.{begun};
 ghost use Rattle.std.specs.List.{list_all};
 ghost use Rattle.vcd_traces.specs.Moment.{has_width};
 ghost use Rattle.vcd_traces.specs.Rows.{rows_of};
 ghost use Rattle.vcd_traces.specs.Closing.{closed};
-ghost use Rattle.vcd_traces.specs.Changes.{Past, timed, changed, passed_over};
+ghost use Rattle.vcd_reading.specs.Changes.{Past, timed, changed, passed_over};
 ghost use Rattle.vcd_traces.specs.Samples.{Watches};
 ghost use Rattle.vcd_traces.specs.Levels.{Does};
-ghost use Rattle.vcd_traces.specs.Scopes.{Port};
+ghost use Rattle.vcd_reading.specs.Scopes.{Port};
 ghost use Rattle.vcd_traces.specs.Table.{IsTable, cell_codes};
 ghost use Rattle.vcd_traces.specs.Plan.{IsWatched, Holds};
 
 use crate::changes::{Change, Levels};
-use crate::error::VcdErr;
 use crate::moment::Moment;
 use crate::rows::{Rows, Watched};
 use crate::running::Running;
 use crate::table::Table;
 use loc_base::NoMemory;
 use std::alloc::Global;
+use vcd_reading::VcdErr;
 use vcd_words::Level;
 
 /// What a header asks of its changes: the table of its codes, and the ports that are sampled.

@@ -1,6 +1,6 @@
 //! The cycles of a trace, taken stamp by stamp.
 ghost use Rattle.std.specs.Prelude.{◌≡◌, ℕ, List, IsTrue, OnOk};
-ghost use Rattle.vcd_traces.specs.Events.{Event};
+ghost use Rattle.vcd_reading.specs.Events.{Event};
 ghost use Rattle.vcd_traces.specs.Samples.{Watches};
 ghost use Rattle.vcd_traces.specs.Kept.{AreKept};
 ghost use Rattle.vcd_traces.specs.Finish.{Finishes};
@@ -8,11 +8,11 @@ ghost use Rattle.std.specs.List.{list_all};
 ghost use Rattle.vcd_traces.specs.Moment.{has_width};
 ghost use Rattle.vcd_traces.specs.Rows.{pushed, with_samples, rows_of, no_rows, kept_row};
 
-use crate::error::VcdErr;
 use crate::moment::{Moment, Watch};
 use design_core::Trace;
 use loc_base::NoMemory;
 use std::alloc::Global;
+use vcd_reading::VcdErr;
 
 /// How many cycles a trace may have.
 pub const MOST_CYCLES: u32 = 100_000;

@@ -1,7 +1,7 @@
 use Rattle.std.proofs.Common.{◌-◌, List, length}
-use Rattle.vcd_traces.specs.Scopes.{Port}
+use Rattle.vcd_reading.specs.Scopes.{Port}
 use Rattle.vcd_traces.specs.Samples.{Watches}
-use Rattle.vcd_traces.specs.Changes.{Past}
+use Rattle.vcd_reading.specs.Changes.{Past}
 use Rattle.vcd_traces.specs.Plan.{IsPlan}
 use Rattle.vcd_traces.specs.Going.{Going}
 use Rattle.vcd_traces.proofs.reader.Reading.read.Given as goal

@@ -1,6 +1,6 @@
 use Rattle.std.proofs.Common.{Ok, sym}
 use Rattle.vcd_words.specs.Words.{words_left, placed}
-use Rattle.vcd_traces.specs.Changes.{other_value, passed_over}
+use Rattle.vcd_reading.specs.Changes.{other_value, passed_over}
 use Rattle.vcd_traces.specs.Going.{Holding}
 use Rattle.vcd_traces.proofs.PieceLaws.{stays_passed, passed_by, goes_code, goes_done, goes_refused}
 use Rattle.vcd_traces.proofs.reader.Reading.take_other.Goals as goal

@@ -1,6 +1,6 @@
 use Rattle.std.proofs.Common.{Some, sym, ◌∙◌, ap}
 use Rattle.vcd_words.specs.Words.{words_left, placed}
-use Rattle.vcd_traces.specs.declared.kinds.Kind.TheVariants.{Time, Scalar, Vector, Text, Section}
+use Rattle.vcd_reading.specs.declared.kinds.Kind.TheVariants.{Time, Scalar, Vector, Text, Section}
 use Rattle.vcd_traces.proofs.PieceLaws.{goes_kind, goes_comment, is_comment}
 use Rattle.vcd_traces.proofs.reader.Reading.take_piece.Goals as goal
 

@@ -1,6 +1,6 @@
 use Rattle.std.proofs.Common.{◌≡◌, drop, refl, sym, ◌∙◌, ap}
 use Rattle.vcd_words.specs.Words.{words_left, placed}
-use Rattle.vcd_traces.specs.Changes.{scalar}
+use Rattle.vcd_reading.specs.Changes.{scalar}
 use Rattle.vcd_traces.proofs.PieceLaws.{stays_changed, changed_by, goes_done, goes_refused}
 use Rattle.vcd_traces.proofs.reader.Reading.take_scalar.Goals as goal
 

@@ -1,6 +1,6 @@
 use Rattle.std.proofs.Common.{refl}
 use Rattle.vcd_words.specs.Words.{words_left}
-use Rattle.vcd_traces.specs.Changes.{timed}
+use Rattle.vcd_reading.specs.Changes.{timed}
 use Rattle.vcd_traces.specs.Table.{cell_codes}
 use Rattle.vcd_traces.proofs.PieceLaws.{stays_timed, goes_done, goes_refused}
 use Rattle.vcd_traces.proofs.reader.Reading.take_stamp.Goals as goal

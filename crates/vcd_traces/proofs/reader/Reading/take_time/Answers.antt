@@ -1,6 +1,6 @@
 use Rattle.std.proofs.Common.{◌≡◌, true, Some, sym, ◌∙◌, ap}
 use Rattle.vcd_traces.specs.declared.changes.Levels.{Levels}
-use Rattle.vcd_traces.specs.Changes.{is_later}
+use Rattle.vcd_reading.specs.Changes.{is_later}
 use Rattle.vcd_traces.specs.Plan.{Holds}
 use Rattle.vcd_traces.proofs.ChangeLaws.{does_by}
 use Rattle.vcd_traces.proofs.HoldLaws.{holds_later, timed_later, later_some, later_none}

@@ -1,6 +1,6 @@
 use Rattle.std.proofs.Common.{◌-◌, length, sym, Ok}
 use Rattle.vcd_words.specs.Words.{words_left, placed}
-use Rattle.vcd_traces.specs.Changes.{vector, changed}
+use Rattle.vcd_reading.specs.Changes.{vector, changed}
 use Rattle.vcd_traces.specs.Going.{Holding}
 use Rattle.vcd_traces.proofs.PieceLaws.{stays_changed, changed_by, digits_of, goes_code, goes_done, goes_refused}
 use Rattle.vcd_traces.proofs.reader.Reading.take_vector.Goals as goal

@@ -1,0 +1,10 @@
+pub mod ByteLaws
+pub mod HeaderSteps
+pub mod ReadSteps
+pub mod RealSteps
+pub mod Exits
+pub mod ListSteps
+pub mod PortSteps
+pub mod NameLaws
+pub mod IndexLaws
+pub mod OneReading

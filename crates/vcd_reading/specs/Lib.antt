@@ -1,0 +1,13 @@
+pub mod Commands
+pub mod Reals
+pub mod Pieces
+pub mod Header
+pub mod HeaderView
+pub mod Scopes
+pub mod NameView
+pub mod PortView
+pub mod Events
+pub mod Changes
+pub mod Reading
+pub mod Outcomes
+pub mod Found
