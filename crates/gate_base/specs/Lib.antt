@@ -1,0 +1,5 @@
+pub mod Literals
+pub mod Nodes
+pub mod Arena
+pub mod Meaning
+pub mod Fields
