@@ -4,6 +4,7 @@
 
 mod arena;
 mod error;
+pub mod laws;
 mod literal;
 mod node;
 mod operators;
