@@ -1,5 +1,5 @@
 -- Steps of chains over literals.
-use Rattle.std.proofs.Common.{◌≡◌, ℕ, ◌+◌, ◌≤◌, ◌<◌, true, false, List, ◌∷◌, length, get_or, drop, refl, sym, ◌∙◌, ap, add-one, drop-cons}
+use Rattle.std.proofs.Common.{◌≡◌, ℕ, ◌+◌, ◌≤◌, ◌<◌, false, List, ◌∷◌, length, get_or, drop, sym, ◌∙◌, ap, add-one, drop-cons}
 use Rattle.std.proofs.lemmas.List.{drop_all}
 use Rattle.gate_base.specs.declared.literal.Literal.{Literal}
 use Rattle.gate_base.specs.declared.literal.Literal.TheVariants.{Known}

@@ -1,5 +1,5 @@
 -- How many nodes there are of each kind.
-use Rattle.std.proofs.Common.{◌≡◌, ℕ, zero, suc, ◌+◌, ◌≤◌, ◌<◌, Bool, true, false, if◌then◌else◌, List, [], ◌∷◌, ◌++◌, length, Option, Some, None, refl, sym, ◌∙◌, ap, arith}
+use Rattle.std.proofs.Common.{◌≡◌, ℕ, ◌+◌, ◌≤◌, ◌<◌, true, false, if◌then◌else◌, List, [], ◌∷◌, ◌++◌, length, Option, Some, None, refl, sym, ◌∙◌, ap, append_assoc, append-nil, arith}
 use Rattle.gate_base.specs.declared.literal.Literal.{Literal}
 use Rattle.gate_base.specs.declared.node.Node.{Node}
 use Rattle.gate_base.specs.declared.node.Node.TheVariants.{Input, State, And, Free}
@@ -7,7 +7,7 @@ use Rattle.gate_base.specs.declared.error.MakeErr.{MakeErr}
 use Rattle.gate_base.specs.declared.error.MakeErr.TheVariants.{Limit, NoMemory}
 use Rattle.gate_base.specs.Arena.{UnlessNoMemory}
 use Rattle.gate_base.specs.Literals.{opposite, is_same, folded}
-use Rattle.gate_base.specs.Nodes.{counted, sources_in, is_counted, made, made_unless, pushed, and_made, or_made, xor_made, mux_made, and_all_made, or_all_made, xor_all_made}
+use Rattle.gate_base.specs.Nodes.{counted, sources_in, is_counted, made, made_unless, pushed, and_made, or_made, xor_made, mux_made, and_all_made, or_all_made, xor_all_made, free_made, AddsCounted}
 
 -- each node is of one of the two kinds
 pub length-counted : (nodes : List Node) → length nodes ≡ counted nodes + sources_in nodes
@@ -78,59 +78,103 @@ pub refused-more : (e : MakeErr) (limit m n : ℕ) → m ≤ n → UnlessNoMemor
 refused-more Limit limit m n more cause = omega (arith, more, cause)
 refused-more NoMemory limit m n more cause = tt
 
-counted-unless : (nodes : List Node) (node : Node) (o : Option Literal) → counted nodes ≤ counted (made_unless nodes node o).nodes
-unfolding made_unless pushed
-counted-unless nodes node (Some l) = omega arith
-counted-unless nodes node None = omega (arith, counted-append nodes (node ∷ []))
+-- ---- what each operator adds
 
--- no operator takes nodes away
-pub counted-pushed : (nodes : List Node) (node : Node) → counted nodes ≤ counted (pushed nodes node).nodes
+pub adds-none : (nodes : List Node) → AddsCounted nodes nodes
+adds-none nodes = record { more = []; is = sym (append-nil nodes); no_sources = sources_in-empty }
+
+pub adds-then : {a b c : List Node} → AddsCounted a b → AddsCounted b c → AddsCounted a c
+adds-then {a} {b} {c} first next = record {
+  more = first.more ++ next.more;
+  is = next.is ∙ ap (λ x. x ++ next.more) first.is ∙ append_assoc a first.more next.more;
+  no_sources = omega (arith, sources_in-append first.more next.more, first.no_sources, next.no_sources);
+}
+
+-- none is taken away, and no source is added
+pub adds-counted : {before after : List Node} → AddsCounted before after → counted before ≤ counted after
+adds-counted {before} adds = rw adds.is (omega (arith, counted-append before adds.more))
+
+pub adds-sources : {before after : List Node} → AddsCounted before after → sources_in after ≡ sources_in before
+adds-sources {before} adds = rw adds.is (omega (arith, sources_in-append before adds.more, adds.no_sources))
+
+pub pushed-adds : (nodes : List Node) (node : Node) → is_counted node ≡ true → AddsCounted nodes (pushed nodes node).nodes
 unfolding pushed
-counted-pushed nodes node = omega (arith, counted-append nodes (node ∷ []))
+pushed-adds nodes node is = record { more = node ∷ []; is = refl; no_sources = sources_in-other node is }
 
-pub counted-and : (nodes : List Node) (x y : Literal) → counted nodes ≤ counted (and_made nodes x y).nodes
+unless-adds : (nodes : List Node) (x y : Literal) (o : Option Literal) → AddsCounted nodes (made_unless nodes (And x y) o).nodes
+unfolding made_unless
+unless-adds nodes x y (Some l) = adds-none nodes
+unless-adds nodes x y None = pushed-adds nodes (And x y) refl
+
+pub free-adds : (nodes : List Node) (moment place bit : ℕ) (computed : Literal) → AddsCounted nodes (free_made nodes moment place bit computed).nodes
+unfolding free_made
+free-adds nodes moment place bit computed = pushed-adds nodes (Free moment place bit computed) refl
+
+pub and-adds : (nodes : List Node) (x y : Literal) → AddsCounted nodes (and_made nodes x y).nodes
 unfolding and_made
-counted-and nodes x y = counted-unless nodes (And x y) (folded x y)
+and-adds nodes x y = unless-adds nodes x y (folded x y)
 
-pub counted-or : (nodes : List Node) (x y : Literal) → counted nodes ≤ counted (or_made nodes x y).nodes
+pub or-adds : (nodes : List Node) (x y : Literal) → AddsCounted nodes (or_made nodes x y).nodes
 unfolding or_made
-counted-or nodes x y = counted-and nodes (opposite x) (opposite y)
+or-adds nodes x y = and-adds nodes (opposite x) (opposite y)
 
-pub counted-xor : (nodes : List Node) (x y : Literal) → counted nodes ≤ counted (xor_made nodes x y).nodes
+pub xor-adds : (nodes : List Node) (x y : Literal) → AddsCounted nodes (xor_made nodes x y).nodes
 unfolding xor_made
-counted-xor nodes x y =
+xor-adds nodes x y =
     let p = and_made nodes x (opposite y) in
     let q = and_made p.nodes (opposite x) y in
-    omega (arith, counted-and nodes x (opposite y), counted-and p.nodes (opposite x) y, counted-or q.nodes p.bit q.bit)
+    adds-then (and-adds nodes x (opposite y)) (adds-then (and-adds p.nodes (opposite x) y) (or-adds q.nodes p.bit q.bit))
 
-pub counted-mux : (nodes : List Node) (c a b : Literal) → counted nodes ≤ counted (mux_made nodes c a b).nodes
+pub mux-adds : (nodes : List Node) (c a b : Literal) → AddsCounted nodes (mux_made nodes c a b).nodes
 unfolding mux_made
-counted-mux nodes c a b =
+mux-adds nodes c a b =
     let p = and_made nodes c a in
     let q = and_made p.nodes (opposite c) b in
     let r = or_made q.nodes p.bit q.bit in
-    let least : counted nodes ≤ counted r.nodes =
-      omega (arith, counted-and nodes c a, counted-and p.nodes (opposite c) b, counted-or q.nodes p.bit q.bit) in
-    elim (is_same a b) as (λ same. counted nodes ≤ counted (if same then made nodes a else r).nodes) [ true ↦ omega arith | false ↦ least ]
+    let adds = adds-then (and-adds nodes c a) (adds-then (and-adds p.nodes (opposite c) b) (or-adds q.nodes p.bit q.bit)) in
+    elim (is_same a b) as (λ same. AddsCounted nodes (if same then made nodes a else r).nodes) [ true ↦ adds-none nodes | false ↦ adds ]
+
+pub and_all-adds : (nodes : List Node) (x : Literal) (xs : List Literal) → AddsCounted nodes (and_all_made nodes x xs).nodes
+unfolding and_all_made
+and_all-adds nodes x [] = adds-none nodes
+and_all-adds nodes x (y ∷ xs) = let m = and_made nodes x y in adds-then (and-adds nodes x y) (and_all-adds m.nodes m.bit xs)
+
+pub or_all-adds : (nodes : List Node) (x : Literal) (xs : List Literal) → AddsCounted nodes (or_all_made nodes x xs).nodes
+unfolding or_all_made
+or_all-adds nodes x [] = adds-none nodes
+or_all-adds nodes x (y ∷ xs) = let m = or_made nodes x y in adds-then (or-adds nodes x y) (or_all-adds m.nodes m.bit xs)
+
+pub xor_all-adds : (nodes : List Node) (x : Literal) (xs : List Literal) → AddsCounted nodes (xor_all_made nodes x xs).nodes
+unfolding xor_all_made
+xor_all-adds nodes x [] = adds-none nodes
+xor_all-adds nodes x (y ∷ xs) = let m = xor_made nodes x y in adds-then (xor-adds nodes x y) (xor_all-adds m.nodes m.bit xs)
+
+-- ---- so no operator takes nodes away
+
+pub counted-free : (nodes : List Node) (moment place bit : ℕ) (computed : Literal) → counted nodes ≤ counted (free_made nodes moment place bit computed).nodes
+counted-free nodes moment place bit computed = adds-counted (free-adds nodes moment place bit computed)
+
+pub counted-and : (nodes : List Node) (x y : Literal) → counted nodes ≤ counted (and_made nodes x y).nodes
+counted-and nodes x y = adds-counted (and-adds nodes x y)
+
+pub counted-or : (nodes : List Node) (x y : Literal) → counted nodes ≤ counted (or_made nodes x y).nodes
+counted-or nodes x y = adds-counted (or-adds nodes x y)
+
+pub counted-xor : (nodes : List Node) (x y : Literal) → counted nodes ≤ counted (xor_made nodes x y).nodes
+counted-xor nodes x y = adds-counted (xor-adds nodes x y)
+
+pub counted-mux : (nodes : List Node) (c a b : Literal) → counted nodes ≤ counted (mux_made nodes c a b).nodes
+counted-mux nodes c a b = adds-counted (mux-adds nodes c a b)
 
 pub counted-and_all : (nodes : List Node) (x : Literal) (xs : List Literal) → counted nodes ≤ counted (and_all_made nodes x xs).nodes
-unfolding and_all_made
-counted-and_all nodes x [] = omega arith
-counted-and_all nodes x (y ∷ xs) =
-    let m = and_made nodes x y in omega (arith, counted-and nodes x y, counted-and_all m.nodes m.bit xs)
+counted-and_all nodes x xs = adds-counted (and_all-adds nodes x xs)
 
 pub counted-or_all : (nodes : List Node) (x : Literal) (xs : List Literal) → counted nodes ≤ counted (or_all_made nodes x xs).nodes
-unfolding or_all_made
-counted-or_all nodes x [] = omega arith
-counted-or_all nodes x (y ∷ xs) =
-    let m = or_made nodes x y in omega (arith, counted-or nodes x y, counted-or_all m.nodes m.bit xs)
+counted-or_all nodes x xs = adds-counted (or_all-adds nodes x xs)
 
 pub counted-xor_all : (nodes : List Node) (x : Literal) (xs : List Literal) → counted nodes ≤ counted (xor_all_made nodes x xs).nodes
-unfolding xor_all_made
-counted-xor_all nodes x [] = omega arith
-counted-xor_all nodes x (y ∷ xs) =
-    let m = xor_made nodes x y in omega (arith, counted-xor nodes x y, counted-xor_all m.nodes m.bit xs)
+counted-xor_all nodes x xs = adds-counted (xor_all-adds nodes x xs)
 
-pub ruleset operators = (refused-more, counted-pushed, counted-and, counted-or, counted-xor, counted-mux, counted-and_all, counted-or_all, counted-xor_all)
+pub ruleset operators = (refused-more, counted-free, counted-and, counted-or, counted-xor, counted-mux, counted-and_all, counted-or_all, counted-xor_all)
 
 pub ruleset counts = (length-counted, counted-push, sources_in-push_counted, counted-push_source, sources_in-push, counted-empty, sources_in-empty)

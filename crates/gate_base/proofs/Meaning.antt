@@ -1,5 +1,5 @@
 -- What the operators mean: operands that mean bits give a literal that means the operator's bit. Only AND looks at nodes.
-use Rattle.std.proofs.Common.{◌≡◌, ◌≢◌, ℕ, zero, suc, ◌+◌, ◌<◌, ◌≤◌, Bool, true, false, not, cond, ◌&&◌, ◌||◌, ◌==◌, if◌then◌else◌, List, [], ◌∷◌, ◌++◌, length, get_or, Option, Some, None, refl, sym, ◌∙◌, ap, ap₂, subst, arith, append_assoc, append-nil, length-append}
+use Rattle.std.proofs.Common.{◌≡◌, ℕ, suc, ◌+◌, ◌<◌, ◌≤◌, Bool, true, false, not, ◌&&◌, ◌||◌, ◌==◌, if◌then◌else◌, List, [], ◌∷◌, ◌++◌, length, get_or, Option, Some, None, refl, sym, ◌∙◌, ap, ap₂, subst, arith, append_assoc, append-nil, length-append}
 use Rattle.std.proofs.lemmas.List.{get_or_append_left}
 use Rattle.std.proofs.Math.Seq.{get_or-append_seam}
 use Rattle.loc_base.proofs.ShelfBools.{not-not, and-true, and-false, or-false, or-assoc, equal-true}
@@ -9,8 +9,8 @@ use Rattle.gate_base.specs.declared.literal.Literal.TheVariants.{Known, Of}
 use Rattle.gate_base.specs.declared.node.Node.{Node}
 use Rattle.gate_base.specs.declared.node.Node.TheVariants.{Input, State, And, Free}
 use Rattle.gate_base.specs.Literals.{same_sign, opposite, is_same, folded, IsBelow, AreOfTwo}
-use Rattle.gate_base.specs.Nodes.{Made, made, Word, pushed, made_unless, and_made, or_made, xor_made, mux_made, and_all_made, or_all_made, xor_all_made, input_made, state_made, free_made, NodeFits, AreOrdered, AreOrderedFrom}
-use Rattle.gate_base.specs.Meaning.{Source, literal_value, node_value, values, bit_value, Means, Grown, Gives, MeansAll, none, more, GivesAll, all_of, some_of, odd_of, differ}
+use Rattle.gate_base.specs.Nodes.{made, pushed, made_unless, and_made, or_made, xor_made, mux_made, and_all_made, or_all_made, xor_all_made, input_made, state_made, free_made, NodeFits, AreOrderedFrom}
+use Rattle.gate_base.specs.Meaning.{Source, literal_value, node_value, values, bit_value, Means, Grown, Gives, MeansAll, none, more, all_of, some_of, odd_of, differ}
 
 -- ---- values
 
@@ -73,7 +73,7 @@ pub opposite-means : {e : Source} {nodes : List Node} {l : Literal} {b : Bool} �
 unfolding bit_value
 opposite-means {e} {nodes} {l} {b} m = record {
   within = opposite-below (length nodes) l m.within;
-  value = opposite-value (values e [] nodes) l ∙ ap not m.value
+  value = opposite-value (values e [] nodes) l ∙ ap not m.value;
 }
 
 -- a constant means itself
@@ -86,7 +86,7 @@ pub keep : {e : Source} {before after : List Node} {l : Literal} {b : Bool} → 
 keep {e} {before} {after} {l} {b} grown m =
     rw grown.is record {
       within = IsBelow-more (length before) (length (before ++ grown.more)) l (omega (arith, length-append before grown.more)) m.within;
-      value = bit_value-kept e before grown.more l m.within ∙ m.value
+      value = bit_value-kept e before grown.more l m.within ∙ m.value;
     }
 
 pub keep_all : {e : Source} {before after : List Node} {xs : List Literal} {bs : List Bool} → Grown before after → MeansAll e before xs bs → MeansAll e after xs bs
@@ -100,7 +100,7 @@ pub grown-then : {a b c : List Node} → Grown a b → Grown b c → Grown a c
 grown-then {a} {b} {c} first next = record {
   more = first.more ++ next.more;
   is = next.is ∙ ap (λ x. x ++ next.more) first.is ∙ append_assoc a first.more next.more;
-  ordered = λ o. next.ordered (first.ordered o)
+  ordered = λ o. next.ordered (first.ordered o);
 }
 
 -- ---- a new node
@@ -115,7 +115,7 @@ unfolding pushed
 grown-pushed nodes node fits = record {
   more = node ∷ [];
   is = refl;
-  ordered = λ o. AreOrderedFrom-push 0 (length nodes) nodes node (omega arith) o fits
+  ordered = λ o. AreOrderedFrom-push 0 (length nodes) nodes node (omega arith) o fits;
 }
 
 pushed-value : (e : Source) (nodes : List Node) (node : Node) → bit_value e (pushed nodes node).nodes (pushed nodes node).bit ≡ node_value e (values e [] nodes) node
@@ -134,8 +134,8 @@ pushed-gives e nodes node b fits value = record {
   grown = grown-pushed nodes node fits;
   means = record {
     within = omega (arith, length-append nodes (node ∷ []));
-    value = pushed-value e nodes node ∙ value
-  }
+    value = pushed-value e nodes node ∙ value;
+  };
 }
 
 -- ---- AND
@@ -193,7 +193,7 @@ made-unless-gives : {e : Source} {nodes : List Node} {x y : Literal} {a b : Bool
 unfolding made_unless FoldsTo bit_value
 made-unless-gives {e} {nodes} (Some l) mx my folds = record {
   grown = grown-none nodes;
-  means = record { within = folds.0; value = folds.1 ∙ ap₂ (λ u v. u && v) mx.value my.value }
+  means = record { within = folds.0; value = folds.1 ∙ ap₂ (λ u v. u && v) mx.value my.value };
 }
 made-unless-gives {e} {nodes} {x} {y} {a} {b} None mx my folds =
     pushed-gives e nodes (And x y) (a && b) (mx.within, my.within, folds) (and-value e nodes x y a b mx.value my.value)

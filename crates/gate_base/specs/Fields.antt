@@ -1,5 +1,5 @@
 -- How the fields of an arena stand for what contracts see of it; only private contracts cite it.
-use Rattle.std.specs.Prelude.{◌≡◌, ℕ, ◌≤◌, ◌<◌, ◌^◌}
+use Rattle.std.specs.Prelude.{◌≡◌, ◌≤◌, ◌<◌, ◌^◌}
 use Rattle.gate_base.specs.declared.arena.Maker.TheInside.{Inside}
 use Rattle.gate_base.specs.Nodes.{counted, sources_in}
 use Rattle.gate_base.specs.Arena.{Arena}

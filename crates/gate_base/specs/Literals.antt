@@ -1,5 +1,5 @@
 -- Literals: constants, nodes and negated nodes.
-use Rattle.std.specs.Prelude.{ℕ, ◌==◌, ◌<◌, ◌≢◌, Bool, true, false, not, cond, ◌&&◌, if◌then◌else◌, Option, Some, None}
+use Rattle.std.specs.Prelude.{ℕ, ◌==◌, ◌<◌, ◌≢◌, Bool, false, not, cond, ◌&&◌, if◌then◌else◌, Option, Some, None}
 use Rattle.gate_base.specs.declared.literal.Literal.{Literal}
 use Rattle.gate_base.specs.declared.literal.Literal.TheVariants.{Known, Of}
 

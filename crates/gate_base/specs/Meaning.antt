@@ -1,5 +1,5 @@
 -- What nodes and literals mean: their truth values where inputs, states and free choices are given.
-use Rattle.std.specs.Prelude.{◌≡◌, ℕ, ◌<◌, Bool, true, false, not, cond, ◌&&◌, ◌||◌, if◌then◌else◌, List, [], ◌∷◌, ◌++◌, length, get_or}
+use Rattle.std.specs.Prelude.{◌≡◌, ℕ, Bool, true, false, not, cond, ◌&&◌, ◌||◌, if◌then◌else◌, List, [], ◌∷◌, ◌++◌, length, get_or}
 use Rattle.gate_base.specs.declared.literal.Literal.{Literal}
 use Rattle.gate_base.specs.declared.literal.Literal.TheVariants.{Known, Of}
 use Rattle.gate_base.specs.declared.node.Node.{Node}
@@ -57,7 +57,7 @@ pub record Gives (e : Source) (nodes : List Node) (m : Made) (b : Bool) : Type 0
 pub data MeansAll (e : Source) (nodes : List Node) : List Literal → List Bool → Type 0 where
   none : MeansAll e nodes [] []
   more : {x : Literal} {b : Bool} {xs : List Literal} {bs : List Bool}
-    → Means e nodes x b → MeansAll e nodes xs bs → MeansAll e nodes (x ∷ xs) (b ∷ bs)
+      → Means e nodes x b → MeansAll e nodes xs bs → MeansAll e nodes (x ∷ xs) (b ∷ bs)
 
 -- the nodes grow, and the literals of the new word mean these bits
 pub record GivesAll (e : Source) (nodes : List Node) (w : Word) (bs : List Bool) : Type 0 where

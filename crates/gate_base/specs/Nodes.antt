@@ -1,7 +1,7 @@
 -- How nodes are made: each definition gives the nodes that stand afterwards, and the literals that were made.
-use Rattle.std.specs.Prelude.{◌≡◌, ℕ, suc, ◌+◌, Bool, true, false, if◌then◌else◌, List, [], ◌∷◌, ◌++◌, length, Option, Some, None}
+use Rattle.std.specs.Prelude.{◌≡◌, ℕ, suc, Bool, true, false, if◌then◌else◌, List, [], ◌∷◌, ◌++◌, length, Option, Some, None}
 use Rattle.gate_base.specs.declared.literal.Literal.{Literal}
-use Rattle.gate_base.specs.declared.literal.Literal.TheVariants.{Known, Of}
+use Rattle.gate_base.specs.declared.literal.Literal.TheVariants.{Of}
 use Rattle.gate_base.specs.declared.node.Node.{Node}
 use Rattle.gate_base.specs.declared.node.Node.TheVariants.{Input, State, And, Free}
 use Rattle.gate_base.specs.Literals.{opposite, is_same, folded, IsBelow, AreOfTwo}
@@ -60,9 +60,9 @@ unfoldable pub mux_made : List Node → Literal → Literal → Literal → Made
 mux_made nodes condition a b =
     if is_same a b then made nodes a
     else
-      (let p = and_made nodes condition a in
-       let q = and_made p.nodes (opposite condition) b in
-       or_made q.nodes p.bit q.bit)
+    (let p = and_made nodes condition a in
+    let q = and_made p.nodes (opposite condition) b in
+    or_made q.nodes p.bit q.bit)
 
 -- chains, from the first literal on
 unfoldable pub and_all_made : List Node → Literal → List Literal → Made
@@ -94,11 +94,11 @@ unfoldable pub sources_in : List Node → ℕ
 sources_in [] = 0
 sources_in (node ∷ nodes) = if is_counted node then sources_in nodes else suc (sources_in nodes)
 
--- the nodes grow by AND nodes alone
-pub record AddsAnds (before after : List Node) : Type 0 where
+-- the nodes grow by AND and free nodes alone
+pub record AddsCounted (before after : List Node) : Type 0 where
   pub more : List Node
   pub is : after ≡ before ++ more
-  pub ands : sources_in more ≡ 0
+  pub no_sources : sources_in more ≡ 0
 
 -- whether the operands of a node are of nodes with smaller numbers, and those of an AND of two different ones
 abbrev pub NodeFits : ℕ → Node → Type 0

@@ -49,9 +49,15 @@ impl Maker {
     pub fn len(&self) -> u32
         ensures value { result ≡ length self.now.nodes }
         ensures within { counted self.now.nodes ≤ self.now.limit }
-        ensures few { sources_in self.now.nodes ≤ 2 ^ 31 }
     {
         self.counted + self.sources
+    }
+
+    /// The number of nodes that are bits of inputs or states. Fewer than 2,147,483,648 of them may be made.
+    pub fn sources(&self) -> u32
+        ensures { result ≡ sources_in self.now.nodes }
+    {
+        self.sources
     }
 
     /// Whether there are none.
@@ -141,7 +147,13 @@ impl Maker {
 
     /// The bit of a place.
     #[tactic(auto, unfolding(crate::specs::Nodes::free_made))]
-    pub fn free(&mut self, moment: u32, place: u32, bit: u8, computed: Literal) -> Result<Literal, MakeErr>
+    pub fn free(
+        &mut self,
+        moment: u32,
+        place: u32,
+        bit: u8,
+        computed: Literal,
+    ) -> Result<Literal, MakeErr>
         ensures ok { IfOk result (λ l. made self.new.nodes l ≡ free_made self.old.nodes moment place bit computed) }
         ensures err { IfErr result (λ e. UnlessNoMemory e (self.old.limit < counted (free_made self.old.nodes moment place bit computed).nodes)) }
         ensures limit { self.new.limit ≡ self.old.limit }

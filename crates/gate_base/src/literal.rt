@@ -2,7 +2,7 @@ ghost use Rattle.std.specs.Prelude.{◌≡◌};
 ghost use Rattle.gate_base.specs.Literals.{folded, is_same, opposite};
 
 /// A constant, a node of a circuit, or a negated node.
-#[derive(Clone, Copy, Debug)]
+#[derive(Clone, Copy, Debug, PartialEq, Eq)]
 pub enum Literal {
     Known(bool),
     Of { node: u32, negated: bool },
@@ -48,7 +48,11 @@ impl Literal {
     {
         match (self, other) {
             (Literal::Known(value), literal) | (literal, Literal::Known(value)) => {
-                Some(if value { literal } else { Literal::Known(false) })
+                Some(if value {
+                    literal
+                } else {
+                    Literal::Known(false)
+                })
             }
             (
                 Literal::Of { node, negated },

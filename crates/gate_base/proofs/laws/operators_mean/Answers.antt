@@ -7,5 +7,5 @@ returns g c = record {
   and = and-means c.requires.1.0 c.requires.1.1;
   or = or-means c.requires.1.0 c.requires.1.1;
   xor = xor-means c.requires.1.0 c.requires.1.1;
-  mux = mux-means c.requires.0 c.requires.1.0 c.requires.1.1
+  mux = mux-means c.requires.0 c.requires.1.0 c.requires.1.1;
 }

@@ -6,5 +6,5 @@ use Rattle.gate_base.proofs.arena.Maker.xor_all.Given as goal
 abbrev pub invariant-loop-literal : goal.invariant-loop-literal
 invariant-loop-literal l = record {
   limit : l.self.limit ≡ l.fn.self.limit;
-  rest : xor_all_made l.fn.self.nodes (Known false) l.literals ≡ xor_all_made l.self.nodes l.so_far (drop l.literal-index l.literals)
+  rest : xor_all_made l.fn.self.nodes (Known false) l.literals ≡ xor_all_made l.self.nodes l.so_far (drop l.literal-index l.literals);
 }
