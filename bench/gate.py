@@ -1,11 +1,12 @@
 #!/usr/bin/env python3
 """Runs the gate and prints the processor seconds that each crate took: its proof, its tests, its must-fail edits.
 
-usage: bench/gate.py [COMMAND..]     COMMAND is `rt ci` where none is given
+usage: bench/gate.py [COMMAND..]     at the top of the repository; COMMAND is `rt ci` where none is given
 
 The command's own output goes through. The prover's processes are looked at twice a second, so what a process took after
 the last look at it is missed: a sum may be low by some hundredths. Only what is proved in this run is counted: begin with
-`rt ci --anew` for the cost from nothing. The exit status is the command's.
+`rt ci --anew` for the cost from nothing. Below the table stands the dearest chain of crates, each of which waits for the
+proof of the one before: no number of processors makes the gate shorter than that. The exit status is the command's.
 """
 
 import os
@@ -63,6 +64,32 @@ def look(gate, seen):
             seen[process] = (crate, kind_of(words, folder), seconds)
 
 
+def crates_below():
+    """Of each crate of crates.txt: the crates of that file that it stands on."""
+    with open("crates.txt") as file:
+        lines = [line.partition("#")[0].partition(":") for line in file if ":" in line]
+    below = {name.split()[0]: needs.split() for name, _, needs in lines}
+    return {name: [need for need in needs if need in below] for name, needs in below.items()}
+
+
+def dearest_chain(crates, below):
+    """The chain of crates that takes most: the proof of each, and the tests and edits of the last."""
+    proved = {}
+
+    def until(name):
+        if name not in proved:
+            most, chain = max((until(need) for need in below[name]), default=(0, []))
+            proved[name] = (most + crates.get(name, Counter())["library"], chain + [name])
+        return proved[name]
+
+    ends = []
+    for name in below:
+        seconds, chain = until(name)
+        own = crates.get(name, Counter())
+        ends.append((seconds + own["tests"] + own["edits"], chain))
+    return max(ends, default=(0, []))
+
+
 def row(name, seconds):
     cells = [f"{seconds[kind]:.0f}" for kind in KINDS] + [f"{sum(seconds.values()):.0f}"]
     return f"| {name} | " + " | ".join(cells) + " |"
@@ -84,6 +111,8 @@ def main():
     for name, seconds in sorted(crates.items(), key=lambda entry: -sum(entry[1].values())):
         print(row(name, seconds))
     print(row("all", whole))
+    seconds, chain = dearest_chain(crates, crates_below())
+    print(f"\ndearest chain: {seconds:.0f} processor seconds, {', '.join(chain)}")
     print(f"{time.time() - begun:.0f} seconds by the clock, {os.cpu_count()} processors")
     return gate.returncode
 

@@ -15,6 +15,13 @@ use Rattle.v_tree.specs.PartTree.{PlainRange, range_of, PlainNamed, named_of, Pl
 abbrev pub as_is : {A : Type 0} → A × ℕ → A × ℕ
 as_is x = x
 
+-- a part, and parts, by a view of one
+abbrev pub seen_part : {X A : Type 0} → (X → A) → X × ℕ → A × ℕ
+seen_part view x = (view x.0, x.1)
+
+abbrev pub seen_parts : {X A : Type 0} → (X → A) → Vec X Global × ℕ → List A × ℕ
+seen_parts view x = (map view x.0.items, x.1)
+
 abbrev pub seen_value : Expr × ℕ → Tree × ℕ
 seen_value x = (tree_of x.0, x.1)
 

@@ -7,5 +7,5 @@ mod lists;
 mod names;
 
 pub use left_sides::{INDEX_LEVELS, bare, left};
-pub use lists::{identifiers, named_values, values};
+pub use lists::{PartReader, identifiers, listed, named_values, values};
 pub use names::{Read, delay, delay_if, identifier, name, range, range_if, value, value_if};

@@ -5,14 +5,12 @@ use crate::site::Site;
 use loc_base::Name;
 
 /// A name that is declared, or that stands without selects.
-#[derive(Drop)]
 pub struct Identifier {
     pub site: Site,
     pub name: Name,
 }
 
 /// `[left : right]` of a declaration.
-#[derive(Drop)]
 pub struct Range {
     pub site: Site,
     pub left: Expr,
@@ -20,7 +18,6 @@ pub struct Range {
 }
 
 /// A delay, which is read and has no effect.
-#[derive(Drop)]
 pub enum Delay {
     /// `#number`
     Number { site: Site, number: Number },
@@ -31,7 +28,6 @@ pub enum Delay {
 }
 
 /// The left side of an assignment.
-#[derive(Drop)]
 pub enum Left {
     /// A name with at most two selects.
     Name {
@@ -47,7 +43,6 @@ pub enum Left {
 }
 
 /// `variable = start; condition; next = step` of a loop.
-#[derive(Drop)]
 pub struct LoopHead {
     pub site: Site,
     pub variable: Identifier,
@@ -58,9 +53,72 @@ pub struct LoopHead {
 }
 
 /// `name = value`
-#[derive(Drop)]
 pub struct NamedValue {
     pub site: Site,
     pub name: Name,
     pub value: Expr,
+}
+
+// Each node's `drop` is written out, so that it is proved once, here: a derived one is proved again by each crate that lets a
+// node go.
+impl Drop for Identifier {
+    fn drop(self) {
+        let Identifier { site: _, name: _ } = self;
+    }
+}
+
+impl Drop for Range {
+    fn drop(self) {
+        let Range {
+            site: _,
+            left: _,
+            right: _,
+        } = self;
+    }
+}
+
+impl Drop for Delay {
+    fn drop(self) {
+        match self {
+            Delay::Number { site: _, number: _ } => {}
+            Delay::Name { site: _, name: _ } => {}
+            Delay::Parens { site: _, value: _ } => {}
+        }
+    }
+}
+
+impl Drop for Left {
+    fn drop(self) {
+        match self {
+            Left::Name {
+                site: _,
+                name: _,
+                selects: _,
+            } => {}
+            Left::Concat { site: _, parts: _ } => {}
+        }
+    }
+}
+
+impl Drop for LoopHead {
+    fn drop(self) {
+        let LoopHead {
+            site: _,
+            variable: _,
+            start: _,
+            condition: _,
+            next: _,
+            step: _,
+        } = self;
+    }
+}
+
+impl Drop for NamedValue {
+    fn drop(self) {
+        let NamedValue {
+            site: _,
+            name: _,
+            value: _,
+        } = self;
+    }
 }

@@ -16,7 +16,6 @@ pub enum PartKind {
 }
 
 /// A select behind a name (IEEE 1364-2005, 5.2.1 and 5.2.2).
-#[derive(Drop)]
 #[cycle(syntax)]
 pub enum Select {
     /// `[index]`
@@ -34,7 +33,6 @@ pub enum Select {
 }
 
 /// An expression (IEEE 1364-2005, clause 5).
-#[derive(Drop)]
 #[cycle(syntax)]
 pub enum Expr {
     Number {
@@ -92,4 +90,65 @@ pub enum Expr {
         then: Box<Expr>,
         other: Box<Expr>,
     },
+}
+
+// Each node's `drop` is written out, so that it is proved once, here: a derived one is proved again by each crate that lets a
+// node go.
+impl Drop for Select {
+    #[cycle(syntax)]
+    fn drop(self) {
+        match self {
+            Select::Bit { site: _, index: _ } => {}
+            Select::Part {
+                site: _,
+                kind: _,
+                left: _,
+                right: _,
+            } => {}
+        }
+    }
+}
+
+impl Drop for Expr {
+    #[cycle(syntax)]
+    fn drop(self) {
+        match self {
+            Expr::Number { site: _, number: _ } => {}
+            Expr::Wild { site: _, number: _ } => {}
+            Expr::Name {
+                site: _,
+                name: _,
+                selects: _,
+            } => {}
+            Expr::Parens { site: _, inner: _ } => {}
+            Expr::Concat { site: _, parts: _ } => {}
+            Expr::Repeat {
+                site: _,
+                count: _,
+                parts: _,
+            } => {}
+            Expr::System {
+                site: _,
+                function: _,
+                argument: _,
+            } => {}
+            Expr::Unary {
+                site: _,
+                operator: _,
+                operand: _,
+            } => {}
+            Expr::Binary {
+                site: _,
+                operator: _,
+                left: _,
+                right: _,
+            } => {}
+            Expr::Conditional {
+                site: _,
+                condition: _,
+                then: _,
+                other: _,
+            } => {}
+        }
+    }
 }

@@ -42,7 +42,6 @@ pub enum GateKind {
 }
 
 /// The type of a parameter.
-#[derive(Drop)]
 pub enum ParameterType {
     /// Nothing, or a sign, a range or both.
     Vector { signed: bool, range: Option<Range> },
@@ -51,7 +50,6 @@ pub enum ParameterType {
 }
 
 /// A name of a wire or reg declaration: with a second range it is an array.
-#[derive(Drop)]
 pub struct Declarator {
     pub site: Site,
     pub name: Name,
@@ -60,7 +58,6 @@ pub struct Declarator {
 }
 
 /// `target = value` of a continuous assignment.
-#[derive(Drop)]
 pub struct NetAssignment {
     pub site: Site,
     pub target: Left,
@@ -68,7 +65,6 @@ pub struct NetAssignment {
 }
 
 /// `name (terminal, ..)` of a gate, at least one terminal.
-#[derive(Drop)]
 pub struct GateInstance {
     pub site: Site,
     pub name: Option<Name>,
@@ -76,7 +72,6 @@ pub struct GateInstance {
 }
 
 /// `.name(value)`
-#[derive(Drop)]
 pub struct NamedConnection {
     pub site: Site,
     pub name: Name,
@@ -84,7 +79,6 @@ pub struct NamedConnection {
 }
 
 /// The connections of an instance, or the overrides of its parameters.
-#[derive(Drop)]
 pub enum Connections {
     /// By order. One that is left out is `None`; `()` has none at all.
     Ordered { values: Vec<Option<Expr>> },
@@ -93,7 +87,6 @@ pub enum Connections {
 }
 
 /// `name (connections)` of a module instance.
-#[derive(Drop)]
 pub struct Instance {
     pub site: Site,
     pub name: Name,
@@ -101,7 +94,6 @@ pub struct Instance {
 }
 
 /// An item of a module.
-#[derive(Drop)]
 #[cycle(module_item)]
 pub enum Item {
     /// `input wire signed [7:0] name, ..;`
@@ -191,7 +183,6 @@ pub enum Item {
 }
 
 /// What a generate loop or condition holds.
-#[derive(Drop)]
 #[cycle(module_item)]
 pub enum GenerateBlock {
     /// One item.
@@ -205,4 +196,159 @@ pub enum GenerateBlock {
         label: Option<Identifier>,
         items: Vec<Item>,
     },
+}
+
+// Each node's `drop` is written out, so that it is proved once, here: a derived one is proved again by each crate that lets a
+// node go.
+impl Drop for ParameterType {
+    fn drop(self) {
+        match self {
+            ParameterType::Vector {
+                signed: _,
+                range: _,
+            } => {}
+            ParameterType::Integer => {}
+        }
+    }
+}
+
+impl Drop for Declarator {
+    fn drop(self) {
+        let Declarator {
+            site: _,
+            name: _,
+            range: _,
+            value: _,
+        } = self;
+    }
+}
+
+impl Drop for NetAssignment {
+    fn drop(self) {
+        let NetAssignment {
+            site: _,
+            target: _,
+            value: _,
+        } = self;
+    }
+}
+
+impl Drop for GateInstance {
+    fn drop(self) {
+        let GateInstance {
+            site: _,
+            name: _,
+            terminals: _,
+        } = self;
+    }
+}
+
+impl Drop for NamedConnection {
+    fn drop(self) {
+        let NamedConnection {
+            site: _,
+            name: _,
+            value: _,
+        } = self;
+    }
+}
+
+impl Drop for Connections {
+    fn drop(self) {
+        match self {
+            Connections::Ordered { values: _ } => {}
+            Connections::Named { values: _ } => {}
+        }
+    }
+}
+
+impl Drop for Instance {
+    fn drop(self) {
+        let Instance {
+            site: _,
+            name: _,
+            connections: _,
+        } = self;
+    }
+}
+
+impl Drop for Item {
+    #[cycle(module_item)]
+    fn drop(self) {
+        match self {
+            Item::Port {
+                site: _,
+                direction: _,
+                net: _,
+                signed: _,
+                range: _,
+                names: _,
+            } => {}
+            Item::Declaration {
+                site: _,
+                net: _,
+                signed: _,
+                range: _,
+                delay: _,
+                names: _,
+            } => {}
+            Item::Integers { site: _, names: _ } => {}
+            Item::Genvars { site: _, names: _ } => {}
+            Item::Parameters {
+                site: _,
+                kind: _,
+                type_of: _,
+                values: _,
+            } => {}
+            Item::Assigns {
+                site: _,
+                delay: _,
+                assignments: _,
+            } => {}
+            Item::Gates {
+                site: _,
+                kind: _,
+                delay: _,
+                gates: _,
+            } => {}
+            Item::Always {
+                site: _,
+                sensitivity: _,
+                body: _,
+            } => {}
+            Item::Initial { site: _, body: _ } => {}
+            Item::Instances {
+                site: _,
+                module: _,
+                parameters: _,
+                instances: _,
+            } => {}
+            Item::Generate { site: _, items: _ } => {}
+            Item::GenerateFor {
+                site: _,
+                head: _,
+                body: _,
+            } => {}
+            Item::GenerateIf {
+                site: _,
+                condition: _,
+                then: _,
+                other: _,
+            } => {}
+        }
+    }
+}
+
+impl Drop for GenerateBlock {
+    #[cycle(module_item)]
+    fn drop(self) {
+        match self {
+            GenerateBlock::Item { site: _, item: _ } => {}
+            GenerateBlock::Block {
+                site: _,
+                label: _,
+                items: _,
+            } => {}
+        }
+    }
 }

@@ -6,7 +6,6 @@ use crate::site::Site;
 use loc_base::Name;
 
 /// A parameter of a module's header.
-#[derive(Drop)]
 pub struct HeaderParameter {
     pub site: Site,
     /// Whether the word `parameter` stands before it.
@@ -17,7 +16,6 @@ pub struct HeaderParameter {
 }
 
 /// A port that a module's header declares.
-#[derive(Drop)]
 pub enum Port {
     /// `output reg signed [7:0] name = value`
     Declared {
@@ -38,7 +36,6 @@ pub enum Port {
 }
 
 /// The ports of a module's header.
-#[derive(Drop)]
 pub enum Ports {
     /// No list, or an empty one.
     None,
@@ -49,7 +46,6 @@ pub enum Ports {
 }
 
 /// A module.
-#[derive(Drop)]
 pub struct Module {
     pub site: Site,
     pub name: Name,
@@ -59,7 +55,69 @@ pub struct Module {
 }
 
 /// The modules of a text, in its order.
-#[derive(Drop)]
 pub struct SourceTree {
     pub modules: Vec<Module>,
+}
+
+// Each node's `drop` is written out, so that it is proved once, here: a derived one is proved again by each crate that lets a
+// node go.
+impl Drop for HeaderParameter {
+    fn drop(self) {
+        let HeaderParameter {
+            site: _,
+            opens: _,
+            type_of: _,
+            name: _,
+            value: _,
+        } = self;
+    }
+}
+
+impl Drop for Port {
+    fn drop(self) {
+        match self {
+            Port::Declared {
+                site: _,
+                direction: _,
+                net: _,
+                signed: _,
+                range: _,
+                name: _,
+                value: _,
+            } => {}
+            Port::Same {
+                site: _,
+                name: _,
+                value: _,
+            } => {}
+        }
+    }
+}
+
+impl Drop for Ports {
+    fn drop(self) {
+        match self {
+            Ports::None => {}
+            Ports::Names { names: _ } => {}
+            Ports::Declared { ports: _ } => {}
+        }
+    }
+}
+
+impl Drop for Module {
+    fn drop(self) {
+        let Module {
+            site: _,
+            name: _,
+            parameters: _,
+            ports: _,
+            items: _,
+        } = self;
+    }
+}
+
+impl Drop for SourceTree {
+    fn drop(self) {
+        let SourceTree { modules: _ } = self;
+    }
 }

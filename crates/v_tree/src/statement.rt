@@ -23,7 +23,6 @@ pub enum CaseKind {
 }
 
 /// A statement.
-#[derive(Drop)]
 #[cycle(procedure)]
 pub enum Statement {
     /// `;`
@@ -73,7 +72,6 @@ pub enum Statement {
 }
 
 /// An item of a case statement.
-#[derive(Drop)]
 #[cycle(procedure)]
 pub enum CaseItem {
     /// `label, .. : body`, at least one label.
@@ -97,7 +95,6 @@ pub enum Edge {
 }
 
 /// An event of a sensitivity list.
-#[derive(Drop)]
 pub enum Event {
     /// An edge of a name.
     Edge {
@@ -114,10 +111,94 @@ pub enum Event {
 }
 
 /// What an always block waits for.
-#[derive(Drop)]
 pub enum Sensitivity {
     /// `*` or `(*)`
     All { site: Site },
     /// `(event or event ..)`, at least one event.
     Events { site: Site, events: Vec<Event> },
+}
+
+// Each node's `drop` is written out, so that it is proved once, here: a derived one is proved again by each crate that lets a
+// node go.
+impl Drop for Statement {
+    #[cycle(procedure)]
+    fn drop(self) {
+        match self {
+            Statement::Empty { site: _ } => {}
+            Statement::Block {
+                site: _,
+                label: _,
+                body: _,
+            } => {}
+            Statement::Delayed {
+                site: _,
+                delay: _,
+                body: _,
+            } => {}
+            Statement::If {
+                site: _,
+                condition: _,
+                then: _,
+                other: _,
+            } => {}
+            Statement::Case {
+                site: _,
+                kind: _,
+                subject: _,
+                items: _,
+            } => {}
+            Statement::For {
+                site: _,
+                head: _,
+                body: _,
+            } => {}
+            Statement::Assign {
+                site: _,
+                target: _,
+                kind: _,
+                delay: _,
+                value: _,
+            } => {}
+        }
+    }
+}
+
+impl Drop for CaseItem {
+    #[cycle(procedure)]
+    fn drop(self) {
+        match self {
+            CaseItem::Labels {
+                site: _,
+                labels: _,
+                body: _,
+            } => {}
+            CaseItem::Default { site: _, body: _ } => {}
+        }
+    }
+}
+
+impl Drop for Event {
+    fn drop(self) {
+        match self {
+            Event::Edge {
+                site: _,
+                edge: _,
+                name: _,
+            } => {}
+            Event::Change {
+                site: _,
+                name: _,
+                select: _,
+            } => {}
+        }
+    }
+}
+
+impl Drop for Sensitivity {
+    fn drop(self) {
+        match self {
+            Sensitivity::All { site: _ } => {}
+            Sensitivity::Events { site: _, events: _ } => {}
+        }
+    }
 }

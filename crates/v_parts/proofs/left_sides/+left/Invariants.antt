@@ -1,4 +1,4 @@
-use Rattle.std.proofs.Common.{◌≡◌, ◌+◌, ◌-◌, ◌*◌, ◌≤◌, length}
+use Rattle.std.proofs.Common.{◌+◌, ◌-◌, ◌*◌}
 use Rattle.v_tree.specs.PartTree.{left_of}
 use Rattle.v_parts.specs.Reading.{left_at}
 use Rattle.v_parts.proofs.ListSteps.{Listing}
