@@ -1,5 +1,5 @@
 use crate::expression::Typed;
-use loc_base::Bits;
+use loc_base::{Bits, Boxed, Items};
 
 /// One part of a left side (IEEE 1364-2005, 6.1 and 9.2). The fields are those of the nodes of the same names.
 #[derive(Debug, Drop)]
@@ -13,7 +13,7 @@ pub enum Part {
     Pick {
         signal: u32,
         index: Typed,
-        offsets: Vec<i32>,
+        offsets: Items<i32>,
     },
     Word {
         first: u32,
@@ -28,7 +28,7 @@ pub enum Part {
 /// A left side: its parts from the left.
 #[derive(Debug, Drop)]
 pub struct Target {
-    pub parts: Vec<Part>,
+    pub parts: Items<Part>,
 }
 
 /// A label of a case item. `wild` has a 1 for each bit that is not compared.
@@ -42,7 +42,7 @@ pub struct Label {
 #[cycle(statement)]
 #[derive(Debug, Drop)]
 pub struct CaseItem {
-    pub labels: Vec<Label>,
+    pub labels: Items<Label>,
     pub body: Stmt,
 }
 
@@ -51,17 +51,17 @@ pub struct CaseItem {
 #[derive(Debug, Drop)]
 pub enum Stmt {
     Nothing,
-    Block(Vec<Stmt>),
+    Block(Items<Stmt>),
     If {
         cond: Typed,
-        yes: Box<Stmt>,
-        no: Box<Stmt>,
+        yes: Boxed<Stmt>,
+        no: Boxed<Stmt>,
     },
     /// The first item with a label that is equal to the subject, else `other`. `wild` is true for `casez`.
     Case {
         subject: Typed,
-        items: Vec<CaseItem>,
-        other: Box<Stmt>,
+        items: Items<CaseItem>,
+        other: Boxed<Stmt>,
         wild: bool,
     },
     /// A procedural assignment: `<=` where `later` is true, else `=`.

@@ -173,8 +173,8 @@ any_named test (x ∷ xs) some = elim (or_cases (test x) (list_any test xs) some
 pub read_name : (of : List ℕ → ℕ) (signals : List Signal) (i : ℕ) (a : Assignment) (driver : Driver) (s b : ℕ) → IsShapedDriver of (i, a) driver
     → driver_reads signals s b driver ≡ true → (m : ℕ) × (m < length (formula_names a.value)) × ((d : List ℕ) → s ≡ of (get_or (formula_names a.value) m d))
 read_name of signals i a (Cont target e place span) s b h is =
-    let none : list_any (part_reads signals s b) target.parts.items ≡ false = ap (list_any (part_reads signals s b)) h.0 in
-    elim (or_cases (reads signals s b e) (list_any (part_reads signals s b) target.parts.items) is) [
+    let none : list_any (part_reads signals s b) target.parts ≡ false = ap (list_any (part_reads signals s b)) h.0 in
+    elim (or_cases (reads signals s b e) (list_any (part_reads signals s b) target.parts) is) [
       | inl value ↦
           let of_formula = formula_from of signals a.value e h.1 in
           let both = sym (of_formula.reads s b) ∙ value in

@@ -6,7 +6,7 @@ use Rattle.std.proofs.lemmas.Bool.{and_from, and_parts}
 use Rattle.design_core.specs.declared.signal.Signal.{Signal}
 use Rattle.design_core.specs.declared.expression.UnaryOp.TheVariants as unary_op
 use Rattle.design_core.specs.declared.expression.Typed.{Typed}
-use Rattle.design_core.specs.declared.expression.Node.{Node}
+use Rattle.design_core.specs.declared.expression.Node.{Node, end_of-Typed, more_of-Typed}
 use Rattle.design_core.specs.declared.expression.Node.TheVariants as node
 use Rattle.design_core.specs.Valuation.{Valuation, number, width_at}
 use Rattle.design_core.specs.Operator.{one_if, unary, binary}
@@ -52,11 +52,11 @@ pub node_means : (of : List ℕ → ℕ) (signals : List Signal) (V : Valuation)
     → node_value signals V 1 n ≡ one_if (formula_value (λ name. V (of name) 0) f)
 node_means of signals V (formula.Named name) (node.Whole s) h = number_one (V s) ∙ ap (λ s. one_if (V s 0)) h
 node_means of signals V (formula.Named name) _ h = absurd h
-node_means of signals V (formula.Not' _ arg) (node.Unary' op _ width signed e) h =
+node_means of signals V (formula.Not' _ arg) (node.Unary' op _ (more_of-Typed width signed e end_of-Typed)) h =
     let inner = node_means of signals V arg e h.3 in
     rw (h.0, h.1) (ap (λ a. unary unary_op.Not 1 a) inner ∙ not_one (formula_value (λ name. V (of name) 0) arg))
 node_means of signals V (formula.Not' _ arg) _ h = absurd h
-node_means of signals V (formula.Binary' op _ left _ right) (node.Binary' word _ left_width left_signed e _ right_width right_signed f) h =
+node_means of signals V (formula.Binary' op _ left _ right) (node.Binary' word _ (more_of-Typed left_width left_signed e end_of-Typed) _ (more_of-Typed right_width right_signed f end_of-Typed)) h =
     let one = node_means of signals V left e h.5 in
     let other = node_means of signals V right f h.6 in
     rw (h.0, h.1, h.2, h.3, h.4)
@@ -88,9 +88,9 @@ node_reads_is of signals s b (formula.Named name) (node.Whole signal) h =
     swapped false true = refl
     swapped false false = refl
 node_reads_is of signals s b (formula.Named name) _ h = absurd h
-node_reads_is of signals s b (formula.Not' _ arg) (node.Unary' op _ width signed e) h = rw h.1 (node_reads_is of signals s b arg e h.3)
+node_reads_is of signals s b (formula.Not' _ arg) (node.Unary' op _ (more_of-Typed width signed e end_of-Typed)) h = rw h.1 (node_reads_is of signals s b arg e h.3)
 node_reads_is of signals s b (formula.Not' _ arg) _ h = absurd h
-node_reads_is of signals s b (formula.Binary' op _ left _ right) (node.Binary' word _ left_width left_signed e _ right_width right_signed f) h =
+node_reads_is of signals s b (formula.Binary' op _ left _ right) (node.Binary' word _ (more_of-Typed left_width left_signed e end_of-Typed) _ (more_of-Typed right_width right_signed f end_of-Typed)) h =
     let one = node_reads_is of signals s b left e h.5 in
     let other = node_reads_is of signals s b right f h.6 in
     rw (h.1, h.3)
@@ -120,9 +120,9 @@ node_fits_one of signals (formula.Named name) sign (node.Whole s) h all =
     let (one, rest) = and_parts (is_one_bit signals (of name)) true all in
     rw h one
 node_fits_one of signals (formula.Named name) sign _ h all = absurd h
-node_fits_one of signals (formula.Not' _ arg) sign (node.Unary' op _ width signed e) h all = rw (h.0, h.1) (node_fits_one of signals arg signed e h.3 all)
+node_fits_one of signals (formula.Not' _ arg) sign (node.Unary' op _ (more_of-Typed width signed e end_of-Typed)) h all = rw (h.0, h.1) (node_fits_one of signals arg signed e h.3 all)
 node_fits_one of signals (formula.Not' _ arg) sign _ h all = absurd h
-node_fits_one of signals (formula.Binary' op _ left _ right) sign (node.Binary' word _ left_width left_signed e _ right_width right_signed f) h all =
+node_fits_one of signals (formula.Binary' op _ left _ right) sign (node.Binary' word _ (more_of-Typed left_width left_signed e end_of-Typed) _ (more_of-Typed right_width right_signed f end_of-Typed)) h all =
     let (first, second) = all_parts (λ name. is_one_bit signals (of name)) (formula_names left) (formula_names right) all in
     rw (h.0, h.1, h.3)
     (and_from (operator_test op left_signed right_signed && node_fits signals 1 left_signed e) (node_fits signals 1 right_signed f)

@@ -49,7 +49,7 @@ pub record IsFormula (number : List ℕ → ℕ) (signals : List Signal) (f : Fo
 -- a driver is an assignment, which is the place of its number
 abbrev pub IsDriverOf : (List ℕ → ℕ) → List Signal → ℕ × Assignment → Driver → Type 0
 IsDriverOf number signals (i, a) (Cont target e place span) =
-    (target.parts.items ≡ Whole (number a.target) ∷ [])
+    (target.parts ≡ Whole (number a.target) ∷ [])
     × IsFormula number signals a.value e × (place ≡ Some i) × (span ≡ a.span)
 IsDriverOf number signals (i, a) (Comb body span) = ⊥
 

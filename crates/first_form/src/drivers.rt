@@ -15,6 +15,7 @@ use crate::numbers::{Numbers, find};
 use crate::walk::order_of;
 use design_core::types::Order;
 use design_core::{Driver, Part, Target, Typed};
+use loc_base::Items;
 use std::alloc::Global;
 
 /// The drivers of a design, and the assignments that each depends on: driver `i` on
@@ -37,7 +38,8 @@ fn assigning(
     ensures driver { IfOk result (λ driver. (of : List ℕ → ℕ) → of assignment.now.target ≡ signal → IsTypedOf of assignment.now.value value → IsShapedDriver of (number, assignment.now) driver) }
     ensures memory { result ≢ Err Form }
 {
-    let parts = vec![in alloc; Part::Whole(signal)]?;
+    let mut parts = Items::new(alloc);
+    parts.push(Part::Whole(signal))?;
     Ok(Driver::Cont {
         target: Target { parts },
         value,

@@ -9,6 +9,7 @@ use crate::error::FormErr;
 use crate::netlist::{Formula, Operator};
 use crate::numbers::{Numbers, find};
 use design_core::{BinaryOp, Node, Typed, UnaryOp};
+use loc_base::Boxed;
 use std::alloc::Global;
 
 fn operator_of(operator: Operator) -> BinaryOp
@@ -68,7 +69,7 @@ pub fn typed_of(
         }
         Formula::Not(arg) => {
             let arg = typed_of(alloc, arg, signals, assigns, sources)?;
-            let arg = Box::new(alloc, arg)?;
+            let arg = Boxed::new(alloc, arg)?;
             Ok(one_bit(Node::Unary {
                 op: UnaryOp::Not,
                 arg,
@@ -81,8 +82,8 @@ pub fn typed_of(
         } => {
             let left = typed_of(alloc, left, signals, assigns, sources)?;
             let right = typed_of(alloc, right, signals, assigns, sources)?;
-            let left = Box::new(alloc, left)?;
-            let right = Box::new(alloc, right)?;
+            let left = Boxed::new(alloc, left)?;
+            let right = Boxed::new(alloc, right)?;
             Ok(one_bit(Node::Binary {
                 op: operator_of(*operator),
                 left,

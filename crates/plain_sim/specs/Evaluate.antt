@@ -59,8 +59,8 @@ after_list signals choice (statement ∷ rest) m = after_list signals choice res
 
 -- whether a case item has a label equal to the subject
 abbrev pub item_matches : List Signal → Valuation → ℕ → CaseItem → Bool
-item_matches signals V subject item = list_any (matches signals V subject) item.labels.items
+item_matches signals V subject item = list_any (matches signals V subject) item.labels
 
 -- whether a case item's labels have the subject's width and its statement fits
 abbrev pub item_fits : List Signal → List Place → ℕ → CaseItem → Bool
-item_fits signals places width item = list_all (label_fits signals width) item.labels.items && statement_fits signals places item.body
+item_fits signals places width item = list_all (label_fits signals width) item.labels && statement_fits signals places item.body

@@ -46,9 +46,9 @@ pub(crate) fn typed_fits(signals: &[Signal], e: &Typed) -> bool
             offsets,
         } => {
             is_width(usize::from(e.width))
-                && is_signal(signals, *signal)
-                && offsets.len() == usize::from(e.width)
-                && typed_fits(signals, index)
+                & is_signal(signals, *signal)
+                & (offsets.len() == usize::from(e.width))
+                & typed_fits(signals, index)
         }
         Node::Word {
             first,
@@ -59,35 +59,35 @@ pub(crate) fn typed_fits(signals: &[Signal], e: &Typed) -> bool
             ..
         } => {
             words_fit(signals, *first, *count, *from, *width)
-                && *width == e.width
-                && typed_fits(signals, index)
+                & (*width == e.width)
+                & typed_fits(signals, index)
         }
         Node::Unary { op, arg } => {
             is_width(usize::from(e.width))
-                && unary_fits(*op, e.width, arg.width)
-                && typed_fits(signals, arg)
+                & unary_fits(*op, e.width, arg.width)
+                & typed_fits(signals, arg)
         }
         Node::Binary { op, left, right } => {
             is_width(usize::from(e.width))
-                && binary_fits(*op, e.width, left.width, right.width)
-                && signs_fit(*op, e.signed, left.signed, right.signed)
-                && typed_fits(signals, left)
-                && typed_fits(signals, right)
+                & binary_fits(*op, e.width, left.width, right.width)
+                & signs_fit(*op, e.signed, left.signed, right.signed)
+                & typed_fits(signals, left)
+                & typed_fits(signals, right)
         }
         Node::Choose { cond, yes, no } => {
-            e.width == yes.width
-                && e.width == no.width
-                && typed_fits(signals, cond)
-                && typed_fits(signals, yes)
-                && typed_fits(signals, no)
+            (e.width == yes.width)
+                & (e.width == no.width)
+                & typed_fits(signals, cond)
+                & typed_fits(signals, yes)
+                & typed_fits(signals, no)
         }
         Node::Join(parts) => join_fits(signals, e.width, parts),
         Node::Repeat { times, part } => {
             is_width(usize::from(e.width))
-                && usize::from(*times) * usize::from(part.width) == usize::from(e.width)
-                && typed_fits(signals, part)
+                & (usize::from(*times) * usize::from(part.width) == usize::from(e.width))
+                & typed_fits(signals, part)
         }
-        Node::Resize(arg) => is_width(usize::from(e.width)) && typed_fits(signals, arg),
+        Node::Resize(arg) => is_width(usize::from(e.width)) & typed_fits(signals, arg),
     }
 }
 

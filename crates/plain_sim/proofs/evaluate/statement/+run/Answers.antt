@@ -17,7 +17,7 @@ run_statement-run_all-requires t c =
     let signals : List Signal = c.args.design.now.signals.items in
     let places : List Place = c.args.design.now.places.items in
     let fits = sym (block-fits signals places c.in-Block.statements) ∙ (rw c.in-Block.is at c.requires.fits) in
-    (search (rules, the_lemmas), (c.requires.now, (c.requires.later, (c.requires.freed, (c.requires.chosen, rw c.deref.ensures.value fits)))))
+    (search (rules, the_lemmas), (c.requires.now, (c.requires.later, (c.requires.freed, (c.requires.chosen, rw c.deref.ensures fits)))))
 
 pub run_statement-returns-in-Block-clause-value : goal.run_statement-returns-in-Block-clause-value
 run_statement-returns-in-Block-clause-value t c =
@@ -25,21 +25,21 @@ run_statement-returns-in-Block-clause-value t c =
     let choice : Choice = choice_of c.args.freed.now c.args.chosen.now in
     let m : Updates = updates (valuation_of c.args.now.now) (valuation_of c.args.later.now) in
     rw c.in-Block.is
-    (c.run_all.ensures.value ∙ ap (λ ss. after_list signals choice ss m) c.deref.ensures.value ∙ sym (block-value signals choice c.in-Block.statements m))
+    (c.run_all.ensures.value ∙ ap (λ ss. after_list signals choice ss m) c.deref.ensures ∙ sym (block-value signals choice c.in-Block.statements m))
 
 pub run_statement-matching_item-requires-clause-fits : goal.run_statement-matching_item-requires-clause-fits
 run_statement-matching_item-requires-clause-fits t c =
     let signals : List Signal = c.args.design.now.signals.items in
     let places : List Place = c.args.design.now.places.items in
     let fits = case-fits signals places c.in-Case.subject c.in-Case.items c.in-Case.other c.in-Case.wild (rw c.in-Case.is at c.requires.fits) in
-    rw (c.deref-in-Case-2.ensures.value, c.value-subject.ensures.width) fits
+    rw (c.deref-in-Case-2.ensures, c.value-subject.ensures.width) fits
 
 pub run_statement-run_statement-requires-in-Some : goal.run_statement-run_statement-requires-in-Some
 run_statement-run_statement-requires-in-Some t c =
     let signals : List Signal = c.args.design.now.signals.items in
     let places : List Place = c.args.design.now.places.items in
     let fits = case-fits signals places c.in-Case.subject c.in-Case.items c.in-Case.other c.in-Case.wild (rw c.in-Case.is at c.requires.fits) in
-    let within = rw c.deref-in-Case-2.ensures.value at c.in-Some.ensures.within in (
+    let within = rw c.deref-in-Case-2.ensures at c.in-Some.ensures.within in (
       search (rules, the_lemmas),
       (
         c.requires.now,
@@ -49,7 +49,7 @@ run_statement-run_statement-requires-in-Some t c =
             c.requires.freed,
             (
               c.requires.chosen,
-              body-fits signals places c.in-Case.subject.width c.in-Case.items.items c.in-Some.i c.index.result.now fits within c.index.ensures,
+              body-fits signals places c.in-Case.subject.width c.in-Case.items c.in-Some.i c.index.result.now fits within c.index.ensures,
             ),
           ),
         ),
@@ -61,12 +61,12 @@ run_statement-returns-in-Some-clause-value t c =
     let signals : List Signal = c.args.design.now.signals.items in
     let choice : Choice = choice_of c.args.freed.now c.args.chosen.now in
     let m : Updates = updates (valuation_of c.args.now.now) (valuation_of c.args.later.now) in
-    let other : Updates = after signals choice c.in-Case.other.value m in
-    let within = rw c.deref-in-Case-2.ensures.value at c.in-Some.ensures.within in
-    let first = rw (c.deref-in-Case-2.ensures.value, c.value-subject.ensures.value, c.deref-in-Case.ensures.value) at c.in-Some.ensures.first in
+    let other : Updates = after signals choice c.in-Case.other m in
+    let within = rw c.deref-in-Case-2.ensures at c.in-Some.ensures.within in
+    let first = rw (c.deref-in-Case-2.ensures, c.value-subject.ensures.value, c.deref-in-Case.ensures.value) at c.in-Some.ensures.first in
     rw c.in-Case.is
     (c.run_statement-in-Some.ensures.value
-    ∙ ap (after_item signals choice m other) (sym (slice_get_read c.in-Case.items.items (length c.in-Case.items.items) c.in-Some.i c.index.result.now refl within c.index.ensures) ∙ first)
+    ∙ ap (after_item signals choice m other) (sym (slice_get_read c.in-Case.items (length c.in-Case.items) c.in-Some.i c.index.result.now refl within c.index.ensures) ∙ first)
     ∙ sym (case-value signals choice c.in-Case.subject c.in-Case.items c.in-Case.other c.in-Case.wild m))
 
 pub run_statement-returns-in-None-clause-value : goal.run_statement-returns-in-None-clause-value
@@ -74,8 +74,8 @@ run_statement-returns-in-None-clause-value t c =
     let signals : List Signal = c.args.design.now.signals.items in
     let choice : Choice = choice_of c.args.freed.now c.args.chosen.now in
     let m : Updates = updates (valuation_of c.args.now.now) (valuation_of c.args.later.now) in
-    let other : Updates = after signals choice c.in-Case.other.value m in
-    let first = rw (c.deref-in-Case-2.ensures.value, c.value-subject.ensures.value, c.deref-in-Case.ensures.value) at c.in-None.ensures.first in
+    let other : Updates = after signals choice c.in-Case.other m in
+    let first = rw (c.deref-in-Case-2.ensures, c.value-subject.ensures.value, c.deref-in-Case.ensures.value) at c.in-None.ensures.first in
     rw c.in-Case.is
     (c.run_statement-in-None.ensures.value
     ∙ ap (λ s. after signals choice s m) c.deref-in-None.ensures
@@ -86,12 +86,12 @@ pub run_statement-assigned-word-requires-clause-freed : goal.run_statement-assig
 run_statement-assigned-word-requires-clause-freed t c =
     let signals : List Signal = c.args.design.now.signals.items in
     let places : List Place = c.args.design.now.places.items in
-    let within = place-within places (parts_width signals c.in-Set.target.parts.items) c.in-Set.place (assignment_fits signals c.in-Set.target.parts.items c.in-Set.computed) (rw c.in-Set.is at c.requires.fits) in
+    let within = place-within places (parts_width signals c.in-Set.target.parts) c.in-Set.place (assignment_fits signals c.in-Set.target.parts c.in-Set.computed) (rw c.in-Set.is at c.requires.fits) in
     omega (arith, within, c.requires.freed)
 
 pub run_statement-assigned-word-requires-clause-chosen : goal.run_statement-assigned-word-requires-clause-chosen
 run_statement-assigned-word-requires-clause-chosen t c =
     let signals : List Signal = c.args.design.now.signals.items in
     let places : List Place = c.args.design.now.places.items in
-    let within = place-within places (parts_width signals c.in-Set.target.parts.items) c.in-Set.place (assignment_fits signals c.in-Set.target.parts.items c.in-Set.computed) (rw c.in-Set.is at c.requires.fits) in
+    let within = place-within places (parts_width signals c.in-Set.target.parts) c.in-Set.place (assignment_fits signals c.in-Set.target.parts c.in-Set.computed) (rw c.in-Set.is at c.requires.fits) in
     omega (arith, within, c.requires.chosen)
