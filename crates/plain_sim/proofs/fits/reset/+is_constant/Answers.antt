@@ -1,7 +1,7 @@
 use Rattle.std.proofs.Common.{◌∙◌, ap, sym}
 use Rattle.design_core.specs.Constant.{is_constant}
 use Rattle.design_core.proofs.ExpressionSteps.{constant_resize}
-use Rattle.plain_sim.proofs.fits.reset.is_constant.Goals as goal
+use Rattle.plain_sim.proofs.fits.reset.+is_constant.Goals as goal
 
 pub returns-in-Resize : goal.returns-in-Resize
 returns-in-Resize t c =
