@@ -14,6 +14,7 @@ use Rattle.design_core.specs.declared.statement.Stmt.{Stmt, Row_of-Stmt, end_of-
 use Rattle.design_core.specs.declared.statement.Stmt.TheVariants.{Block, If, Case}
 use denote.Hole.Carrier.{hidden}
 use Rattle.design_core.specs.declared.statement.Stmt.TheBlock.{shape-the_row-Stmt-1, hidden-the_row-Stmt-1, hidden-the_row-Stmt-0, hidden-the_row-CaseItem-2}
+use Rattle.design_core.specs.Operator.{is_true}
 use Rattle.design_core.specs.Value.{value}
 use Rattle.design_core.specs.After.{Choice, Updates, matches, after, after_all, after_case}
 use Rattle.design_core.specs.WellFormed.{typed_fits, label_fits, place_fits, statement_fits, statements_fit, items_fit}
@@ -63,6 +64,12 @@ if-fits signals places test on_true on_false h = (
   ),
 )
 
+pub if-value : (signals : List Signal) (choice : Choice) (test : Typed) (on_true on_false : Stmt) (m : Updates)
+    → after signals choice (If test on_true on_false) m
+    ≡ (if is_true (value signals m.now test) then after signals choice on_true m else after signals choice on_false m)
+unfolding shape-the_row-Stmt-1 hidden-the_row-Stmt-1 hidden
+if-value signals choice test on_true on_false m = refl
+
 -- ---- cases
 -- what an item does where there is one
 abbrev pub after_item : List Signal → Choice → Updates → Updates → Option CaseItem → Updates
@@ -106,6 +113,15 @@ case-fits signals places subject items other wild h =
     let all : items_fit signals places subject.width row ≡ list_all (item_fits signals places subject.width) items =
     items-fits signals places subject.width row ∙ ap (list_all (item_fits signals places subject.width)) (items_hidden-the_row-CaseItem-2 items) in
     sym all ∙ middle (typed_fits signals subject) (items_fit signals places subject.width row) (statement_fits signals places other) h
+
+pub case-ends : (signals : List Signal) (places : List Place) (subject : Typed) (items : List CaseItem) (other : Stmt) (wild : Bool)
+    → IsTrue (statement_fits signals places (Case subject items other wild)) → IsTrue (typed_fits signals subject) × IsTrue (statement_fits signals places other)
+unfolding shape-the_row-Stmt-1 hidden-the_row-Stmt-1 hidden
+case-ends signals places subject items other wild h =
+    let all : Bool = items_fit signals places subject.width (hidden-the_row-CaseItem-2 items) in (
+      in_three (typed_fits signals subject) all (statement_fits signals places other) h,
+      third_in_three (typed_fits signals subject) all (statement_fits signals places other) h,
+    )
 
 -- the first item of the rest that matches
 pub found-first : {X : Type 0} (test : X → Bool) (xs : List X) (i : ℕ) (x : X) → i < length xs → x ≡ get_or xs i x → test x ≡ true
