@@ -1,14 +1,15 @@
-use Rattle.std.proofs.Common.{◌∙◌, ap, rules, sym, arith, List, refl, length}
+use Rattle.std.proofs.Common.{◌∙◌, ap, rules, sym, arith, List, refl, length, get_or}
 use Rattle.std.specs.Prelude.{Bool, if◌then◌else◌}
 use Rattle.std.proofs.lemmas.Option.{slice_get_read}
 use Rattle.design_core.specs.declared.signal.Signal.{Signal}
 use Rattle.design_core.specs.declared.place.Place.{Place}
+use Rattle.design_core.specs.declared.statement.CaseItem.{CaseItem}
 use Rattle.design_core.specs.declared.statement.Stmt.TheViews.{the_lemmas}
 use Rattle.design_core.specs.Operator.{is_true}
 use Rattle.design_core.specs.Value.{value}
 use Rattle.design_core.specs.Store.{parts_width}
 use Rattle.design_core.specs.After.{Choice, Updates, after}
-use Rattle.design_core.specs.WellFormed.{assignment_fits}
+use Rattle.design_core.specs.WellFormed.{assignment_fits, statement_fits}
 use Rattle.design_core.specs.Words.{valuation_of, choice_of}
 use Rattle.plain_sim.specs.Evaluate.{after_list}
 use Rattle.plain_sim.proofs.EvaluateStore.{updates}
@@ -42,6 +43,7 @@ run_statement-run_statement-requires-in-Some t c =
     let signals : List Signal = c.args.design.now.signals.items in
     let places : List Place = c.args.design.now.places.items in
     let fits = case-fits signals places c.in-Case.subject c.in-Case.items c.in-Case.other c.in-Case.wild (rw c.in-Case.is at c.requires.fits) in
+    let is = c.index-deref-i.is ∙ ap (λ xs. get_or xs c.in-Some.i c.index-deref-i.result) c.deref-in-Some.ensures in
     let within = rw c.deref-in-Case-2.ensures at c.in-Some.ensures.within in (
       search (rules, the_lemmas),
       (
@@ -52,7 +54,8 @@ run_statement-run_statement-requires-in-Some t c =
             c.requires.freed,
             (
               c.requires.chosen,
-              body-fits signals places c.in-Case.subject.width c.in-Case.items c.in-Some.i c.index-deref-i.result fits within c.index-deref-i.is,
+              sym (ap (λ (item : CaseItem). statement_fits signals places item.body) c.index-deref-i.is)
+              ∙ body-fits signals places c.in-Case.subject.width c.in-Case.items c.in-Some.i c.index-deref-i.result fits within is,
             ),
           ),
         ),
@@ -65,11 +68,13 @@ run_statement-returns-in-Some-clause-value t c =
     let choice : Choice = choice_of c.args.freed.now c.args.chosen.now in
     let m : Updates = updates (valuation_of c.args.now.now) (valuation_of c.args.later.now) in
     let other : Updates = after signals choice c.in-Case.other m in
+    let is = c.index-deref-i.is ∙ ap (λ xs. get_or xs c.in-Some.i c.index-deref-i.result) c.deref-in-Some.ensures in
     let within = rw c.deref-in-Case-2.ensures at c.in-Some.ensures.within in
     let first = rw (c.deref-in-Case-2.ensures, c.value-subject.ensures.value, c.deref-in-Case.ensures.value) at c.in-Some.ensures.first in
     rw c.in-Case.is
     (c.run_statement-in-Some.ensures.value
-    ∙ ap (after_item signals choice m other) (sym (slice_get_read c.in-Case.items (length c.in-Case.items) c.in-Some.i c.index-deref-i.result refl within c.index-deref-i.is) ∙ first)
+    ∙ ap (λ (item : CaseItem). after signals choice item.body m) (sym c.index-deref-i.is)
+    ∙ ap (after_item signals choice m other) (sym (slice_get_read c.in-Case.items (length c.in-Case.items) c.in-Some.i c.index-deref-i.result refl within is) ∙ first)
     ∙ sym (case-value signals choice c.in-Case.subject c.in-Case.items c.in-Case.other c.in-Case.wild m))
 
 pub run_statement-returns-in-None-clause-value : goal.run_statement-returns-in-None-clause-value
