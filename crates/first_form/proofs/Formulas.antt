@@ -1,6 +1,5 @@
 -- The expression that is made for a formula means the formula, reads what it names, and fits.
-use Rattle.std.proofs.Common.{◌≡◌, ℕ, zero, suc, ◌+◌, ◌-◌, ◌^◌, ◌==◌, Bool, true, false, not, ◌&&◌, ◌||◌, if◌then◌else◌, nat_lt, List, [], ◌∷◌, ◌++◌, length, refl, sym, ◌∙◌, ap, subst, arith, bit_and, bit_or, bit_xor}
-use Rattle.std.specs.Prelude.{IsTrue}
+use Rattle.std.proofs.Common.{◌≡◌, ℕ, zero, suc, ◌+◌, ◌==◌, Bool, true, false, not, ◌&&◌, ◌||◌, if◌then◌else◌, nat_lt, List, [], ◌∷◌, ◌++◌, refl, sym, ◌∙◌, ap, arith}
 use Rattle.std.specs.List.{list_any, list_all}
 use Rattle.std.proofs.lemmas.Bool.{and_from, and_parts}
 use Rattle.design_core.specs.declared.signal.Signal.{Signal}
@@ -10,9 +9,9 @@ use Rattle.design_core.specs.declared.expression.Node.{Node, end_of-Typed, more_
 use Rattle.design_core.specs.declared.expression.Node.TheVariants as node
 use Rattle.design_core.specs.Valuation.{Valuation, number, width_at}
 use Rattle.design_core.specs.Operator.{one_if, unary, binary}
-use Rattle.design_core.specs.Value.{node_value, value}
-use Rattle.design_core.specs.Reads.{node_reads, reads}
-use Rattle.design_core.specs.WellFormed.{node_fits, typed_fits, is_signal, unary_fits, binary_fits, signs_fit}
+use Rattle.design_core.specs.Value.{node_value}
+use Rattle.design_core.specs.Reads.{node_reads}
+use Rattle.design_core.specs.WellFormed.{node_fits, typed_fits, is_signal, binary_fits, signs_fit}
 use Rattle.first_form.specs.declared.netlist.Operator.{Operator}
 use Rattle.first_form.specs.declared.netlist.Operator.TheVariants as operator
 use Rattle.first_form.specs.declared.netlist.Formula.{Formula}

@@ -4,11 +4,9 @@ use Rattle.std.specs.Prelude.{ℕ, ◌≡◌, ◌==◌, ◌+◌, Bool, false, no
 use Rattle.std.specs.List.{list_any, AllZip, enumerate_from}
 use Rattle.loc_base.specs.Bits.{width_of, value_of}
 use Rattle.design_core.specs.declared.signal.Signal.{Signal}
-use Rattle.design_core.specs.declared.signal.SignalKind.{SignalKind}
 use Rattle.design_core.specs.declared.signal.SignalKind.TheVariants as kind
 use Rattle.design_core.specs.declared.expression.Typed.{Typed}
 use Rattle.design_core.specs.declared.statement.Part.TheVariants.{Whole}
-use Rattle.design_core.specs.declared.statement.Target.{Target}
 use Rattle.design_core.specs.declared.driver.Driver.{Driver}
 use Rattle.design_core.specs.declared.driver.Driver.TheVariants.{Cont, Comb}
 use Rattle.design_core.specs.declared.place.Place.{Place}

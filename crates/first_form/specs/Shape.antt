@@ -1,12 +1,11 @@
 -- The expression that stands for a right side, node by node.
-use Rattle.std.specs.Prelude.{ℕ, ◌≡◌, ◌∷◌, [], Bool, false, List, Option, Some, filter_map, ◌+◌, ◌<◌, length, take, slice_index}
+use Rattle.std.specs.Prelude.{ℕ, ◌≡◌, ◌∷◌, [], false, List, Option, Some, filter_map, ◌+◌, ◌<◌, length, take, slice_index}
 use Rattle.std.specs.List.{flat_map}
 use Rattle.design_core.specs.declared.statement.Part.TheVariants as part
 use Rattle.design_core.specs.declared.driver.Driver.{Driver}
 use Rattle.design_core.specs.declared.driver.Driver.TheVariants.{Cont, Comb}
 use Rattle.first_form.specs.declared.netlist.Assignment.{Assignment}
 use Rattle.first_form.specs.Formula.{formula_names}
-use Rattle.design_core.specs.declared.expression.UnaryOp.{UnaryOp}
 use Rattle.design_core.specs.declared.expression.UnaryOp.TheVariants as unary_op
 use Rattle.design_core.specs.declared.expression.BinaryOp.{BinaryOp}
 use Rattle.design_core.specs.declared.expression.BinaryOp.TheVariants as binary_op

@@ -1,5 +1,4 @@
-use Rattle.std.proofs.Common.{sym, ◌∙◌, ap, not, true, false, ◌≡◌}
-use Rattle.std.proofs.lemmas.Bool.{not-true}
+use Rattle.std.proofs.Common.{sym, ◌∙◌, ap, false, ◌≡◌}
 use Rattle.first_form.specs.NumberTable.{has_number}
 use Rattle.first_form.specs.Netlists.{is_assigned_rightly, port_declaration, declares, is_input}
 use Rattle.first_form.proofs.ListSteps.{one_fails}

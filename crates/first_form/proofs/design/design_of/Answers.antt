@@ -1,10 +1,8 @@
-use Rattle.std.proofs.Common.{◌≡◌, ap, sym, ◌∙◌, Err, List, ℕ, subst, rules}
+use Rattle.std.proofs.Common.{◌≡◌, ap, sym, ◌∙◌, Err, List, subst}
 use Rattle.design_core.specs.declared.driver.Driver.{Driver}
 use Rattle.std.proofs.Math.Path.{fun_ext}
 use Rattle.std.specs.List.{AllZip, enumerate_from}
 use Rattle.first_form.specs.NumberTable.{number_at, number_or_zero}
-use Rattle.first_form.specs.Names.{number_in}
-use Rattle.first_form.specs.Netlists.{names, targets}
 use Rattle.first_form.specs.Shape.{IsShapedDriver}
 use Rattle.first_form.proofs.Exits.{passed_on}
 use Rattle.first_form.proofs.Wholes.{not_right, not_declared, not_without, flat_from, graph_from, parts_from, made_from, IsMade}
