@@ -21,14 +21,6 @@ use Rattle.plain_sim.specs.EvaluateCycle.{small_width}
 use Rattle.plain_sim.proofs.EvaluateParts.{fits-list, width-list}
 use Rattle.plain_sim.proofs.EvaluateStatement.{items-fits}
 
-pub join-test : (signals : List Signal) (width : ℕ) (signed : Bool) (parts : List Typed)
-    → node_fits signals width signed (Join parts) ≡ (is_width width && parts_sum parts == width && list_all (typed_fits signals) parts)
-join-test signals width signed parts =
-    let row = hidden-the_row-Typed-1 parts in
-    let items = items_hidden-the_row-Typed-1 parts in
-    ap (λ n. is_width width && n == width && parts_fit signals row) (width-list row ∙ ap parts_sum items)
-    ∙ ap (λ b. is_width width && parts_sum parts == width && b) (fits-list signals row ∙ ap (list_all (typed_fits signals)) items)
-
 pub case-test : (signals : List Signal) (places : List Place) (subject : Typed) (items : List CaseItem) (other : Stmt) (wild : Bool)
     → statement_fits signals places (Case subject items other wild)
     ≡ (typed_fits signals subject && list_all (item_fits signals places subject.width) items && statement_fits signals places other)

@@ -4,6 +4,7 @@ pub mod EvaluateSelect
 pub mod EvaluateParts
 pub mod EvaluateNodes
 pub mod EvaluateTests
+pub mod EvaluateOperands
 pub mod EvaluateStatement
 pub mod EvaluateStore
 pub mod EvaluateDrives
