@@ -7,18 +7,14 @@ use Rattle.std.proofs.lemmas.Bool.{le-leb, lt-leb}
 use Rattle.design_core.specs.declared.signal.Signal.{Signal}
 use Rattle.design_core.specs.declared.place.Place.{Place}
 use Rattle.design_core.specs.declared.expression.Typed.{Typed}
-use Rattle.design_core.specs.declared.expression.Node.TheVariants.{Join}
-use Rattle.design_core.specs.declared.expression.Node.TheBlock.{hidden-the_row-Typed-1}
-use Rattle.design_core.specs.declared.expression.Node.{items_hidden-the_row-Typed-1}
 use Rattle.design_core.specs.declared.statement.CaseItem.{CaseItem}
 use Rattle.design_core.specs.declared.statement.Stmt.{Stmt, Row_of-Stmt, end_of-Stmt, more_of-Stmt, items-the_row-Stmt, items_hidden-the_row-Stmt-0, items_hidden-the_row-CaseItem-2}
 use Rattle.design_core.specs.declared.statement.Stmt.TheVariants.{Block, Case}
 use denote.Hole.Carrier.{hidden}
 use Rattle.design_core.specs.declared.statement.Stmt.TheBlock.{shape-the_row-Stmt-1, hidden-the_row-Stmt-1, hidden-the_row-Stmt-0, hidden-the_row-CaseItem-2}
-use Rattle.design_core.specs.WellFormed.{is_width, typed_fits, node_fits, parts_fit, statement_fits, is_reset_values, are_reset_values}
-use Rattle.plain_sim.specs.Evaluate.{parts_sum, item_fits}
+use Rattle.design_core.specs.WellFormed.{typed_fits, statement_fits, is_reset_values, are_reset_values}
+use Rattle.plain_sim.specs.Evaluate.{item_fits}
 use Rattle.plain_sim.specs.EvaluateCycle.{small_width}
-use Rattle.plain_sim.proofs.EvaluateParts.{fits-list, width-list}
 use Rattle.plain_sim.proofs.EvaluateStatement.{items-fits}
 
 pub case-test : (signals : List Signal) (places : List Place) (subject : Typed) (items : List CaseItem) (other : Stmt) (wild : Bool)

@@ -10,7 +10,7 @@ use Rattle.design_core.specs.declared.expression.Typed.{Typed}
 use Rattle.design_core.specs.declared.expression.Node.{Node, end_of-Typed, more_of-Typed, items_hidden-the_row-Typed-1}
 use Rattle.design_core.specs.declared.expression.Node.TheVariants as node
 use Rattle.design_core.specs.declared.expression.Node.TheBlock.{shape-the_row-Typed-0, hidden-the_row-Typed-0, hidden-the_row-Typed-1}
-use Rattle.design_core.specs.WellFormed.{is_width, unary_fits, binary_fits, signs_fit, same_widths, joined_width, node_fits, typed_fits}
+use Rattle.design_core.specs.WellFormed.{is_width, unary_fits, binary_fits, signs_fit, same_widths, node_fits, typed_fits}
 use Rattle.plain_sim.specs.Evaluate.{parts_sum, own_fits, operands_fit}
 use Rattle.plain_sim.proofs.EvaluateParts.{fits-list, width-list}
 

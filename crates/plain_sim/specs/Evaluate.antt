@@ -1,6 +1,5 @@
 -- Words that the contracts of the evaluator's own functions use.
-use Rattle.std.specs.Prelude.{ℕ, ◌+◌, ◌*◌, ◌^◌, ◌==◌, Bool, true, false, ◌||◌, ◌&&◌, if◌then◌else◌, nat_lt, ℤ, pos, negsuc, List, [], ◌∷◌, length, Option, Some, None}
-use Rattle.std.specs.Option.{option_map_or}
+use Rattle.std.specs.Prelude.{ℕ, ◌+◌, ◌*◌, ◌^◌, ◌==◌, Bool, true, ◌||◌, ◌&&◌, if◌then◌else◌, nat_lt, ℤ, pos, negsuc, List, [], ◌∷◌, length, Option, Some, None}
 use Rattle.std.specs.List.{list_any, list_all}
 use Rattle.loc_base.specs.declared.bits.Bits.{Bits}
 use Rattle.loc_base.specs.Bits.{width_of, value_of}
@@ -14,7 +13,6 @@ use Rattle.design_core.specs.declared.statement.Part.TheVariants.{Whole, Slice, 
 use Rattle.design_core.specs.declared.statement.Stmt.{Stmt}
 use Rattle.design_core.specs.declared.statement.CaseItem.{CaseItem}
 use Rattle.design_core.specs.declared.place.Place.{Place}
-use Rattle.design_core.specs.declared.driver.Clocked.{Clocked}
 use Rattle.design_core.specs.Valuation.{Valuation, width_at}
 use Rattle.design_core.specs.Operator.{integer_of}
 use Rattle.design_core.specs.Value.{value, index_value}

@@ -1,8 +1,6 @@
-use Rattle.std.proofs.Common.{◌≡◌, ◌∙◌, ap, sym}
+use Rattle.std.proofs.Common.{◌∙◌, ap, sym}
 use Rattle.std.specs.List.{list_all}
-use Rattle.std.specs.Prelude.{◌&&◌}
 use Rattle.design_core.specs.WellFormed.{typed_fits}
-use Rattle.plain_sim.specs.Evaluate.{own_fits, operands_fit}
 use Rattle.plain_sim.proofs.EvaluateTests.{two, three}
 use Rattle.plain_sim.proofs.EvaluateOperands.{node-splits, operands_pick, operands_word, operands_unary, operands_binary, operands_choose, operands_join, operands_repeat, operands_resize}
 use Rattle.plain_sim.proofs.fits.expression.+typed.Goals as goal

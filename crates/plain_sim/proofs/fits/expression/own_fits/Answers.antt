@@ -1,4 +1,4 @@
-use Rattle.std.proofs.Common.{◌≡◌, ◌∙◌, ◌*◌, ap, sym}
+use Rattle.std.proofs.Common.{◌∙◌, ◌*◌, ap, sym}
 use Rattle.std.specs.Prelude.{Bool, ◌&&◌, ◌==◌}
 use Rattle.design_core.specs.declared.expression.Typed.{Typed}
 use Rattle.design_core.specs.WellFormed.{is_width, unary_fits, binary_fits, signs_fit}
