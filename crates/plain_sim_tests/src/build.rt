@@ -1,6 +1,9 @@
 //! What the designs of the tests are made of.
 
-use design_core::{BinaryOp, Checked, Design, Driver, Node, Part, Place, PlaceKind, Signal, SignalKind, Stmt, Target, Trace, Typed, UnaryOp};
+use design_core::{
+    BinaryOp, Checked, Design, Driver, Node, Part, Place, PlaceKind, Signal, SignalKind, Stmt,
+    Target, Trace, Typed, UnaryOp,
+};
 use loc_base::{Bits, Boxed, Items, Name, Span};
 use plain_sim::{are_chosen, can_run, is_trace_of, meets};
 use std::alloc::Global;

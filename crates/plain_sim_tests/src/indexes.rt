@@ -1,7 +1,7 @@
 //! Bits and words by variable indexes, in range and out of it.
 
-use design_core::{Clocked, Design, Driver, Node, Part, SignalKind, Stmt, Typed};
 use crate::build::{add_assign, constant, design_of, is_right, set, trace_of, whole};
+use design_core::{Clocked, Design, Driver, Node, Part, SignalKind, Stmt, Typed};
 use loc_base::{Boxed, Items, Span};
 use std::alloc::Global;
 use std::test::Fail;

@@ -1,7 +1,7 @@
 //! Continuous assignments.
 
-use design_core::{BinaryOp, Design, SignalKind};
 use crate::build::{add_assign, binary, design_of, is_right, trace_of, whole};
+use design_core::{BinaryOp, Design, SignalKind};
 use std::alloc::Global;
 use std::test::Fail;
 

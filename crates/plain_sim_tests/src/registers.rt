@@ -1,7 +1,7 @@
 //! Registers without a reset.
 
-use design_core::{BinaryOp, Clocked, Design, Part, SignalKind, Stmt};
 use crate::build::{binary, constant, design_of, is_right, set, trace_of, whole};
+use design_core::{BinaryOp, Clocked, Design, Part, SignalKind, Stmt};
 use loc_base::Items;
 use std::alloc::Global;
 use std::test::Fail;

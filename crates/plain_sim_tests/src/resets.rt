@@ -1,7 +1,7 @@
 //! A register with an asynchronous reset, of either level.
 
-use design_core::{Clocked, Design, Part, Reset, SignalKind};
 use crate::build::{constant, design_of, is_right, not, set, trace_of, whole};
+use design_core::{Clocked, Design, Part, Reset, SignalKind};
 use std::alloc::Global;
 use std::test::Fail;
 

@@ -4,9 +4,9 @@ ghost use Rattle.std.specs.Prelude.{◌≡◌, ◌≤◌, ◌<◌, ◌^◌, ◌&
 ghost use Rattle.loc_base.specs.Bits.{width_of, value_of};
 ghost use Rattle.design_core.specs.WellFormed.{is_width, typed_fits, binary_fits, signs_fit};
 
-use plain_sim::value;
 use design_core::{BinaryOp, Node, Signal, Typed};
 use loc_base::{Bits, Boxed};
+use plain_sim::value;
 use std::alloc::Global;
 use std::test::Fail;
 

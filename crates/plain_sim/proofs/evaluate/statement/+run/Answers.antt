@@ -55,7 +55,7 @@ run_statement-run_statement-requires-in-Some t c =
             (
               c.requires.chosen,
               sym (ap (λ (item : CaseItem). statement_fits signals places item.body) c.index-deref-i.is)
-              ∙ body-fits signals places c.in-Case.subject.width c.in-Case.items c.in-Some.i c.index-deref-i.result fits within is,
+                  ∙ body-fits signals places c.in-Case.subject.width c.in-Case.items c.in-Some.i c.index-deref-i.result fits within is,
             ),
           ),
         ),
