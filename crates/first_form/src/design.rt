@@ -13,11 +13,10 @@ use crate::drivers::{driver_order, drivers_of};
 use crate::error::FormErr;
 use crate::names::{assignment_numbers, signal_numbers};
 use crate::netlist::Netlist;
-use crate::numbers::Numbers;
 use crate::signals::{places_of, port_numbers, signals_of};
 use design_core::types::Order;
 use design_core::{Design, Driver};
-use loc_base::Name;
+use loc_base::{Name, NameTable};
 use std::alloc::Global;
 
 /// A design of the first form, and an order in which its drivers can be executed.
@@ -37,7 +36,7 @@ fn is_same(one: &Name, other: &Name) -> bool
 fn assembled(
     alloc: Global,
     netlist: &Netlist,
-    signals: &Numbers<'_>,
+    signals: &NameTable<'_>,
     drivers: Vec<Driver>,
 ) -> Result<Design, FormErr>
     requires { length netlist.now.ports.items < 2 ^ 32 }
