@@ -43,7 +43,7 @@ pub enum BinaryOp {
 
 /// An expression with the width and the sign that its context gives it (IEEE 1364-2005, 5.4 and 5.5).
 #[cycle(expression)]
-#[derive(Debug, Drop)]
+#[derive(Drop)]
 pub struct Typed {
     /// 1 to 128 bits.
     pub width: u8,
@@ -53,7 +53,7 @@ pub struct Typed {
 
 /// What a sized expression is made of. Operands whose width the context decides have the node's width already.
 #[cycle(expression)]
-#[derive(Debug, Drop)]
+#[derive(Drop)]
 pub enum Node {
     Const(Bits),
     /// All bits of a signal.
