@@ -19,6 +19,7 @@ use loc_base::{Bits, NoMemory};
 use std::alloc::Global;
 
 /// A cycle in words, one for each signal.
+#[derive(Drop)]
 pub struct CycleWords {
     /// The values of all bits.
     pub now: Vec<Bits>,
@@ -105,12 +106,5 @@ pub fn compute_cycle(
         Ok(Some(CycleWords { now, next }))
     } else {
         Ok(None)
-    }
-}
-
-// A `drop` is written out, so that it is proved once, here: a derived one is proved again by each crate that lets a value go.
-impl Drop for CycleWords {
-    fn drop(self) {
-        let CycleWords { now: _, next: _ } = self;
     }
 }
