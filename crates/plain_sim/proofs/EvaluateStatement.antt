@@ -14,7 +14,6 @@ use Rattle.design_core.specs.declared.statement.Stmt.{Stmt, Row_of-Stmt, end_of-
 use Rattle.design_core.specs.declared.statement.Stmt.TheVariants.{Block, If, Case}
 use denote.Hole.Carrier.{hidden}
 use Rattle.design_core.specs.declared.statement.Stmt.TheBlock.{shape-the_row-Stmt-1, hidden-the_row-Stmt-1, hidden-the_row-Stmt-0, hidden-the_row-CaseItem-2}
-use Rattle.design_core.specs.Operator.{is_true}
 use Rattle.design_core.specs.Value.{value}
 use Rattle.design_core.specs.After.{Choice, Updates, matches, after, after_all, after_case}
 use Rattle.design_core.specs.WellFormed.{typed_fits, label_fits, place_fits, statement_fits, statements_fit, items_fit}
@@ -63,12 +62,6 @@ if-fits signals places test on_true on_false h = (
     third_in_three (typed_fits signals test) (statement_fits signals places on_true) (statement_fits signals places on_false) h,
   ),
 )
-
-pub if-value : (signals : List Signal) (choice : Choice) (test : Typed) (on_true on_false : Stmt) (m : Updates)
-    → after signals choice (If test on_true on_false) m
-    ≡ (if is_true (value signals m.now test) then after signals choice on_true m else after signals choice on_false m)
-unfolding shape-the_row-Stmt-1 hidden-the_row-Stmt-1 hidden
-if-value signals choice test on_true on_false m = refl
 
 -- ---- cases
 -- what an item does where there is one

@@ -11,9 +11,10 @@ use Rattle.design_core.specs.Store.{parts_width}
 use Rattle.design_core.specs.After.{Choice, Updates, after}
 use Rattle.design_core.specs.WellFormed.{assignment_fits, statement_fits}
 use Rattle.design_core.specs.Words.{valuation_of, choice_of}
+use Rattle.design_core.proofs.StatementSteps.{after_if}
 use Rattle.plain_sim.specs.Evaluate.{after_list}
 use Rattle.plain_sim.proofs.EvaluateStore.{updates}
-use Rattle.plain_sim.proofs.EvaluateStatement.{block-value, block-fits, if-value, if-fits, case-value, case-fits, case-ends, body-fits, place-within, after_item}
+use Rattle.plain_sim.proofs.EvaluateStatement.{block-value, block-fits, if-fits, case-value, case-fits, case-ends, body-fits, place-within, after_item}
 use Rattle.plain_sim.proofs.evaluate.statement.+run.Goals as goal
 
 pub run_statement-run_all-requires : goal.run_statement-run_all-requires
@@ -147,7 +148,7 @@ run_statement-returns-then-is_true-clause-value t c =
     (c.run_statement.ensures.value
     ∙ ap (λ s. after signals choice s m) c.deref-then-is_true.ensures
     ∙ ap (λ b. if b then after signals choice c.in-If.yes m else after signals choice c.in-If.no m) (c.if-is_true.ensures ∙ ap is_true test)
-    ∙ sym (if-value signals choice c.in-If.cond c.in-If.yes c.in-If.no m))
+    ∙ sym (after_if signals choice c.in-If.cond c.in-If.yes c.in-If.no m))
 
 pub run_statement-returns-else-is_true-clause-value : goal.run_statement-returns-else-is_true-clause-value
 run_statement-returns-else-is_true-clause-value t c =
@@ -159,4 +160,4 @@ run_statement-returns-else-is_true-clause-value t c =
     (c.run_statement-else-is_true.ensures.value
     ∙ ap (λ s. after signals choice s m) c.deref-else-is_true.ensures
     ∙ ap (λ b. if b then after signals choice c.in-If.yes m else after signals choice c.in-If.no m) (c.if-is_true.ensures ∙ ap is_true test)
-    ∙ sym (if-value signals choice c.in-If.cond c.in-If.yes c.in-If.no m))
+    ∙ sym (after_if signals choice c.in-If.cond c.in-If.yes c.in-If.no m))
