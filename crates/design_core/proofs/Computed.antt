@@ -23,9 +23,9 @@ abbrev mutual
   pub computed : List Signal → Choice → ℕ → Stmt → Updates → ℕ
   computed signals choice p Nothing m = 0
   computed signals choice p (Block' _ statements) m = computed_all signals choice p statements m
-  computed signals choice p (If' cond _ on_true _ on_false) m =
+  computed signals choice p (If' cond _ (more_of-Stmt on_true end_of-Stmt) _ (more_of-Stmt on_false end_of-Stmt)) m =
       if is_true (value signals m.now cond) then computed signals choice p on_true m else computed signals choice p on_false m
-  computed signals choice p (Case' subject _ items _ other _) m =
+  computed signals choice p (Case' subject _ items _ (more_of-Stmt other end_of-Stmt) _) m =
       computed_case signals choice p (value signals m.now subject) items m (computed signals choice p other m)
   computed signals choice p (Set _ _ e _) m = value signals m.now e
 
@@ -39,7 +39,7 @@ abbrev mutual
   pub computed_case : {shape : _} → List Signal → Choice → ℕ → ℕ → Row_of-CaseItem shape → Updates → ℕ → ℕ
   computed_case signals choice p subject end_of-CaseItem m other = other
   computed_case signals choice p subject (more_of-CaseItem labels body rest) m other =
-      if list_any (matches signals m.now subject) labels.items
+      if list_any (matches signals m.now subject) labels
       then computed signals choice p body m
       else computed_case signals choice p subject rest m other
 
@@ -94,7 +94,7 @@ mutual
       → after signals wider statement m ≡ after signals choice statement m
   after-wider signals places choice wider Nothing m fits h = refl
   after-wider signals places choice wider (Block' _ statements) m fits h = after_all-wider signals places choice wider statements m fits h
-  after-wider signals places choice wider (If' e x on_true x' on_false) m fits h =
+  after-wider signals places choice wider (If' e x (more_of-Stmt on_true end_of-Stmt) x' (more_of-Stmt on_false end_of-Stmt)) m fits h =
       let test : Bool = is_true (value signals m.now e) in
       let when_true : ℕ → ℕ = λ p. computed signals choice p on_true m in
       let when_false : ℕ → ℕ = λ p. computed signals choice p on_false m in
@@ -107,18 +107,18 @@ mutual
       (λ is. after-wider signals places choice wider on_false m arms_fit.1
       (narrowed places choice wider times (λ p. times_in p on_false) (λ p. if test then when_true p else when_false p) when_false h
       (λ p. omega arith) (λ p stands once. cond-false test (when_true p) (when_false p) is)))
-  after-wider signals places choice wider (Case' subject x items x' other x'') m fits h =
+  after-wider signals places choice wider (Case' subject x items x' (more_of-Stmt other end_of-Stmt) x'') m fits h =
       let fit = and_parts (typed_fits signals subject && items_fit signals places subject.width items) (statement_fits signals places other) fits in
       after_case-wider signals places choice wider (value signals m.now subject) subject.width items m (after signals choice other m) (after signals wider other m)
       (λ p. times_in p other) (λ p. computed signals choice p other m)
       (λ inner. after-wider signals places choice wider other m fit.1 inner)
       (and_parts (typed_fits signals subject) (items_fit signals places subject.width items) fit.0).1 h
   after-wider signals places choice wider (Set p target e later) m fits h =
-      let fit = and_parts (assignment_fits signals target.parts.items e) (place_fits places (parts_width signals target.parts.items) p) fits in
-      let (place, at, width) = place_fits-at places (parts_width signals target.parts.items) p fit.1 in
+      let fit = and_parts (assignment_fits signals target.parts e) (place_fits places (parts_width signals target.parts) p) fits in
+      let (place, at, width) = place_fits-at places (parts_width signals target.parts) p fit.1 in
       let times : ℕ = if p == p then 1 else 0 in
       let one : times ≡ 1 = cond-true (p == p) 1 0 (eq-eqb p p refl) in
-      after_set-bits signals target.parts.items (bit (assigned wider p (value signals m.now e))) (bit (assigned choice p (value signals m.now e))) later m
+      after_set-bits signals target.parts (bit (assigned wider p (value signals m.now e))) (bit (assigned choice p (value signals m.now e))) later m
       (λ b below. h.same p place at (omega (arith, one)) b (omega (arith, width)))
 
   pub after_all-wider : {shape : _} (signals : List Signal) (places : List Place) (choice wider : Choice) (statements : Row_of-Stmt shape) (m : Updates)
@@ -151,14 +151,14 @@ mutual
   after_case-wider signals places choice wider subject width end_of-CaseItem m other other' times_other computes_other same fits h =
       same (narrowed places choice wider (λ p. 0 + times_other p) times_other computes_other computes_other h (λ p. omega arith) (λ p stands once. refl))
   after_case-wider signals places choice wider subject width (more_of-CaseItem labels body rest) m other other' times_other computes_other same fits h =
-      let test : Bool = list_any (matches signals m.now subject) labels.items in
-      let fit = and_parts (list_all (label_fits signals width) labels.items && statement_fits signals places body) (items_fit signals places width rest) fits in
+      let test : Bool = list_any (matches signals m.now subject) labels in
+      let fit = and_parts (list_all (label_fits signals width) labels && statement_fits signals places body) (items_fit signals places width rest) fits in
       let times : ℕ → ℕ = λ p. (times_in p body + times_in_items p rest) + times_other p in
       let here : ℕ → ℕ = λ p. computed signals choice p body m in
       let behind : ℕ → ℕ = λ p. computed_case signals choice p subject rest m (computes_other p) in
       arms_same test (after signals choice body m) (after_case signals choice subject rest m other)
       (after signals wider body m) (after_case signals wider subject rest m other')
-      (λ is. after-wider signals places choice wider body m (and_parts (list_all (label_fits signals width) labels.items) (statement_fits signals places body) fit.0).1
+      (λ is. after-wider signals places choice wider body m (and_parts (list_all (label_fits signals width) labels) (statement_fits signals places body) fit.0).1
       (narrowed places choice wider times (λ p. times_in p body) (λ p. if test then here p else behind p) here h
       (λ p. omega arith) (λ p stands once. cond-true test (here p) (behind p) is)))
       (λ is. after_case-wider signals places choice wider subject width rest m other other' times_other computes_other same fit.1

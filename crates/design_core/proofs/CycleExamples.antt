@@ -1,4 +1,5 @@
 -- Worked examples of the definitions: small designs written down by hand, and what every cycle of them shows.
+use Rattle.design_core.specs.declared.expression.Node.{end_of-Typed, more_of-Typed}
 use Rattle.std.proofs.Common.{◌≡◌, ℕ, ◌+◌, ◌-◌, ◌^◌, ◌<◌, ◌≤◌, List, [], ◌∷◌, ap, ◌∙◌, refl, lit<, lit≤}
 use Rattle.std.specs.Prelude.{Bool, true, false, not, ◌||◌, if◌then◌else◌, bit_or, pos, Some, None}
 use Rattle.std.proofs.lemmas.Bool.{lt-ltb}
@@ -29,7 +30,7 @@ abbrev whole : ℕ → ℕ → Typed
 whole width signal = record { width = width; signed = false; node = node.Whole signal }
 
 abbrev target : Any → ℕ → Target
-target any signal = record { parts = vec any (part.Whole signal ∷ []) (lit< tt) }
+target any signal = record { parts = part.Whole signal ∷ [] }
 
 -- a word of some bits
 abbrev word : (width value : ℕ) → 1 ≤ width → width ≤ 128 → value < 2 ^ width → Bits
@@ -77,7 +78,7 @@ step_block any = record {
       (record {
         width = 4;
         signed = false;
-        node = node.Binary' binary_op.Add any.box 4 false (node.Whole 1) any.box 4 false (node.Const (word 4 2 (lit≤ tt) (lit≤ tt) (lit< tt)));
+        node = node.Binary' binary_op.Add tt (more_of-Typed 4 false (node.Whole 1) end_of-Typed) tt (more_of-Typed 4 false (node.Const (word 4 2 (lit≤ tt) (lit≤ tt) (lit< tt))) end_of-Typed);
       }) true;
 }
 
@@ -120,7 +121,7 @@ reset_of any level = record {
 abbrev toggle_block : Any → Bool → Clocked
 toggle_block any level = record {
   reset = Some (reset_of any level);
-  body = stmt.Set 1 (target any 2) (record { width = 1; signed = false; node = node.Unary' unary_op.Not any.box 1 false (node.Whole 2) }) true;
+  body = stmt.Set 1 (target any 2) (record { width = 1; signed = false; node = node.Unary' unary_op.Not tt (more_of-Typed 1 false (node.Whole 2) end_of-Typed) }) true;
 }
 
 abbrev toggle : Any → Bool → Design
@@ -167,7 +168,7 @@ abbrev n_driver : Any → Span → Driver
 n_driver any span = drives any span 2 (whole 1 0) 0
 
 abbrev y_driver : Any → Span → Driver
-y_driver any span = drives any span 3 (record { width = 1; signed = false; node = node.Binary' binary_op.Or any.box 1 false (node.Whole 2) any.box 1 false (node.Whole 1) }) 1
+y_driver any span = drives any span 3 (record { width = 1; signed = false; node = node.Binary' binary_op.Or tt (more_of-Typed 1 false (node.Whole 2) end_of-Typed) tt (more_of-Typed 1 false (node.Whole 1) end_of-Typed) }) 1
 
 abbrev x_driver : Any → Span → Driver
 x_driver any span = drives any span 4 (whole 1 2) 2

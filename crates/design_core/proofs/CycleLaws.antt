@@ -44,11 +44,11 @@ pub driven-agrees : (signals : List Signal) (places : List Place) (choice : Choi
 driven-agrees signals places choice V W (Cont target e place span) s b fits h drives =
     let own : Driver = Cont target e place span in
     let test : ℕ → ℕ → Bool = λ s b. reads signals s b e in
-    let indexes : ℕ → ℕ → Bool = λ s b. list_any (part_reads signals s b) target.parts.items in
+    let indexes : ℕ → ℕ → Bool = λ s b. list_any (part_reads signals s b) target.parts in
     let from : Valuation = without signals own V in
     let to : Valuation = without signals own W in
-    ap (λ v. store signals from from target.parts.items (bit (cont_assigned choice place v)) s b) (value-agrees signals V W e (agree_left test indexes V W h))
-    ∙ store-agrees signals from to from to target.parts.items (bit (cont_assigned choice place (value signals W e))) s b
+    ap (λ v. store signals from from target.parts (bit (cont_assigned choice place v)) s b) (value-agrees signals V W e (agree_left test indexes V W h))
+    ∙ store-agrees signals from to from to target.parts (bit (cont_assigned choice place (value signals W e))) s b
     (without-agrees signals own V W indexes (agree_right test indexes V W h))
     (inl (without-own signals own V s b drives ∙ sym (without-own signals own W s b drives)))
 driven-agrees signals places choice V W (Comb body span) s b fits h drives =

@@ -1,8 +1,8 @@
 -- Worked examples of the definitions: small designs written down by hand, and what every cycle of them shows. The path
 -- of a signal, its start value and where lists lie in memory stand for any.
+use Rattle.design_core.specs.declared.expression.Node.{end_of-Typed, more_of-Typed}
 use Rattle.std.proofs.Common.{◌≡◌, ℕ, ◌^◌, ◌<◌, List, [], ◌∷◌, length, Vec, Global, arith, refl}
 use Rattle.std.specs.Prelude.{Bool, true, false, ◌==◌, ℤ, pos, negsuc, slice_index, Some}
-use Rattle.std.specs.declared.boxed.Box.{Box}
 use Rattle.loc_base.specs.declared.bits.Bits.{Bits}
 use Rattle.loc_base.specs.declared.name.Name.{Name}
 use Rattle.design_core.specs.declared.signal.Signal.{Signal}
@@ -22,7 +22,6 @@ pub record Any : Type 0 where
   pub path : Name
   pub start : Bits
   pub list : Vec ℕ Global
-  pub box : Box (Unit {0}) Global
 
 abbrev pub vec : {X : Type 0} → Any → (items : List X) → length items < 2 ^ 63 → Vec X Global
 vec any items small = record { ptr = any.list.ptr; len = length items; cap = length items; alloc = any.list.alloc; items = items; ok = (refl, omega arith); small = small }
@@ -110,7 +109,7 @@ abbrev address : Typed
 address = record { width = 2; signed = false; node = node.Whole 3 }
 
 abbrev read : Any → ℕ → ℕ
-read any a = value (memory any) (at_address a) (record { width = 4; signed = false; node = node.Word' 0 3 (pos 0) any.box 2 false (node.Whole 3) 0 4 })
+read any a = value (memory any) (at_address a) (record { width = 4; signed = false; node = node.Word' 0 3 (pos 0) tt (more_of-Typed 2 false (node.Whole 3) end_of-Typed) 0 4 })
 
 pub an_array_reads_the_word_at_its_address : (any : Any) → (read any 0 ≡ 5) × (read any 1 ≡ 9) × (read any 2 ≡ 12)
 unfolding number

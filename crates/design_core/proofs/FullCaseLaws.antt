@@ -6,7 +6,7 @@ use Rattle.std.proofs.lemmas.Bool.{and_parts, or_cases, or_left, or_right, cases
 use Rattle.loc_base.specs.Bits.{value_of}
 use Rattle.design_core.specs.declared.signal.Signal.{Signal}
 use Rattle.design_core.specs.declared.expression.Typed.{Typed}
-use Rattle.design_core.specs.declared.expression.Node.{Node}
+use Rattle.design_core.specs.declared.expression.Node.{Node, end_of-Typed, more_of-Typed}
 use Rattle.design_core.specs.declared.expression.Node.TheVariants.{Resize'}
 use Rattle.design_core.specs.declared.statement.Label.{Label}
 use Rattle.design_core.specs.declared.statement.Stmt.{Row_of-CaseItem}
@@ -34,8 +34,8 @@ all_below-at (suc n) test k all below =
 -- a value that its bits decide
 decided-at : (signals : List Signal) (V : Valuation) (width : ℕ) (signed : Bool) (e : Node) (test : ℕ → Bool) → node_fits signals width signed e ≡ true
     → all_below (2 ^ deciding_bits width e) (λ n. test (decided width e n)) ≡ true → test (node_value signals V width e) ≡ true
-decided-at signals V width sign (Resize' x arg_width signed arg) test fits all =
-    all_below-at (2 ^ arg_width) (λ n. test (decided width (Resize' x arg_width signed arg) n)) (node_value signals V arg_width arg) all
+decided-at signals V width sign (Resize' x (more_of-Typed arg_width signed arg end_of-Typed)) test fits all =
+    all_below-at (2 ^ arg_width) (λ n. test (decided width (Resize' x (more_of-Typed arg_width signed arg end_of-Typed)) n)) (node_value signals V arg_width arg) all
     (node_value-in_range signals V arg_width signed arg (and_parts (is_width width) (node_fits signals arg_width signed arg) fits).1)
 decided-at signals V width sign e test fits all = all_below-at (2 ^ width) test (node_value signals V width e) all (node_value-in_range signals V width sign e fits)
 

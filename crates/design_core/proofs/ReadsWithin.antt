@@ -123,27 +123,27 @@ mutual
   node_reads-below signals s b width sign (Slice signal from size) fits h =
       let r : (s ≡ signal) × (is_among from size b ≡ true) = own s signal (is_among from size b) h in
       subst (λ n. b < width_at signals n) (sym r.0) (slice-below signals signal from size b (and_parts (slice_fits signals signal from size) (size == width) fits).0 r.1)
-  node_reads-below signals s b width sign (Pick' signal _ index_width signed index offsets) fits h =
-      let f : _ = and4 (is_width width) (is_signal signals signal) (length offsets.items == width) (node_fits signals index_width signed index) fits in
-      one_of ((s == signal) && may_pick signals signal index_width signed index offsets.items b) (node_reads signals s b index_width index) (b < width_at signals s) h
-      (λ here. let r : (s ≡ signal) × (may_pick signals signal index_width signed index offsets.items b ≡ true) = own s signal (may_pick signals signal index_width signed index offsets.items b) here in
-      subst (λ n. b < width_at signals n) (sym r.0) (may_pick-below signals signal index_width signed index offsets.items b r.1))
+  node_reads-below signals s b width sign (Pick' signal _ (more_of-Typed index_width signed index end_of-Typed) offsets) fits h =
+      let f : _ = and4 (is_width width) (is_signal signals signal) (length offsets == width) (node_fits signals index_width signed index) fits in
+      one_of ((s == signal) && may_pick signals signal index_width signed index offsets b) (node_reads signals s b index_width index) (b < width_at signals s) h
+      (λ here. let r : (s ≡ signal) × (may_pick signals signal index_width signed index offsets b ≡ true) = own s signal (may_pick signals signal index_width signed index offsets b) here in
+      subst (λ n. b < width_at signals n) (sym r.0) (may_pick-below signals signal index_width signed index offsets b r.1))
       (λ later. node_reads-below signals s b index_width signed index f.3 later)
-  node_reads-below signals s b width sign (Word' first count _ _ index_width signed index from size) fits h =
+  node_reads-below signals s b width sign (Word' first count _ _ (more_of-Typed index_width signed index end_of-Typed) from size) fits h =
       let f : _ = and3 (words_fit signals first count from size) (size == width) (node_fits signals index_width signed index) fits in
       one_of (is_among first count s && is_among from size b) (node_reads signals s b index_width index) (b < width_at signals s) h
       (λ here. word-below signals first count from size s b f.0 here)
       (λ later. node_reads-below signals s b index_width signed index f.2 later)
-  node_reads-below signals s b width sign (Unary' op _ arg_width signed arg) fits h =
+  node_reads-below signals s b width sign (Unary' op _ (more_of-Typed arg_width signed arg end_of-Typed)) fits h =
       node_reads-below signals s b arg_width signed arg
       (and3 (is_width width) (unary_fits op width arg_width) (node_fits signals arg_width signed arg) fits).2 h
-  node_reads-below signals s b width sign (Binary' op _ left_width left_signed left _ right_width right_signed right) fits h =
+  node_reads-below signals s b width sign (Binary' op _ (more_of-Typed left_width left_signed left end_of-Typed) _ (more_of-Typed right_width right_signed right end_of-Typed)) fits h =
       let f : _ = and4 (is_width width && binary_fits op width left_width right_width) (signs_fit op sign left_signed right_signed)
       (node_fits signals left_width left_signed left) (node_fits signals right_width right_signed right) fits in
       one_of (node_reads signals s b left_width left) (node_reads signals s b right_width right) (b < width_at signals s) h
       (λ one. node_reads-below signals s b left_width left_signed left f.2 one)
       (λ other. node_reads-below signals s b right_width right_signed right f.3 other)
-  node_reads-below signals s b width sign (Choose' _ cond_width cond_signed cond _ true_width true_signed on_true _ false_width false_signed on_false) fits h =
+  node_reads-below signals s b width sign (Choose' _ (more_of-Typed cond_width cond_signed cond end_of-Typed) _ (more_of-Typed true_width true_signed on_true end_of-Typed) _ (more_of-Typed false_width false_signed on_false end_of-Typed)) fits h =
       let c : Bool = node_fits signals cond_width cond_signed cond in
       let t : Bool = node_fits signals true_width true_signed on_true in
       let u : Bool = node_fits signals false_width false_signed on_false in
@@ -156,9 +156,9 @@ mutual
       (λ other. node_reads-below signals s b false_width false_signed on_false f.3 other))
   node_reads-below signals s b width sign (Join' _ parts) fits h =
       parts_read-below signals s b parts (and3 (is_width width) (joined_width parts == width) (parts_fit signals parts) fits).2 h
-  node_reads-below signals s b width sign (Repeat' times _ part_width signed part) fits h =
+  node_reads-below signals s b width sign (Repeat' times _ (more_of-Typed part_width signed part end_of-Typed)) fits h =
       node_reads-below signals s b part_width signed part (and3 (is_width width) (times * part_width == width) (node_fits signals part_width signed part) fits).2 h
-  node_reads-below signals s b width sign (Resize' _ arg_width signed arg) fits h =
+  node_reads-below signals s b width sign (Resize' _ (more_of-Typed arg_width signed arg end_of-Typed)) fits h =
       node_reads-below signals s b arg_width signed arg (and_parts (is_width width) (node_fits signals arg_width signed arg) fits).1 h
 
   pub parts_read-below : {shape : _} (signals : List Signal) (s b : ℕ) (parts : Row_of-Typed shape) → parts_fit signals parts ≡ true → parts_read signals s b parts ≡ true → b < width_at signals s

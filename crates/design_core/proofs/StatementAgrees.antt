@@ -100,14 +100,14 @@ store_part-agrees signals E F M N (Slice signal from width) bits s p h (inr sure
     let among = and_parts (nat_le from p) (nat_lt p (from + width)) own.1 in
     with_bits-new M N signal from width bits s p (eqb-true s signal own.0) (leb-true from p among.0) (ltb-true p (from + width) among.1)
 store_part-agrees signals E F M N (Pick signal index offsets) bits s p h (inl same) =
-    ap (λ i. with_picked signals M signal i 0 offsets.items bits s p) (index_value-agrees signals E F index h)
-    ∙ with_picked-same signals M N signal (index_value signals F index) 0 offsets.items bits s p same
+    ap (λ i. with_picked signals M signal i 0 offsets bits s p) (index_value-agrees signals E F index h)
+    ∙ with_picked-same signals M N signal (index_value signals F index) 0 offsets bits s p same
 store_part-agrees signals E F M N (Pick signal index offsets) bits s p h (inr surely) =
-    let own = and_parts (s == signal) (must_pick signals signal index.width index.signed index.node offsets.items p) surely in
+    let own = and_parts (s == signal) (must_pick signals signal index.width index.signed index.node offsets p) surely in
     at (constant_of index.width index.node) refl (eqb-true s signal own.0) own.1
   where
     at : (c : Option ℕ) → constant_of index.width index.node ≡ c → s ≡ signal
-        → option_map_or (λ value. has_bit signals signal (integer_of index.signed index.width value) offsets.items p) c false ≡ true
+        → option_map_or (λ value. has_bit signals signal (integer_of index.signed index.width value) offsets p) c false ≡ true
         → store_part signals E M (Pick signal index offsets) bits s p ≡ store_part signals F N (Pick signal index offsets) bits s p
     at None is own picks = cc
     at (Some value) is own picks =
@@ -115,9 +115,9 @@ store_part-agrees signals E F M N (Pick signal index offsets) bits s p h (inr su
         ap (integer_of index.signed index.width) (constant_of-value signals E index.width index.node value is) in
         let to : index_value signals F index ≡ integer_of index.signed index.width value =
         ap (integer_of index.signed index.width) (constant_of-value signals F index.width index.node value is) in
-        ap (λ i. with_picked signals M signal i 0 offsets.items bits s p) from
-        ∙ with_picked-new signals M N signal (integer_of index.signed index.width value) 0 offsets.items bits s p own picks
-        ∙ sym (ap (λ i. with_picked signals N signal i 0 offsets.items bits s p) to)
+        ap (λ i. with_picked signals M signal i 0 offsets bits s p) from
+        ∙ with_picked-new signals M N signal (integer_of index.signed index.width value) 0 offsets bits s p own picks
+        ∙ sym (ap (λ i. with_picked signals N signal i 0 offsets bits s p) to)
 store_part-agrees signals E F M N (Word first count low index from width) bits s p h (inl same) =
     ap (λ i. with_word M (word_at first count low i) from width bits s p) (index_value-agrees signals E F index h)
     ∙ with_word-same M N (word_at first count low (index_value signals F index)) from width bits s p same
@@ -213,7 +213,7 @@ mutual
   after-agrees signals places choice Nothing m n s b fits h (inl same) = same
   after-agrees signals places choice Nothing m n s b fits h (inr surely) = cc
   after-agrees signals places choice (Block' _ statements) m n s b fits h known = after_all-agrees signals places choice statements m n s b fits h known
-  after-agrees signals places choice (If' e _ on_true _ on_false) m n s b fits h known =
+  after-agrees signals places choice (If' e _ (more_of-Stmt on_true end_of-Stmt) _ (more_of-Stmt on_false end_of-Stmt)) m n s b fits h known =
       let test : ℕ → ℕ → Bool = λ s b. reads signals s b e in
       let one : ℕ → ℕ → Bool = λ s b. statement_reads signals s b on_true in
       let other : ℕ → ℕ → Bool = λ s b. statement_reads signals s b on_false in
@@ -226,7 +226,7 @@ mutual
       (agree_left one other m.now n.now arms) (both_left (assigns signals s b on_true) (assigns signals s b on_false) known))
       (λ _. after-agrees signals places choice on_false m n s b fit.1
       (agree_right one other m.now n.now arms) (both_right (assigns signals s b on_true) (assigns signals s b on_false) known))
-  after-agrees signals places choice (Case' subject x items x' other x'') m n s b fits h known =
+  after-agrees signals places choice (Case' subject x items x' (more_of-Stmt other end_of-Stmt) x'') m n s b fits h known =
       let test : ℕ → ℕ → Bool = λ s b. reads signals s b subject in
       let one : ℕ → ℕ → Bool = λ s b. items_read signals s b items in
       let rest : ℕ → ℕ → Bool = λ s b. statement_reads signals s b other in
@@ -246,10 +246,10 @@ mutual
       (both_left (all_assign signals s b items) (full || assigns signals s b other) known)
   after-agrees signals places choice (Set place target e later) m n s b fits h known =
       let test : ℕ → ℕ → Bool = λ s b. reads signals s b e in
-      let indexes : ℕ → ℕ → Bool = λ s b. list_any (part_reads signals s b) target.parts.items in
-      ap (λ v. (after_set signals target.parts.items (bit (assigned choice place v)) later m).now s b)
+      let indexes : ℕ → ℕ → Bool = λ s b. list_any (part_reads signals s b) target.parts in
+      ap (λ v. (after_set signals target.parts (bit (assigned choice place v)) later m).now s b)
       (value-agrees signals m.now n.now e (agree_left test indexes m.now n.now h))
-      ∙ after_set-agrees signals target.parts.items (bit (assigned choice place (value signals n.now e))) later m n s b (agree_right test indexes m.now n.now h) known
+      ∙ after_set-agrees signals target.parts (bit (assigned choice place (value signals n.now e))) later m n s b (agree_right test indexes m.now n.now h) known
 
   pub after_all-agrees : {shape : _} (signals : List Signal) (places : List Place) (choice : Choice) (statements : Row_of-Stmt shape) (m n : Updates) (s b : ℕ)
       → statements_fit signals places statements ≡ true
@@ -279,19 +279,19 @@ mutual
   after_case-agrees signals places choice subject width end_of-CaseItem m n other other' s b fits h (inl same) known = same
   after_case-agrees signals places choice subject width end_of-CaseItem m n other other' s b fits h (inr takes) known = cc
   after_case-agrees signals places choice subject width (more_of-CaseItem labels body rest) m n other other' s b fits h same known =
-      let test : ℕ → ℕ → Bool = λ s b. list_any (λ label. reads signals s b label.value) labels.items in
+      let test : ℕ → ℕ → Bool = λ s b. list_any (λ label. reads signals s b label.value) labels in
       let one : ℕ → ℕ → Bool = λ s b. statement_reads signals s b body in
       let more : ℕ → ℕ → Bool = λ s b. items_read signals s b rest in
       let arms : AgreeOn (λ s b. one s b || more s b) m.now n.now = agree_right test (λ s b. one s b || more s b) m.now n.now h in
-      let fit = and_parts (list_all (label_fits signals width) labels.items && statement_fits signals places body) (items_fit signals places width rest) fits in
-      arms_agree (list_any (matches signals m.now subject) labels.items) (list_any (matches signals n.now subject) labels.items)
-      (matches-agrees signals m.now n.now subject labels.items (agree_left test (λ s b. one s b || more s b) m.now n.now h))
+      let fit = and_parts (list_all (label_fits signals width) labels && statement_fits signals places body) (items_fit signals places width rest) fits in
+      arms_agree (list_any (matches signals m.now subject) labels) (list_any (matches signals n.now subject) labels)
+      (matches-agrees signals m.now n.now subject labels (agree_left test (λ s b. one s b || more s b) m.now n.now h))
       (after signals choice body m) (after_case signals choice subject rest m other) (after signals choice body n) (after_case signals choice subject rest n other') s b
-      (after-agrees signals places choice body m n s b (and_parts (list_all (label_fits signals width) labels.items) (statement_fits signals places body) fit.0).1
+      (after-agrees signals places choice body m n s b (and_parts (list_all (label_fits signals width) labels) (statement_fits signals places body) fit.0).1
       (agree_left one more m.now n.now arms) (both_left (assigns signals s b body) (all_assign signals s b rest) known))
       (λ passed. after_case-agrees signals places choice subject width rest m n other other' s b fit.1 (agree_right one more m.now n.now arms)
-      (later_item (list_any (constant_matches signals subject) labels.items) (some_matches signals subject rest)
-      (λ here. both_ways (list_any (matches signals m.now subject) labels.items) passed (constant_matches-any signals m.now subject labels.items here)) same)
+      (later_item (list_any (constant_matches signals subject) labels) (some_matches signals subject rest)
+      (λ here. both_ways (list_any (matches signals m.now subject) labels) passed (constant_matches-any signals m.now subject labels here)) same)
       (both_right (assigns signals s b body) (all_assign signals s b rest) known))
 
 after_set-agrees_later : (signals : List Signal) (parts : List Part) (bits : ℕ → Bool) (later : Bool) (m n : Updates) (s b : ℕ)
@@ -308,7 +308,7 @@ mutual
       → (after signals choice statement m).later s b ≡ (after signals choice statement n).later s b
   after-agrees_later signals places choice Nothing m n s b fits h same = same
   after-agrees_later signals places choice (Block' _ statements) m n s b fits h same = after_all-agrees_later signals places choice statements m n s b fits h same
-  after-agrees_later signals places choice (If' e _ on_true _ on_false) m n s b fits h same =
+  after-agrees_later signals places choice (If' e _ (more_of-Stmt on_true end_of-Stmt) _ (more_of-Stmt on_false end_of-Stmt)) m n s b fits h same =
       let test : ℕ → ℕ → Bool = λ s b. reads signals s b e in
       let one : ℕ → ℕ → Bool = λ s b. statement_reads signals s b on_true in
       let other : ℕ → ℕ → Bool = λ s b. statement_reads signals s b on_false in
@@ -319,7 +319,7 @@ mutual
       (after signals choice on_true m) (after signals choice on_false m) (after signals choice on_true n) (after signals choice on_false n) s b
       (after-agrees_later signals places choice on_true m n s b (and_parts (typed_fits signals e) (statement_fits signals places on_true) fit.0).1 (agree_left one other m.now n.now arms) same)
       (after-agrees_later signals places choice on_false m n s b fit.1 (agree_right one other m.now n.now arms) same)
-  after-agrees_later signals places choice (Case' subject x items x' other x'') m n s b fits h same =
+  after-agrees_later signals places choice (Case' subject x items x' (more_of-Stmt other end_of-Stmt) x'') m n s b fits h same =
       let test : ℕ → ℕ → Bool = λ s b. reads signals s b subject in
       let one : ℕ → ℕ → Bool = λ s b. items_read signals s b items in
       let rest : ℕ → ℕ → Bool = λ s b. statement_reads signals s b other in
@@ -333,10 +333,10 @@ mutual
       (after-agrees_later signals places choice other m n s b fit.1 (agree_right one rest m.now n.now arms) same) same
   after-agrees_later signals places choice (Set place target e later) m n s b fits h same =
       let test : ℕ → ℕ → Bool = λ s b. reads signals s b e in
-      let indexes : ℕ → ℕ → Bool = λ s b. list_any (part_reads signals s b) target.parts.items in
-      ap (λ v. (after_set signals target.parts.items (bit (assigned choice place v)) later m).later s b)
+      let indexes : ℕ → ℕ → Bool = λ s b. list_any (part_reads signals s b) target.parts in
+      ap (λ v. (after_set signals target.parts (bit (assigned choice place v)) later m).later s b)
       (value-agrees signals m.now n.now e (agree_left test indexes m.now n.now h))
-      ∙ after_set-agrees_later signals target.parts.items (bit (assigned choice place (value signals n.now e))) later m n s b (agree_right test indexes m.now n.now h) same
+      ∙ after_set-agrees_later signals target.parts (bit (assigned choice place (value signals n.now e))) later m n s b (agree_right test indexes m.now n.now h) same
 
   pub after_all-agrees_later : {shape : _} (signals : List Signal) (places : List Place) (choice : Choice) (statements : Row_of-Stmt shape) (m n : Updates) (s b : ℕ)
       → statements_fit signals places statements ≡ true
@@ -359,13 +359,13 @@ mutual
       → (after_case signals choice subject items m other).later s b ≡ (after_case signals choice subject items n other').later s b
   after_case-agrees_later signals places choice subject width end_of-CaseItem m n other other' s b fits h at_other same = at_other
   after_case-agrees_later signals places choice subject width (more_of-CaseItem labels body rest) m n other other' s b fits h at_other same =
-      let test : ℕ → ℕ → Bool = λ s b. list_any (λ label. reads signals s b label.value) labels.items in
+      let test : ℕ → ℕ → Bool = λ s b. list_any (λ label. reads signals s b label.value) labels in
       let one : ℕ → ℕ → Bool = λ s b. statement_reads signals s b body in
       let more : ℕ → ℕ → Bool = λ s b. items_read signals s b rest in
       let arms : AgreeOn (λ s b. one s b || more s b) m.now n.now = agree_right test (λ s b. one s b || more s b) m.now n.now h in
-      let fit = and_parts (list_all (label_fits signals width) labels.items && statement_fits signals places body) (items_fit signals places width rest) fits in
-      arms_agree_later (list_any (matches signals m.now subject) labels.items) (list_any (matches signals n.now subject) labels.items)
-      (matches-agrees signals m.now n.now subject labels.items (agree_left test (λ s b. one s b || more s b) m.now n.now h))
+      let fit = and_parts (list_all (label_fits signals width) labels && statement_fits signals places body) (items_fit signals places width rest) fits in
+      arms_agree_later (list_any (matches signals m.now subject) labels) (list_any (matches signals n.now subject) labels)
+      (matches-agrees signals m.now n.now subject labels (agree_left test (λ s b. one s b || more s b) m.now n.now h))
       (after signals choice body m) (after_case signals choice subject rest m other) (after signals choice body n) (after_case signals choice subject rest n other') s b
-      (after-agrees_later signals places choice body m n s b (and_parts (list_all (label_fits signals width) labels.items) (statement_fits signals places body) fit.0).1 (agree_left one more m.now n.now arms) same)
+      (after-agrees_later signals places choice body m n s b (and_parts (list_all (label_fits signals width) labels) (statement_fits signals places body) fit.0).1 (agree_left one more m.now n.now arms) same)
       (after_case-agrees_later signals places choice subject width rest m n other other' s b fit.1 (agree_right one more m.now n.now arms) at_other same)

@@ -52,7 +52,7 @@ pub store_part-bits : (signals : List Signal) (E M : Valuation) (part : Part) (f
 store_part-bits signals E M (Whole signal) f g same = with_bits-bits M signal 0 (width_at signals signal) f g same
 store_part-bits signals E M (Slice signal from width) f g same = with_bits-bits M signal from width f g same
 store_part-bits signals E M (Pick signal index offsets) f g same =
-    with_picked-bits signals M M signal (index_value signals E index) 0 offsets.items f g refl (λ k low high. same k (omega arith))
+    with_picked-bits signals M M signal (index_value signals E index) 0 offsets f g refl (λ k low high. same k (omega arith))
 store_part-bits signals E M (Word first count low index from width) f g same =
     with_word-bits M (word_at first count low (index_value signals E index)) from width f g same
 

@@ -105,11 +105,11 @@ store_part-outside signals E M (Whole signal) bits s p fits out =
             absurd (both_ways (nat_lt p width) e (lt-ltb p width (omega (arith, below))))
 store_part-outside signals E M (Slice signal from width) bits s p fits out = with_bits-outside M signal from width bits s p out
 store_part-outside signals E M (Pick signal index offsets) bits s p fits out =
-    with_picked-outside signals M signal (index_value signals E index) 0 offsets.items bits s p
+    with_picked-outside signals M signal (index_value signals E index) 0 offsets bits s p
     (unpicked (s == signal) (λ own. picked (constant_of index.width index.node) refl (own-part (s == signal) own out)))
   where
-    unpicked : (x : Bool) → (x ≡ true → has_bit signals signal (index_value signals E index) offsets.items p ≡ false)
-        → (x && has_bit signals signal (index_value signals E index) offsets.items p) ≡ false
+    unpicked : (x : Bool) → (x ≡ true → has_bit signals signal (index_value signals E index) offsets p ≡ false)
+        → (x && has_bit signals signal (index_value signals E index) offsets p) ≡ false
     unpicked true none = none refl
     unpicked false none = refl
 
@@ -118,14 +118,14 @@ store_part-outside signals E M (Pick signal index offsets) bits s p fits out =
     own-part false own e = cc
 
     picked : (c : Option ℕ) → constant_of index.width index.node ≡ c
-        → option_map_or (λ value. has_bit signals signal (integer_of index.signed index.width value) offsets.items p) (constant_of index.width index.node) (nat_lt p (width_at signals signal)) ≡ false
-        → has_bit signals signal (index_value signals E index) offsets.items p ≡ false
+        → option_map_or (λ value. has_bit signals signal (integer_of index.signed index.width value) offsets p) (constant_of index.width index.node) (nat_lt p (width_at signals signal)) ≡ false
+        → has_bit signals signal (index_value signals E index) offsets p ≡ false
     picked None is none =
-        picked-among signals signal (index_value signals E index) offsets.items p
-        (sym (ap (λ c. option_map_or (λ value. has_bit signals signal (integer_of index.signed index.width value) offsets.items p) c (nat_lt p (width_at signals signal))) is) ∙ none)
+        picked-among signals signal (index_value signals E index) offsets p
+        (sym (ap (λ c. option_map_or (λ value. has_bit signals signal (integer_of index.signed index.width value) offsets p) c (nat_lt p (width_at signals signal))) is) ∙ none)
     picked (Some value) is none =
-        ap (λ n. has_bit signals signal (integer_of index.signed index.width n) offsets.items p) (constant_of-value signals E index.width index.node value is)
-        ∙ sym (ap (λ c. option_map_or (λ value. has_bit signals signal (integer_of index.signed index.width value) offsets.items p) c (nat_lt p (width_at signals signal))) is) ∙ none
+        ap (λ n. has_bit signals signal (integer_of index.signed index.width n) offsets p) (constant_of-value signals E index.width index.node value is)
+        ∙ sym (ap (λ c. option_map_or (λ value. has_bit signals signal (integer_of index.signed index.width value) offsets p) c (nat_lt p (width_at signals signal))) is) ∙ none
 store_part-outside signals E M (Word first count low index from width) bits s p fits out =
     at (word_at first count low (index_value signals E index)) refl
   where
@@ -192,20 +192,20 @@ mutual
       → statement_fits signals places statement ≡ true → statement_drives signals s b statement ≡ false → Leaves (after signals choice statement m) m s b
   after-leaves signals places choice Nothing m s b fits out = record { now = refl; later = refl }
   after-leaves signals places choice (Block' _ statements) m s b fits out = after_all-leaves signals places choice statements m s b fits out
-  after-leaves signals places choice (If' e _ on_true _ on_false) m s b fits out =
+  after-leaves signals places choice (If' e _ (more_of-Stmt on_true end_of-Stmt) _ (more_of-Stmt on_false end_of-Stmt)) m s b fits out =
       let fit = and_parts (typed_fits signals e && statement_fits signals places on_true) (statement_fits signals places on_false) fits in
       let none = or_parts (statement_drives signals s b on_true) (statement_drives signals s b on_false) out in
       leaves-either (is_true (value signals m.now e)) (after signals choice on_true m) (after signals choice on_false m) m s b
       (after-leaves signals places choice on_true m s b (and_parts (typed_fits signals e) (statement_fits signals places on_true) fit.0).1 none.0)
       (after-leaves signals places choice on_false m s b fit.1 none.1)
-  after-leaves signals places choice (Case' subject _ items _ other _) m s b fits out =
+  after-leaves signals places choice (Case' subject _ items _ (more_of-Stmt other end_of-Stmt) _) m s b fits out =
       let fit = and_parts (typed_fits signals subject && items_fit signals places subject.width items) (statement_fits signals places other) fits in
       let none = or_parts (some_set_in (set_drives signals s b) items) (statement_drives signals s b other) out in
       after_case-leaves signals places choice (value signals m.now subject) subject.width items m (after signals choice other m) s b
       (and_parts (typed_fits signals subject) (items_fit signals places subject.width items) fit.0).1 none.0
       (after-leaves signals places choice other m s b fit.1 none.1)
   after-leaves signals places choice (Set place target e later) m s b fits out =
-      leaves-set signals target.parts.items (bit (assigned choice place (value signals m.now e))) later m s b (parts-fit signals places place target.parts.items e fits) out
+      leaves-set signals target.parts (bit (assigned choice place (value signals m.now e))) later m s b (parts-fit signals places place target.parts e fits) out
 
   pub after_all-leaves : {shape : _} (signals : List Signal) (places : List Place) (choice : Choice) (statements : Row_of-Stmt shape) (m : Updates) (s b : ℕ)
       → statements_fit signals places statements ≡ true → some_set_of (set_drives signals s b) statements ≡ false
@@ -224,8 +224,8 @@ mutual
       → Leaves (after_case signals choice subject items m other) m s b
   after_case-leaves signals places choice subject width end_of-CaseItem m other s b fits out left = left
   after_case-leaves signals places choice subject width (more_of-CaseItem labels body rest) m other s b fits out left =
-      let fit = and_parts (list_all (label_fits signals width) labels.items && statement_fits signals places body) (items_fit signals places width rest) fits in
+      let fit = and_parts (list_all (label_fits signals width) labels && statement_fits signals places body) (items_fit signals places width rest) fits in
       let none = or_parts (statement_drives signals s b body) (some_set_in (set_drives signals s b) rest) out in
-      leaves-either (list_any (matches signals m.now subject) labels.items) (after signals choice body m) (after_case signals choice subject rest m other) m s b
-      (after-leaves signals places choice body m s b (and_parts (list_all (label_fits signals width) labels.items) (statement_fits signals places body) fit.0).1 none.0)
+      leaves-either (list_any (matches signals m.now subject) labels) (after signals choice body m) (after_case signals choice subject rest m other) m s b
+      (after-leaves signals places choice body m s b (and_parts (list_all (label_fits signals width) labels) (statement_fits signals places body) fit.0).1 none.0)
       (after_case-leaves signals places choice subject width rest m other s b fit.1 none.1 left)

@@ -11,7 +11,7 @@ use Rattle.design_core.specs.declared.expression.Typed.{Typed}
 use Rattle.design_core.specs.declared.expression.Node.{Node, Row_of-Typed, end_of-Typed, more_of-Typed}
 use Rattle.design_core.specs.declared.expression.Node.TheVariants.{Const, Whole, Slice, Pick', Word', Unary', Binary', Choose', Join', Repeat', Resize'}
 use Rattle.design_core.specs.Valuation.{Valuation, number, width_at, place_within, position_of, position_at, word_at, bit_or_zero, distance_of}
-use Rattle.design_core.specs.Operator.{integer_of, unary, repeated, resized}
+use Rattle.design_core.specs.Operator.{is_true, integer_of, unary, binary, repeated, resized}
 use Rattle.design_core.specs.Value.{picked, word_value, node_value, joined, value, index_value}
 use Rattle.design_core.specs.Constant.{is_constant, constant_of}
 use Rattle.design_core.specs.Pick.{is_at, has_bit, may_pick}
@@ -64,7 +64,7 @@ bit_or_zero-same f g (Some p) h = h p refl
 -- a constant has one value in all valuations
 pub constant-value : (signals : List Signal) (V W : Valuation) (width : ℕ) (e : Node) → is_constant e ≡ true → node_value signals V width e ≡ node_value signals W width e
 constant-value signals V W width (Const word) is = refl
-constant-value signals V W width (Resize' _ arg_width signed arg) is = ap (resized width signed arg_width) (constant-value signals V W arg_width arg is)
+constant-value signals V W width (Resize' _ (more_of-Typed arg_width signed arg end_of-Typed)) is = ap (resized width signed arg_width) (constant-value signals V W arg_width arg is)
 constant-value signals V W width _ is = cc
 
 -- an index that is a constant has its value
@@ -122,19 +122,19 @@ mutual
   node_value-agrees signals V W width (Slice signal from size) h =
       number-same size (λ b. V signal (from + b)) (λ b. W signal (from + b))
       (λ b below. h.same signal (from + b) (is_own signal signal (is_among from size (from + b)) refl (is_among-at from size b below)))
-  node_value-agrees signals V W width (Pick' signal _ index_width signed index offsets) h =
-      let own : ℕ → ℕ → Bool = λ s b. (s == signal) && may_pick signals signal index_width signed index offsets.items b in
+  node_value-agrees signals V W width (Pick' signal _ (more_of-Typed index_width signed index end_of-Typed) offsets) h =
+      let own : ℕ → ℕ → Bool = λ s b. (s == signal) && may_pick signals signal index_width signed index offsets b in
       let inner : ℕ → ℕ → Bool = λ s b. node_reads signals s b index_width index in
       let at : ℕ → ℤ = λ n. integer_of signed index_width n in
       let same : node_value signals V index_width index ≡ node_value signals W index_width index =
       node_value-agrees signals V W index_width index (agree_right own inner V W h) in
-      ap (λ n. number width (picked signals V signal (at n) offsets.items)) same
-      ∙ number-same width (picked signals V signal (at (node_value signals W index_width index)) offsets.items)
-      (picked signals W signal (at (node_value signals W index_width index)) offsets.items)
-      (λ b _. picked-same signals V W signal (at (node_value signals W index_width index)) offsets.items b
-      (λ p is. (agree_left own inner V W h).same signal p (is_own signal signal (may_pick signals signal index_width signed index offsets.items p) refl
-      (may_pick-at signals W signal index_width signed index offsets.items b p is))))
-  node_value-agrees signals V W width (Word' first count low _ index_width signed index from size) h =
+      ap (λ n. number width (picked signals V signal (at n) offsets)) same
+      ∙ number-same width (picked signals V signal (at (node_value signals W index_width index)) offsets)
+      (picked signals W signal (at (node_value signals W index_width index)) offsets)
+      (λ b _. picked-same signals V W signal (at (node_value signals W index_width index)) offsets b
+      (λ p is. (agree_left own inner V W h).same signal p (is_own signal signal (may_pick signals signal index_width signed index offsets p) refl
+      (may_pick-at signals W signal index_width signed index offsets b p is))))
+  node_value-agrees signals V W width (Word' first count low _ (more_of-Typed index_width signed index end_of-Typed) from size) h =
       let own : ℕ → ℕ → Bool = λ s b. is_among first count s && is_among from size b in
       let inner : ℕ → ℕ → Bool = λ s b. node_reads signals s b index_width index in
       let word : ℕ → Option ℕ = λ n. word_at first count low (integer_of signed index_width n) in
@@ -145,17 +145,18 @@ mutual
       (word_at-among first count low (integer_of signed index_width (node_value signals W index_width index)) w e) (is_among-at from size b below)) in
       ap (λ n. word_value V from size (word n)) same
       ∙ word_value-same V W from size (word (node_value signals W index_width index)) bits
-  node_value-agrees signals V W width (Unary' op _ arg_width _ arg) h =
+  node_value-agrees signals V W width (Unary' op _ (more_of-Typed arg_width _ arg end_of-Typed)) h =
       ap (unary op arg_width) (node_value-agrees signals V W arg_width arg h)
-  node_value-agrees signals V W width (Binary' op _ left_width left_signed left _ right_width right_signed right) h =
+  node_value-agrees signals V W width (Binary' op _ (more_of-Typed left_width left_signed left end_of-Typed) _ (more_of-Typed right_width right_signed right end_of-Typed)) h =
       let p : ℕ → ℕ → Bool = λ s b. node_reads signals s b left_width left in
       let q : ℕ → ℕ → Bool = λ s b. node_reads signals s b right_width right in
       let one : node_value signals V left_width left ≡ node_value signals W left_width left =
       node_value-agrees signals V W left_width left (agree_left p q V W h) in
       let other : node_value signals V right_width right ≡ node_value signals W right_width right =
       node_value-agrees signals V W right_width right (agree_right p q V W h) in
-      cc
-  node_value-agrees signals V W width (Choose' _ cond_width _ cond _ true_width _ on_true _ false_width _ on_false) h =
+      ap (λ n. binary op left_width left_signed right_signed n (node_value signals V right_width right)) one
+      ∙ ap (binary op left_width left_signed right_signed (node_value signals W left_width left)) other
+  node_value-agrees signals V W width (Choose' _ (more_of-Typed cond_width _ cond end_of-Typed) _ (more_of-Typed true_width _ on_true end_of-Typed) _ (more_of-Typed false_width _ on_false end_of-Typed)) h =
       let p : ℕ → ℕ → Bool = λ s b. node_reads signals s b cond_width cond in
       let q : ℕ → ℕ → Bool = λ s b. node_reads signals s b true_width on_true in
       let r : ℕ → ℕ → Bool = λ s b. node_reads signals s b false_width on_false in
@@ -166,11 +167,13 @@ mutual
       node_value-agrees signals V W true_width on_true (agree_left q r V W arms) in
       let no : node_value signals V false_width on_false ≡ node_value signals W false_width on_false =
       node_value-agrees signals V W false_width on_false (agree_right q r V W arms) in
-      cc
+      ap (λ n. if is_true n then node_value signals V true_width on_true else node_value signals V false_width on_false) test
+      ∙ (ap (λ n. if is_true (node_value signals W cond_width cond) then n else node_value signals V false_width on_false) yes
+      ∙ ap (λ n. if is_true (node_value signals W cond_width cond) then node_value signals W true_width on_true else n) no)
   node_value-agrees signals V W width (Join' _ parts) h = joined-agrees signals V W 0 parts h
-  node_value-agrees signals V W width (Repeat' times _ part_width _ part) h =
+  node_value-agrees signals V W width (Repeat' times _ (more_of-Typed part_width _ part end_of-Typed)) h =
       ap (repeated times part_width) (node_value-agrees signals V W part_width part h)
-  node_value-agrees signals V W width (Resize' _ arg_width signed arg) h =
+  node_value-agrees signals V W width (Resize' _ (more_of-Typed arg_width signed arg end_of-Typed)) h =
       ap (resized width signed arg_width) (node_value-agrees signals V W arg_width arg h)
 
   pub joined-agrees : {shape : _} (signals : List Signal) (V W : Valuation) (left : ℕ) (parts : Row_of-Typed shape)

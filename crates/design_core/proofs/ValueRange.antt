@@ -123,18 +123,18 @@ mutual
   node_value-in_range signals V width sign (Slice signal from size) fits =
       subst (λ w. number size (λ b. V signal (from + b)) < 2 ^ w) (eqb-true size width (and_parts (slice_fits signals signal from size) (size == width) fits).1)
       (number-below size (λ b. V signal (from + b)))
-  node_value-in_range signals V width sign (Pick' signal _ index_width signed index offsets) fits =
-      number-below width (picked signals V signal (integer_of signed index_width (node_value signals V index_width index)) offsets.items)
-  node_value-in_range signals V width sign (Word' first count low _ index_width signed index from size) fits =
+  node_value-in_range signals V width sign (Pick' signal _ (more_of-Typed index_width signed index end_of-Typed) offsets) fits =
+      number-below width (picked signals V signal (integer_of signed index_width (node_value signals V index_width index)) offsets)
+  node_value-in_range signals V width sign (Word' first count low _ (more_of-Typed index_width signed index end_of-Typed) from size) fits =
       let word : Option ℕ = word_at first count low (integer_of signed index_width (node_value signals V index_width index)) in
       let same = and_parts (words_fit signals first count from size) (size == width)
       (and_parts (words_fit signals first count from size && (size == width)) (node_fits signals index_width signed index) fits).0 in
       subst (λ w. word_value V from size word < 2 ^ w) (eqb-true size width same.1) (word_value-in_range V from size word)
-  node_value-in_range signals V width sign (Unary' op _ arg_width signed arg) fits =
+  node_value-in_range signals V width sign (Unary' op _ (more_of-Typed arg_width signed arg end_of-Typed)) fits =
       let fit = and_parts (is_width width && unary_fits op width arg_width) (node_fits signals arg_width signed arg) fits in
       let own = and_parts (is_width width) (unary_fits op width arg_width) fit.0 in
       unary-in_range op width arg_width (node_value signals V arg_width arg) own.1 (some_bits width own.0) (node_value-in_range signals V arg_width signed arg fit.1)
-  node_value-in_range signals V width sign (Binary' op _ left_width left_signed left _ right_width right_signed right) fits =
+  node_value-in_range signals V width sign (Binary' op _ (more_of-Typed left_width left_signed left end_of-Typed) _ (more_of-Typed right_width right_signed right end_of-Typed)) fits =
       let signs : Bool = signs_fit op sign left_signed right_signed in
       let left_fits : Bool = node_fits signals left_width left_signed left in
       let fit = and_parts (is_width width && binary_fits op width left_width right_width && signs && left_fits) (node_fits signals right_width right_signed right) fits in
@@ -143,7 +143,7 @@ mutual
       let own = and_parts (is_width width) (binary_fits op width left_width right_width) widths.0 in
       binary-in_range op width left_width right_width left_signed right_signed (node_value signals V left_width left) (node_value signals V right_width right)
       own.1 (some_bits width own.0) (node_value-in_range signals V left_width left_signed left more.1) (node_value-in_range signals V right_width right_signed right fit.1)
-  node_value-in_range signals V width sign (Choose' _ cond_width cond_signed cond _ true_width true_signed on_true _ false_width false_signed on_false) fits =
+  node_value-in_range signals V width sign (Choose' _ (more_of-Typed cond_width cond_signed cond end_of-Typed) _ (more_of-Typed true_width true_signed on_true end_of-Typed) _ (more_of-Typed false_width false_signed on_false end_of-Typed)) fits =
       let fit = and_parts (same_widths width true_width false_width && node_fits signals cond_width cond_signed cond && node_fits signals true_width true_signed on_true)
       (node_fits signals false_width false_signed on_false) fits in
       let more = and_parts (same_widths width true_width false_width && node_fits signals cond_width cond_signed cond) (node_fits signals true_width true_signed on_true) fit.0 in
@@ -157,12 +157,12 @@ mutual
       let fit = and_parts (is_width width && (joined_width parts == width)) (parts_fit signals parts) fits in
       let whole : 0 + joined_width parts ≡ width = omega (arith, eqb-true (joined_width parts) width (and_parts (is_width width) (joined_width parts == width) fit.0).1) in
       subst (λ w. joined signals V 0 parts < 2 ^ w) whole (joined-in_range signals V 0 0 parts fit.1 (pow_pos 0))
-  node_value-in_range signals V width sign (Repeat' times _ part_width signed part) fits =
+  node_value-in_range signals V width sign (Repeat' times _ (more_of-Typed part_width signed part end_of-Typed)) fits =
       let fit = and_parts (is_width width && (times * part_width == width)) (node_fits signals part_width signed part) fits in
       subst (λ w. repeated times part_width (node_value signals V part_width part) < 2 ^ w)
       (eqb-true (times * part_width) width (and_parts (is_width width) (times * part_width == width) fit.0).1)
       (repeated-in_range times part_width (node_value signals V part_width part) (node_value-in_range signals V part_width signed part fit.1))
-  node_value-in_range signals V width sign (Resize' _ arg_width signed arg) fits =
+  node_value-in_range signals V width sign (Resize' _ (more_of-Typed arg_width signed arg end_of-Typed)) fits =
       resized-in_range width signed arg_width (node_value signals V arg_width arg)
       (node_value-in_range signals V arg_width signed arg (and_parts (is_width width) (node_fits signals arg_width signed arg) fits).1)
 

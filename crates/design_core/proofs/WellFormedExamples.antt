@@ -7,6 +7,7 @@ use Rattle.design_core.specs.declared.signal.SignalKind.TheVariants as kind
 use Rattle.design_core.specs.declared.expression.BinaryOp.{BinaryOp}
 use Rattle.design_core.specs.declared.expression.BinaryOp.TheVariants as binary_op
 use Rattle.design_core.specs.declared.expression.Typed.{Typed}
+use Rattle.design_core.specs.declared.expression.Node.{end_of-Typed, more_of-Typed}
 use Rattle.design_core.specs.declared.expression.Node.TheVariants as node
 use Rattle.design_core.specs.declared.statement.Part.TheVariants as part
 use Rattle.design_core.specs.declared.statement.Stmt.{Stmt}
@@ -28,7 +29,7 @@ word width value least most within = record { width = width; value = value; at_l
 -- ---- signs: an operator on two 4-bit operands
 abbrev applied : Any → BinaryOp → ℕ → Bool → Bool → Bool → Typed
 applied any op width signed left right =
-    record { width = width; signed = signed; node = node.Binary' op any.box 4 left (node.Whole 0) any.box 4 right (node.Whole 0) }
+    record { width = width; signed = signed; node = node.Binary' op tt (more_of-Typed 4 left (node.Whole 0) end_of-Typed) tt (more_of-Typed 4 right (node.Whole 0) end_of-Typed) }
 
 abbrev operand : Any → List Signal
 operand any = declared any 4 (pos 3) (pos 0) kind.Net ∷ []
@@ -52,7 +53,7 @@ constant width value least most within = record { width = width; signed = true; 
 -- a bit of y by an index, cleared
 abbrev cleared : Any → Typed → Stmt
 cleared any index = stmt.Set 0
-    (record { parts = vec any (part.Pick 2 index (vec any (pos 0 ∷ []) (lit< tt)) ∷ []) (lit< tt) })
+    (record { parts = part.Pick 2 index (pos 0 ∷ []) ∷ [] })
     (constant 1 0 (lit≤ tt) (lit≤ tt) (lit< tt)) true
 
 abbrev reset_block : Any → Typed → Clocked

@@ -94,12 +94,12 @@ pub driven-wider : (signals : List Signal) (places : List Place) (choice wider :
     → driven signals wider V driver ≡ driven signals choice V driver
 driven-wider signals places choice wider V (Cont target e None span) fits h = refl
 driven-wider signals places choice wider V (Cont target e (Some p) span) fits h =
-    let fit = and_parts (assignment_fits signals target.parts.items e) (place_fits places (parts_width signals target.parts.items) p) fits in
-    let (place, at, width) = place_fits-at places (parts_width signals target.parts.items) p fit.1 in
+    let fit = and_parts (assignment_fits signals target.parts e) (place_fits places (parts_width signals target.parts) p) fits in
+    let (place, at, width) = place_fits-at places (parts_width signals target.parts) p fit.1 in
     let times : ℕ = if p == p then 1 else 0 in
     let one : times ≡ 1 = cond-true (p == p) 1 0 (eq-eqb p p refl) in
     let rest : Valuation = without signals (Cont target e (Some p) span) V in
-    store-bits signals rest rest target.parts.items (bit (assigned wider p (value signals V e))) (bit (assigned choice p (value signals V e)))
+    store-bits signals rest rest target.parts (bit (assigned wider p (value signals V e))) (bit (assigned choice p (value signals V e)))
     (λ b below. h.same p place at (omega (arith, one)) b (omega (arith, width)))
 driven-wider signals places choice wider V (Comb body span) fits h =
     ap (λ m. m.now) (after-wider signals places choice wider body (begun (without signals (Comb body span) V)) fits h)

@@ -44,12 +44,12 @@ abbrev mutual
   pub after : List Signal → Choice → Stmt → Updates → Updates
   after signals choice Nothing m = m
   after signals choice (Block' _ statements) m = after_all signals choice statements m
-  after signals choice (If' cond _ on_true _ on_false) m =
+  after signals choice (If' cond _ (more_of-Stmt on_true end_of-Stmt) _ (more_of-Stmt on_false end_of-Stmt)) m =
       if is_true (value signals m.now cond) then after signals choice on_true m else after signals choice on_false m
-  after signals choice (Case' subject _ items _ other _) m =
+  after signals choice (Case' subject _ items _ (more_of-Stmt other end_of-Stmt) _) m =
       after_case signals choice (value signals m.now subject) items m (after signals choice other m)
   after signals choice (Set place target computed later) m =
-      after_set signals target.parts.items (bit (assigned choice place (value signals m.now computed))) later m
+      after_set signals target.parts (bit (assigned choice place (value signals m.now computed))) later m
 
   -- after statements in order
   pub after_all : {shape : _} → List Signal → Choice → Row_of-Stmt shape → Updates → Updates
@@ -60,6 +60,6 @@ abbrev mutual
   pub after_case : {shape : _} → List Signal → Choice → ℕ → Row_of-CaseItem shape → Updates → Updates → Updates
   after_case signals choice subject end_of-CaseItem m other = other
   after_case signals choice subject (more_of-CaseItem labels body rest) m other =
-      if list_any (matches signals m.now subject) labels.items
+      if list_any (matches signals m.now subject) labels
       then after signals choice body m
       else after_case signals choice subject rest m other

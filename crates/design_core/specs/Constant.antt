@@ -1,14 +1,14 @@
 -- Expressions that are constants (IEEE 1364-2005, 3.5 and 5): they have one value, whatever the signals' bits are.
 use Rattle.std.specs.Prelude.{ℕ, ◌==◌, Bool, true, false, if◌then◌else◌, Option, Some, None}
 use Rattle.loc_base.specs.Bits.{width_of, value_of}
-use Rattle.design_core.specs.declared.expression.Node.{Node}
+use Rattle.design_core.specs.declared.expression.Node.{Node, end_of-Typed, more_of-Typed}
 use Rattle.design_core.specs.declared.expression.Node.TheVariants.{Const, Resize'}
 use Rattle.design_core.specs.Valuation.{Valuation}
 
 -- whether an expression is a constant, or one carried to another width
 abbrev pub is_constant : Node → Bool
 is_constant (Const _) = true
-is_constant (Resize' _ _ _ arg) = is_constant arg
+is_constant (Resize' _ (more_of-Typed _ _ arg end_of-Typed)) = is_constant arg
 is_constant _ = false
 
 -- the valuation in which all bits are 0

@@ -42,7 +42,7 @@ cont_assigned choice (Some place) computed = assigned choice place computed
 abbrev pub driven : List Signal → Choice → Valuation → Driver → Valuation
 driven signals choice V (Cont target computed place span) =
     let rest = without signals (Cont target computed place span) V in
-    store signals rest rest target.parts.items (bit (cont_assigned choice place (value signals V computed)))
+    store signals rest rest target.parts (bit (cont_assigned choice place (value signals V computed)))
 driven signals choice V (Comb body span) =
     let rest = without signals (Comb body span) V in
     (after signals choice body (record { now = rest; later = rest })).now

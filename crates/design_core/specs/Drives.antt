@@ -27,7 +27,7 @@ abbrev pub part_drives : List Signal → ℕ → ℕ → Part → Bool
 part_drives signals s b (Whole signal) = s == signal && nat_lt b (width_at signals signal)
 part_drives signals s b (Slice signal from width) = s == signal && is_among from width b
 part_drives signals s b (Pick signal index offsets) =
-    s == signal && may_pick signals signal index.width index.signed index.node offsets.items b
+    s == signal && may_pick signals signal index.width index.signed index.node offsets b
 part_drives signals s b (Word first count _ _ _ _) = is_among first count s && nat_lt b (width_at signals s)
 
 -- whether a part of a left side names a signal
@@ -42,9 +42,9 @@ abbrev mutual
   pub some_set : (List Part → Bool → Bool) → Stmt → Bool
   some_set test Nothing = false
   some_set test (Block' _ statements) = some_set_of test statements
-  some_set test (If' _ _ on_true _ on_false) = some_set test on_true || some_set test on_false
-  some_set test (Case' _ _ items _ other _) = some_set_in test items || some_set test other
-  some_set test (Set _ target _ later) = test target.parts.items later
+  some_set test (If' _ _ (more_of-Stmt on_true end_of-Stmt) _ (more_of-Stmt on_false end_of-Stmt)) = some_set test on_true || some_set test on_false
+  some_set test (Case' _ _ items _ (more_of-Stmt other end_of-Stmt) _) = some_set_in test items || some_set test other
+  some_set test (Set _ target _ later) = test target.parts later
 
   pub some_set_of : {shape : _} → (List Part → Bool → Bool) → Row_of-Stmt shape → Bool
   some_set_of test end_of-Stmt = false
@@ -64,7 +64,7 @@ assigns_later s statement = some_set (λ parts later. later && list_any (part_na
 
 -- whether a driver drives a bit
 abbrev pub driver_drives : List Signal → ℕ → ℕ → Driver → Bool
-driver_drives signals s b (Cont target _ _ _) = list_any (part_drives signals s b) target.parts.items
+driver_drives signals s b (Cont target _ _ _) = list_any (part_drives signals s b) target.parts
 driver_drives signals s b (Comb body _) = statement_drives signals s b body
 
 -- whether a driver of the list drives a bit

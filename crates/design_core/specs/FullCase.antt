@@ -4,7 +4,7 @@ use Rattle.std.specs.Prelude.{ℕ, zero, suc, ◌^◌, Bool, true, false, ◌&&�
 use Rattle.std.specs.List.{list_any}
 use Rattle.design_core.specs.declared.signal.Signal.{Signal}
 use Rattle.design_core.specs.declared.expression.Typed.{Typed}
-use Rattle.design_core.specs.declared.expression.Node.{Node}
+use Rattle.design_core.specs.declared.expression.Node.{Node, end_of-Typed, more_of-Typed}
 use Rattle.design_core.specs.declared.expression.Node.TheVariants.{Resize'}
 use Rattle.design_core.specs.declared.statement.Label.{Label}
 use Rattle.design_core.specs.declared.statement.Stmt.{Row_of-CaseItem, end_of-CaseItem, more_of-CaseItem}
@@ -19,12 +19,12 @@ all_below (suc n) test = test n && all_below n test
 
 -- the number of bits that decide a value: where an operand is carried to the width, those of the operand
 abbrev pub deciding_bits : ℕ → Node → ℕ
-deciding_bits width (Resize' _ arg_width _ _) = arg_width
+deciding_bits width (Resize' _ (more_of-Typed arg_width _ _ end_of-Typed)) = arg_width
 deciding_bits width _ = width
 
 -- the value by the number that these bits mean
 abbrev pub decided : ℕ → Node → ℕ → ℕ
-decided width (Resize' _ arg_width signed _) n = resized width signed arg_width n
+decided width (Resize' _ (more_of-Typed arg_width signed _ end_of-Typed)) n = resized width signed arg_width n
 decided width _ n = n
 
 -- whether a label is a constant that is equal to the subject outside its wild bits
@@ -35,7 +35,7 @@ constant_matches signals subject label = is_constant label.value.node && matches
 abbrev pub some_matches : {shape : _} → List Signal → ℕ → Row_of-CaseItem shape → Bool
 some_matches signals subject end_of-CaseItem = false
 some_matches signals subject (more_of-CaseItem labels _ rest) =
-    list_any (constant_matches signals subject) labels.items || some_matches signals subject rest
+    list_any (constant_matches signals subject) labels || some_matches signals subject rest
 
 -- whether some item has one for each value of the subject
 abbrev pub is_full : {shape : _} → List Signal → Typed → Row_of-CaseItem shape → Bool

@@ -17,12 +17,12 @@ abbrev mutual
   pub statement_mentions : List Signal → ℕ → ℕ → Stmt → Bool
   statement_mentions signals s b Nothing = false
   statement_mentions signals s b (Block' _ statements) = statements_mention signals s b statements
-  statement_mentions signals s b (If' cond _ on_true _ on_false) =
+  statement_mentions signals s b (If' cond _ (more_of-Stmt on_true end_of-Stmt) _ (more_of-Stmt on_false end_of-Stmt)) =
       reads signals s b cond || (statement_mentions signals s b on_true || statement_mentions signals s b on_false)
-  statement_mentions signals s b (Case' subject _ items _ other _) =
+  statement_mentions signals s b (Case' subject _ items _ (more_of-Stmt other end_of-Stmt) _) =
       reads signals s b subject || (items_mention signals s b items || statement_mentions signals s b other)
   statement_mentions signals s b (Set _ target value _) =
-      reads signals s b value || list_any (part_reads signals s b) target.parts.items
+      reads signals s b value || list_any (part_reads signals s b) target.parts
 
   pub statements_mention : {shape : _} → List Signal → ℕ → ℕ → Row_of-Stmt shape → Bool
   statements_mention signals s b end_of-Stmt = false
@@ -31,7 +31,7 @@ abbrev mutual
   pub items_mention : {shape : _} → List Signal → ℕ → ℕ → Row_of-CaseItem shape → Bool
   items_mention signals s b end_of-CaseItem = false
   items_mention signals s b (more_of-CaseItem labels body rest) =
-      list_any (λ label. reads signals s b label.value) labels.items
+      list_any (λ label. reads signals s b label.value) labels
       || (statement_mentions signals s b body || items_mention signals s b rest)
 
 -- whether a driver does

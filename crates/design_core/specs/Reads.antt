@@ -29,19 +29,19 @@ abbrev mutual
   node_reads signals s b width (Const _) = false
   node_reads signals s b width (Whole signal) = s == signal && nat_lt b width
   node_reads signals s b width (Slice signal from size) = s == signal && is_among from size b
-  node_reads signals s b width (Pick' signal _ index_width signed index offsets) =
-      (s == signal && may_pick signals signal index_width signed index offsets.items b) || node_reads signals s b index_width index
-  node_reads signals s b width (Word' first count _ _ index_width _ index from size) =
+  node_reads signals s b width (Pick' signal _ (more_of-Typed index_width signed index end_of-Typed) offsets) =
+      (s == signal && may_pick signals signal index_width signed index offsets b) || node_reads signals s b index_width index
+  node_reads signals s b width (Word' first count _ _ (more_of-Typed index_width _ index end_of-Typed) from size) =
       (is_among first count s && is_among from size b) || node_reads signals s b index_width index
-  node_reads signals s b width (Unary' _ _ arg_width _ arg) = node_reads signals s b arg_width arg
-  node_reads signals s b width (Binary' _ _ left_width _ left _ right_width _ right) =
+  node_reads signals s b width (Unary' _ _ (more_of-Typed arg_width _ arg end_of-Typed)) = node_reads signals s b arg_width arg
+  node_reads signals s b width (Binary' _ _ (more_of-Typed left_width _ left end_of-Typed) _ (more_of-Typed right_width _ right end_of-Typed)) =
       node_reads signals s b left_width left || node_reads signals s b right_width right
-  node_reads signals s b width (Choose' _ cond_width _ cond _ true_width _ on_true _ false_width _ on_false) =
+  node_reads signals s b width (Choose' _ (more_of-Typed cond_width _ cond end_of-Typed) _ (more_of-Typed true_width _ on_true end_of-Typed) _ (more_of-Typed false_width _ on_false end_of-Typed)) =
       node_reads signals s b cond_width cond
       || (node_reads signals s b true_width on_true || node_reads signals s b false_width on_false)
   node_reads signals s b width (Join' _ parts) = parts_read signals s b parts
-  node_reads signals s b width (Repeat' _ _ part_width _ part) = node_reads signals s b part_width part
-  node_reads signals s b width (Resize' _ arg_width _ arg) = node_reads signals s b arg_width arg
+  node_reads signals s b width (Repeat' _ _ (more_of-Typed part_width _ part end_of-Typed)) = node_reads signals s b part_width part
+  node_reads signals s b width (Resize' _ (more_of-Typed arg_width _ arg end_of-Typed)) = node_reads signals s b arg_width arg
 
   -- whether some part of a concatenation reads a bit
   pub parts_read : {shape : _} → List Signal → ℕ → ℕ → Row_of-Typed shape → Bool
@@ -64,7 +64,7 @@ abbrev pub part_assigns : List Signal → ℕ → ℕ → Part → Bool
 part_assigns signals s b (part.Whole signal) = s == signal && nat_lt b (width_at signals signal)
 part_assigns signals s b (part.Slice signal from width) = s == signal && is_among from width b
 part_assigns signals s b (part.Pick signal index offsets) =
-    s == signal && must_pick signals signal index.width index.signed index.node offsets.items b
+    s == signal && must_pick signals signal index.width index.signed index.node offsets b
 part_assigns signals s b (part.Word _ _ _ _ _ _) = false
 
 abbrev pub is_nothing : Stmt → Bool
@@ -81,10 +81,10 @@ abbrev mutual
   pub on_all_paths : List Signal → (List Part → Bool → Bool) → Stmt → Bool
   on_all_paths signals test Nothing = false
   on_all_paths signals test (Block' _ statements) = some_on_all_paths signals test statements
-  on_all_paths signals test (If' _ _ on_true _ on_false) = on_all_paths signals test on_true && on_all_paths signals test on_false
-  on_all_paths signals test (Case' subject _ items _ other _) =
+  on_all_paths signals test (If' _ _ (more_of-Stmt on_true end_of-Stmt) _ (more_of-Stmt on_false end_of-Stmt)) = on_all_paths signals test on_true && on_all_paths signals test on_false
+  on_all_paths signals test (Case' subject _ items _ (more_of-Stmt other end_of-Stmt) _) =
       all_on_all_paths signals test items && ((is_nothing other && is_full signals subject items) || on_all_paths signals test other)
-  on_all_paths signals test (Set _ target _ later) = test target.parts.items later
+  on_all_paths signals test (Set _ target _ later) = test target.parts later
 
   pub some_on_all_paths : {shape : _} → List Signal → (List Part → Bool → Bool) → Row_of-Stmt shape → Bool
   some_on_all_paths signals test end_of-Stmt = false
@@ -118,12 +118,12 @@ abbrev mutual
   pub statement_reads : List Signal → ℕ → ℕ → Stmt → Bool
   statement_reads signals s b Nothing = false
   statement_reads signals s b (Block' _ statements) = statements_read signals s b statements
-  statement_reads signals s b (If' cond _ on_true _ on_false) =
+  statement_reads signals s b (If' cond _ (more_of-Stmt on_true end_of-Stmt) _ (more_of-Stmt on_false end_of-Stmt)) =
       reads signals s b cond || (statement_reads signals s b on_true || statement_reads signals s b on_false)
-  statement_reads signals s b (Case' subject _ items _ other _) =
+  statement_reads signals s b (Case' subject _ items _ (more_of-Stmt other end_of-Stmt) _) =
       reads signals s b subject || (items_read signals s b items || statement_reads signals s b other)
   statement_reads signals s b (Set _ target value _) =
-      reads signals s b value || list_any (part_reads signals s b) target.parts.items
+      reads signals s b value || list_any (part_reads signals s b) target.parts
 
   pub statements_read : {shape : _} → List Signal → ℕ → ℕ → Row_of-Stmt shape → Bool
   statements_read signals s b end_of-Stmt = false
@@ -133,12 +133,12 @@ abbrev mutual
   pub items_read : {shape : _} → List Signal → ℕ → ℕ → Row_of-CaseItem shape → Bool
   items_read signals s b end_of-CaseItem = false
   items_read signals s b (more_of-CaseItem labels body rest) =
-      list_any (λ label. reads signals s b label.value) labels.items
+      list_any (λ label. reads signals s b label.value) labels
       || (statement_reads signals s b body || items_read signals s b rest)
 
 -- whether a driver reads a bit
 abbrev pub driver_reads : List Signal → ℕ → ℕ → Driver → Bool
-driver_reads signals s b (Cont target value _ _) = reads signals s b value || list_any (part_reads signals s b) target.parts.items
+driver_reads signals s b (Cont target value _ _) = reads signals s b value || list_any (part_reads signals s b) target.parts
 driver_reads signals s b (Comb body _) = statement_reads signals s b body
 
 -- one driver depends on another, or on itself: it reads a bit that the other drives

@@ -10,7 +10,7 @@ use Rattle.design_core.specs.Value.{index_value}
 abbrev pub part_width : List Signal → Part → ℕ
 part_width signals (Whole signal) = width_at signals signal
 part_width signals (Slice _ _ width) = width
-part_width signals (Pick _ _ offsets) = length offsets.items
+part_width signals (Pick _ _ offsets) = length offsets
 part_width signals (Word _ _ _ _ _ width) = width
 
 -- the number of bits of a left side
@@ -44,7 +44,7 @@ with_word M (Some signal) from width bits = with_bits M signal from width bits
 abbrev pub store_part : List Signal → Valuation → Valuation → Part → (ℕ → Bool) → Valuation
 store_part signals E M (Whole signal) bits = with_bits M signal 0 (width_at signals signal) bits
 store_part signals E M (Slice signal from width) bits = with_bits M signal from width bits
-store_part signals E M (Pick signal index offsets) bits = with_picked signals M signal (index_value signals E index) 0 offsets.items bits
+store_part signals E M (Pick signal index offsets) bits = with_picked signals M signal (index_value signals E index) 0 offsets bits
 store_part signals E M (Word first count low index from width) bits =
     with_word M (word_at first count low (index_value signals E index)) from width bits
 

@@ -25,22 +25,22 @@ abbrev mutual
   node_value signals V width (Const word) = value_of word
   node_value signals V width (Whole signal) = number width (V signal)
   node_value signals V width (Slice signal from size) = number size (λ b. V signal (from + b))
-  node_value signals V width (Pick' signal _ index_width signed index offsets) =
+  node_value signals V width (Pick' signal _ (more_of-Typed index_width signed index end_of-Typed) offsets) =
       let at = integer_of signed index_width (node_value signals V index_width index) in
-      number width (picked signals V signal at offsets.items)
-  node_value signals V width (Word' first count low _ index_width signed index from size) =
+      number width (picked signals V signal at offsets)
+  node_value signals V width (Word' first count low _ (more_of-Typed index_width signed index end_of-Typed) from size) =
       let address = integer_of signed index_width (node_value signals V index_width index) in
       word_value V from size (word_at first count low address)
-  node_value signals V width (Unary' op _ arg_width _ arg) = unary op arg_width (node_value signals V arg_width arg)
-  node_value signals V width (Binary' op _ left_width left_signed left _ right_width right_signed right) =
+  node_value signals V width (Unary' op _ (more_of-Typed arg_width _ arg end_of-Typed)) = unary op arg_width (node_value signals V arg_width arg)
+  node_value signals V width (Binary' op _ (more_of-Typed left_width left_signed left end_of-Typed) _ (more_of-Typed right_width right_signed right end_of-Typed)) =
       binary op left_width left_signed right_signed (node_value signals V left_width left) (node_value signals V right_width right)
-  node_value signals V width (Choose' _ cond_width _ cond _ true_width _ on_true _ false_width _ on_false) =
+  node_value signals V width (Choose' _ (more_of-Typed cond_width _ cond end_of-Typed) _ (more_of-Typed true_width _ on_true end_of-Typed) _ (more_of-Typed false_width _ on_false end_of-Typed)) =
       if is_true (node_value signals V cond_width cond)
       then node_value signals V true_width on_true
       else node_value signals V false_width on_false
   node_value signals V width (Join' _ parts) = joined signals V 0 parts
-  node_value signals V width (Repeat' times _ part_width _ part) = repeated times part_width (node_value signals V part_width part)
-  node_value signals V width (Resize' _ arg_width signed arg) = resized width signed arg_width (node_value signals V arg_width arg)
+  node_value signals V width (Repeat' times _ (more_of-Typed part_width _ part end_of-Typed)) = repeated times part_width (node_value signals V part_width part)
+  node_value signals V width (Resize' _ (more_of-Typed arg_width signed arg end_of-Typed)) = resized width signed arg_width (node_value signals V arg_width arg)
 
   -- the parts of a concatenation, from the left, behind what stands to their left
   pub joined : {shape : _} → List Signal → Valuation → ℕ → Row_of-Typed shape → ℕ

@@ -121,22 +121,22 @@ abbrev mutual
   node_fits signals width signed (node.Const word) = is_width width && width_of word == width
   node_fits signals width signed (node.Whole s) = is_width width && is_signal signals s && width_at signals s == width
   node_fits signals width signed (node.Slice s from size) = slice_fits signals s from size && size == width
-  node_fits signals width signed (node.Pick' s _ index_width index_signed index offsets) =
-      is_width width && is_signal signals s && length offsets.items == width && node_fits signals index_width index_signed index
-  node_fits signals width signed (node.Word' first count _ _ index_width index_signed index from size) =
+  node_fits signals width signed (node.Pick' s _ (more_of-Typed index_width index_signed index end_of-Typed) offsets) =
+      is_width width && is_signal signals s && length offsets == width && node_fits signals index_width index_signed index
+  node_fits signals width signed (node.Word' first count _ _ (more_of-Typed index_width index_signed index end_of-Typed) from size) =
       words_fit signals first count from size && size == width && node_fits signals index_width index_signed index
-  node_fits signals width signed (node.Unary' op _ arg_width arg_signed arg) =
+  node_fits signals width signed (node.Unary' op _ (more_of-Typed arg_width arg_signed arg end_of-Typed)) =
       is_width width && unary_fits op width arg_width && node_fits signals arg_width arg_signed arg
-  node_fits signals width signed (node.Binary' op _ left_width left_signed left _ right_width right_signed right) =
+  node_fits signals width signed (node.Binary' op _ (more_of-Typed left_width left_signed left end_of-Typed) _ (more_of-Typed right_width right_signed right end_of-Typed)) =
       is_width width && binary_fits op width left_width right_width && signs_fit op signed left_signed right_signed
       && node_fits signals left_width left_signed left && node_fits signals right_width right_signed right
-  node_fits signals width signed (node.Choose' _ cond_width cond_signed cond _ true_width true_signed on_true _ false_width false_signed on_false) =
+  node_fits signals width signed (node.Choose' _ (more_of-Typed cond_width cond_signed cond end_of-Typed) _ (more_of-Typed true_width true_signed on_true end_of-Typed) _ (more_of-Typed false_width false_signed on_false end_of-Typed)) =
       same_widths width true_width false_width && node_fits signals cond_width cond_signed cond
       && node_fits signals true_width true_signed on_true && node_fits signals false_width false_signed on_false
   node_fits signals width signed (node.Join' _ parts) = is_width width && joined_width parts == width && parts_fit signals parts
-  node_fits signals width signed (node.Repeat' times _ part_width part_signed part) =
+  node_fits signals width signed (node.Repeat' times _ (more_of-Typed part_width part_signed part end_of-Typed)) =
       is_width width && times * part_width == width && node_fits signals part_width part_signed part
-  node_fits signals width signed (node.Resize' _ arg_width arg_signed arg) = is_width width && node_fits signals arg_width arg_signed arg
+  node_fits signals width signed (node.Resize' _ (more_of-Typed arg_width arg_signed arg end_of-Typed)) = is_width width && node_fits signals arg_width arg_signed arg
 
   pub parts_fit : {shape : _} → List Signal → Row_of-Typed shape → Bool
   parts_fit signals end_of-Typed = true
@@ -150,7 +150,7 @@ typed_fits signals e = node_fits signals e.width e.signed e.node
 abbrev pub part_fits : List Signal → Part → Bool
 part_fits signals (part.Whole s) = is_signal signals s
 part_fits signals (part.Slice s from width) = slice_fits signals s from width
-part_fits signals (part.Pick s index offsets) = is_signal signals s && is_width (length offsets.items) && typed_fits signals index
+part_fits signals (part.Pick s index offsets) = is_signal signals s && is_width (length offsets) && typed_fits signals index
 part_fits signals (part.Word first count _ index from width) = words_fit signals first count from width && typed_fits signals index
 
 -- whether a place of the list has a width
@@ -173,12 +173,12 @@ abbrev mutual
   pub statement_fits : List Signal → List Place → Stmt → Bool
   statement_fits signals places stmt.Nothing = true
   statement_fits signals places (stmt.Block' _ statements) = statements_fit signals places statements
-  statement_fits signals places (stmt.If' cond _ on_true _ on_false) =
+  statement_fits signals places (stmt.If' cond _ (more_of-Stmt on_true end_of-Stmt) _ (more_of-Stmt on_false end_of-Stmt)) =
       typed_fits signals cond && statement_fits signals places on_true && statement_fits signals places on_false
-  statement_fits signals places (stmt.Case' subject _ items _ other _) =
+  statement_fits signals places (stmt.Case' subject _ items _ (more_of-Stmt other end_of-Stmt) _) =
       typed_fits signals subject && items_fit signals places subject.width items && statement_fits signals places other
   statement_fits signals places (stmt.Set place target value _) =
-      assignment_fits signals target.parts.items value && place_fits places (parts_width signals target.parts.items) place
+      assignment_fits signals target.parts value && place_fits places (parts_width signals target.parts) place
 
   pub statements_fit : {shape : _} → List Signal → List Place → Row_of-Stmt shape → Bool
   statements_fit signals places end_of-Stmt = true
@@ -188,13 +188,13 @@ abbrev mutual
   pub items_fit : {shape : _} → List Signal → List Place → ℕ → Row_of-CaseItem shape → Bool
   items_fit signals places width end_of-CaseItem = true
   items_fit signals places width (more_of-CaseItem labels body rest) =
-      list_all (label_fits signals width) labels.items && statement_fits signals places body
+      list_all (label_fits signals width) labels && statement_fits signals places body
       && items_fit signals places width rest
 
 abbrev pub driver_fits : List Signal → List Place → Driver → Bool
 driver_fits signals places (driver.Cont target value place _) =
-    assignment_fits signals target.parts.items value
-    && option_map_or (place_fits places (parts_width signals target.parts.items)) place true
+    assignment_fits signals target.parts value
+    && option_map_or (place_fits places (parts_width signals target.parts)) place true
 driver_fits signals places (driver.Comb body _) = statement_fits signals places body
 
 -- a part of a left side without a variable index; by a constant one that is out of range nothing is stored (5.2.1)
@@ -211,7 +211,7 @@ abbrev mutual
   is_reset_values (stmt.Block' _ statements) = are_reset_values statements
   is_reset_values (stmt.If' _ _ _ _ _) = false
   is_reset_values (stmt.Case' _ _ _ _ _ _) = false
-  is_reset_values (stmt.Set _ target value _) = is_constant value.node && list_all is_fixed target.parts.items
+  is_reset_values (stmt.Set _ target value _) = is_constant value.node && list_all is_fixed target.parts
 
   pub are_reset_values : {shape : _} → Row_of-Stmt shape → Bool
   are_reset_values end_of-Stmt = true
@@ -232,8 +232,8 @@ abbrev mutual
   pub times_in : ℕ → Stmt → ℕ
   times_in p stmt.Nothing = 0
   times_in p (stmt.Block' _ statements) = times_in_all p statements
-  times_in p (stmt.If' _ _ on_true _ on_false) = times_in p on_true + times_in p on_false
-  times_in p (stmt.Case' _ _ items _ other _) = times_in_items p items + times_in p other
+  times_in p (stmt.If' _ _ (more_of-Stmt on_true end_of-Stmt) _ (more_of-Stmt on_false end_of-Stmt)) = times_in p on_true + times_in p on_false
+  times_in p (stmt.Case' _ _ items _ (more_of-Stmt other end_of-Stmt) _) = times_in_items p items + times_in p other
   times_in p (stmt.Set place _ _ _) = if place == p then 1 else 0
 
   pub times_in_all : {shape : _} → ℕ → Row_of-Stmt shape → ℕ

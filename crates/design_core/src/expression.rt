@@ -1,4 +1,4 @@
-use loc_base::Bits;
+use loc_base::{Bits, Boxed, Items};
 
 /// A unary operator (IEEE 1364-2005, Table 5-1).
 #[derive(Clone, Copy, Debug, PartialEq, Eq)]
@@ -43,7 +43,7 @@ pub enum BinaryOp {
 
 /// An expression with the width and the sign that its context gives it (IEEE 1364-2005, 5.4 and 5.5).
 #[cycle(expression)]
-#[derive(Debug, Drop)]
+#[derive(Drop)]
 pub struct Typed {
     /// 1 to 128 bits.
     pub width: u8,
@@ -53,7 +53,7 @@ pub struct Typed {
 
 /// What a sized expression is made of. Operands whose width the context decides have the node's width already.
 #[cycle(expression)]
-#[derive(Debug, Drop)]
+#[derive(Drop)]
 pub enum Node {
     Const(Bits),
     /// All bits of a signal.
@@ -67,8 +67,8 @@ pub enum Node {
     /// Bits of a signal by a variable index: bit `b` has the index `index + offsets[b]`.
     Pick {
         signal: u32,
-        index: Box<Typed>,
-        offsets: Vec<i32>,
+        index: Boxed<Typed>,
+        offsets: Items<i32>,
     },
     /// `width` bits, from position `from` on, of the word of an array at a variable address. The words are the
     /// `count` signals from `first` on, at the addresses from `low` on.
@@ -76,32 +76,32 @@ pub enum Node {
         first: u32,
         count: u32,
         low: i32,
-        index: Box<Typed>,
+        index: Boxed<Typed>,
         from: u8,
         width: u8,
     },
     Unary {
         op: UnaryOp,
-        arg: Box<Typed>,
+        arg: Boxed<Typed>,
     },
     Binary {
         op: BinaryOp,
-        left: Box<Typed>,
-        right: Box<Typed>,
+        left: Boxed<Typed>,
+        right: Boxed<Typed>,
     },
     /// `cond ? yes : no`.
     Choose {
-        cond: Box<Typed>,
-        yes: Box<Typed>,
-        no: Box<Typed>,
+        cond: Boxed<Typed>,
+        yes: Boxed<Typed>,
+        no: Boxed<Typed>,
     },
     /// A concatenation, its parts from the left.
-    Join(Vec<Typed>),
+    Join(Items<Typed>),
     /// A replication: the part `times` times.
     Repeat {
         times: u8,
-        part: Box<Typed>,
+        part: Boxed<Typed>,
     },
     /// The argument extended by its own sign, or cut, to the node's width.
-    Resize(Box<Typed>),
+    Resize(Boxed<Typed>),
 }

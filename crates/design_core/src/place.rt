@@ -16,7 +16,6 @@ pub enum PlaceKind {
 }
 
 /// A place: one assignment of the elaborated design, whose value a suspect set may choose in each cycle.
-#[derive(Debug, Drop)]
 pub struct Place {
     pub kind: PlaceKind,
     /// The width of the left side in bits, 1 to 128.
@@ -35,4 +34,21 @@ pub struct Place {
     pub path: Name,
     /// The first signal, from the left, that the left side names; for an array, that of its least address.
     pub signal: u32,
+}
+
+// A `drop` is written out, so that it is proved once, here: a derived one is proved again by each crate that lets a value go.
+impl Drop for Place {
+    fn drop(self) {
+        let Place {
+            kind: _,
+            width: _,
+            site: _,
+            home: _,
+            copy: _,
+            line: _,
+            module: _,
+            path: _,
+            signal: _,
+        } = self;
+    }
 }

@@ -1,8 +1,7 @@
 use crate::expression::Typed;
-use loc_base::Bits;
+use loc_base::{Bits, Boxed, Items};
 
 /// One part of a left side (IEEE 1364-2005, 6.1 and 9.2). The fields are those of the nodes of the same names.
-#[derive(Debug, Drop)]
 pub enum Part {
     Whole(u32),
     Slice {
@@ -13,7 +12,7 @@ pub enum Part {
     Pick {
         signal: u32,
         index: Typed,
-        offsets: Vec<i32>,
+        offsets: Items<i32>,
     },
     Word {
         first: u32,
@@ -26,13 +25,11 @@ pub enum Part {
 }
 
 /// A left side: its parts from the left.
-#[derive(Debug, Drop)]
 pub struct Target {
-    pub parts: Vec<Part>,
+    pub parts: Items<Part>,
 }
 
 /// A label of a case item. `wild` has a 1 for each bit that is not compared.
-#[derive(Debug, Drop)]
 pub struct Label {
     pub value: Typed,
     pub wild: Bits,
@@ -40,28 +37,28 @@ pub struct Label {
 
 /// The labels of a case item and the statement for them.
 #[cycle(statement)]
-#[derive(Debug, Drop)]
+#[derive(Drop)]
 pub struct CaseItem {
-    pub labels: Vec<Label>,
+    pub labels: Items<Label>,
     pub body: Stmt,
 }
 
 /// A statement (IEEE 1364-2005, clause 9), its loops unrolled.
 #[cycle(statement)]
-#[derive(Debug, Drop)]
+#[derive(Drop)]
 pub enum Stmt {
     Nothing,
-    Block(Vec<Stmt>),
+    Block(Items<Stmt>),
     If {
         cond: Typed,
-        yes: Box<Stmt>,
-        no: Box<Stmt>,
+        yes: Boxed<Stmt>,
+        no: Boxed<Stmt>,
     },
     /// The first item with a label that is equal to the subject, else `other`. `wild` is true for `casez`.
     Case {
         subject: Typed,
-        items: Vec<CaseItem>,
-        other: Box<Stmt>,
+        items: Items<CaseItem>,
+        other: Boxed<Stmt>,
         wild: bool,
     },
     /// A procedural assignment: `<=` where `later` is true, else `=`.
@@ -71,4 +68,44 @@ pub enum Stmt {
         value: Typed,
         later: bool,
     },
+}
+
+// A `drop` is written out where that can be, so that it is proved once, here: a derived one is proved again by each crate that lets
+// a value go.
+impl Drop for Part {
+    fn drop(self) {
+        match self {
+            Part::Whole(_) => {}
+            Part::Slice {
+                signal: _,
+                from: _,
+                width: _,
+            } => {}
+            Part::Pick {
+                signal: _,
+                index: _,
+                offsets: _,
+            } => {}
+            Part::Word {
+                first: _,
+                count: _,
+                low: _,
+                index: _,
+                from: _,
+                width: _,
+            } => {}
+        }
+    }
+}
+
+impl Drop for Target {
+    fn drop(self) {
+        let Target { parts: _ } = self;
+    }
+}
+
+impl Drop for Label {
+    fn drop(self) {
+        let Label { value: _, wild: _ } = self;
+    }
 }

@@ -8,7 +8,6 @@ pub struct Checked {
 }
 
 /// A recorded trace, cycle by cycle.
-#[derive(Debug, Drop)]
 pub struct Trace {
     /// The number of cycles.
     pub cycles: u32,
@@ -16,4 +15,15 @@ pub struct Trace {
     pub inputs: Vec<Bits>,
     /// One entry for each output in each cycle: first all of cycle 0, in the order of the design's outputs.
     pub expected: Vec<Checked>,
+}
+
+// A `drop` is written out, so that it is proved once, here: a derived one is proved again by each crate that lets a value go.
+impl Drop for Trace {
+    fn drop(self) {
+        let Trace {
+            cycles: _,
+            inputs: _,
+            expected: _,
+        } = self;
+    }
 }

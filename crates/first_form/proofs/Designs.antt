@@ -1,35 +1,32 @@
 -- From the parts that are made for a netlist to what is promised of its design.
-use Rattle.std.proofs.Common.{◌≡◌, ◌≢◌, ℕ, zero, suc, ◌+◌, ◌<◌, ◌≤◌, ◌==◌, Bool, true, false, not, ◌&&◌, ◌||◌, if◌then◌else◌, nat_lt, pos, List, [], ◌∷◌, ◌++◌, length, get_or, map, Option, Some, None, refl, sym, ◌∙◌, ap, subst, arith, inl, inr, ◌⊎◌}
-use Rattle.std.specs.Prelude.{All, AllPairs, Contains, IsTrue, is_some, unwrap_or, slice_get, sum_by, filter_map}
+use Rattle.std.proofs.Common.{◌≡◌, ◌≢◌, ℕ, zero, suc, ◌+◌, ◌<◌, ◌≤◌, ◌==◌, Bool, true, false, not, if◌then◌else◌, nat_lt, List, [], ◌∷◌, ◌++◌, length, get_or, map, Some, refl, sym, ◌∙◌, ap, subst, arith, inl, inr}
+use Rattle.std.specs.Prelude.{All, AllPairs, is_some, unwrap_or, slice_get, sum_by}
 use Rattle.std.specs.List.{list_any, list_all, AllZip, enumerate_from}
 use Rattle.std.specs.Option.{option_map_or}
-use Rattle.std.proofs.lemmas.Bool.{and_parts, and_from, or_cases, false≢true, lt-ltb, eqb-true, cases_Bool, cases_eq, eq-eqb, ne_eqb, not-true, false_from_ne_true, cond-true, cond-false}
+use Rattle.std.proofs.lemmas.Bool.{and_parts, and_from, or_cases, false≢true, lt-ltb, eqb-true, cases_eq, eq-eqb, ne_eqb, cond-true, cond-false}
 use Rattle.std.proofs.lemmas.List.{length-map, length-append}
 use Rattle.std.proofs.lemmas.List.Sums.{sum_by-append}
 use Rattle.std.proofs.lemmas.List.Elements.{All-weaker, All-nil, All-cons}
-use Rattle.std.proofs.lemmas.Option.{same_Some, none-some, get_or_from_slice_get, slice_get_within, slice_get-get_or, slice_get-map}
-use Rattle.loc_base.specs.Bits.{width_of, value_of}
+use Rattle.std.proofs.lemmas.Option.{same_Some, none-some, get_or_from_slice_get, slice_get_within}
 use Rattle.design_core.specs.declared.signal.Signal.{Signal}
 use Rattle.design_core.specs.declared.signal.SignalKind.TheVariants as kind
 use Rattle.design_core.specs.declared.driver.Driver.{Driver}
 use Rattle.design_core.specs.declared.driver.Driver.TheVariants.{Cont, Comb}
 use Rattle.design_core.specs.declared.statement.Part.TheVariants as part
 use Rattle.design_core.specs.declared.place.Place.{Place}
-use Rattle.design_core.specs.declared.design.Design.{Design}
-use Rattle.design_core.specs.Valuation.{width_at, distance_of}
-use Rattle.design_core.specs.Drives.{driver_drives, is_driven, part_drives, is_reg}
-use Rattle.design_core.specs.Reads.{driver_reads, reads, Depends, IsOrder, part_reads}
+use Rattle.design_core.specs.Valuation.{width_at}
+use Rattle.design_core.specs.Drives.{driver_drives, part_drives, is_reg}
+use Rattle.design_core.specs.Reads.{driver_reads, reads, part_reads}
 use Rattle.design_core.specs.WellFormed as well
 use Rattle.first_form.specs.declared.netlist.Port.{Port}
-use Rattle.first_form.specs.declared.netlist.Formula.{Formula}
 use Rattle.first_form.specs.declared.netlist.Assignment.{Assignment}
 use Rattle.first_form.specs.declared.netlist.Netlist.{Netlist}
-use Rattle.first_form.specs.Names.{number_in, number_from, is_in, number_of, AreDistinct}
+use Rattle.first_form.specs.Names.{number_in, is_in, number_of, AreDistinct}
 use Rattle.first_form.specs.Formula.{formula_names}
-use Rattle.first_form.specs.Netlists.{is_input, Declaration, declarations, names, targets, sources, DependsOn, AreDeclared, is_assigned_rightly, port_declaration, wire_declaration}
-use Rattle.first_form.specs.Meaning.{IsSignalOf, IsFormula, IsDriverOf, place_of, ports_from}
+use Rattle.first_form.specs.Netlists.{Declaration, declarations, names, port_declaration, wire_declaration}
+use Rattle.first_form.specs.Meaning.{IsSignalOf, IsDriverOf, place_of, ports_from}
 use Rattle.first_form.specs.Combinational.{is_continuous}
-use Rattle.first_form.specs.Shape.{IsTypedOf, IsShapedDriver}
+use Rattle.first_form.specs.Shape.{IsShapedDriver}
 use Rattle.first_form.proofs.Numbering.{number_found, IsFound, some_number, number_of_place}
 use Rattle.first_form.proofs.ListSteps.{zip_length}
 use Rattle.first_form.proofs.Formulas.{formula_from, fits_from, is_one_bit}
@@ -173,8 +170,8 @@ any_named test (x ∷ xs) some = elim (or_cases (test x) (list_any test xs) some
 pub read_name : (of : List ℕ → ℕ) (signals : List Signal) (i : ℕ) (a : Assignment) (driver : Driver) (s b : ℕ) → IsShapedDriver of (i, a) driver
     → driver_reads signals s b driver ≡ true → (m : ℕ) × (m < length (formula_names a.value)) × ((d : List ℕ) → s ≡ of (get_or (formula_names a.value) m d))
 read_name of signals i a (Cont target e place span) s b h is =
-    let none : list_any (part_reads signals s b) target.parts.items ≡ false = ap (list_any (part_reads signals s b)) h.0 in
-    elim (or_cases (reads signals s b e) (list_any (part_reads signals s b) target.parts.items) is) [
+    let none : list_any (part_reads signals s b) target.parts ≡ false = ap (list_any (part_reads signals s b)) h.0 in
+    elim (or_cases (reads signals s b e) (list_any (part_reads signals s b) target.parts) is) [
       | inl value ↦
           let of_formula = formula_from of signals a.value e h.1 in
           let both = sym (of_formula.reads s b) ∙ value in

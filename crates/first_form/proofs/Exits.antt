@@ -1,5 +1,5 @@
 -- The exit of a `?` that passes an error on.
-use Rattle.std.proofs.Common.{◌≡◌, Result, Ok, Err, sym, ◌∙◌, ap}
+use Rattle.std.proofs.Common.{◌≡◌, Result, Err, sym}
 use Rattle.std.specs.Result.{IsErrAnd}
 use Rattle.first_form.specs.declared.error.FormErr.{FormErr}
 use Rattle.first_form.specs.declared.error.FormErr.TheVariants.{Form}

@@ -1,18 +1,17 @@
 -- The expression that is made for a formula means the formula, reads what it names, and fits.
-use Rattle.std.proofs.Common.{◌≡◌, ℕ, zero, suc, ◌+◌, ◌-◌, ◌^◌, ◌==◌, Bool, true, false, not, ◌&&◌, ◌||◌, if◌then◌else◌, nat_lt, List, [], ◌∷◌, ◌++◌, length, refl, sym, ◌∙◌, ap, subst, arith, bit_and, bit_or, bit_xor}
-use Rattle.std.specs.Prelude.{IsTrue}
+use Rattle.std.proofs.Common.{◌≡◌, ℕ, zero, suc, ◌+◌, ◌==◌, Bool, true, false, not, ◌&&◌, ◌||◌, if◌then◌else◌, nat_lt, List, [], ◌∷◌, ◌++◌, refl, sym, ◌∙◌, ap, arith}
 use Rattle.std.specs.List.{list_any, list_all}
 use Rattle.std.proofs.lemmas.Bool.{and_from, and_parts}
 use Rattle.design_core.specs.declared.signal.Signal.{Signal}
 use Rattle.design_core.specs.declared.expression.UnaryOp.TheVariants as unary_op
 use Rattle.design_core.specs.declared.expression.Typed.{Typed}
-use Rattle.design_core.specs.declared.expression.Node.{Node}
+use Rattle.design_core.specs.declared.expression.Node.{Node, end_of-Typed, more_of-Typed}
 use Rattle.design_core.specs.declared.expression.Node.TheVariants as node
 use Rattle.design_core.specs.Valuation.{Valuation, number, width_at}
 use Rattle.design_core.specs.Operator.{one_if, unary, binary}
-use Rattle.design_core.specs.Value.{node_value, value}
-use Rattle.design_core.specs.Reads.{node_reads, reads}
-use Rattle.design_core.specs.WellFormed.{node_fits, typed_fits, is_signal, unary_fits, binary_fits, signs_fit}
+use Rattle.design_core.specs.Value.{node_value}
+use Rattle.design_core.specs.Reads.{node_reads}
+use Rattle.design_core.specs.WellFormed.{node_fits, typed_fits, is_signal, binary_fits, signs_fit}
 use Rattle.first_form.specs.declared.netlist.Operator.{Operator}
 use Rattle.first_form.specs.declared.netlist.Operator.TheVariants as operator
 use Rattle.first_form.specs.declared.netlist.Formula.{Formula}
@@ -52,11 +51,11 @@ pub node_means : (of : List ℕ → ℕ) (signals : List Signal) (V : Valuation)
     → node_value signals V 1 n ≡ one_if (formula_value (λ name. V (of name) 0) f)
 node_means of signals V (formula.Named name) (node.Whole s) h = number_one (V s) ∙ ap (λ s. one_if (V s 0)) h
 node_means of signals V (formula.Named name) _ h = absurd h
-node_means of signals V (formula.Not' _ arg) (node.Unary' op _ width signed e) h =
+node_means of signals V (formula.Not' _ arg) (node.Unary' op _ (more_of-Typed width signed e end_of-Typed)) h =
     let inner = node_means of signals V arg e h.3 in
     rw (h.0, h.1) (ap (λ a. unary unary_op.Not 1 a) inner ∙ not_one (formula_value (λ name. V (of name) 0) arg))
 node_means of signals V (formula.Not' _ arg) _ h = absurd h
-node_means of signals V (formula.Binary' op _ left _ right) (node.Binary' word _ left_width left_signed e _ right_width right_signed f) h =
+node_means of signals V (formula.Binary' op _ left _ right) (node.Binary' word _ (more_of-Typed left_width left_signed e end_of-Typed) _ (more_of-Typed right_width right_signed f end_of-Typed)) h =
     let one = node_means of signals V left e h.5 in
     let other = node_means of signals V right f h.6 in
     rw (h.0, h.1, h.2, h.3, h.4)
@@ -88,9 +87,9 @@ node_reads_is of signals s b (formula.Named name) (node.Whole signal) h =
     swapped false true = refl
     swapped false false = refl
 node_reads_is of signals s b (formula.Named name) _ h = absurd h
-node_reads_is of signals s b (formula.Not' _ arg) (node.Unary' op _ width signed e) h = rw h.1 (node_reads_is of signals s b arg e h.3)
+node_reads_is of signals s b (formula.Not' _ arg) (node.Unary' op _ (more_of-Typed width signed e end_of-Typed)) h = rw h.1 (node_reads_is of signals s b arg e h.3)
 node_reads_is of signals s b (formula.Not' _ arg) _ h = absurd h
-node_reads_is of signals s b (formula.Binary' op _ left _ right) (node.Binary' word _ left_width left_signed e _ right_width right_signed f) h =
+node_reads_is of signals s b (formula.Binary' op _ left _ right) (node.Binary' word _ (more_of-Typed left_width left_signed e end_of-Typed) _ (more_of-Typed right_width right_signed f end_of-Typed)) h =
     let one = node_reads_is of signals s b left e h.5 in
     let other = node_reads_is of signals s b right f h.6 in
     rw (h.1, h.3)
@@ -120,9 +119,9 @@ node_fits_one of signals (formula.Named name) sign (node.Whole s) h all =
     let (one, rest) = and_parts (is_one_bit signals (of name)) true all in
     rw h one
 node_fits_one of signals (formula.Named name) sign _ h all = absurd h
-node_fits_one of signals (formula.Not' _ arg) sign (node.Unary' op _ width signed e) h all = rw (h.0, h.1) (node_fits_one of signals arg signed e h.3 all)
+node_fits_one of signals (formula.Not' _ arg) sign (node.Unary' op _ (more_of-Typed width signed e end_of-Typed)) h all = rw (h.0, h.1) (node_fits_one of signals arg signed e h.3 all)
 node_fits_one of signals (formula.Not' _ arg) sign _ h all = absurd h
-node_fits_one of signals (formula.Binary' op _ left _ right) sign (node.Binary' word _ left_width left_signed e _ right_width right_signed f) h all =
+node_fits_one of signals (formula.Binary' op _ left _ right) sign (node.Binary' word _ (more_of-Typed left_width left_signed e end_of-Typed) _ (more_of-Typed right_width right_signed f end_of-Typed)) h all =
     let (first, second) = all_parts (λ name. is_one_bit signals (of name)) (formula_names left) (formula_names right) all in
     rw (h.0, h.1, h.3)
     (and_from (operator_test op left_signed right_signed && node_fits signals 1 left_signed e) (node_fits signals 1 right_signed f)

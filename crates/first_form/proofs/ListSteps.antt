@@ -1,9 +1,9 @@
 -- One more element, in lists made from a list.
-use Rattle.std.proofs.Common.{◌≡◌, ℕ, zero, suc, ◌+◌, ◌<◌, ◌≤◌, Bool, true, false, ◌&&◌, List, [], ◌∷◌, ◌++◌, length, get_or, take, map, refl, sym, ◌∙◌, ap, subst, arith, if◌then◌else◌, inl, inr}
+use Rattle.std.proofs.Common.{◌≡◌, ℕ, zero, suc, ◌+◌, ◌<◌, Bool, true, false, ◌&&◌, List, [], ◌∷◌, ◌++◌, length, get_or, take, map, refl, sym, ◌∙◌, ap, subst, arith, inl, inr}
 use Rattle.std.specs.Prelude.{All}
 use Rattle.std.specs.List.{slice_index_or, list_all, AllZip, enumerate_from, flat_map}
 use Rattle.std.proofs.lemmas.Bool.{cases_Bool, cases_lt, cond-true, cond-false, and_from, and_parts, and_left, and_right}
-use Rattle.std.proofs.lemmas.List.{take_more, length-take-le, length_push, get_or_append_left, get_or_at, take_all, append-nil, append_assoc, map_push}
+use Rattle.std.proofs.lemmas.List.{take_more, length-take-le, get_or_append_left, get_or_at, append-nil, append_assoc, map_push}
 use Rattle.first_form.specs.declared.netlist.Port.{Port}
 use Rattle.first_form.specs.Meaning.{ports_from}
 use Rattle.std.proofs.lemmas.List.Elements.{All-push}

@@ -1,16 +1,16 @@
 -- The steps of a depth-first walk.
-use Rattle.std.proofs.Common.{◌≡◌, ◌≢◌, ℕ, zero, suc, ◌+◌, ◌<◌, ◌≤◌, List, [], ◌∷◌, ◌++◌, length, get_or, set, refl, sym, ◌∙◌, ap, subst, arith, inl, inr, ◌⊎◌, get_or-set_same, get_or-set_other, Result, Ok, Err, take, ◌-◌, replicate, sum_by}
+use Rattle.std.proofs.Common.{◌≡◌, ◌≢◌, ℕ, ◌+◌, ◌<◌, ◌≤◌, List, [], ◌∷◌, ◌++◌, length, get_or, set, refl, sym, ◌∙◌, ap, subst, arith, inl, inr, get_or-set_same, get_or-set_other, Result, Ok, Err, take, ◌-◌, replicate, sum_by}
 use Rattle.std.specs.Result.{OnOk}
 use Rattle.std.specs.Prelude.{All, AllPairs, Contains}
 use Rattle.std.proofs.lemmas.Bool.{cases_eq, cases_lt}
 use Rattle.std.proofs.lemmas.List.{length-set, length_push, get_or_append_left, get_or_at, get_or_default, take_all, take_more, get_or_read, same_from_push, length-replicate, length-take-le, get_or-take, get_or-replicate, get_or_past}
 use Rattle.std.proofs.lemmas.List.Sums.{sum_by-set}
-use Rattle.std.proofs.lemmas.List.Elements.{All-nil, All-push, All-weaker, All-contains, Contains-push, Contains-push_cases, Contains-append_left, Contains-get_or}
+use Rattle.std.proofs.lemmas.List.Elements.{All-nil, All-push, All-weaker, All-contains, Contains-push, Contains-push_cases, Contains-append_left}
 use Rattle.std.proofs.lemmas.List.Quantifiers.{all_pairs_push}
 use Rattle.first_form.specs.declared.state.State.{State}
 use Rattle.first_form.specs.declared.state.State.TheVariants.{New, Open, Done}
 use Rattle.first_form.specs.Circles.{IsWay, Leads, IsWithoutCircle}
-use Rattle.first_form.specs.Orders.{IsOrdered, IsTopological}
+use Rattle.first_form.specs.Orders.{IsTopological}
 use Rattle.first_form.specs.Walks.{IsGraph, IsEdge, IsAbove, IsWalk, state_at, weight}
 
 -- a way and one step more

@@ -1,27 +1,26 @@
 -- What is promised of a design and its order, from what its parts are.
-use Rattle.std.proofs.Common.{◌≡◌, ◌≢◌, ℕ, zero, suc, ◌+◌, ◌-◌, ◌<◌, ◌≤◌, ◌==◌, Bool, true, false, not, List, [], ◌∷◌, ◌++◌, length, get_or, take, map, Option, Some, None, refl, sym, ◌∙◌, ap, subst, arith, inl, inr, ◌⊎◌}
+use Rattle.std.proofs.Common.{◌≡◌, ◌≢◌, ℕ, zero, suc, ◌+◌, ◌-◌, ◌<◌, ◌≤◌, Bool, true, false, not, List, [], ◌∷◌, length, get_or, take, map, Option, Some, None, refl, sym, ◌∙◌, ap, subst, arith}
 use Rattle.std.specs.Prelude.{All, AllPairs, Contains, IsTrue, is_some, unwrap_or, slice_get, sum_by, filter_map}
 use Rattle.std.specs.List.{list_any, list_all, AllZip, enumerate_from, flat_map, cons_option}
 use Rattle.std.specs.Option.{option_map_or}
-use Rattle.std.proofs.lemmas.Bool.{and_parts, and_from, or_cases, false≢true, cases_Bool, false_from_ne_true, not-true, cond-true}
+use Rattle.std.proofs.lemmas.Bool.{and_parts, and_from, false≢true, false_from_ne_true, not-true, cond-true}
 use Rattle.std.proofs.Math.Path.{fun_ext}
-use Rattle.std.proofs.lemmas.List.{length-append, length-map, get_or-map, take_more, get_or_default}
+use Rattle.std.proofs.lemmas.List.{length-append, length-map, get_or_default}
 use Rattle.std.proofs.lemmas.List.FromFn.{length-enumerate_from}
-use Rattle.std.proofs.lemmas.List.Elements.{All-contains, Contains-get_or, All-weaker, All-nil, All-cons, All-append}
-use Rattle.std.proofs.lemmas.List.Concat.{get_or-flat_map, flat_map-append}
-use Rattle.std.proofs.lemmas.Option.{same_Some, none-some, get_or_from_slice_get, slice_get_within, slice_get-get_or, slice_get-map}
-use Rattle.design_core.specs.declared.signal.Signal.{Signal}
+use Rattle.std.proofs.lemmas.List.Elements.{All-contains, All-weaker, All-nil, All-cons, All-append}
+use Rattle.std.proofs.lemmas.List.Concat.{get_or-flat_map}
+use Rattle.std.proofs.lemmas.Option.{same_Some, none-some, get_or_from_slice_get, slice_get_within, slice_get-map}
 use Rattle.design_core.specs.declared.driver.Driver.{Driver}
 use Rattle.design_core.specs.declared.design.Design.{Design}
 use Rattle.design_core.specs.Drives.{driver_drives, is_driven}
-use Rattle.design_core.specs.Reads.{driver_reads, Depends, IsOrder}
+use Rattle.design_core.specs.Reads.{Depends, IsOrder}
 use Rattle.design_core.specs.WellFormed as well
 use Rattle.first_form.specs.declared.netlist.Port.{Port}
 use Rattle.first_form.specs.declared.netlist.Assignment.{Assignment}
 use Rattle.first_form.specs.declared.netlist.Netlist.{Netlist}
 use Rattle.first_form.specs.Names.{number_in, is_in, number_of, AreDistinct}
 use Rattle.first_form.specs.Formula.{formula_names}
-use Rattle.first_form.specs.Circles.{IsWay, Leads, IsWithoutCircle}
+use Rattle.first_form.specs.Circles.{IsWay, IsWithoutCircle}
 use Rattle.first_form.specs.Orders.{IsOrdered, IsTopological}
 use Rattle.first_form.specs.Walks.{IsGraph, IsEdge}
 use Rattle.first_form.specs.Netlists.{is_input, Declaration, declarations, names, targets, sources, DependsOn, AreDeclared, is_assigned_rightly, port_declaration, wire_declaration, IsOfForm}

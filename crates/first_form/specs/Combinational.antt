@@ -1,5 +1,5 @@
 -- A design that holds no state: continuous assignments alone, at most one for each bit.
-use Rattle.std.specs.Prelude.{ℕ, ◌≡◌, Bool, true, false, not, IsTrue, List, [], slice_get, Some, Contains}
+use Rattle.std.specs.Prelude.{ℕ, ◌≡◌, Bool, true, false, not, IsTrue, [], slice_get, Some, Contains}
 use Rattle.std.specs.List.{list_all}
 use Rattle.design_core.specs.declared.driver.Driver.{Driver}
 use Rattle.design_core.specs.declared.driver.Driver.TheVariants.{Cont, Comb}

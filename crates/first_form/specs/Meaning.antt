@@ -4,11 +4,9 @@ use Rattle.std.specs.Prelude.{ℕ, ◌≡◌, ◌==◌, ◌+◌, Bool, false, no
 use Rattle.std.specs.List.{list_any, AllZip, enumerate_from}
 use Rattle.loc_base.specs.Bits.{width_of, value_of}
 use Rattle.design_core.specs.declared.signal.Signal.{Signal}
-use Rattle.design_core.specs.declared.signal.SignalKind.{SignalKind}
 use Rattle.design_core.specs.declared.signal.SignalKind.TheVariants as kind
 use Rattle.design_core.specs.declared.expression.Typed.{Typed}
 use Rattle.design_core.specs.declared.statement.Part.TheVariants.{Whole}
-use Rattle.design_core.specs.declared.statement.Target.{Target}
 use Rattle.design_core.specs.declared.driver.Driver.{Driver}
 use Rattle.design_core.specs.declared.driver.Driver.TheVariants.{Cont, Comb}
 use Rattle.design_core.specs.declared.place.Place.{Place}
@@ -49,7 +47,7 @@ pub record IsFormula (number : List ℕ → ℕ) (signals : List Signal) (f : Fo
 -- a driver is an assignment, which is the place of its number
 abbrev pub IsDriverOf : (List ℕ → ℕ) → List Signal → ℕ × Assignment → Driver → Type 0
 IsDriverOf number signals (i, a) (Cont target e place span) =
-    (target.parts.items ≡ Whole (number a.target) ∷ [])
+    (target.parts ≡ Whole (number a.target) ∷ [])
     × IsFormula number signals a.value e × (place ≡ Some i) × (span ≡ a.span)
 IsDriverOf number signals (i, a) (Comb body span) = ⊥
 

@@ -1,17 +1,16 @@
 -- The expression that stands for a right side, node by node.
-use Rattle.std.specs.Prelude.{ℕ, ◌≡◌, ◌∷◌, [], Bool, false, List, Option, Some, filter_map, ◌+◌, ◌<◌, length, take, slice_index}
+use Rattle.std.specs.Prelude.{ℕ, ◌≡◌, ◌∷◌, [], false, List, Option, Some, filter_map, ◌+◌, ◌<◌, length, take, slice_index}
 use Rattle.std.specs.List.{flat_map}
 use Rattle.design_core.specs.declared.statement.Part.TheVariants as part
 use Rattle.design_core.specs.declared.driver.Driver.{Driver}
 use Rattle.design_core.specs.declared.driver.Driver.TheVariants.{Cont, Comb}
 use Rattle.first_form.specs.declared.netlist.Assignment.{Assignment}
 use Rattle.first_form.specs.Formula.{formula_names}
-use Rattle.design_core.specs.declared.expression.UnaryOp.{UnaryOp}
 use Rattle.design_core.specs.declared.expression.UnaryOp.TheVariants as unary_op
 use Rattle.design_core.specs.declared.expression.BinaryOp.{BinaryOp}
 use Rattle.design_core.specs.declared.expression.BinaryOp.TheVariants as binary_op
 use Rattle.design_core.specs.declared.expression.Typed.{Typed}
-use Rattle.design_core.specs.declared.expression.Node.{Node}
+use Rattle.design_core.specs.declared.expression.Node.{Node, end_of-Typed, more_of-Typed}
 use Rattle.design_core.specs.declared.expression.Node.TheVariants as node
 use Rattle.first_form.specs.declared.netlist.Operator.{Operator}
 use Rattle.first_form.specs.declared.netlist.Operator.TheVariants as operator
@@ -28,10 +27,10 @@ word_operator operator.Xor = binary_op.Xor
 abbrev pub IsNodeOf : (List ℕ → ℕ) → Formula → Node → Type 0
 IsNodeOf number (formula.Named name) (node.Whole s) = s ≡ number name
 IsNodeOf number (formula.Named name) _ = ⊥
-IsNodeOf number (formula.Not' _ arg) (node.Unary' op _ width signed e) =
+IsNodeOf number (formula.Not' _ arg) (node.Unary' op _ (more_of-Typed width signed e end_of-Typed)) =
     (op ≡ unary_op.Not) × (width ≡ 1) × (signed ≡ false) × IsNodeOf number arg e
 IsNodeOf number (formula.Not' _ arg) _ = ⊥
-IsNodeOf number (formula.Binary' op _ left _ right) (node.Binary' word _ left_width left_signed e _ right_width right_signed f) =
+IsNodeOf number (formula.Binary' op _ left _ right) (node.Binary' word _ (more_of-Typed left_width left_signed e end_of-Typed) _ (more_of-Typed right_width right_signed f end_of-Typed)) =
     (word ≡ word_operator op) × (left_width ≡ 1) × (left_signed ≡ false) × (right_width ≡ 1) × (right_signed ≡ false)
     × IsNodeOf number left e × IsNodeOf number right f
 IsNodeOf number (formula.Binary' op _ left _ right) _ = ⊥
@@ -45,7 +44,7 @@ pub record IsTypedOf (number : List ℕ → ℕ) (f : Formula) (e : Typed) : Typ
 -- a driver for an assignment, where each name has a signal
 abbrev pub IsShapedDriver : (List ℕ → ℕ) → ℕ × Assignment → Driver → Type 0
 IsShapedDriver number (i, a) (Cont target e place span) =
-    (target.parts.items ≡ part.Whole (number a.target) ∷ []) × IsTypedOf number a.value e × (place ≡ Some i) × (span ≡ a.span)
+    (target.parts ≡ part.Whole (number a.target) ∷ []) × IsTypedOf number a.value e × (place ≡ Some i) × (span ≡ a.span)
 IsShapedDriver number (i, a) (Comb body span) = ⊥
 
 -- the assignments that a right side depends on

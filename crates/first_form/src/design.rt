@@ -13,15 +13,13 @@ use crate::drivers::{driver_order, drivers_of};
 use crate::error::FormErr;
 use crate::names::{assignment_numbers, signal_numbers};
 use crate::netlist::Netlist;
-use crate::numbers::Numbers;
 use crate::signals::{places_of, port_numbers, signals_of};
 use design_core::types::Order;
 use design_core::{Design, Driver};
-use loc_base::Name;
+use loc_base::{Name, NameTable};
 use std::alloc::Global;
 
 /// A design of the first form, and an order in which its drivers can be executed.
-#[derive(Debug, Drop)]
 pub struct FirstDesign {
     pub design: Design,
     pub order: Order,
@@ -37,7 +35,7 @@ fn is_same(one: &Name, other: &Name) -> bool
 fn assembled(
     alloc: Global,
     netlist: &Netlist,
-    signals: &Numbers<'_>,
+    signals: &NameTable<'_>,
     drivers: Vec<Driver>,
 ) -> Result<Design, FormErr>
     requires { length netlist.now.ports.items < 2 ^ 32 }
@@ -87,4 +85,14 @@ pub fn design_of(alloc: Global, netlist: &Netlist, top: &Name) -> Result<FirstDe
     let order = driver_order(alloc, &drivers)?;
     let design = assembled(alloc, netlist, &signals, drivers.list)?;
     Ok(FirstDesign { design, order })
+}
+
+// A `drop` is written out, so that it is proved once, here: a derived one is proved again by each crate that lets a value go.
+impl Drop for FirstDesign {
+    fn drop(self) {
+        let FirstDesign {
+            design: _,
+            order: _,
+        } = self;
+    }
 }

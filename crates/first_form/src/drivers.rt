@@ -1,6 +1,7 @@
 ghost use Rattle.std.specs.Prelude.{◌≡◌, ◌≢◌, ◌+◌, ◌-◌, ◌<◌, ◌^◌, ◌++◌, ℕ, List, length, OnOk, IfOk, All};
 ghost use Rattle.std.specs.List.{AllZip, enumerate_from};
-ghost use Rattle.first_form.specs.NumberTable.{number_at, has_number, number_or_zero};
+ghost use Rattle.loc_base.specs.NameTable.{number_of, has_number};
+ghost use Rattle.first_form.specs.NumberTable.{number_or_zero};
 ghost use Rattle.first_form.specs.Shape.{IsTypedOf, IsShapedDriver, sources_of, AreSources};
 ghost use Rattle.first_form.specs.Circles.{IsWithoutCircle};
 ghost use Rattle.first_form.specs.Walks.{IsGraph, IsEdge};
@@ -11,10 +12,10 @@ ghost use Rattle.first_form.specs.declared.error.FormErr.TheVariants.{NoMemory, 
 use crate::error::FormErr;
 use crate::formula::typed_of;
 use crate::netlist::{Assignment, Netlist};
-use crate::numbers::{Numbers, find};
 use crate::walk::order_of;
 use design_core::types::Order;
 use design_core::{Driver, Part, Target, Typed};
+use loc_base::{Items, NameTable};
 use std::alloc::Global;
 
 /// The drivers of a design, and the assignments that each depends on: driver `i` on
@@ -37,7 +38,8 @@ fn assigning(
     ensures driver { IfOk result (λ driver. (of : List ℕ → ℕ) → of assignment.now.target ≡ signal → IsTypedOf of assignment.now.value value → IsShapedDriver of (number, assignment.now) driver) }
     ensures memory { result ≢ Err Form }
 {
-    let parts = vec![in alloc; Part::Whole(signal)]?;
+    let mut parts = Items::new(alloc);
+    parts.push(Part::Whole(signal))?;
     Ok(Driver::Cont {
         target: Target { parts },
         value,
@@ -52,16 +54,16 @@ fn driver_of(
     alloc: Global,
     number: u32,
     assignment: &Assignment,
-    signals: &Numbers<'_>,
-    assigns: &Numbers<'_>,
+    signals: &NameTable<'_>,
+    assigns: &NameTable<'_>,
     sources: &mut Vec<u32>,
 ) -> Result<Driver, FormErr>
     ensures driver { IfOk result (λ driver. IsShapedDriver (number_or_zero signals.now) (number, assignment.now) driver) }
     ensures names { OnOk result (AreDeclared (has_number signals.now) assignment.now) }
-    ensures sources { OnOk result (sources.new.items ≡ sources.old.items ++ sources_of (number_at assigns.now) assignment.now) }
+    ensures sources { OnOk result (sources.new.items ≡ sources.old.items ++ sources_of (number_of assigns.now) assignment.now) }
     ensures form { result ≡ Err Form → ¬ AreDeclared (has_number signals.now) assignment.now }
 {
-    let Some(signal) = find(signals, assignment.target.as_bytes()) else {
+    let Some(signal) = signals.find(assignment.target.as_bytes()) else {
         return Err(FormErr::Form);
     };
     let value = typed_of(alloc, &assignment.value, signals, assigns, sources)?;
@@ -72,13 +74,13 @@ fn driver_of(
 fn drivers_for(
     alloc: Global,
     assignments: &[Assignment],
-    signals: &Numbers<'_>,
-    assigns: &Numbers<'_>,
+    signals: &NameTable<'_>,
+    assigns: &NameTable<'_>,
 ) -> Result<Drivers, FormErr>
     requires { length assignments.now + 1 < 2 ^ 32 }
     ensures drivers { IfOk result (λ drivers. AllZip (IsShapedDriver (number_or_zero signals.now)) (enumerate_from 0 assignments.now) drivers.list.items) }
     ensures names { OnOk result (All (AreDeclared (has_number signals.now)) assignments.now) }
-    ensures flat { IfOk result (λ drivers. AreSources (number_at assigns.now) assignments.now drivers.starts.items drivers.sources.items) }
+    ensures flat { IfOk result (λ drivers. AreSources (number_of assigns.now) assignments.now drivers.starts.items drivers.sources.items) }
     ensures form { result ≡ Err Form → ¬ All (AreDeclared (has_number signals.now)) assignments.now }
 {
     let mut list = Vec::new(alloc);
@@ -100,13 +102,13 @@ fn drivers_for(
 pub fn drivers_of(
     alloc: Global,
     netlist: &Netlist,
-    signals: &Numbers<'_>,
-    assigns: &Numbers<'_>,
+    signals: &NameTable<'_>,
+    assigns: &NameTable<'_>,
 ) -> Result<Drivers, FormErr>
     requires { length netlist.now.assigns.items + 1 < 2 ^ 32 }
     ensures drivers { IfOk result (λ drivers. AllZip (IsShapedDriver (number_or_zero signals.now)) (enumerate_from 0 netlist.now.assigns.items) drivers.list.items) }
     ensures names { OnOk result (All (AreDeclared (has_number signals.now)) netlist.now.assigns.items) }
-    ensures flat { IfOk result (λ drivers. AreSources (number_at assigns.now) netlist.now.assigns.items drivers.starts.items drivers.sources.items) }
+    ensures flat { IfOk result (λ drivers. AreSources (number_of assigns.now) netlist.now.assigns.items drivers.starts.items drivers.sources.items) }
     ensures form { result ≡ Err Form → ¬ All (AreDeclared (has_number signals.now)) netlist.now.assigns.items }
 {
     drivers_for(alloc, netlist.assigns.as_slice(), signals, assigns)

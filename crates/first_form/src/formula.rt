@@ -1,14 +1,15 @@
 ghost use Rattle.std.specs.Prelude.{◌≡◌, ◌≢◌, ◌++◌, [], ◌∷◌, false, ℕ, List, Some, None, is_some, unwrap_or, OnOk, IfOk, IsTrue, filter_map};
 ghost use Rattle.std.specs.List.{list_all};
-ghost use Rattle.first_form.specs.NumberTable.{number_at, has_number, number_or_zero};
+ghost use Rattle.loc_base.specs.NameTable.{number_of, has_number};
+ghost use Rattle.first_form.specs.NumberTable.{number_or_zero};
 ghost use Rattle.first_form.specs.Formula.{formula_names};
 ghost use Rattle.first_form.specs.Shape.{IsTypedOf, word_operator};
 ghost use Rattle.first_form.specs.declared.error.FormErr.TheVariants.{NoMemory, Form};
 
 use crate::error::FormErr;
 use crate::netlist::{Formula, Operator};
-use crate::numbers::{Numbers, find};
 use design_core::{BinaryOp, Node, Typed, UnaryOp};
+use loc_base::{Boxed, NameTable};
 use std::alloc::Global;
 
 fn operator_of(operator: Operator) -> BinaryOp
@@ -34,11 +35,11 @@ fn one_bit(node: Node) -> Typed
 }
 
 /// Appends the assignment of a name, where it has one.
-fn add_source(assigns: &Numbers<'_>, name: &[u8], sources: &mut Vec<u32>) -> Result<(), FormErr>
-    ensures added { OnOk result (sources.new.items ≡ sources.old.items ++ filter_map (number_at assigns.now) (name.now ∷ [])) }
+fn add_source(assigns: &NameTable<'_>, name: &[u8], sources: &mut Vec<u32>) -> Result<(), FormErr>
+    ensures added { OnOk result (sources.new.items ≡ sources.old.items ++ filter_map (number_of assigns.now) (name.now ∷ [])) }
     ensures memory { result ≢ Err Form }
 {
-    if let Some(assignment) = find(assigns, name) {
+    if let Some(assignment) = assigns.find(name) {
         sources.push(assignment)?;
     }
     Ok(())
@@ -49,18 +50,18 @@ fn add_source(assigns: &Numbers<'_>, name: &[u8], sources: &mut Vec<u32>) -> Res
 pub fn typed_of(
     alloc: Global,
     formula: &Formula,
-    signals: &Numbers<'_>,
-    assigns: &Numbers<'_>,
+    signals: &NameTable<'_>,
+    assigns: &NameTable<'_>,
     sources: &mut Vec<u32>,
 ) -> Result<Typed, FormErr>
     ensures typed { IfOk result (λ e. IsTypedOf (number_or_zero signals.now) formula.now e) }
     ensures declared { OnOk result (IsTrue (list_all (has_number signals.now) (formula_names formula.now))) }
-    ensures sources { OnOk result (sources.new.items ≡ sources.old.items ++ filter_map (number_at assigns.now) (formula_names formula.now)) }
+    ensures sources { OnOk result (sources.new.items ≡ sources.old.items ++ filter_map (number_of assigns.now) (formula_names formula.now)) }
     ensures form { result ≡ Err Form → ¬ IsTrue (list_all (has_number signals.now) (formula_names formula.now)) }
 {
     match formula {
         Formula::Named(name) => {
-            let Some(signal) = find(signals, name.as_bytes()) else {
+            let Some(signal) = signals.find(name.as_bytes()) else {
                 return Err(FormErr::Form);
             };
             add_source(assigns, name.as_bytes(), sources)?;
@@ -68,7 +69,7 @@ pub fn typed_of(
         }
         Formula::Not(arg) => {
             let arg = typed_of(alloc, arg, signals, assigns, sources)?;
-            let arg = Box::new(alloc, arg)?;
+            let arg = Boxed::new(alloc, arg)?;
             Ok(one_bit(Node::Unary {
                 op: UnaryOp::Not,
                 arg,
@@ -81,8 +82,8 @@ pub fn typed_of(
         } => {
             let left = typed_of(alloc, left, signals, assigns, sources)?;
             let right = typed_of(alloc, right, signals, assigns, sources)?;
-            let left = Box::new(alloc, left)?;
-            let right = Box::new(alloc, right)?;
+            let left = Boxed::new(alloc, left)?;
+            let right = Boxed::new(alloc, right)?;
             Ok(one_bit(Node::Binary {
                 op: operator_of(*operator),
                 left,

@@ -19,4 +19,4 @@ mod walk;
 pub use design::{FirstDesign, design_of};
 pub use error::FormErr;
 pub use netlist::{Assignment, Direction, Formula, Netlist, Operator, Port};
-pub use numbers::{Numbers, find, numbered};
+pub use numbers::numbered;

@@ -1,13 +1,13 @@
 ghost use Rattle.std.specs.Prelude.{◌≡◌, ◌+◌, ◌<◌, ◌^◌, ℕ, List, IfOk, OnOk, length};
 ghost use Rattle.first_form.specs.Names.{texts, number_in, AreDistinct};
-ghost use Rattle.first_form.specs.NumberTable.{number_at};
+ghost use Rattle.loc_base.specs.NameTable.{number_of};
 ghost use Rattle.first_form.specs.Netlists.{names, targets};
 ghost use Rattle.first_form.specs.declared.error.FormErr.TheVariants.{NoMemory, Form};
 
 use crate::error::FormErr;
 use crate::netlist::Netlist;
-use crate::numbers::{Numbers, numbered};
-use loc_base::NoMemory;
+use crate::numbers::numbered;
+use loc_base::{NameTable, NoMemory};
 use std::alloc::Global;
 
 /// The names that a netlist declares: its ports in order, then its wires.
@@ -36,9 +36,9 @@ pub fn target_names(alloc: Global, netlist: &Netlist) -> Result<Vec<&[u8]>, NoMe
 }
 
 /// The signals of the declared names, numbered in order, and `Form` exactly where a name is declared twice.
-pub fn signal_numbers(alloc: Global, netlist: &Netlist) -> Result<Numbers<'_>, FormErr>
+pub fn signal_numbers(alloc: Global, netlist: &Netlist) -> Result<NameTable<'_>, FormErr>
     requires { length netlist.now.ports.items + length netlist.now.wires.items < 2 ^ 32 }
-    ensures numbers { IfOk result (λ numbers. (q : List ℕ) → number_at numbers q ≡ number_in (names netlist.now) q) }
+    ensures numbers { IfOk result (λ numbers. (q : List ℕ) → number_of numbers q ≡ number_in (names netlist.now) q) }
     ensures distinct { OnOk result (AreDistinct (names netlist.now)) }
     ensures form { result ≡ Err Form → ¬ AreDistinct (names netlist.now) }
 {
@@ -47,9 +47,9 @@ pub fn signal_numbers(alloc: Global, netlist: &Netlist) -> Result<Numbers<'_>, F
 }
 
 /// The assignments of the left sides, numbered in order, and `Form` exactly where a name is assigned twice.
-pub fn assignment_numbers(alloc: Global, netlist: &Netlist) -> Result<Numbers<'_>, FormErr>
+pub fn assignment_numbers(alloc: Global, netlist: &Netlist) -> Result<NameTable<'_>, FormErr>
     requires { length netlist.now.assigns.items < 2 ^ 32 }
-    ensures numbers { IfOk result (λ numbers. (q : List ℕ) → number_at numbers q ≡ number_in (targets netlist.now) q) }
+    ensures numbers { IfOk result (λ numbers. (q : List ℕ) → number_of numbers q ≡ number_in (targets netlist.now) q) }
     ensures distinct { OnOk result (AreDistinct (targets netlist.now)) }
     ensures form { result ≡ Err Form → ¬ AreDistinct (targets netlist.now) }
 {

@@ -8,9 +8,8 @@ ghost use Rattle.first_form.specs.declared.error.FormErr.TheVariants.{NoMemory, 
 
 use crate::error::FormErr;
 use crate::netlist::{Assignment, Direction, Netlist, Port};
-use crate::numbers::{Numbers, find};
 use design_core::{Place, PlaceKind, Signal, SignalKind};
-use loc_base::{Bits, Name};
+use loc_base::{Bits, Name, NameTable};
 use std::alloc::Global;
 
 /// The word of one bit that is 0.
@@ -93,7 +92,7 @@ fn place(
     alloc: Global,
     name: &Name,
     assignment: &Assignment,
-    signals: &Numbers<'_>,
+    signals: &NameTable<'_>,
 ) -> Result<Place, FormErr>
     ensures place { IfOk result (λ place. place ≡ place_of (number_or_zero signals.now) name.now assignment.now) }
     ensures memory { result ≢ Err Form }
@@ -107,7 +106,7 @@ fn place(
         line: assignment.line,
         module: name.copied(alloc)?,
         path: name.copied(alloc)?,
-        signal: find(signals, assignment.target.as_bytes()).unwrap_or(0),
+        signal: signals.find(assignment.target.as_bytes()).unwrap_or(0),
     })
 }
 
@@ -115,7 +114,7 @@ fn place(
 pub fn places_of(
     alloc: Global,
     netlist: &Netlist,
-    signals: &Numbers<'_>,
+    signals: &NameTable<'_>,
 ) -> Result<Vec<Place>, FormErr>
     ensures places { IfOk result (λ places. places.items ≡ map (place_of (number_or_zero signals.now) netlist.now.name) netlist.now.assigns.items) }
     ensures memory { result ≢ Err Form }

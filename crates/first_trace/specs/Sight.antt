@@ -1,7 +1,7 @@
 -- What the parts of the reader show.
 use Rattle.std.specs.Prelude.{ℕ, List, map, Option, Some, None}
 use Rattle.std.specs.Borrow.{Bor}
-use Rattle.first_form.specs.NumberTable.{number_at}
+use Rattle.loc_base.specs.NameTable.{number_of}
 use Rattle.first_trace.specs.Dump.{Variable, words_of, sample_level, expected_level}
 use Rattle.first_trace.specs.Machine.{Places, Seen}
 use Rattle.first_trace.specs.declared.words.Words.{Words}
@@ -28,7 +28,7 @@ abbrev pub timescale_of : Scope → Option (List ℕ)
 timescale_of scope = word_behind scope.timescale
 
 abbrev pub places_of : Table → Places
-places_of table = record { codes = number_at table.codes; inputs = table.inputs.items; outputs = table.outputs.items }
+places_of table = record { codes = number_of table.codes; inputs = table.inputs.items; outputs = table.outputs.items }
 
 abbrev pub seen_of : Reading → Seen
 seen_of reading = record {

@@ -10,7 +10,7 @@ use crate::table::Table;
 use crate::times::time_in;
 use crate::words::next_word;
 use design_core::Trace;
-use first_form::{FormErr, find};
+use first_form::FormErr;
 use std::alloc::Global;
 
 /// How many stamps a dump may have.
@@ -73,7 +73,7 @@ fn change(table: &Table<'_>, reading: &mut Reading, byte: u8, code: &[u8]) -> Re
     let Some(level) = level_of(byte) else {
         return Err(FormErr::Form);
     };
-    let Some(place) = find(&table.codes, code) else {
+    let Some(place) = table.codes.find(code) else {
         return Err(FormErr::Form);
     };
     let place = place as usize;

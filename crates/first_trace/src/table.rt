@@ -1,22 +1,22 @@
 ghost use Rattle.std.specs.Prelude.{◌≡◌, ◌+◌, ◌<◌, ◌^◌, ℕ, List, IsTrue, IfOk, OnOk, length, map, Some, false};
 ghost use Rattle.std.specs.List.{list_all};
 ghost use Rattle.first_form.specs.Names.{texts, number_in, is_in};
-ghost use Rattle.first_form.specs.NumberTable.{number_at, has_number};
+ghost use Rattle.loc_base.specs.NameTable.{number_of, has_number};
 ghost use Rattle.first_trace.specs.Dump.{is_code_byte, is_code, name_at, input_names, output_names, codes_of, names_of, AreVariables};
 ghost use Rattle.first_trace.specs.Sight.{variables_of};
 ghost use Rattle.first_form.specs.declared.error.FormErr.TheVariants.{NoMemory, Form};
 
 use crate::header::Declared;
 use design_core::Design;
-use first_form::{FormErr, Numbers, find, numbered};
-use loc_base::NoMemory;
+use first_form::{FormErr, numbered};
+use loc_base::{NameTable, NoMemory};
 use std::alloc::Global;
 
 /// Where the levels of a dump's variables go. The variables are numbered in the order of the header.
 #[derive(Drop)]
 pub struct Table<'a> {
     /// The number of the variable of a code.
-    pub codes: Numbers<'a>,
+    pub codes: NameTable<'a>,
     /// The number of the variable of each input, and of each output, in port order.
     pub inputs: Vec<u32>,
     pub outputs: Vec<u32>,
@@ -86,14 +86,14 @@ fn places_of(
     alloc: Global,
     design: &Design,
     signals: &Vec<u32>,
-    names: &Numbers<'_>,
+    names: &NameTable<'_>,
 ) -> Result<Vec<u32>, FormErr>
-    ensures places { IfOk result (λ list. map Some list.items ≡ map (λ signal. number_at names.now (name_at design.now signal)) signals.now.items) }
+    ensures places { IfOk result (λ list. map Some list.items ≡ map (λ signal. number_of names.now (name_at design.now signal)) signals.now.items) }
     ensures form { result ≡ Err Form → list_all (λ signal. has_number names.now (name_at design.now signal)) signals.now.items ≡ false }
 {
     let mut list = Vec::new(alloc);
     for signal in signals {
-        let Some(place) = find(names, name_of(design, *signal)) else {
+        let Some(place) = names.find(name_of(design, *signal)) else {
             return Err(FormErr::Form);
         };
         list.push(place)?;
@@ -110,7 +110,7 @@ pub fn table_of<'a>(
     requires few { length variables.now < 2 ^ 32 }
     requires count { length variables.now ≡ length design.now.inputs.items + length design.now.outputs.items }
     ensures variables { OnOk result (AreVariables design.now (variables_of variables.now)) }
-    ensures codes { IfOk result (λ table. (q : List ℕ) → number_at table.codes q ≡ number_in (codes_of (variables_of variables.now)) q) }
+    ensures codes { IfOk result (λ table. (q : List ℕ) → number_of table.codes q ≡ number_in (codes_of (variables_of variables.now)) q) }
     ensures inputs { IfOk result (λ table. map Some table.inputs.items ≡ map (number_in (names_of (variables_of variables.now))) (input_names design.now)) }
     ensures outputs { IfOk result (λ table. map Some table.outputs.items ≡ map (number_in (names_of (variables_of variables.now))) (output_names design.now)) }
     ensures form { result ≡ Err Form → ¬ AreVariables design.now (variables_of variables.now) }

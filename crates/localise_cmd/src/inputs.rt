@@ -31,7 +31,6 @@ const MOST_BYTES: u64 = 1_073_741_824;
 const MOST_ASSIGNS: usize = 16;
 
 /// What the texts mean.
-#[derive(Debug, Drop)]
 pub struct Inputs {
     pub first: FirstDesign,
     pub trace: Trace,
@@ -168,4 +167,11 @@ pub fn load_inputs<S: Shelf>(
     let first = load_design(alloc, request, shelf)?;
     let trace = load_trace(alloc, request, &first.design, shelf)?;
     Ok(Inputs { first, trace })
+}
+
+// A `drop` is written out, so that it is proved once, here: a derived one is proved again by each crate that lets a value go.
+impl Drop for Inputs {
+    fn drop(self) {
+        let Inputs { first: _, trace: _ } = self;
+    }
 }

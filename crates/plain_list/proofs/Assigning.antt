@@ -109,9 +109,9 @@ cont_fits d parts s computed place e h =
             made (both_true (nat_lt s (length signals)) true one.0).0 one.1 two.1 three.1 p
 
 pub driver-fits : (d : Design) (i s : ℕ) (target : Target) (computed : Typed) (place : Option ℕ) (span : Span) → IsWellFormed d
-    → slice_get d.drivers.items i ≡ Some (Cont target computed place span) → whole_of target.parts.items ≡ Some s → Fits d s computed place
+    → slice_get d.drivers.items i ≡ Some (Cont target computed place span) → whole_of target.parts ≡ Some s → Fits d s computed place
 driver-fits d i s target computed place span w at to =
-    cont_fits d target.parts.items s computed place (whole_of-parts target.parts.items s to)
+    cont_fits d target.parts s computed place (whole_of-parts target.parts s to)
     (list_all-at (driver_fits d.signals.items d.places.items) d.drivers.items i (Cont target computed place span) w.drivers at)
 
 -- the number of a place is of the place's width
@@ -193,13 +193,13 @@ width-at signals s signal h e = sym (ap (λ o. option_map_or (λ x. x.width) o 0
 
 pub fits-at : (d : Design) (i s : ℕ) (driver : Driver) (target : Target) (computed : Typed) (place : Option ℕ) (span : Span) (parts : List Part) (o : Option ℕ) → IsWellFormed d
     → i < length d.drivers.items → driver ≡ get_or d.drivers.items i driver → driver ≡ Cont target computed place span
-    → o ≡ Some s → o ≡ whole_of parts → parts ≡ target.parts.items → Fits d s computed place
+    → o ≡ Some s → o ≡ whole_of parts → parts ≡ target.parts → Fits d s computed place
 fits-at d i s driver target computed place span parts o w h e is some of same =
     driver-fits d i s target computed place span w (get_at d.drivers.items i driver h e ∙ ap Some is) (ap whole_of (sym same) ∙ sym of ∙ some)
 
 -- the step of a driver that assigns no whole net changes nothing
 pub step-none : (d : Design) (choice : Choice) (V : Valuation) (i : ℕ) (driver : Driver) (target : Target) (computed : Typed) (place : Option ℕ) (span : Span) (parts : List Part) (o : Option ℕ)
-    → i < length d.drivers.items → driver ≡ get_or d.drivers.items i driver → driver ≡ Cont target computed place span → o ≡ None → o ≡ whole_of parts → parts ≡ target.parts.items
+    → i < length d.drivers.items → driver ≡ get_or d.drivers.items i driver → driver ≡ Cont target computed place span → o ≡ None → o ≡ whole_of parts → parts ≡ target.parts
     → V ≡ step d choice V i
 step-none d choice V i driver target computed place span parts o h e is none of same =
     sym (step-is d choice V i (Cont target computed place span) (get_at d.drivers.items i driver h e ∙ ap Some is)
@@ -212,7 +212,7 @@ step-comb d choice V i driver body span h e is = sym (step-is d choice V i (Comb
 -- the step of a driver that assigns a whole net gives it the word
 pub step-some : (d : Design) (choice : Choice) (words : List Bits) (i s : ℕ) (driver : Driver) (target : Target) (computed : Typed) (place : Option ℕ) (span : Span) (parts : List Part) (o : Option ℕ) (word : Bits) (signal : Signal) (number : ℕ)
     → AreWordsOf d.signals.items words → Fits d s computed place
-    → i < length d.drivers.items → driver ≡ get_or d.drivers.items i driver → driver ≡ Cont target computed place span → o ≡ Some s → o ≡ whole_of parts → parts ≡ target.parts.items
+    → i < length d.drivers.items → driver ≡ get_or d.drivers.items i driver → driver ≡ Cont target computed place span → o ≡ Some s → o ≡ whole_of parts → parts ≡ target.parts
     → signal ≡ get_or d.signals.items s signal → width_of word ≡ signal.width → number ≡ value d.signals.items (valuation_of words) computed → value_of word ≡ cont_assigned choice place number % 2 ^ signal.width
     → valuation_of (slice_set words s word) ≡ step d choice (valuation_of words) i
 step-some d choice words i s driver target computed place span parts o word signal number a fits h e is some of same sig w n v =

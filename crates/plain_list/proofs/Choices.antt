@@ -31,7 +31,7 @@ cont_assigned-same one other (Some p) computed s = by_test (one.frees p) refl
 
 pub assign-same : (signals : List Signal) (one other : Choice) (V : Valuation) (driver : Driver) → Same one other → assign signals one V driver ≡ assign signals other V driver
 assign-same signals one other V (Cont target computed place span) s =
-    ap (λ n. with_net signals V (whole_of target.parts.items) (bit n)) (cont_assigned-same one other place (value signals V computed) s)
+    ap (λ n. with_net signals V (whole_of target.parts) (bit n)) (cont_assigned-same one other place (value signals V computed) s)
 assign-same signals one other V (Comb _ _) s = refl
 
 pub settled_from-same : (d : Design) (one other : Choice) (V : Valuation) (order : List ℕ) → Same one other → settled_from d one V order ≡ settled_from d other V order

@@ -25,13 +25,13 @@ use Rattle.design_core.proofs.ReadsWithin.{reads-below}
 pub driver-fits : (d : Design) (driver : Driver) (s : ℕ) → driver_fits d.signals.items d.places.items driver ≡ true → target_of driver ≡ Some s
     → (1 ≤ width_at d.signals.items s) × ((t b : ℕ) → value_reads d.signals.items t b driver ≡ true → b < width_at d.signals.items t)
 driver-fits d (Cont target computed place span) s fits to =
-    let f : Fits d s computed place = cont_fits d target.parts.items s computed place (whole_of-parts target.parts.items s to) fits in
+    let f : Fits d s computed place = cont_fits d target.parts s computed place (whole_of-parts target.parts s to) fits in
     (f.least, λ t b r. reads-below d.signals.items t b computed f.typed r)
 driver-fits d (Comb _ _) s fits to = cc
 
 -- what the value of a driver reads the driver reads
 pub value-reads : (signals : List Signal) (s b : ℕ) (driver : Driver) → value_reads signals s b driver ≡ true → driver_reads signals s b driver ≡ true
-value-reads signals s b (Cont target computed place span) h = or_left (reads signals s b computed) (list_any (part_reads signals s b) target.parts.items) h
+value-reads signals s b (Cont target computed place span) h = or_left (reads signals s b computed) (list_any (part_reads signals s b) target.parts) h
 value-reads signals s b (Comb _ _) h = cc
 
 not_true : (x : Bool) → (x ≡ true → ⊥) → x ≡ false

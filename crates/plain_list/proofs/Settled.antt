@@ -97,16 +97,16 @@ store-parts signals V parts s b bits e h = rw e (store_whole signals V s b bits 
 pub driven-at : (signals : List Signal) (choice : Choice) (V : Valuation) (driver : Driver) (s b : ℕ) → target_of driver ≡ Some s → b < width_at signals s
     → driven signals choice V driver s b ≡ bit (given signals choice V driver) b
 driven-at signals choice V (Cont target computed place span) s b e h =
-    store-parts signals (without signals (Cont target computed place span) V) target.parts.items s b
-    (bit (given signals choice V (Cont target computed place span))) (whole_of-parts target.parts.items s e) h
+    store-parts signals (without signals (Cont target computed place span) V) target.parts s b
+    (bit (given signals choice V (Cont target computed place span))) (whole_of-parts target.parts s e) h
 driven-at signals choice V (Comb _ _) s b e h = cc
 
 pub drives-at : (signals : List Signal) (driver : Driver) (s b : ℕ) → target_of driver ≡ Some s → b < width_at signals s → driver_drives signals s b driver ≡ true
-drives-at signals (Cont target computed place span) s b e h = rw (whole_of-parts target.parts.items s e) (grind (arith, common_steps))
+drives-at signals (Cont target computed place span) s b e h = rw (whole_of-parts target.parts s e) (grind (arith, common_steps))
 drives-at signals (Comb _ _) s b e h = cc
 
 pub drives-only : (signals : List Signal) (driver : Driver) (s t b : ℕ) → target_of driver ≡ Some s → driver_drives signals t b driver ≡ true → (t ≡ s) × (b < width_at signals s)
-drives-only signals (Cont target computed place span) s t b e h = whole (rw (whole_of-parts target.parts.items s e) at h)
+drives-only signals (Cont target computed place span) s t b e h = whole (rw (whole_of-parts target.parts s e) at h)
   where
     whole : list_any (part_drives signals t b) (Whole s ∷ []) ≡ true → (t ≡ s) × (b < width_at signals s)
     whole g = (grind (arith, common_steps), grind (arith, common_steps))

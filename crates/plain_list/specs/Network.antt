@@ -24,7 +24,7 @@ whole_of _ = None
 
 -- the net that a driver assigns, where it is a continuous assignment to one whole net
 abbrev pub target_of : Driver → Option ℕ
-target_of (Cont target _ _ _) = whole_of target.parts.items
+target_of (Cont target _ _ _) = whole_of target.parts
 target_of (Comb _ _) = None
 
 -- whether a driver's value reads a bit
@@ -62,7 +62,7 @@ with_net signals V (Some signal) bits = λ s b. if s == signal && nat_lt b (widt
 -- one assignment carried out
 abbrev pub assign : List Signal → Choice → Valuation → Driver → Valuation
 assign signals choice V (Cont target computed place _) =
-    with_net signals V (whole_of target.parts.items) (bit (cont_assigned choice place (value signals V computed)))
+    with_net signals V (whole_of target.parts) (bit (cont_assigned choice place (value signals V computed)))
 assign signals choice V (Comb _ _) = V
 
 -- the assignment of a number carried out

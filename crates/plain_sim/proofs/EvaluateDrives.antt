@@ -1,17 +1,17 @@
 -- Whether some assignment of a block or a case passes, over lists.
-use Rattle.std.proofs.Common.{◌≡◌, ℕ, List, ap, ◌∙◌, refl, Vec, Global}
+use Rattle.std.proofs.Common.{◌≡◌, ℕ, List, ap, ◌∙◌, refl}
 use Rattle.std.specs.Prelude.{Bool, ◌||◌, ℤ, slice_get, Some}
 use Rattle.std.specs.Option.{option_and_then}
 use Rattle.design_core.specs.declared.signal.Signal.{Signal}
 use Rattle.design_core.specs.Valuation.{position_at, position_of}
 use Rattle.std.specs.List.{list_any}
-use Rattle.std.specs.declared.boxed.Box.{Box}
 use Rattle.design_core.specs.declared.expression.Typed.{Typed}
 use Rattle.design_core.specs.declared.statement.Part.{Part}
 use Rattle.design_core.specs.declared.statement.CaseItem.{CaseItem}
-use Rattle.design_core.specs.declared.statement.Stmt.{Stmt, Row_of-Stmt, end_of-Stmt, more_of-Stmt, items-the_row-Stmt, items_hidden-the_row-Stmt-0, Row_of-CaseItem, end_of-CaseItem, more_of-CaseItem, items-the_row-CaseItem, items_hidden-the_row-CaseItem-1}
+use Rattle.design_core.specs.declared.statement.Stmt.{Stmt, Row_of-Stmt, end_of-Stmt, more_of-Stmt, items-the_row-Stmt, items_hidden-the_row-Stmt-0, Row_of-CaseItem, end_of-CaseItem, more_of-CaseItem, items-the_row-CaseItem, items_hidden-the_row-CaseItem-2}
 use Rattle.design_core.specs.declared.statement.Stmt.TheVariants.{Block, Case}
-use Rattle.design_core.specs.declared.statement.Stmt.TheBlock.{hidden-the_row-Stmt-0, hidden-the_row-CaseItem-1}
+use denote.Hole.Carrier.{hidden}
+use Rattle.design_core.specs.declared.statement.Stmt.TheBlock.{shape-the_row-Stmt-1, hidden-the_row-Stmt-1, hidden-the_row-Stmt-0, hidden-the_row-CaseItem-2}
 use Rattle.design_core.specs.Drives.{some_set, some_set_of, some_set_in}
 use Rattle.plain_sim.specs.EvaluateCycle.{item_passes}
 
@@ -24,14 +24,15 @@ set_in-list : {shape : _} (test : List Part → Bool → Bool) (row : Row_of-Cas
 set_in-list test end_of-CaseItem = refl
 set_in-list test (more_of-CaseItem labels body rest) = ap (λ b. some_set test body || b) (set_in-list test rest)
 
-pub block-sets : (test : List Part → Bool → Bool) (statements : Vec Stmt Global) → some_set test (Block statements) ≡ list_any (some_set test) statements.items
+pub block-sets : (test : List Part → Bool → Bool) (statements : List Stmt) → some_set test (Block statements) ≡ list_any (some_set test) statements
 block-sets test statements = set_of-list test (hidden-the_row-Stmt-0 statements) ∙ ap (list_any (some_set test)) (items_hidden-the_row-Stmt-0 statements)
 
-pub case-sets : (test : List Part → Bool → Bool) (subject : Typed) (items : Vec CaseItem Global) (other : Box Stmt Global) (wild : Bool)
-    → some_set test (Case subject items other wild) ≡ (list_any (item_passes test) items.items || some_set test other.value)
+pub case-sets : (test : List Part → Bool → Bool) (subject : Typed) (items : List CaseItem) (other : Stmt) (wild : Bool)
+    → some_set test (Case subject items other wild) ≡ (list_any (item_passes test) items || some_set test other)
+unfolding shape-the_row-Stmt-1 hidden-the_row-Stmt-1 hidden
 case-sets test subject items other wild =
-    ap (λ b. b || some_set test other.value)
-    (set_in-list test (hidden-the_row-CaseItem-1 items) ∙ ap (list_any (item_passes test)) (items_hidden-the_row-CaseItem-1 items))
+    ap (λ b. b || some_set test other)
+    (set_in-list test (hidden-the_row-CaseItem-2 items) ∙ ap (list_any (item_passes test)) (items_hidden-the_row-CaseItem-2 items))
 
 -- the position of a bit by its signal
 pub position-at : (signals : List Signal) (signal : ℕ) (declared : Signal) (index : ℤ) → slice_get signals signal ≡ Some declared

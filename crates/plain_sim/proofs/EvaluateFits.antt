@@ -1,60 +1,55 @@
 -- Whether the parts of a design fit, over lists.
-use Rattle.std.proofs.Common.{◌≡◌, ℕ, ◌+◌, ◌<◌, ◌≤◌, List, ap, arith, ◌∙◌, sym, refl, Vec, Global}
+use Rattle.std.proofs.Common.{◌≡◌, ℕ, ◌+◌, ◌<◌, ◌≤◌, List, ap, arith, ◌∙◌, sym, refl}
 use Rattle.std.specs.Prelude.{Bool, true, false, ◌&&◌, ◌==◌, Some, None}
 use Rattle.std.specs.List.{list_all}
-use Rattle.std.specs.declared.boxed.Box.{Box}
 use Rattle.std.proofs.lemmas.Bool.Decides.{nat_tests}
 use Rattle.std.proofs.lemmas.Bool.{le-leb, lt-leb}
 use Rattle.design_core.specs.declared.signal.Signal.{Signal}
 use Rattle.design_core.specs.declared.place.Place.{Place}
 use Rattle.design_core.specs.declared.expression.Typed.{Typed}
-use Rattle.design_core.specs.declared.expression.Node.TheVariants.{Join}
-use Rattle.design_core.specs.declared.expression.Node.TheBlock.{hidden-the_row-Typed-0}
-use Rattle.design_core.specs.declared.expression.Node.{items_hidden-the_row-Typed-0}
 use Rattle.design_core.specs.declared.statement.CaseItem.{CaseItem}
-use Rattle.design_core.specs.declared.statement.Stmt.{Stmt, Row_of-Stmt, end_of-Stmt, more_of-Stmt, items-the_row-Stmt, items_hidden-the_row-Stmt-0, items_hidden-the_row-CaseItem-1}
+use Rattle.design_core.specs.declared.statement.Stmt.{Stmt, Row_of-Stmt, end_of-Stmt, more_of-Stmt, items-the_row-Stmt, items_hidden-the_row-Stmt-0, items_hidden-the_row-CaseItem-2}
 use Rattle.design_core.specs.declared.statement.Stmt.TheVariants.{Block, Case}
-use Rattle.design_core.specs.declared.statement.Stmt.TheBlock.{hidden-the_row-Stmt-0, hidden-the_row-CaseItem-1}
-use Rattle.design_core.specs.WellFormed.{is_width, typed_fits, node_fits, parts_fit, statement_fits, is_reset_values, are_reset_values}
-use Rattle.plain_sim.specs.Evaluate.{parts_sum, item_fits}
+use denote.Hole.Carrier.{hidden}
+use Rattle.design_core.specs.declared.statement.Stmt.TheBlock.{shape-the_row-Stmt-1, hidden-the_row-Stmt-1, hidden-the_row-Stmt-0, hidden-the_row-CaseItem-2}
+use Rattle.design_core.specs.WellFormed.{typed_fits, statement_fits, is_reset_values, are_reset_values}
+use Rattle.plain_sim.specs.Evaluate.{item_fits}
 use Rattle.plain_sim.specs.EvaluateCycle.{small_width}
-use Rattle.plain_sim.proofs.EvaluateParts.{fits-list, width-list}
 use Rattle.plain_sim.proofs.EvaluateStatement.{items-fits}
 
-pub join-test : (signals : List Signal) (width : ℕ) (signed : Bool) (parts : Vec Typed Global)
-    → node_fits signals width signed (Join parts) ≡ (is_width width && parts_sum parts.items == width && list_all (typed_fits signals) parts.items)
-join-test signals width signed parts =
-    let row = hidden-the_row-Typed-0 parts in
-    let items = items_hidden-the_row-Typed-0 parts in
-    ap (λ n. is_width width && n == width && parts_fit signals row) (width-list row ∙ ap parts_sum items)
-    ∙ ap (λ b. is_width width && parts_sum parts.items == width && b) (fits-list signals row ∙ ap (list_all (typed_fits signals)) items)
-
-pub case-test : (signals : List Signal) (places : List Place) (subject : Typed) (items : Vec CaseItem Global) (other : Box Stmt Global) (wild : Bool)
+pub case-test : (signals : List Signal) (places : List Place) (subject : Typed) (items : List CaseItem) (other : Stmt) (wild : Bool)
     → statement_fits signals places (Case subject items other wild)
-    ≡ (typed_fits signals subject && list_all (item_fits signals places subject.width) items.items && statement_fits signals places other.value)
+    ≡ (typed_fits signals subject && list_all (item_fits signals places subject.width) items && statement_fits signals places other)
+unfolding shape-the_row-Stmt-1 hidden-the_row-Stmt-1 hidden
 case-test signals places subject items other wild =
-    let row = hidden-the_row-CaseItem-1 items in
-    ap (λ b. typed_fits signals subject && b && statement_fits signals places other.value)
-    (items-fits signals places subject.width row ∙ ap (list_all (item_fits signals places subject.width)) (items_hidden-the_row-CaseItem-1 items))
+    let row = hidden-the_row-CaseItem-2 items in
+    ap (λ b. typed_fits signals subject && b && statement_fits signals places other)
+    (items-fits signals places subject.width row ∙ ap (list_all (item_fits signals places subject.width)) (items_hidden-the_row-CaseItem-2 items))
 
--- a case whose items do not fit, and one that is left to its last statement
-pub case-bad : (signals : List Signal) (places : List Place) (subject : Typed) (items : Vec CaseItem Global) (other : Box Stmt Global) (wild : Bool)
-    → list_all (item_fits signals places subject.width) items.items ≡ false → false ≡ statement_fits signals places (Case subject items other wild)
+-- a case whose subject does not fit, one whose items do not, and one that is left to its last statement
+pub case-first : (signals : List Signal) (places : List Place) (subject : Typed) (items : List CaseItem) (other : Stmt) (wild : Bool)
+    → typed_fits signals subject ≡ false → false ≡ statement_fits signals places (Case subject items other wild)
+case-first signals places subject items other wild none =
+    sym (case-test signals places subject items other wild
+    ∙ ap (λ b. b && list_all (item_fits signals places subject.width) items && statement_fits signals places other) none)
+
+pub case-bad : (signals : List Signal) (places : List Place) (subject : Typed) (items : List CaseItem) (other : Stmt) (wild : Bool)
+    → list_all (item_fits signals places subject.width) items ≡ false → false ≡ statement_fits signals places (Case subject items other wild)
 case-bad signals places subject items other wild none =
     sym (case-test signals places subject items other wild
-    ∙ middle (typed_fits signals subject) (list_all (item_fits signals places subject.width) items.items) (statement_fits signals places other.value) none)
+    ∙ middle (typed_fits signals subject) (list_all (item_fits signals places subject.width) items) (statement_fits signals places other) none)
   where
     middle : (x y z : Bool) → y ≡ false → (x && y && z) ≡ false
     middle true true z e = cc
     middle true false z e = refl
     middle false y z e = refl
 
-pub case-last : (signals : List Signal) (places : List Place) (subject : Typed) (items : Vec CaseItem Global) (other : Box Stmt Global) (wild : Bool)
-    → typed_fits signals subject ≡ true → list_all (item_fits signals places subject.width) items.items ≡ true
-    → statement_fits signals places other.value ≡ statement_fits signals places (Case subject items other wild)
+pub case-last : (signals : List Signal) (places : List Place) (subject : Typed) (items : List CaseItem) (other : Stmt) (wild : Bool)
+    → typed_fits signals subject ≡ true → list_all (item_fits signals places subject.width) items ≡ true
+    → statement_fits signals places other ≡ statement_fits signals places (Case subject items other wild)
 case-last signals places subject items other wild first second =
     sym (case-test signals places subject items other wild
-    ∙ last (typed_fits signals subject) (list_all (item_fits signals places subject.width) items.items) (statement_fits signals places other.value) first second)
+    ∙ last (typed_fits signals subject) (list_all (item_fits signals places subject.width) items) (statement_fits signals places other) first second)
   where
     last : (x y z : Bool) → x ≡ true → y ≡ true → (x && y && z) ≡ z
     last true true z p q = refl
@@ -65,7 +60,7 @@ reset-list : {shape : _} (row : Row_of-Stmt shape) → are_reset_values row ≡ 
 reset-list end_of-Stmt = refl
 reset-list (more_of-Stmt statement rest) = ap (λ b. is_reset_values statement && b) (reset-list rest)
 
-pub reset-test : (statements : Vec Stmt Global) → is_reset_values (Block statements) ≡ list_all is_reset_values statements.items
+pub reset-test : (statements : List Stmt) → is_reset_values (Block statements) ≡ list_all is_reset_values statements
 reset-test statements = reset-list (hidden-the_row-Stmt-0 statements) ∙ ap (list_all is_reset_values) (items_hidden-the_row-Stmt-0 statements)
 
 -- the number of bits of a left side

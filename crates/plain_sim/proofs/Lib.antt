@@ -2,6 +2,9 @@ pub mod EvaluateWords
 pub mod EvaluateWrite
 pub mod EvaluateSelect
 pub mod EvaluateParts
+pub mod EvaluateNodes
+pub mod EvaluateTests
+pub mod EvaluateOperands
 pub mod EvaluateStatement
 pub mod EvaluateStore
 pub mod EvaluateDrives

@@ -67,7 +67,7 @@ blended test one other s = either_bit (test s) (one s) (other s)
 -- what a driver gives, begun in a valuation in which its own bits are 0; V has the bits as they are
 abbrev pub driven_from : List Signal → Choice → Valuation → Valuation → Driver → Valuation
 driven_from signals choice V rest (Cont target computed place span) =
-    store signals rest rest target.parts.items (bit (cont_assigned choice place (value signals V computed)))
+    store signals rest rest target.parts (bit (cont_assigned choice place (value signals V computed)))
 driven_from signals choice V rest (Comb body span) = (after signals choice body (record { now = rest; later = rest })).now
 
 -- the equation of the driver of a number

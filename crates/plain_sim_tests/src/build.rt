@@ -4,7 +4,7 @@ use design_core::{
     BinaryOp, Checked, Design, Driver, Node, Part, Place, PlaceKind, Signal, SignalKind, Stmt,
     Target, Trace, Typed, UnaryOp,
 };
-use loc_base::{Bits, Name, Span};
+use loc_base::{Bits, Boxed, Items, Name, Span};
 use plain_sim::{are_chosen, can_run, is_trace_of, meets};
 use std::alloc::Global;
 use std::test::Fail;
@@ -98,7 +98,7 @@ pub(super) fn add_assign(
     signal: u32,
     value: Typed,
 ) -> Result<(), Fail> {
-    let mut parts = Vec::new(alloc);
+    let mut parts = Items::new(alloc);
     parts.push(Part::Whole(signal))?;
     design.drivers.push(Driver::Cont {
         target: Target { parts },
@@ -128,7 +128,7 @@ pub(super) fn constant(width: u8, value: u128) -> Result<Typed, Fail> {
 
 pub(super) fn not(alloc: Global, arg: Typed) -> Result<Typed, Fail> {
     let width = arg.width;
-    let arg = Box::new(alloc, arg)?;
+    let arg = Boxed::new(alloc, arg)?;
     Ok(Typed {
         width,
         signed: false,
@@ -146,8 +146,8 @@ pub(super) fn binary(
     right: Typed,
 ) -> Result<Typed, Fail> {
     let width = left.width;
-    let left = Box::new(alloc, left)?;
-    let right = Box::new(alloc, right)?;
+    let left = Boxed::new(alloc, left)?;
+    let right = Boxed::new(alloc, right)?;
     Ok(Typed {
         width,
         signed: false,
@@ -163,7 +163,7 @@ pub(super) fn set(
     value: Typed,
     later: bool,
 ) -> Result<Stmt, Fail> {
-    let mut parts = Vec::new(alloc);
+    let mut parts = Items::new(alloc);
     parts.push(part)?;
     Ok(Stmt::Set {
         place,

@@ -2,15 +2,15 @@
 
 use crate::build::{add_assign, constant, design_of, is_right, set, trace_of, whole};
 use design_core::{Clocked, Design, Driver, Node, Part, SignalKind, Stmt, Typed};
-use loc_base::Span;
+use loc_base::{Boxed, Items, Span};
 use std::alloc::Global;
 use std::test::Fail;
 
 /// `a[i]`, of the signals 0 and 1.
 fn selected(alloc: Global) -> Result<Typed, Fail> {
-    let mut offsets = Vec::new(alloc);
+    let mut offsets = Items::new(alloc);
     offsets.push(0)?;
-    let index = Box::new(alloc, whole(4, 1))?;
+    let index = Boxed::new(alloc, whole(4, 1))?;
     Ok(Typed {
         width: 1,
         signed: false,
@@ -25,7 +25,7 @@ fn selected(alloc: Global) -> Result<Typed, Fail> {
 /// `begin w = 8'h00; w[i] = 1'b1; end`
 fn one_hot(alloc: Global) -> Result<Stmt, Fail> {
     let clear = set(alloc, 1, Part::Whole(3), constant(8, 0)?, false)?;
-    let mut offsets = Vec::new(alloc);
+    let mut offsets = Items::new(alloc);
     offsets.push(0)?;
     let part = Part::Pick {
         signal: 3,
@@ -33,7 +33,7 @@ fn one_hot(alloc: Global) -> Result<Stmt, Fail> {
         offsets,
     };
     let raise = set(alloc, 2, part, constant(1, 1)?, false)?;
-    let mut statements = Vec::new(alloc);
+    let mut statements = Items::new(alloc);
     statements.push(clear)?;
     statements.push(raise)?;
     Ok(Stmt::Block(statements))
@@ -71,7 +71,7 @@ fn an_index_out_of_range_reads_0_and_writes_nowhere(rt: HostRuntime) -> Result<(
 
 /// `mem[a]` of `reg [3:0] mem [1:3];`, whose words are the signals 4 to 6; a is signal 1.
 fn word(alloc: Global) -> Result<Typed, Fail> {
-    let index = Box::new(alloc, whole(2, 1))?;
+    let index = Boxed::new(alloc, whole(2, 1))?;
     Ok(Typed {
         width: 4,
         signed: false,

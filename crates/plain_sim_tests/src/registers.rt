@@ -2,6 +2,7 @@
 
 use crate::build::{binary, constant, design_of, is_right, set, trace_of, whole};
 use design_core::{BinaryOp, Clocked, Design, Part, SignalKind, Stmt};
+use loc_base::Items;
 use std::alloc::Global;
 use std::test::Fail;
 
@@ -50,7 +51,7 @@ fn a_step_by_two_is_right_by_two_values(rt: HostRuntime) -> Result<(), Fail> {
 fn swap(alloc: Global) -> Result<Stmt, Fail> {
     let first = set(alloc, 0, Part::Whole(1), whole(1, 2), true)?;
     let second = set(alloc, 1, Part::Whole(2), whole(1, 1), true)?;
-    let mut statements = Vec::new(alloc);
+    let mut statements = Items::new(alloc);
     statements.push(first)?;
     statements.push(second)?;
     Ok(Stmt::Block(statements))

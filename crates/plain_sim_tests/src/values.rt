@@ -5,7 +5,7 @@ ghost use Rattle.loc_base.specs.Bits.{width_of, value_of};
 ghost use Rattle.design_core.specs.WellFormed.{is_width, typed_fits, binary_fits, signs_fit};
 
 use design_core::{BinaryOp, Node, Signal, Typed};
-use loc_base::Bits;
+use loc_base::{Bits, Boxed};
 use plain_sim::value;
 use std::alloc::Global;
 use std::test::Fail;
@@ -41,7 +41,7 @@ fn resized(alloc: Global, width: u8, signed: bool, arg: Typed) -> Result<Typed, 
     ensures width { IfOk result (λ e. e.width ≡ width) }
     ensures fits { IfOk result (λ e. (signals : List Signal) → IsTrue (typed_fits signals arg) → IsTrue (typed_fits signals e)) }
 {
-    let arg = Box::new(alloc, arg)?;
+    let arg = Boxed::new(alloc, arg)?;
     Ok(Typed {
         width,
         signed,
@@ -62,8 +62,8 @@ fn binary(
         → IsTrue (is_width width && binary_fits op width left.width right.width && signs_fit op signed left.signed right.signed)
         → IsTrue (typed_fits signals left) → IsTrue (typed_fits signals right) → IsTrue (typed_fits signals e)) }
 {
-    let left = Box::new(alloc, left)?;
-    let right = Box::new(alloc, right)?;
+    let left = Boxed::new(alloc, left)?;
+    let right = Boxed::new(alloc, right)?;
     Ok(Typed {
         width,
         signed,

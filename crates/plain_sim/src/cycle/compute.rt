@@ -19,7 +19,7 @@ use loc_base::{Bits, NoMemory};
 use std::alloc::Global;
 
 /// A cycle in words, one for each signal.
-#[derive(Debug, Drop)]
+#[derive(Drop)]
 pub struct CycleWords {
     /// The values of all bits.
     pub now: Vec<Bits>,

@@ -154,7 +154,7 @@ fn some_set(signals: &[Signal], asked: Asked, statement: &Stmt) -> bool
     match statement {
         Stmt::Nothing => false,
         Stmt::Block(statements) => some_set_of(signals, asked, statements),
-        Stmt::If { yes, no, .. } => some_set(signals, asked, yes) || some_set(signals, asked, no),
+        Stmt::If { yes, no, .. } => some_set(signals, asked, yes) | some_set(signals, asked, no),
         Stmt::Case { items, other, .. } => some_set_in(signals, asked, items)
             || some_set(signals, asked, other),
         Stmt::Set { target, later, .. } => set_passes(signals, asked, &target.parts, *later),

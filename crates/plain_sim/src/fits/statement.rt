@@ -31,8 +31,8 @@ pub(crate) fn statement_fits(signals: &[Signal], places: &[Place], statement: &S
         Stmt::Block(statements) => statements_fit(signals, places, statements),
         Stmt::If { cond, yes, no } => {
             typed_fits(signals, cond)
-                && statement_fits(signals, places, yes)
-                && statement_fits(signals, places, no)
+                & statement_fits(signals, places, yes)
+                & statement_fits(signals, places, no)
         }
         Stmt::Case {
             subject,

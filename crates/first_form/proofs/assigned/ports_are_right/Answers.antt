@@ -1,6 +1,5 @@
-use Rattle.std.proofs.Common.{sym, ◌∙◌, ap, not, true, false, ◌≡◌}
-use Rattle.std.proofs.lemmas.Bool.{not-true}
-use Rattle.first_form.specs.NumberTable.{has_number}
+use Rattle.std.proofs.Common.{sym, ◌∙◌, ap, false, ◌≡◌}
+use Rattle.loc_base.specs.NameTable.{has_number}
 use Rattle.first_form.specs.Netlists.{is_assigned_rightly, port_declaration, declares, is_input}
 use Rattle.first_form.proofs.ListSteps.{one_fails}
 use Rattle.first_form.proofs.assigned.ports_are_right.Goals as goal

@@ -1,6 +1,6 @@
 use Rattle.std.proofs.Common.{◌≡◌, true, map, take}
 use Rattle.std.specs.List.{list_all}
-use Rattle.first_form.specs.NumberTable.{has_number}
+use Rattle.loc_base.specs.NameTable.{has_number}
 use Rattle.first_form.specs.Netlists.{is_assigned_rightly, wire_declaration}
 use Rattle.first_form.proofs.assigned.wires_are_right.Given as goal
 

@@ -1,10 +1,9 @@
-use Rattle.std.proofs.Common.{◌≡◌, ap, sym, ◌∙◌, Err, List, ℕ, subst, rules}
+use Rattle.std.proofs.Common.{◌≡◌, ap, sym, ◌∙◌, Err, List, subst}
 use Rattle.design_core.specs.declared.driver.Driver.{Driver}
 use Rattle.std.proofs.Math.Path.{fun_ext}
 use Rattle.std.specs.List.{AllZip, enumerate_from}
-use Rattle.first_form.specs.NumberTable.{number_at, number_or_zero}
-use Rattle.first_form.specs.Names.{number_in}
-use Rattle.first_form.specs.Netlists.{names, targets}
+use Rattle.loc_base.specs.NameTable.{number_of}
+use Rattle.first_form.specs.NumberTable.{number_or_zero}
 use Rattle.first_form.specs.Shape.{IsShapedDriver}
 use Rattle.first_form.proofs.Exits.{passed_on}
 use Rattle.first_form.proofs.Wholes.{not_right, not_declared, not_without, flat_from, graph_from, parts_from, made_from, IsMade}
@@ -12,31 +11,31 @@ use Rattle.first_form.proofs.design.design_of.Goals as goal
 
 pub returns-then-not-are_right-clause-form : goal.returns-then-not-are_right-clause-form
 returns-then-not-are_right-clause-form c refused form =
-    not_right c.args.netlist.now c.args.top.now (number_at c.in_ok-assigns.assigns) c.are_right.result (fun_ext c.in_ok-assigns.ensures.numbers) c.are_right.ensures c.if-not-are_right.true form
+    not_right c.args.netlist.now c.args.top.now (number_of c.in_ok-assigns.assigns) c.are_right.result (fun_ext c.in_ok-assigns.ensures.numbers) c.are_right.ensures c.if-not-are_right.true form
 
 pub returns-in_err-drivers-clause-form : goal.returns-in_err-drivers-clause-form
 returns-in_err-drivers-clause-form c refused form =
-    not_declared c.args.netlist.now c.args.top.now (number_at c.in_ok-signals.signals) (fun_ext c.in_ok-signals.ensures.numbers)
+    not_declared c.args.netlist.now c.args.top.now (number_of c.in_ok-signals.signals) (fun_ext c.in_ok-signals.ensures.numbers)
     (c.in_err-drivers.ensures.form (ap Err (passed_on c.from_residual-in_err-drivers.result c.in_err-drivers.field-0.0 c.from_residual-in_err-drivers.ensures.1 refused))) form
 
 pub driver_order-requires-clause-graph : goal.driver_order-requires-clause-graph
 driver_order-requires-clause-graph c =
     graph_from c.args.netlist.now c.in_ok-drivers.drivers.starts.items c.in_ok-drivers.drivers.sources.items
-    (flat_from c.args.netlist.now (number_at c.in_ok-assigns.assigns) c.in_ok-drivers.drivers.starts.items c.in_ok-drivers.drivers.sources.items
+    (flat_from c.args.netlist.now (number_of c.in_ok-assigns.assigns) c.in_ok-drivers.drivers.starts.items c.in_ok-drivers.drivers.sources.items
     (fun_ext c.in_ok-assigns.ensures.numbers) c.in_ok-drivers.ensures.flat)
 
 pub returns-in_err-order-clause-form : goal.returns-in_err-order-clause-form
 returns-in_err-order-clause-form c refused form =
     not_without c.args.netlist.now c.args.top.now c.in_ok-drivers.drivers.starts.items c.in_ok-drivers.drivers.sources.items
-    (flat_from c.args.netlist.now (number_at c.in_ok-assigns.assigns) c.in_ok-drivers.drivers.starts.items c.in_ok-drivers.drivers.sources.items
+    (flat_from c.args.netlist.now (number_of c.in_ok-assigns.assigns) c.in_ok-drivers.drivers.starts.items c.in_ok-drivers.drivers.sources.items
     (fun_ext c.in_ok-assigns.ensures.numbers) c.in_ok-drivers.ensures.flat)
     (c.in_err-order.ensures.form (ap Err (passed_on c.from_residual-in_err-order.result c.in_err-order.field-0.0 c.from_residual-in_err-order.ensures.1 refused))) form
 
 pub returns-clause-of_form : goal.returns-clause-of_form
 returns-clause-of_form c =
     let n = c.args.netlist.now in
-    let f = number_at c.in_ok-signals.signals in
-    let g = number_at c.in_ok-assigns.assigns in
+    let f = number_of c.in_ok-signals.signals in
+    let g = number_of c.in_ok-assigns.assigns in
     let d = c.in_ok-drivers.drivers in
     let P : List Driver → Type 0 = λ l. AllZip (IsShapedDriver (number_or_zero c.in_ok-signals.signals)) (enumerate_from 0 n.assigns.items) l in
     let named : n.name ≡ c.args.top.now = c.is_same.ensures.0 c.if-not-is_same.false in
@@ -52,8 +51,8 @@ returns-clause-of_form c =
 pub returns-clause-meaning : goal.returns-clause-meaning
 returns-clause-meaning c =
     let n = c.args.netlist.now in
-    let f = number_at c.in_ok-signals.signals in
-    let g = number_at c.in_ok-assigns.assigns in
+    let f = number_of c.in_ok-signals.signals in
+    let g = number_of c.in_ok-assigns.assigns in
     let d = c.in_ok-drivers.drivers in
     let P : List Driver → Type 0 = λ l. AllZip (IsShapedDriver (number_or_zero c.in_ok-signals.signals)) (enumerate_from 0 n.assigns.items) l in
     let named : n.name ≡ c.args.top.now = c.is_same.ensures.0 c.if-not-is_same.false in
@@ -69,8 +68,8 @@ returns-clause-meaning c =
 pub returns-clause-well_formed : goal.returns-clause-well_formed
 returns-clause-well_formed c =
     let n = c.args.netlist.now in
-    let f = number_at c.in_ok-signals.signals in
-    let g = number_at c.in_ok-assigns.assigns in
+    let f = number_of c.in_ok-signals.signals in
+    let g = number_of c.in_ok-assigns.assigns in
     let d = c.in_ok-drivers.drivers in
     let P : List Driver → Type 0 = λ l. AllZip (IsShapedDriver (number_or_zero c.in_ok-signals.signals)) (enumerate_from 0 n.assigns.items) l in
     let named : n.name ≡ c.args.top.now = c.is_same.ensures.0 c.if-not-is_same.false in
@@ -86,8 +85,8 @@ returns-clause-well_formed c =
 pub returns-clause-combinational : goal.returns-clause-combinational
 returns-clause-combinational c =
     let n = c.args.netlist.now in
-    let f = number_at c.in_ok-signals.signals in
-    let g = number_at c.in_ok-assigns.assigns in
+    let f = number_of c.in_ok-signals.signals in
+    let g = number_of c.in_ok-assigns.assigns in
     let d = c.in_ok-drivers.drivers in
     let P : List Driver → Type 0 = λ l. AllZip (IsShapedDriver (number_or_zero c.in_ok-signals.signals)) (enumerate_from 0 n.assigns.items) l in
     let named : n.name ≡ c.args.top.now = c.is_same.ensures.0 c.if-not-is_same.false in
@@ -103,8 +102,8 @@ returns-clause-combinational c =
 pub returns-clause-order : goal.returns-clause-order
 returns-clause-order c =
     let n = c.args.netlist.now in
-    let f = number_at c.in_ok-signals.signals in
-    let g = number_at c.in_ok-assigns.assigns in
+    let f = number_of c.in_ok-signals.signals in
+    let g = number_of c.in_ok-assigns.assigns in
     let d = c.in_ok-drivers.drivers in
     let P : List Driver → Type 0 = λ l. AllZip (IsShapedDriver (number_or_zero c.in_ok-signals.signals)) (enumerate_from 0 n.assigns.items) l in
     let named : n.name ≡ c.args.top.now = c.is_same.ensures.0 c.if-not-is_same.false in

@@ -1,8 +1,9 @@
-use Rattle.std.proofs.Common.{◌≡◌, ℕ, ◌+◌, ◌<◌, ◌∙◌, sym, ap, arith, rules, take, length, ◌++◌, get_or, List, subst}
+use Rattle.std.proofs.Common.{◌≡◌, ◌+◌, ◌∙◌, sym, ap, arith, rules, take, length, ◌++◌, get_or, List, subst}
 use Rattle.std.specs.List.{flat_map}
 use Rattle.std.specs.Prelude.{All}
 use Rattle.std.proofs.lemmas.List.{take_all, length_push}
-use Rattle.first_form.specs.NumberTable.{number_at, has_number, number_or_zero}
+use Rattle.loc_base.specs.NameTable.{number_of, has_number}
+use Rattle.first_form.specs.NumberTable.{number_or_zero}
 use Rattle.first_form.specs.Shape.{IsShapedDriver, sources_of}
 use Rattle.first_form.specs.Netlists.{AreDeclared}
 use Rattle.first_form.specs.declared.netlist.Assignment.{Assignment}
@@ -14,7 +15,7 @@ loop-i-preserved c =
     let xs = c.args.assignments.now in
     let i = c.loop-i.i in
     let x = c.index-assignments-i.result in
-    let f = sources_of (number_at c.args.assigns.now) in
+    let f = sources_of (number_of c.args.assigns.now) in
     let long : c.len.result ≡ length c.driver_of.new.sources.items = search rules in (
       rw c.in_ok-push.ensures.items (zipped_more (IsShapedDriver (number_or_zero c.args.signals.now)) xs c.loop-i.list.items i x c.in_ok-driver.driver
           c.loop-i-test.true c.index-assignments-i.is c.loop-i.invariant.0 c.in_ok-driver.ensures.driver),

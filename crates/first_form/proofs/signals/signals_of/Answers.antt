@@ -1,4 +1,4 @@
-use Rattle.std.proofs.Common.{[], ◌≡◌, List, subst, map, Bool}
+use Rattle.std.proofs.Common.{[], subst, map, Bool}
 use Rattle.first_form.specs.Netlists.{declares, port_declaration, wire_declaration}
 use Rattle.first_form.specs.Meaning.{IsSignalOf}
 use Rattle.first_form.proofs.ListSteps.{mapped_more}

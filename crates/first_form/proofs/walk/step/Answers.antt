@@ -1,8 +1,8 @@
-use Rattle.std.proofs.Common.{◌≡◌, ◌∙◌, sym, ap, refl, arith, ◌<◌, ◌+◌, length, get_or, ℕ, Fits}
+use Rattle.std.proofs.Common.{◌≡◌, ◌∙◌, sym, ap, arith, ◌<◌, length, get_or}
 use Rattle.std.proofs.lemmas.List.{get_or_read}
-use Rattle.first_form.specs.declared.state.State.TheVariants.{New, Open, Done}
+use Rattle.first_form.specs.declared.state.State.TheVariants.{New}
 use Rattle.first_form.specs.Walks.{state_at}
-use Rattle.first_form.proofs.Walking.{on_ok_four, IsAtTop, at_top, IsNextSource, next_source, step_closed, work_closed, step_opened, work_opened, step_circle, step_advanced, next_falls}
+use Rattle.first_form.proofs.Walking.{on_ok_four, at_top, next_source, step_closed, work_closed, step_opened, step_circle, step_advanced, next_falls}
 use Rattle.first_form.proofs.walk.step.Goals as goal
 
 pub returns-then-at-starts-clause-walk : goal.returns-then-at-starts-clause-walk

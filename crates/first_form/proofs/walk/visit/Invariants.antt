@@ -1,4 +1,4 @@
-use Rattle.std.proofs.Common.{◌≡◌, ◌≢◌}
+use Rattle.std.proofs.Common.{◌≢◌}
 use Rattle.first_form.specs.declared.state.State.TheVariants.{New}
 use Rattle.first_form.specs.Walks.{IsWalkOf, StaysMet, state_at, work_left}
 use Rattle.first_form.proofs.walk.visit.Given as goal

@@ -8,4 +8,4 @@ use Rattle.plain_sim.proofs.evaluate.statement.matching_item.Goals as goal
 pub returns-then-some_label_matches-clause-first : goal.returns-then-some_label_matches-clause-first
 returns-then-some_label_matches-clause-first c =
     found-first (item_matches c.args.design.now.signals.items (valuation_of c.args.words.now) (value_of c.args.subject)) c.args.items.now c.loop-i.i c.index-items-i.result c.loop-i-test.true c.index-items-i.is
-    (sym (rw (c.deref.ensures.value, c.deref-in-loop-i.ensures.value) at c.if-some_label_matches.ensures)) c.loop-i.invariant.first
+    (sym (rw (c.deref.ensures.value, c.deref-in-loop-i.ensures) at c.if-some_label_matches.ensures)) c.loop-i.invariant.first

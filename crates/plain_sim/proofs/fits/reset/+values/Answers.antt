@@ -6,4 +6,4 @@ use Rattle.plain_sim.proofs.fits.reset.+values.Goals as goal
 
 pub is_reset_values-returns-in-Block : goal.is_reset_values-returns-in-Block
 is_reset_values-returns-in-Block t c =
-    rw c.in-Block.is (c.are_reset_values.ensures ∙ ap (list_all is_reset_values) c.deref.ensures.value ∙ sym (reset-test c.in-Block.statements))
+    rw c.in-Block.is (c.are_reset_values.ensures ∙ ap (list_all is_reset_values) c.deref.ensures ∙ sym (reset-test c.in-Block.statements))
