@@ -184,10 +184,10 @@ compared left right of =
 
 abbrev pub class_sizing : Class → Sizing → Sizing → Sizing
 class_sizing (by_context op) left right = both_by_context left right (λ size signed a b. operator.binary op size signed signed a b)
-class_sizing (shift op) left right = left_by_context left right (λ V size signed a. operator.binary op size signed false a (own right V))
+class_sizing (shift op) left right = left_by_context left right (λ V size signed a. operator.binary op size signed right.signed a (own right V))
 class_sizing (comparison op) left right = compared left right (λ size signed a b. operator.binary op size signed signed a b)
 class_sizing (logical op) left right =
-    by_itself 1 false (left.constant && right.constant) (λ V. operator.binary op 1 false false (own left V) (own right V))
+    by_itself 1 false (left.constant && right.constant) (λ V. operator.binary op left.width left.signed right.signed (own left V) (own right V))
 class_sizing quotient left right = both_by_context left right (λ size signed a b. quotient_of size (integer_of signed size a) (integer_of signed size b))
 class_sizing remainder left right = both_by_context left right (λ size signed a b. remainder_of size (integer_of signed size a) (integer_of signed size b))
 class_sizing power left right = left_by_context left right (λ V size signed a. power_of size a (integer right V))
