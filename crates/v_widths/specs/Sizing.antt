@@ -101,6 +101,11 @@ has_no_bit width left right (some_bits kind one other) =
     let count = chosen_width (some_bits kind one other) in
     bits_within width count (part_distance left right kind (known one) (known other) count) == 0
 
+-- whether the first select is by constants and names no bit of a word
+abbrev pub names_no_bit : ℕ → ℤ → ℤ → List Chosen → Bool
+names_no_bit width left right [] = false
+names_no_bit width left right (chosen ∷ _) = is_chosen_by_constants chosen && has_no_bit width left right chosen
+
 abbrev pub is_none : Option ℕ → Bool
 is_none word = option_map_or (λ _. false) word true
 
@@ -124,7 +129,7 @@ meaning_sizing (meaning.Signal signal width signed left right) chosen =
     word_sizing width signed false (λ V. record { width = width; left = left; right = right; bits = V signal }) chosen
 meaning_sizing (meaning.Array first count low width signed left right) (one_bit index ∷ rest) =
     word_sizing width signed
-    (if index.constant then is_none (word_at first count low (known index)) else not (list_all (λ chosen. not (has_no_bit width left right chosen)) rest))
+    (if index.constant then is_none (word_at first count low (known index)) else names_no_bit width left right rest)
     (λ V. record { width = width; left = left; right = right; bits = word_bits V (word_at first count low (integer index V)) }) rest
 meaning_sizing (meaning.Array _ _ _ width _ _ _) [] = by_itself width false false (λ _. 0)
 meaning_sizing (meaning.Array _ _ _ width _ _ _) (some_bits _ _ _ ∷ _) = by_itself width false false (λ _. 0)
