@@ -1,8 +1,9 @@
 -- What is a constant has one value, whatever the signals' bits are.
-use Rattle.std.proofs.Common.{◌≡◌, ℕ, zero, suc, ◌+◌, ◌*◌, ◌^◌, ◌-◌, Bool, true, false, ◌&&◌, List, [], ◌∷◌, Option, Some, None, refl, ap, sym, ◌∙◌}
+use Rattle.std.proofs.Common.{◌≡◌, ℕ, zero, suc, ◌+◌, ◌*◌, ◌^◌, ◌-◌, Bool, true, false, ◌&&◌, List, [], ◌∷◌, Option, Some, None, refl, ap, sym, subst, ◌∙◌, ◌<◌, arith}
 use Rattle.std.specs.Prelude.{if◌then◌else◌, max, ℤ, pos, negsuc, ◌+ℤ◌, ◌==◌, not}
 use Rattle.std.specs.List.{list_all}
-use Rattle.std.proofs.lemmas.Bool.{and_parts}
+use Rattle.std.proofs.lemmas.Bool.{and_parts, eqb-true}
+use Rattle.std.proofs.lemmas.Int.{ints}
 use Rattle.loc_base.specs.Word.{extended}
 use Rattle.v_tree.specs.declared.operator.Unary.{Unary}
 use Rattle.v_tree.specs.declared.operator.SystemFunction.{SystemFunction}
@@ -11,7 +12,8 @@ use Rattle.design_core.specs.Valuation.{Valuation}
 use Rattle.design_core.specs.Constant.{zeros}
 use Rattle.design_core.specs.Operator.{is_true, integer_of, repeated}
 use Rattle.design_core.specs.Operator as operator
-use Rattle.v_widths.specs.Operations.{Class, by_context, shift, comparison, logical, quotient, remainder, power, unary_of, keeps_width, quotient_of, remainder_of, power_of, ceiling_of_logarithm}
+use Rattle.loc_base.specs.Bits.{width_of, value_of}
+use Rattle.v_widths.specs.Operations.{class_of, Class, by_context, shift, comparison, logical, quotient, remainder, power, unary_of, keeps_width, quotient_of, remainder_of, power_of, ceiling_of_logarithm}
 use Rattle.v_tree.specs.declared.expression.PartKind.{PartKind}
 use Rattle.v_tree.specs.Tree.{Tree, Trees, no_tree, tree, Selections, no_select, select}
 use Rattle.v_tree.specs.Tree as written
@@ -22,6 +24,8 @@ use Rattle.v_widths.specs.declared.meaning.Meaning.TheVariants as meaning
 use Rattle.v_widths.specs.Look.{Look}
 use Rattle.v_widths.specs.Literal.{literal_width, literal_signed, literal_value}
 use Rattle.v_widths.specs.Selected.{base_index, part_offset, part_number, bit_at_index, descends}
+use Rattle.v_widths.proofs.Parts.{distance-step, none-within}
+use Rattle.v_widths.specs.Selected.{part_distance, bits_within}
 use Rattle.v_widths.specs.Sizing.{Word, Chosen, one_bit, some_bits, chosen_width, chosen_value, is_chosen_by_constants, has_no_bit, names_no_bit, is_none, word_bits, word_sizing, meaning_sizing, name_sizing, literal, sizing, sizings, chosen_of}
 use Rattle.v_widths.specs.Sizing.{Sizing, own, integer, known, by_itself, called, unary_sizing, class_sizing, conditional, joined, joined_value, joined_width, are_constant, replicated, times_of}
 
@@ -171,3 +175,111 @@ plain-steady width signed w (c ∷ rest) steady is V size as_signed =
 variable-steady : (width : ℕ) (signed : Bool) (word : Valuation → Word) (chosen : List Chosen) → IsSteady (word_sizing width signed false word chosen)
 variable-steady width signed word [] is V size as_signed = let e : false ≡ true = is in cc
 variable-steady width signed word (c ∷ rest) is V size as_signed = let e : false ≡ true = is in cc
+
+-- a word of an array: of an address that is none of its addresses it reads as 0
+beyond-steady : (width : ℕ) (signed : Bool) (first count : ℕ) (low left right : ℤ) (index : Sizing) (rest : List Chosen)
+    → IsSteady index → index.constant ≡ true → word_at first count low (known index) ≡ None
+    → (V : Valuation) (size : ℕ) (as_signed : Bool)
+    → (word_sizing width signed true (λ U. record { width = width; left = left; right = right; bits = word_bits U (word_at first count low (integer index U)) }) rest).value V size as_signed
+    ≡ (word_sizing width signed true (λ U. record { width = width; left = left; right = right; bits = word_bits U (word_at first count low (integer index U)) }) rest).value zeros size as_signed
+beyond-steady width signed first count low left right index rest steady is missing V size as_signed = same rest
+  where
+    there : (U : Valuation) → word_at first count low (integer index U) ≡ None
+    there U = ap (word_at first count low) (integer-steady index steady is U) ∙ missing
+
+    zero-of : (U : Valuation) (chosen : List Chosen)
+        → chosen_value (record { width = width; left = left; right = right; bits = word_bits U (word_at first count low (integer index U)) }) chosen U ≡ 0
+    zero-of U chosen =
+        ap (λ o. chosen_value (record { width = width; left = left; right = right; bits = word_bits U o }) chosen U) (there U) ∙ zero_word width left right chosen U
+
+    same : (chosen : List Chosen)
+        → (word_sizing width signed true (λ U. record { width = width; left = left; right = right; bits = word_bits U (word_at first count low (integer index U)) }) chosen).value V size as_signed
+        ≡ (word_sizing width signed true (λ U. record { width = width; left = left; right = right; bits = word_bits U (word_at first count low (integer index U)) }) chosen).value zeros size as_signed
+    same [] = ap (extended as_signed width size) (zero-of V [] ∙ sym (zero-of zeros []))
+    same (c ∷ cs) = ap (extended as_signed (chosen_width c) size) (zero-of V (c ∷ cs) ∙ sym (zero-of zeros (c ∷ cs)))
+
+-- bits that no word has
+out_of_word : (w : Word) (distance : ℤ) (b count : ℕ) → bits_within w.width count distance ≡ 0 → b < count
+    → bit_or_zero w.bits (place_within w.width (distance +ℤ pos b)) ≡ false
+out_of_word w distance b count missing below = ap (bit_or_zero w.bits) (none-within w.width count distance missing b below)
+
+no_bit-value : (w : Word) (c : Chosen) (rest : List Chosen) → ChosenSteady c → is_chosen_by_constants c ≡ true → has_no_bit w.width w.left w.right c ≡ true
+    → (V : Valuation) → chosen_value w (c ∷ rest) V ≡ 0
+no_bit-value w (one_bit index) rest steady is missing V =
+    ap (λ at. if bit_at_index w.bits w.width w.left w.right at then 1 else 0) (integer-steady index steady is V)
+    ∙ ap (λ set. if set then 1 else 0)
+      ( ap (λ d. bit_or_zero w.bits (place_within w.width d)) (omega (arith, ints))
+      ∙ out_of_word w (distance_of w.left w.right (known index)) 0 1 (eqb-true (bits_within w.width 1 (distance_of w.left w.right (known index))) 0 missing) (omega arith)
+      )
+no_bit-value w (some_bits k one other) rest steady is missing V =
+    let two = and_parts one.constant other.constant is in
+    let count = chosen_width (some_bits k one other) in
+    ap (λ at. part_number w.bits w.width w.left w.right at count (part_offset k (descends w.left w.right) count))
+    (both (base_index k) (integer-steady one steady.0 two.0 V) (integer-steady other steady.1 two.1 V))
+    ∙ number-same count
+      (λ b. bit_at_index w.bits w.width w.left w.right (base_index k (known one) (known other) +ℤ part_offset k (descends w.left w.right) count b)) (λ b. false)
+      (λ b below. ap (λ d. bit_or_zero w.bits (place_within w.width d)) (distance-step w.left w.right k (known one) (known other) count b below)
+          ∙ out_of_word w (part_distance w.left w.right k (known one) (known other) count) b count
+            (eqb-true (bits_within w.width count (part_distance w.left w.right k (known one) (known other) count)) 0 missing) below)
+    ∙ number-none count
+
+-- ---- expressions
+none-of : (o : Option ℕ) → is_none o ≡ true → o ≡ None
+none-of None h = refl
+none-of (Some x) h = cc
+
+array-steady : (width : ℕ) (signed : Bool) (first count : ℕ) (low left right : ℤ) (index : Sizing) (rest : List Chosen)
+    → IsSteady index → AllChosenSteady rest → (fixed : Bool) → index.constant ≡ fixed
+    → IsSteady (word_sizing width signed (if fixed then is_none (word_at first count low (known index)) else names_no_bit width left right rest)
+        (λ U. record { width = width; left = left; right = right; bits = word_bits U (word_at first count low (integer index U)) }) rest)
+array-steady width signed first count low left right index [] steady others true fixed is V size as_signed =
+    beyond-steady width signed first count low left right index [] steady fixed (none-of (word_at first count low (known index)) is) V size as_signed
+array-steady width signed first count low left right index (c ∷ rest) steady others true fixed is V size as_signed =
+    beyond-steady width signed first count low left right index (c ∷ rest) steady fixed (none-of (word_at first count low (known index)) is) V size as_signed
+array-steady width signed first count low left right index [] steady others false fixed is V size as_signed = let e : false ≡ true = is in cc
+array-steady width signed first count low left right index (c ∷ rest) steady (one_more chosen others) false fixed is V size as_signed =
+    let parts = and_parts (is_chosen_by_constants c) (has_no_bit width left right c) is in
+    ap (extended as_signed (chosen_width c) size)
+    ( no_bit-value (record { width = width; left = left; right = right; bits = word_bits V (word_at first count low (integer index V)) }) c rest chosen parts.0 parts.1 V
+    ∙ sym (no_bit-value (record { width = width; left = left; right = right; bits = word_bits zeros (word_at first count low (integer index zeros)) }) c rest chosen parts.0 parts.1 zeros)
+    )
+
+meaning-steady : (m : Meaning) (chosen : List Chosen) → AllChosenSteady chosen → IsSteady (meaning_sizing m chosen)
+meaning-steady (meaning.Constant value left right) chosen steady =
+    plain-steady (width_of value.bits) value.signed (record { width = width_of value.bits; left = left; right = right; bits = bit (value_of value.bits) }) chosen steady
+meaning-steady (meaning.Signal signal width signed left right) chosen steady =
+    variable-steady width signed (λ V. record { width = width; left = left; right = right; bits = V signal }) chosen
+meaning-steady (meaning.Array first count low width signed left right) [] steady = λ is V size as_signed. let e : false ≡ true = is in cc
+meaning-steady (meaning.Array first count low width signed left right) (some_bits k one other ∷ rest) steady = λ is V size as_signed. let e : false ≡ true = is in cc
+meaning-steady (meaning.Array first count low width signed left right) (one_bit index ∷ rest) (one_more chosen others) =
+    array-steady width signed first count low left right index rest chosen others index.constant refl
+
+name-steady : (m : Option Meaning) (chosen : List Chosen) → AllChosenSteady chosen → IsSteady (name_sizing m chosen)
+name-steady None chosen steady = λ is V size as_signed. let e : false ≡ true = is in cc
+name-steady (Some m) chosen steady = meaning-steady m chosen steady
+
+mutual
+  pub sizing-steady : (look : Look) (e : Tree) → IsSteady (sizing look e)
+  sizing-steady look (written.number _ text) = by_itself-steady (literal_width text) (literal_signed text) true (λ V. literal_value text) (λ is V. refl)
+  sizing-steady look (written.wild _ text) = by_itself-steady (literal_width text) (literal_signed text) true (λ V. literal_value text) (λ is V. refl)
+  sizing-steady look (written.name _ text selects) = name-steady (look text) (chosen_of look selects) (chosen-steady look selects)
+  sizing-steady look (written.parens _ inner) = sizing-steady look inner
+  sizing-steady look (written.concat _ parts) = joined-steady (sizings look parts) (sizings-steady look parts)
+  sizing-steady look (written.repeat _ count parts) = replicated-steady (sizing look count) (sizings look parts) (sizings-steady look parts)
+  sizing-steady look (written.system _ name argument) = called-steady name (sizing look argument) (sizing-steady look argument)
+  sizing-steady look (written.unary _ op operand) = unary-steady op (sizing look operand) (sizing-steady look operand)
+  sizing-steady look (written.binary _ op left right) =
+      class-steady (class_of op) (sizing look left) (sizing look right) (sizing-steady look left) (sizing-steady look right)
+  sizing-steady look (written.conditional _ condition on_true on_false) =
+      conditional-steady (sizing look condition) (sizing look on_true) (sizing look on_false)
+      (sizing-steady look condition) (sizing-steady look on_true) (sizing-steady look on_false)
+
+  sizings-steady : (look : Look) (parts : Trees) → AllSteady (sizings look parts)
+  sizings-steady look no_tree = none
+  sizings-steady look (tree one rest) = more (sizing-steady look one) (sizings-steady look rest)
+
+  chosen-steady : (look : Look) (selects : Selections) → AllChosenSteady (chosen_of look selects)
+  chosen-steady look no_select = no_more
+  chosen-steady look (select (written.bit _ index) rest) = one_more (sizing-steady look index) (chosen-steady look rest)
+  chosen-steady look (select (written.part _ kind one other) rest) =
+      one_more (sizing-steady look one, sizing-steady look other) (chosen-steady look rest)
