@@ -2,3 +2,4 @@ pub mod Examples
 pub mod Parts
 pub mod Steady
 pub mod Meant
+pub mod Accepted

@@ -54,7 +54,7 @@ below signals t width signed of meant V =
     subst (λ v. v < 2 ^ width) (meant.means V) (subst (λ w. value signals V t < 2 ^ w) meant.of_width (value-in_range signals V t meant.fits))
 
 -- ---- constants
-limited-within : (width : ℕ) → Within width → limited width ≡ width
+pub limited-within : (width : ℕ) → Within width → limited width ≡ width
 limited-within width within = ap (max 1) (min-eq_left within.most) ∙ max-eq_right within.least
 
 word-width : (width number : ℕ) → Within width → width_of (word width number) ≡ width

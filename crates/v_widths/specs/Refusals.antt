@@ -16,6 +16,7 @@ use Rattle.v_widths.specs.declared.error.WidthErr.TheVariants as fault
 use Rattle.v_widths.specs.declared.meaning.Meaning.{Meaning}
 use Rattle.v_widths.specs.declared.meaning.Meaning.TheVariants as meaning
 use Rattle.v_widths.specs.Look.{Look}
+use Rattle.v_widths.specs.Literal.{literal_width}
 use Rattle.v_widths.specs.Selected.{part_count, runs_along, descends}
 use Rattle.v_widths.specs.Operations.{Class, by_context, shift, comparison, logical, quotient, remainder, power, class_of, keeps_width, is_below_0}
 use Rattle.v_widths.specs.Sizing.{Sizing, sizing, sizings, Chosen, one_bit, some_bits, chosen_of, joined_width, known, times_of, is_chosen_by_constants}
@@ -60,14 +61,18 @@ name_fault span only (Some (meaning.Array _ _ _ _ _ left right)) [] = Some (faul
 name_fault span only (Some (meaning.Array _ _ _ _ _ left right)) (some_bits _ _ _ ∷ _) = Some (fault.UnknownName span)
 name_fault span only (Some (meaning.Array _ _ _ _ _ left right)) (one_bit _ ∷ rest) = word_fault span only true (descends left right) rest
 
+-- a number whose size is none: the tokens of a text have no such number
+abbrev pub literal_fault : Span → List ℕ → Option WidthErr
+literal_fault span text = when (is_bad_width (literal_width text)) (fault.Range span) None
+
 abbrev pub concat_fault : Span → List Sizing → Option WidthErr
-concat_fault span parts = when (nat_lt 128 (joined_width parts)) (fault.Range span) None
+concat_fault span parts = when (is_bad_width (joined_width parts)) (fault.Range span) None
 
 -- a count below 1, or a width above 128
 abbrev pub repeat_fault : Span → Sizing → List Sizing → Option WidthErr
 repeat_fault span count parts =
     when (not count.constant) (fault.NotConstant span)
-    (when (not (int_lt (pos 0) (known count)) || nat_lt 128 (times_of (known count) * joined_width parts)) (fault.Range span) None)
+    (when (not (int_lt (pos 0) (known count)) || is_bad_width (times_of (known count) * joined_width parts)) (fault.Range span) None)
 
 abbrev pub called_fault : Span → SystemFunction → Sizing → Option WidthErr
 called_fault span function.Signed argument = None
@@ -93,8 +98,8 @@ first_of left right whole = option_or left (option_or right whole)
 abbrev mutual
   -- the fault of an expression in a context of a width and a sign; `only` where constants alone are wanted
   pub refusal : Look → Bool → Tree → ℕ → Bool → Option WidthErr
-  refusal look only (written.number _ _) size signed = None
-  refusal look only (written.wild _ _) size signed = None
+  refusal look only (written.number site text) size signed = literal_fault site.span text
+  refusal look only (written.wild site text) size signed = literal_fault site.span text
   refusal look only (written.name site text selects) size signed =
       option_or (selects_refusal look only selects) (name_fault site.span only (look text) (chosen_of look selects))
   refusal look only (written.parens _ inner) size signed = refusal look only inner size signed
