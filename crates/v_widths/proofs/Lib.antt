@@ -1,3 +1,8 @@
+pub mod Digits
+pub mod Integers
+pub mod Powers
+pub mod Repeats
+pub mod Scoped
 pub mod Examples
 pub mod Parts
 pub mod Steady

@@ -8,3 +8,7 @@ pub mod Refusals
 pub mod Sized
 pub mod Context
 pub mod Laws
+pub mod Table
+pub mod Scopes
+pub mod Written
+pub mod Standing

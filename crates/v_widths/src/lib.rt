@@ -2,8 +2,16 @@
 //! (IEEE 1364-2005, clause 5).
 #![tactic(auto)]
 
+mod divide;
 mod error;
+mod fold;
+mod literal;
 mod meaning;
+mod power;
+mod scope;
+mod table;
+mod words;
 
 pub use error::WidthErr;
 pub use meaning::{Const, Meaning};
+pub use scope::Scope;
