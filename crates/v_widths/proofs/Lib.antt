@@ -8,3 +8,4 @@ pub mod Parts
 pub mod Steady
 pub mod Meant
 pub mod Accepted
+pub mod Selects
