@@ -9,3 +9,4 @@ pub mod Steady
 pub mod Meant
 pub mod Accepted
 pub mod Selects
+pub mod Words
