@@ -3,7 +3,7 @@
 -- down to the operands that it sizes (5.5.2) and every other operand is taken by itself.
 -- Each is given for every expression. Where a part is refused, an unknown name counts as 1 bit, a width above 128 as 128,
 -- and a count that is none as 1.
-use Rattle.std.specs.Prelude.{ℕ, zero, suc, ◌+◌, ◌*◌, ◌^◌, ◌==◌, Bool, true, false, not, ◌&&◌, ◌||◌, if◌then◌else◌, min, max, ℤ, pos, negsuc, ◌+ℤ◌, List, [], ◌∷◌, Option, Some, None, sum_by}
+use Rattle.std.specs.Prelude.{ℕ, zero, suc, ◌+◌, ◌*◌, ◌%◌, ◌^◌, ◌==◌, Bool, true, false, not, ◌&&◌, ◌||◌, if◌then◌else◌, min, max, ℤ, pos, negsuc, ◌+ℤ◌, List, [], ◌∷◌, Option, Some, None, sum_by}
 use Rattle.std.specs.Option.{option_map_or}
 use Rattle.std.specs.List.{list_all}
 use Rattle.loc_base.specs.Bits.{width_of, value_of}
@@ -51,9 +51,9 @@ own e V = e.value V e.width e.signed
 abbrev pub integer : Sizing → Valuation → ℤ
 integer e V = integer_of e.signed e.width (own e V)
 
--- that of a constant
+-- that of a constant; 0 where there is none
 abbrev pub known : Sizing → ℤ
-known e = integer e zeros
+known e = if e.constant then integer e zeros else pos 0
 
 -- what has its width and its value whatever the context is: extended by the context's sign
 abbrev pub by_itself : ℕ → Bool → Bool → (Valuation → ℕ) → Sizing
@@ -151,12 +151,13 @@ abbrev pub are_constant : List Sizing → Bool
 are_constant parts = list_all (λ part. part.constant) parts
 
 abbrev pub joined : List Sizing → Sizing
-joined parts = by_itself (limited (joined_width parts)) false (are_constant parts) (joined_value 0 parts)
+joined parts =
+    by_itself (limited (joined_width parts)) false (are_constant parts) (λ V. joined_value 0 parts V % 2 ^ limited (joined_width parts))
 
 abbrev pub replicated : Sizing → List Sizing → Sizing
 replicated count parts =
     by_itself (limited (times_of (known count) * joined_width parts)) false (are_constant parts)
-    (λ V. repeated (times_of (known count)) (joined_width parts) (joined_value 0 parts V))
+    (λ V. repeated (times_of (known count)) (joined_width parts) (joined_value 0 parts V) % 2 ^ limited (times_of (known count) * joined_width parts))
 
 -- ---- operators
 abbrev pub called : SystemFunction → Sizing → Sizing
