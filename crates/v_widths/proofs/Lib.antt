@@ -9,4 +9,5 @@ pub mod Steady
 pub mod Meant
 pub mod Accepted
 pub mod Selects
-pub mod Words
+pub mod Joins
+pub mod Arrays

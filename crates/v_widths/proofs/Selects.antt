@@ -27,10 +27,10 @@ both_hold : {a b : Bool} → a ≡ true → b ≡ true → (a && b) ≡ true
 both_hold {a} {b} one other = ap (λ x. x && b) one ∙ ap (λ x. true && x) other
 
 -- ---- a signal that is there
-there-width : (signals : List Signal) (width : ℕ) (left right : ℤ) (signal : ℕ) (is : IsThere signals width left right signal) → width_at signals signal ≡ width
+pub there-width : (signals : List Signal) (width : ℕ) (left right : ℤ) (signal : ℕ) (is : IsThere signals width left right signal) → width_at signals signal ≡ width
 there-width signals width left right signal is = ap (λ o. option_map_or (λ s. s.width) o 0) is.there ∙ is.is.of_width
 
-there-signal : (signals : List Signal) (width : ℕ) (left right : ℤ) (signal : ℕ) → IsThere signals width left right signal → is_signal signals signal ≡ true
+pub there-signal : (signals : List Signal) (width : ℕ) (left right : ℤ) (signal : ℕ) → IsThere signals width left right signal → is_signal signals signal ≡ true
 there-signal signals width left right signal is = lt-ltb signal (length signals) (slice_get_within signals signal is.signal is.there)
 
 there-position : (signals : List Signal) (width : ℕ) (left right : ℤ) (signal : ℕ) (index : ℤ) → IsThere signals width left right signal
@@ -107,7 +107,7 @@ offset-at offset (suc count) b below = ap (λ xs. slice_get xs b) (offsets-suc o
         (slice-last (offsets_to offset count) (offset count) ∙ ap (λ n. Some (offset n)) (sym last))
 
 -- the value of an index as a whole number
-index-means : (signals : List Signal) (index : Typed) (x : Sizing) → Meant signals index x.width x.signed (λ V. x.value V x.width x.signed) → (V : Valuation)
+pub index-means : (signals : List Signal) (index : Typed) (x : Sizing) → Meant signals index x.width x.signed (λ V. x.value V x.width x.signed) → (V : Valuation)
     → index_value signals V index ≡ integer x V
 index-means signals index x meant V =
     ap (λ s. integer_of s index.width (value signals V index)) meant.of_sign

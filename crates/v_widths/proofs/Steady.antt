@@ -144,7 +144,7 @@ chosen_value-steady w (some_bits kind one other ∷ rest) (one_more first others
     (both (base_index kind) (integer-steady one first.0 two.0 V) (integer-steady other first.1 two.1 V))
 
 -- ---- bits that aren't there
-number-none : (width : ℕ) → number width (λ b. false) ≡ 0
+pub number-none : (width : ℕ) → number width (λ b. false) ≡ 0
 number-none zero = number-zero (λ b. false)
 number-none (suc width) = number-suc width (λ b. false) ∙ ap (λ n. n + 0) (number-none width)
 
