@@ -1,5 +1,5 @@
 -- What is a constant has one value, whatever the signals' bits are.
-use Rattle.std.proofs.Common.{◌≡◌, ℕ, zero, suc, ◌+◌, ◌*◌, ◌^◌, ◌-◌, Bool, true, false, ◌&&◌, List, [], ◌∷◌, Option, Some, None, refl, ap, sym, subst, ◌∙◌, ◌<◌, arith}
+use Rattle.std.proofs.Common.{◌≡◌, ℕ, zero, suc, ◌+◌, ◌*◌, ◌%◌, ◌^◌, ◌-◌, Bool, true, false, ◌&&◌, List, [], ◌∷◌, Option, Some, None, refl, ap, sym, subst, ◌∙◌, ◌<◌, arith}
 use Rattle.std.specs.Prelude.{if◌then◌else◌, max, ℤ, pos, negsuc, ◌+ℤ◌, ◌==◌, not}
 use Rattle.std.specs.List.{list_all}
 use Rattle.std.proofs.lemmas.Bool.{and_parts, eqb-true}
@@ -27,7 +27,7 @@ use Rattle.v_widths.specs.Selected.{base_index, part_offset, part_number, bit_at
 use Rattle.v_widths.proofs.Parts.{distance-step, none-within}
 use Rattle.v_widths.specs.Selected.{part_distance, bits_within}
 use Rattle.v_widths.specs.Sizing.{Word, Chosen, one_bit, some_bits, chosen_width, chosen_value, is_chosen_by_constants, has_no_bit, names_no_bit, is_none, word_bits, word_sizing, meaning_sizing, name_sizing, literal, sizing, sizings, chosen_of}
-use Rattle.v_widths.specs.Sizing.{Sizing, own, integer, known, by_itself, called, unary_sizing, class_sizing, conditional, joined, joined_value, joined_width, are_constant, replicated, times_of}
+use Rattle.v_widths.specs.Sizing.{Sizing, own, integer, known, by_itself, called, unary_sizing, class_sizing, conditional, joined, joined_value, joined_width, are_constant, replicated, times_of, limited}
 
 abbrev pub IsSteady : Sizing → Type 0
 IsSteady e = e.constant ≡ true → (V : Valuation) (size : ℕ) (signed : Bool) → e.value V size signed ≡ e.value zeros size signed
@@ -35,8 +35,12 @@ IsSteady e = e.constant ≡ true → (V : Valuation) (size : ℕ) (signed : Bool
 own-steady : (e : Sizing) → IsSteady e → e.constant ≡ true → (V : Valuation) → own e V ≡ own e zeros
 own-steady e steady constant V = steady constant V e.width e.signed
 
+integer-zeros : (e : Sizing) → IsSteady e → e.constant ≡ true → (V : Valuation) → integer e V ≡ integer e zeros
+integer-zeros e steady constant V = ap (integer_of e.signed e.width) (own-steady e steady constant V)
+
 integer-steady : (e : Sizing) → IsSteady e → e.constant ≡ true → (V : Valuation) → integer e V ≡ known e
-integer-steady e steady constant V = ap (integer_of e.signed e.width) (own-steady e steady constant V)
+integer-steady e steady constant V =
+    ap (integer_of e.signed e.width) (own-steady e steady constant V) ∙ sym (ap (λ holds. if holds then integer e zeros else pos 0) constant)
 
 by_itself-steady : (width : ℕ) (signed constant : Bool) (value_in : Valuation → ℕ) → (constant ≡ true → (V : Valuation) → value_in V ≡ value_in zeros)
     → IsSteady (by_itself width signed constant value_in)
@@ -87,7 +91,7 @@ class-steady remainder left right first second is V size signed =
     both (λ a b. remainder_of size (integer_of signed size a) (integer_of signed size b)) (first parts.0 V size signed) (second parts.1 V size signed)
 class-steady power left right first second is V size signed =
     let parts = and_parts left.constant right.constant is in
-    both (power_of size) (first parts.0 V size signed) (integer-steady right second parts.1 V)
+    both (power_of size) (first parts.0 V size signed) (integer-zeros right second parts.1 V)
 
 choice : {A : Type 0} {c c' : Bool} {a a' b b' : A} → c ≡ c' → a ≡ a' → b ≡ b' → (if c then a else b) ≡ (if c' then a' else b')
 choice {A} {c} {c'} {a} {a'} {b} {b'} test one other = ap (λ x. if x then a else b) test ∙ both (λ x y. if c' then x else y) one other
@@ -113,11 +117,13 @@ joined_value-steady (e ∷ rest) (more first others) is V before =
     ∙ joined_value-steady rest others split.1 V (before * 2 ^ e.width + own e zeros)
 
 pub joined-steady : (parts : List Sizing) → AllSteady parts → IsSteady (joined parts)
-joined-steady parts steady is V size signed = ap (extended signed (joined parts).width size) (joined_value-steady parts steady is V 0)
+joined-steady parts steady is V size signed =
+    ap (λ value. extended signed (joined parts).width size (value % 2 ^ limited (joined_width parts))) (joined_value-steady parts steady is V 0)
 
 pub replicated-steady : (count : Sizing) (parts : List Sizing) → AllSteady parts → IsSteady (replicated count parts)
 replicated-steady count parts steady is V size signed =
-    ap (λ value. extended signed (replicated count parts).width size (repeated (times_of (known count)) (joined_width parts) value)) (joined_value-steady parts steady is V 0)
+    ap (λ value. extended signed (replicated count parts).width size (repeated (times_of (known count)) (joined_width parts) value % 2 ^ limited (times_of (known count) * joined_width parts)))
+    (joined_value-steady parts steady is V 0)
 
 -- ---- names
 -- the expressions of a select are steady
@@ -135,13 +141,13 @@ chosen_value-steady : (w : Word) (chosen : List Chosen) → AllChosenSteady chos
 chosen_value-steady w [] steady is V = refl
 chosen_value-steady w (one_bit index ∷ rest) (one_more first others) is V =
     let parts = and_parts index.constant (list_all is_chosen_by_constants rest) is in
-    ap (λ at. if bit_at_index w.bits w.width w.left w.right at then 1 else 0) (integer-steady index first parts.0 V)
+    ap (λ at. if bit_at_index w.bits w.width w.left w.right at then 1 else 0) (integer-zeros index first parts.0 V)
 chosen_value-steady w (some_bits kind one other ∷ rest) (one_more first others) is V =
     let parts = and_parts (one.constant && other.constant) (list_all is_chosen_by_constants rest) is in
     let two = and_parts one.constant other.constant parts.0 in
     let count = chosen_width (some_bits kind one other) in
     ap (λ at. part_number w.bits w.width w.left w.right at count (part_offset kind (descends w.left w.right) count))
-    (both (base_index kind) (integer-steady one first.0 two.0 V) (integer-steady other first.1 two.1 V))
+    (both (base_index kind) (integer-zeros one first.0 two.0 V) (integer-zeros other first.1 two.1 V))
 
 -- ---- bits that aren't there
 pub number-none : (width : ℕ) → number width (λ b. false) ≡ 0
