@@ -31,7 +31,6 @@ value_more-mod base value next digits i m within is before =
     value_from-same base next (next_value base value (get_or digits i 0)) m (drop (i + 1) digits) (ap (λ n. n % m) is ∙ mod-mod (next_value base value (get_or digits i 0)) m)
     ∙ sym (ap (λ ds. value_from base value ds % m) (drop_at digits i within)) ∙ before
 
-
 -- behind the last digit
 pub value_done-mod : (base value : ℕ) (digits : List ℕ) (i m : ℕ) → length digits ≤ i → value < m
     → value_from base value (drop i digits) % m ≡ value_of base digits % m → value ≡ value_of base digits % m
@@ -39,4 +38,5 @@ value_done-mod base value digits i m end below same =
     sym (mod-eq_of_lt below) ∙ sym (ap (λ ds. value_from base value ds % m) (drop_all i digits end)) ∙ same
 
 pub ruleset next_rows = (next_value_digit, next_value_other)
+
 pub ruleset digits = (value_more-mod, value_done-mod)

@@ -1,8 +1,9 @@
 -- The whole numbers that words mean: below 0 or not, and how far from it.
-use Rattle.std.proofs.Common.{◌≡◌, ℕ, suc, ◌+◌, ◌-◌, ◌^◌, ◌<◌, ◌≤◌, ◌%◌, ap, arith, ◌∙◌, sym, refl, inl, inr}
+use Rattle.std.proofs.Common.{◌≡◌, ℕ, suc, ◌+◌, ◌-◌, ◌^◌, ◌<◌, ◌≤◌, ◌/◌, ◌%◌, ap, arith, ◌∙◌, sym, refl, inl, inr}
 use Rattle.std.specs.Prelude.{Bool, true, false, ℤ, pos, negsuc, int_lt}
 use Rattle.std.proofs.lemmas.Bool.{cases_lt, le-leb, lt-leb}
 use Rattle.std.proofs.lemmas.Nat.{pow_pos}
+use Rattle.std.proofs.Math.Nat.{div-zero, mod-zero}
 use Rattle.loc_base.specs.Word.{is_negative, signed_value}
 use Rattle.loc_base.proofs.WordLaws.{signed_value-low, signed_value-high}
 use Rattle.design_core.specs.Operator.{integer_of}
@@ -45,20 +46,21 @@ pub distance-above : (signed : Bool) (w v : ℕ) → v < 2 ^ w → is_below_0 (i
 distance-above true w v below is = signed-distance w v below false (sym (below_0-signed w v below) ∙ is)
 distance-above false w v below is = refl
 
--- what has a distance of at least 1
-pub distance-some : (signed : Bool) (w v : ℕ) → v < 2 ^ w → 0 < v → 0 < magnitude (integer_of signed w v)
-distance-some true w v below some =
-    elim (cases_lt v (2 ^ (w - 1))) [
-      | inl low ↦ omega (arith, ap magnitude (signed_value-low w v low))
-      | inr high ↦ omega (arith, ap magnitude (signed_value-high w v below high))
-    ]
-distance-some false w v below some = some
+-- a division by 0
+pub divided-by_zero : (n d : ℕ) → d ≡ 0 → n / d ≡ 0
+divided-by_zero n d none = ap (λ k. n / k) none ∙ div-zero n
+
+pub rest-by_zero : (n d : ℕ) → d ≡ 0 → n % d ≡ n
+rest-by_zero n d none = ap (λ k. n % k) none ∙ mod-zero n
+
+pub ruleset by_zero = (divided-by_zero, rest-by_zero)
 
 -- the two's complement of a number modulo 2 ^ w
 pub opposite : (w d : ℕ) → (0 + (2 ^ w - d % 2 ^ w)) % 2 ^ w ≡ (2 ^ w - d % 2 ^ w) % 2 ^ w
 opposite w d = ap (λ n. n % 2 ^ w) (let e : 0 + (2 ^ w - d % 2 ^ w) ≡ 2 ^ w - d % 2 ^ w = omega arith in e)
 
 pub ruleset signs = (below_0-signed, below_0-unsigned)
+
 pub ruleset distances = (distance-below, distance-above)
+
 pub ruleset opposites = (opposite)
-pub ruleset far = (distance-some)

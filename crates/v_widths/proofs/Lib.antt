@@ -3,6 +3,7 @@ pub mod Integers
 pub mod Powers
 pub mod Repeats
 pub mod Scoped
+pub mod SameWord
 pub mod Examples
 pub mod Parts
 pub mod Steady

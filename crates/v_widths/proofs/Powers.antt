@@ -51,4 +51,5 @@ unfolding logarithm_from
 log-last n = refl
 
 pub ruleset logarithms = (log-found, log-more, log-last)
+
 pub ruleset powers = (even_step, odd_step)

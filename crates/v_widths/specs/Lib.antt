@@ -10,5 +10,6 @@ pub mod Context
 pub mod Laws
 pub mod Table
 pub mod Scopes
+pub mod Folding
 pub mod Written
 pub mod Standing

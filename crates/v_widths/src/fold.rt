@@ -4,7 +4,7 @@ ghost use Rattle.loc_base.specs.Bits.{width_of, value_of};
 ghost use Rattle.design_core.specs.Operator.{one_if, unary, binary, is_less, repeated};
 ghost use Rattle.design_core.specs.WellFormed.{unary_fits, binary_fits};
 
-use crate::words::{flag, is_full, is_true};
+use crate::numbers::{flag, is_full, is_true};
 use design_core::{BinaryOp, UnaryOp};
 use loc_base::Bits;
 

@@ -7,10 +7,11 @@ mod error;
 mod fold;
 mod literal;
 mod meaning;
+mod node;
+mod numbers;
 mod power;
 mod scope;
 mod table;
-mod words;
 
 pub use error::WidthErr;
 pub use meaning::{Const, Meaning};

@@ -6,7 +6,7 @@ ghost use Rattle.loc_base.specs.Bits as word;
 ghost use Rattle.v_widths.specs.Literal.{quote_in, width_of_size, value_in_base, value_behind, has_sign, literal_width, literal_signed, literal_value};
 ghost use Rattle.v_widths.specs.Written.{written_value};
 
-use crate::words::low_bits;
+use crate::numbers::low_bits;
 use loc_base::Bits;
 
 /// A digit that counts, or a wildcard.

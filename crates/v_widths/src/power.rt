@@ -3,7 +3,7 @@ ghost use Rattle.std.specs.Prelude.{◌≡◌, ◌<◌, ◌%◌, ◌^◌};
 ghost use Rattle.loc_base.specs.Bits.{width_of, value_of};
 ghost use Rattle.v_widths.specs.Operations.{ceiling_of_logarithm};
 
-use crate::words::low_bits;
+use crate::numbers::low_bits;
 use loc_base::Bits;
 
 /// A power modulo 2 ^ width; it takes as many turns as the exponent has bits.
