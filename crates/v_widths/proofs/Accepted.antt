@@ -31,7 +31,7 @@ pub or_false : (a b : Bool) → (a || b) ≡ false → (a ≡ false) × (b ≡ f
 or_false true b h = cc
 or_false false b h = (refl, h)
 
-not_zero : (n : ℕ) → (n == 0) ≡ false → 1 ≤ n
+pub not_zero : (n : ℕ) → (n == 0) ≡ false → 1 ≤ n
 not_zero zero h = cc
 not_zero (suc n) h = omega arith
 

@@ -33,7 +33,7 @@ higher : (bit : Bool) (a b : ℕ) → (if bit then 2 ^ (a + b) else 0) ≡ (if b
 higher true a b = pow-add 2 a b ∙ mul_comm (2 ^ a) (2 ^ b)
 higher false a b = let nothing : 0 * 2 ^ a ≡ 0 = omega arith in sym nothing
 
-number-halves : (a b : ℕ) (f : ℕ → Bool) → number (a + b) f ≡ number b (λ i. f (a + i)) * 2 ^ a + number a f
+pub number-halves : (a b : ℕ) (f : ℕ → Bool) → number (a + b) f ≡ number b (λ i. f (a + i)) * 2 ^ a + number a f
 number-halves a zero f =
     let same : a + 0 ≡ a = omega arith in
     let nothing : 0 * 2 ^ a + number a f ≡ number a f = omega arith in

@@ -12,3 +12,4 @@ pub mod Accepted
 pub mod Selects
 pub mod Joins
 pub mod Arrays
+pub mod WordParts
