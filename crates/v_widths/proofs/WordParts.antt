@@ -9,6 +9,8 @@ use Rattle.design_core.specs.declared.signal.Signal.{Signal}
 use Rattle.design_core.specs.declared.expression.Typed.{Typed}
 use Rattle.design_core.specs.declared.expression.Node.TheVariants as node
 use Rattle.design_core.specs.Valuation.{Valuation, number, place_within, bit_or_zero, word_at}
+use Rattle.design_core.specs.Value.{node_value}
+use Rattle.design_core.specs.WellFormed.{node_fits}
 use Rattle.design_core.proofs.NumberLaws.{number-same, number-zero}
 use Rattle.v_widths.specs.Selected.{bits_below, bits_within, start_within}
 use Rattle.v_widths.specs.Sizing.{Sizing, integer, word_bits, joined_value}
@@ -126,3 +128,123 @@ padding-right count before V = by (count == 0) refl
         let same : before ≡ before * 1 = omega arith in
         same ∙ sym (ap (λ n. before * n) one)
     by false is = let same : before * 2 ^ count + 0 ≡ before * 2 ^ count = omega arith in same
+
+-- ---- a part of a word
+-- an array of words of a width and a range, with its sized address
+pub record Addressed (signals : List Signal) : Type 0 where
+  pub width : ℕ
+  pub left : ℤ
+  pub right : ℤ
+  pub first : ℕ
+  pub count : ℕ
+  pub low : ℤ
+  pub some : 1 ≤ count
+  pub there : (k : ℕ) → k < count → IsThere signals width left right (first + k)
+  pub wide : width ≤ 128
+  pub index : Typed
+  pub of : Sizing
+  pub meant : Meant signals index of.width of.signed (λ V. of.value V of.width of.signed)
+
+-- the bits of its word at its address
+abbrev pub addressed_bits : {signals : List Signal} → Addressed signals → Valuation → ℕ → Bool
+addressed_bits a V = word_bits V (word_at a.first a.count a.low (integer a.of V))
+
+bits-fit : (width size : ℕ) (d : ℤ) → 1 ≤ bits_within width size d → bits_below size d + bits_within width size d ≤ size
+bits-fit width size (pos from) some = omega arith
+bits-fit width size (negsuc n) some = omega arith
+
+bits-inside : (width size : ℕ) (d : ℤ) → 1 ≤ bits_within width size d → start_within d + bits_within width size d ≤ width
+bits-inside width size (pos from) some = omega arith
+bits-inside width size (negsuc n) some = omega arith
+
+-- what is read of the word
+abbrev read_of : (signals : List Signal) → Addressed signals → ℕ → ℤ → Sizing
+read_of signals a size d =
+    record { width = bits_within a.width size d; signed = false; constant = false; value = λ V w s. number (bits_within a.width size d) (λ i. addressed_bits a V (start_within d + i)) }
+
+pub word_part-meant : (signals : List Signal) (a : Addressed signals) (size : ℕ) (d : ℤ) (signed : Bool) → Within size → 1 ≤ bits_within a.width size d
+    → Meant signals (sized size signed (word_part a.first a.count a.low a.index a.width size d)) size signed (λ V. number size (far_bit (addressed_bits a V) a.width d))
+word_part-meant signals a size d signed fits some = by (bits_within a.width size d == size) refl
+  where
+    read : (as_signed : Bool) → Meant signals (sized (bits_within a.width size d) as_signed (node.Word a.first a.count a.low a.index (start_within d) (bits_within a.width size d)))
+        (bits_within a.width size d) as_signed (λ V. number (bits_within a.width size d) (λ i. addressed_bits a V (start_within d + i)))
+    read as_signed =
+        word-meant signals a.width a.left a.right a.first a.count a.low (start_within d) (bits_within a.width size d) a.index a.of as_signed
+        (record { least = some; most = omega (arith, bits-inside a.width size d some, a.wide) }) (bits-inside a.width size d some) a.some a.there a.meant
+
+    values : (V : Valuation) → number (bits_within a.width size d) (λ i. addressed_bits a V (start_within d + i)) * 2 ^ bits_below size d ≡ number size (far_bit (addressed_bits a V) a.width d)
+    values V = sym (padded (addressed_bits a V) a.width size d (bits-fit a.width size d some))
+
+    by : (holds : Bool) → (bits_within a.width size d == size) ≡ holds
+        → Meant signals
+          ( sized size signed
+            ( if holds
+              then node.Word a.first a.count a.low a.index (start_within d) (bits_within a.width size d)
+              else node.Join
+                ( zeros_before (size - (bits_below size d + bits_within a.width size d))
+                  ( sized (bits_within a.width size d) false (node.Word a.first a.count a.low a.index (start_within d) (bits_within a.width size d))
+                  ∷ zeros_before (bits_below size d) []
+                  )
+                )
+            )
+          ) size signed (λ V. number size (far_bit (addressed_bits a V) a.width d))
+    by true is =
+        let same : bits_within a.width size d ≡ size = eqb-true (bits_within a.width size d) size is in
+        let none_below : bits_below size d ≡ 0 = omega (arith, same, bits-fit a.width size d some) in
+        let r = read signed in
+        record {
+          of_width = refl;
+          of_sign = refl;
+          means = λ V.
+            ap (λ w. node_value signals V w (node.Word a.first a.count a.low a.index (start_within d) (bits_within a.width size d))) (sym same)
+            ∙ r.means V
+            ∙ unshifted (number (bits_within a.width size d) (λ i. addressed_bits a V (start_within d + i))) (bits_below size d) none_below
+            ∙ values V;
+          fits = ap (λ w. node_fits signals w signed (node.Word a.first a.count a.low a.index (start_within d) (bits_within a.width size d))) (sym same) ∙ r.fits
+        }
+      where
+        unshifted : (n k : ℕ) → k ≡ 0 → n ≡ n * 2 ^ k
+        unshifted n k h = let one : n ≡ n * 1 = omega arith in one ∙ sym (ap (λ m. n * 2 ^ m) h)
+    by false is =
+        let es = before_of (size - (bits_below size d + bits_within a.width size d)) (read_of signals a size d ∷ before_of (bits_below size d) []) in
+        let wide : sizing.joined_width es ≡ size = total in
+        let j = join-meant signals
+                ( zeros_before (size - (bits_below size d + bits_within a.width size d))
+                  ( sized (bits_within a.width size d) false (node.Word a.first a.count a.low a.index (start_within d) (bits_within a.width size d))
+                  ∷ zeros_before (bits_below size d) []
+                  )
+                ) es signed (subst Within (sym wide) fits)
+                (padding-meant signals (size - (bits_below size d + bits_within a.width size d))
+                  ( sized (bits_within a.width size d) false (node.Word a.first a.count a.low a.index (start_within d) (bits_within a.width size d))
+                  ∷ zeros_before (bits_below size d) []
+                  ) (read_of signals a size d ∷ before_of (bits_below size d) []) (omega (arith, fits.most))
+                  (more (read false) (padding-meant signals (bits_below size d) [] [] (omega (arith, fits.most, bits-fit a.width size d some)) none))) in
+        subst (λ w. Meant signals
+            ( sized w signed
+              ( node.Join
+                ( zeros_before (size - (bits_below size d + bits_within a.width size d))
+                  ( sized (bits_within a.width size d) false (node.Word a.first a.count a.low a.index (start_within d) (bits_within a.width size d))
+                  ∷ zeros_before (bits_below size d) []
+                  )
+                )
+              )
+            ) w signed (λ V. number size (far_bit (addressed_bits a V) a.width d))) wide
+        (record { of_width = j.of_width; of_sign = j.of_sign; means = λ V. j.means V ∙ meaning V; fits = j.fits })
+      where
+        total : sizing.joined_width (before_of (size - (bits_below size d + bits_within a.width size d)) (read_of signals a size d ∷ before_of (bits_below size d) [])) ≡ size
+        total =
+            let one = padding-width (size - (bits_below size d + bits_within a.width size d)) (read_of signals a size d ∷ before_of (bits_below size d) []) in
+            let two = sum_by-cons (λ part. part.width) (read_of signals a size d) (before_of (bits_below size d) []) in
+            let three : sizing.joined_width (before_of (bits_below size d) []) ≡ bits_below size d + 0 = padding-width (bits_below size d) [] in
+            omega (arith, one, two, three, bits-fit a.width size d some)
+
+        meaning : (V : Valuation)
+            → joined_value 0 (before_of (size - (bits_below size d + bits_within a.width size d)) (read_of signals a size d ∷ before_of (bits_below size d) [])) V
+            ≡ number size (far_bit (addressed_bits a V) a.width d)
+        meaning V =
+            let word = number (bits_within a.width size d) (λ i. addressed_bits a V (start_within d + i)) in
+            let nothing : 0 * 2 ^ bits_within a.width size d + word ≡ word = omega arith in
+            padding-left (size - (bits_below size d + bits_within a.width size d)) (read_of signals a size d ∷ before_of (bits_below size d) []) V
+            ∙ ap (λ n. joined_value n (before_of (bits_below size d) []) V) nothing
+            ∙ padding-right (bits_below size d) word V
+            ∙ values V
