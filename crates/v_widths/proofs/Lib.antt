@@ -13,3 +13,4 @@ pub mod Selects
 pub mod Joins
 pub mod Arrays
 pub mod WordParts
+pub mod Names

@@ -138,7 +138,7 @@ pick-meant signals width left right signal count offset index x signed within is
 inside : (bits : ℕ → Bool) (width from b : ℕ) → from + b < width → bit_or_zero bits (place_within width (pos from +ℤ pos b)) ≡ bits (from + b)
 inside bits width from b below = ap (λ holds. bit_or_zero bits (if holds then Some (from + b) else None)) (lt-ltb (from + b) width below)
 
-start-known : (width count : ℕ) (d : ℤ) (from : ℕ) → start_of width count d ≡ Some from → (d ≡ pos from) × (from + count ≤ width)
+pub start-known : (width count : ℕ) (d : ℤ) (from : ℕ) → start_of width count d ≡ Some from → (d ≡ pos from) × (from + count ≤ width)
 start-known width count (pos n) from h = by (nat_le (n + count) width) refl h
   where
     by : (holds : Bool) → nat_le (n + count) width ≡ holds → (if holds then Some n else None) ≡ Some from → (pos n ≡ pos from) × (from + count ≤ width)

@@ -38,7 +38,7 @@ own-steady e steady constant V = steady constant V e.width e.signed
 integer-zeros : (e : Sizing) → IsSteady e → e.constant ≡ true → (V : Valuation) → integer e V ≡ integer e zeros
 integer-zeros e steady constant V = ap (integer_of e.signed e.width) (own-steady e steady constant V)
 
-integer-steady : (e : Sizing) → IsSteady e → e.constant ≡ true → (V : Valuation) → integer e V ≡ known e
+pub integer-steady : (e : Sizing) → IsSteady e → e.constant ≡ true → (V : Valuation) → integer e V ≡ known e
 integer-steady e steady constant V =
     ap (integer_of e.signed e.width) (own-steady e steady constant V) ∙ sym (ap (λ holds. if holds then integer e zeros else pos 0) constant)
 
