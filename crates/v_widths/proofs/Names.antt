@@ -14,7 +14,7 @@ use Rattle.design_core.specs.declared.expression.Node.{Node}
 use Rattle.design_core.specs.declared.expression.Node.TheVariants as node
 use Rattle.design_core.specs.Valuation.{Valuation, number, distance_of}
 use Rattle.design_core.proofs.NumberLaws.{number-zero, number-suc}
-use Rattle.v_widths.specs.Selected.{bit_at_index, part_number, part_distance, part_offset, base_index, descends}
+use Rattle.v_widths.specs.Selected.{part_count, bit_at_index, part_number, part_distance, part_offset, base_index, descends}
 use Rattle.v_widths.specs.Sizing.{Sizing, own, integer, known, limited, Word, Chosen, one_bit, some_bits, chosen_width, chosen_value}
 use Rattle.v_widths.specs.Refusals.{has_known_size, chosen_fault, word_fault}
 use Rattle.v_widths.specs.Sized.{sized, start_of, signal_part, Select, bit_select, part_select, base_of, signal_node}
@@ -61,3 +61,55 @@ part-meant signals width left right signal count (Some from) offset index x sign
 part-meant signals width left right signal count None offset index x signed of within there meant at by_index =
     let p = pick-meant signals width left right signal count offset index x signed within there meant in
     record { of_width = p.of_width; of_sign = p.of_sign; means = λ V. p.means V ∙ by_index V; fits = p.fits }
+
+-- what is said of the numbers of a part-select where it isn't refused
+part-index : (k : PartKind) (one other : Sizing) → IsSteady one → IsSteady other → has_known_size (some_bits k one other) ≡ true → (base_of k one other).constant ≡ true
+    → (V : Valuation) → base_index k (known one) (known other) ≡ base_index k (integer one V) (integer other V)
+part-index kind.Range one other first second known_size fixed V = sym (integer-steady other second fixed V)
+part-index kind.Up one other first second known_size fixed V = sym (integer-steady one first fixed V)
+part-index kind.Down one other first second known_size fixed V = sym (integer-steady one first fixed V)
+
+base-integer : (k : PartKind) (one other : Sizing) (V : Valuation) → integer (base_of k one other) V ≡ base_index k (integer one V) (integer other V)
+base-integer kind.Range one other V = refl
+base-integer kind.Up one other V = refl
+base-integer kind.Down one other V = refl
+
+base-meant : (signals : List Signal) (k : PartKind) (x y : Sizing) (t u : Typed) → Meant signals t x.width x.signed (own x) → Meant signals u y.width y.signed (own y)
+    → Meant signals (base_of k t u) (base_of k x y).width (base_of k x y).signed (own (base_of k x y))
+base-meant signals kind.Range x y t u one other = other
+base-meant signals kind.Up x y t u one other = one
+base-meant signals kind.Down x y t u one other = one
+
+-- where a place is known, the test is true
+when-known : (holds : Bool) (start : Option ℕ) (from : ℕ) → (if holds then start else None) ≡ Some from → (holds ≡ true) × (start ≡ Some from)
+when-known true start from h = (refl, h)
+when-known false start from h = cc
+
+-- one select of a signal
+pub selected-meant : (signals : List Signal) {s : Select} {c : Chosen} (width : ℕ) (left right : ℤ) (signal : ℕ) (all : Node) (signed : Bool) (rest : List Select) (others : List Chosen)
+    → IsThere signals width left right signal → MeantSelect signals s c → has_known_size c ≡ true
+    → Meant signals (sized (chosen_width c) signed (signal_node signal width left right all (s ∷ rest))) (chosen_width c) signed
+      (λ V. chosen_value (signal_word width left right signal V) (c ∷ others) V)
+selected-meant signals width left right signal all signed rest others there (one_index {x = x} {t = t} steady meant) known_size =
+    part-meant signals width left right signal 1 (if x.constant then start_of width 1 (distance_of left right (known x)) else None) (λ b. pos 0) t x signed
+    (λ V. if bit_at_index (V signal) width left right (integer x V) then 1 else 0)
+    (record { least = lit≤ tt; most = lit≤ tt }) there meant
+    (λ from h.
+      let k = when-known x.constant (start_of width 1 (distance_of left right (known x))) from h in
+      ((start-known width 1 (distance_of left right (known x)) from k.1).1, λ V.
+        bit-known (V signal) width from left right (known x) k.1
+        ∙ ap (λ i. if bit_at_index (V signal) width left right i then 1 else 0) (sym (integer-steady x steady k.0 V))))
+    (λ V. one-bit (V signal) width left right (integer x V))
+selected-meant signals width left right signal all signed rest others there (two_indexes {k = k} {x = x} {y = y} {t = t} {u = u} steady meant steady_other meant_other) known_size =
+    let count = chosen_width (some_bits k x y) in
+    part-meant signals width left right signal count
+    (if (base_of k x y).constant then start_of width count (part_distance left right k (known x) (known y) count) else None)
+    (part_offset k (descends left right) count) (base_of k t u) (base_of k x y) signed
+    (λ V. part_number (V signal) width left right (base_index k (integer x V) (integer y V)) count (part_offset k (descends left right) count))
+    (limits (part_count k (known x) (known y))) there (base-meant signals k x y t u meant meant_other)
+    (λ from h.
+      let at = when-known (base_of k x y).constant (start_of width count (part_distance left right k (known x) (known y) count)) from h in
+      ((start-known width count (part_distance left right k (known x) (known y) count) from at.1).1, λ V.
+        part-known (V signal) width from count left right k (known x) (known y) at.1
+        ∙ ap (λ i. part_number (V signal) width left right i count (part_offset k (descends left right) count)) (part-index k x y steady steady_other known_size at.0 V)))
+    (λ V. ap (λ i. part_number (V signal) width left right i count (part_offset k (descends left right) count)) (base-integer k x y V))
