@@ -14,3 +14,4 @@ pub mod Joins
 pub mod Arrays
 pub mod WordParts
 pub mod Names
+pub mod Meanings
