@@ -6,6 +6,7 @@ use Rattle.std.specs.Option.{option_and_then, option_map_or}
 use Rattle.std.proofs.lemmas.Bool.{and_parts, ltb-true}
 use Rattle.std.proofs.lemmas.Int.{ints}
 use Rattle.loc_base.specs.Bits.{width_of, value_of}
+use Rattle.loc_base.specs.Word.{extended}
 use Rattle.loc_base.specs.declared.span.Span.{Span}
 use Rattle.v_tree.specs.declared.expression.PartKind.{PartKind}
 use Rattle.design_core.specs.declared.signal.Signal.{Signal}
@@ -67,3 +68,81 @@ signal-meant signals width left right signal all size own_signed signed span fix
     (λ V. chosen_value (record { width = width; left = left; right = right; bits = V signal }) (c ∷ []) V) fits wide
     (selected-meant signals width left right signal all signed [] [] there one (chosen-known span fixed down c accepted).0)
 signal-meant signals width left right signal all size own_signed signed span fixed down within there whole (more one (more two rest)) accepted fits wide = cc
+
+-- ---- arrays
+-- the word at an address is one of the array's signals
+word-place : (first count : ℕ) (low address : ℤ) (signal : ℕ) → word_at first count low address ≡ Some signal → (k : ℕ) × (k < count) × (first + k ≡ signal)
+word-place first count low address signal h = found (place_within count (address -ℤ low)) refl h
+  where
+    below-count : (d : ℤ) (k : ℕ) → place_within count d ≡ Some k → k < count
+    below-count (pos n) k e = by (nat_lt n count) refl e
+      where
+        by : (holds : Bool) → nat_lt n count ≡ holds → (if holds then Some n else None) ≡ Some k → k < count
+        by true is same = let e : n ≡ k = cc in subst (λ m. m < count) e (ltb-true n count is)
+        by false is same = cc
+    below-count (negsuc n) k e = cc
+
+    found : (o : Option ℕ) → place_within count (address -ℤ low) ≡ o → option_and_then (λ k. Some (first + k)) o ≡ Some signal → (k : ℕ) × (k < count) × (first + k ≡ signal)
+    found None is e = cc
+    found (Some k) is e = (k, below-count (address -ℤ low) k is, cc)
+
+-- an array's words, its address by a steady expression
+pub record ArrayOf (signals : List Signal) : Type 0 where
+  pub width : ℕ
+  pub left : ℤ
+  pub right : ℤ
+  pub first : ℕ
+  pub count : ℕ
+  pub low : ℤ
+  pub range : HasRange width left right
+  pub some : 1 ≤ count
+  pub there : (k : ℕ) → k < count → IsThere signals width left right (first + k)
+  pub index : Typed
+  pub of : Sizing
+  pub steady : IsSteady of
+  pub meant : Meant signals index of.width of.signed (own of)
+
+abbrev addressed : {signals : List Signal} → ArrayOf signals → Addressed signals
+addressed a = record {
+  width = a.width; left = a.left; right = a.right; first = a.first; count = a.count; low = a.low; some = a.some; there = a.there; wide = a.range.most; index = a.index; of = a.of; meant = a.meant
+}
+
+abbrev array_word : {signals : List Signal} → ArrayOf signals → Valuation → Word
+array_word a V = record { width = a.width; left = a.left; right = a.right; bits = word_bits V (word_at a.first a.count a.low (integer a.of V)) }
+
+from-zero : (width : ℕ) (bits : ℕ → Bool) → number width (λ b. bits (0 + b)) ≡ number width bits
+from-zero width bits = number-same width (λ b. bits (0 + b)) bits (λ b below. let same : 0 + b ≡ b = omega arith in ap bits same)
+
+-- a word at a constant address is a signal
+fixed-word : (signals : List Signal) {ss : List Select} {cs : List Chosen} (a : ArrayOf signals) (signal size : ℕ) (own_signed signed : Bool) (span : Span) (down : Bool)
+    → a.of.constant ≡ true → word_at a.first a.count a.low (known a.of) ≡ Some signal → MeantSelects signals ss cs → word_fault span false true down cs ≡ None → Within size
+    → (word_sizing a.width own_signed false (array_word a) cs).width ≤ size
+    → Meant signals (carried size signed (word_sizing a.width own_signed false (array_word a) cs).width (signal_node signal a.width a.left a.right (node.Slice signal 0 a.width) ss))
+      size signed (λ V. (word_sizing a.width own_signed false (array_word a) cs).value V size signed)
+fixed-word signals {ss = ss} {cs = cs} a signal size own_signed signed span down fixed at selects accepted fits wide =
+    let place = word-place a.first a.count a.low (known a.of) signal at in
+    let there : IsThere signals a.width a.left a.right signal = subst (λ n. IsThere signals a.width a.left a.right n) place.2 (a.there place.0 place.1) in
+    let within = within-range a.width a.left a.right a.range in
+    let slice = slice-meant signals a.width a.left a.right signal 0 a.width signed within (omega arith) there in
+    let all : Meant signals (sized a.width signed (node.Slice signal 0 a.width)) a.width signed (λ V. number a.width (V signal)) =
+        record { of_width = slice.of_width; of_sign = slice.of_sign; means = λ V. slice.means V ∙ from-zero a.width (V signal); fits = slice.fits } in
+    same cs (signal-meant signals a.width a.left a.right signal (node.Slice signal 0 a.width) size own_signed signed span true down within there all selects accepted fits (narrow cs wide))
+  where
+    read : (V : Valuation) → word_at a.first a.count a.low (integer a.of V) ≡ Some signal
+    read V = ap (word_at a.first a.count a.low) (integer-steady a.of a.steady fixed V) ∙ at
+
+    word_is : (V : Valuation) (c : List Chosen) → chosen_value (array_word a V) c V ≡ chosen_value (record { width = a.width; left = a.left; right = a.right; bits = V signal }) c V
+    word_is V c = ap (λ o. chosen_value (record { width = a.width; left = a.left; right = a.right; bits = word_bits V o }) c V) (read V)
+
+    narrow : (c : List Chosen) → (word_sizing a.width own_signed false (array_word a) c).width ≤ size
+        → (word_sizing a.width own_signed false (λ V. record { width = a.width; left = a.left; right = a.right; bits = V signal }) c).width ≤ size
+    narrow [] h = h
+    narrow (x ∷ xs) h = h
+
+    same : (c : List Chosen)
+        → Meant signals (carried size signed (word_sizing a.width own_signed false (λ V. record { width = a.width; left = a.left; right = a.right; bits = V signal }) c).width (signal_node signal a.width a.left a.right (node.Slice signal 0 a.width) ss))
+          size signed (λ V. (word_sizing a.width own_signed false (λ V. record { width = a.width; left = a.left; right = a.right; bits = V signal }) c).value V size signed)
+        → Meant signals (carried size signed (word_sizing a.width own_signed false (array_word a) c).width (signal_node signal a.width a.left a.right (node.Slice signal 0 a.width) ss))
+          size signed (λ V. (word_sizing a.width own_signed false (array_word a) c).value V size signed)
+    same [] m = record { of_width = m.of_width; of_sign = m.of_sign; means = λ V. m.means V ∙ sym (ap (extended signed a.width size) (word_is V [])); fits = m.fits }
+    same (x ∷ xs) m = record { of_width = m.of_width; of_sign = m.of_sign; means = λ V. m.means V ∙ sym (ap (extended signed (chosen_width x) size) (word_is V (x ∷ xs))); fits = m.fits }
