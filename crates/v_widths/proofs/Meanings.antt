@@ -22,16 +22,16 @@ use Rattle.v_widths.specs.Selected.{part_count, bit_at_index, part_number, part_
 use Rattle.v_widths.specs.Sizing.{Sizing, own, integer, known, limited, Word, Chosen, one_bit, some_bits, chosen_width, chosen_value, is_chosen_by_constants, has_no_bit, names_no_bit, is_none, word_bits, word_sizing, meaning_sizing}
 use Rattle.v_widths.specs.declared.error.WidthErr.TheVariants as fault
 use Rattle.v_widths.specs.Refusals.{when, has_known_size, chosen_fault, word_fault, name_fault, is_bad_part}
-use Rattle.v_widths.specs.Sized.{sized, carried, Select, bit_select, part_select, signal_node, word_node, meaning_node}
+use Rattle.v_widths.specs.Sized.{sized, carried, Select, bit_select, part_select, signal_node, word_node, word_part, meaning_node}
 use Rattle.v_widths.specs.Context.{HasRange, IsMeaning, IsThere, IsAmong}
 use Rattle.v_widths.proofs.Parts.{distance-step}
 use Rattle.v_widths.proofs.Steady.{IsSteady, integer-steady}
-use Rattle.v_widths.proofs.Accepted.{when-none, or_false}
+use Rattle.v_widths.proofs.Accepted.{when-none, or_false, not_zero}
 use Rattle.v_widths.proofs.Meant.{Within, Meant, carried-meant}
 use Rattle.v_widths.proofs.Selects.{whole-meant, slice-meant}
 use Rattle.v_widths.proofs.Arrays.{word-meant}
 use Rattle.v_widths.proofs.WordParts.{Addressed, addressed_bits, word_part-meant}
-use Rattle.v_widths.proofs.Names.{MeantSelect, one_index, two_indexes, selected-meant}
+use Rattle.v_widths.proofs.Names.{MeantSelect, one_index, two_indexes, selected-meant, limits}
 
 -- all selects of a name
 pub data MeantSelects (signals : List Signal) : List Select → List Chosen → Type 0 where
@@ -146,3 +146,74 @@ fixed-word signals {ss = ss} {cs = cs} a signal size own_signed signed span down
           size signed (λ V. (word_sizing a.width own_signed false (array_word a) c).value V size signed)
     same [] m = record { of_width = m.of_width; of_sign = m.of_sign; means = λ V. m.means V ∙ sym (ap (extended signed a.width size) (word_is V [])); fits = m.fits }
     same (x ∷ xs) m = record { of_width = m.of_width; of_sign = m.of_sign; means = λ V. m.means V ∙ sym (ap (extended signed (chosen_width x) size) (word_is V (x ∷ xs))); fits = m.fits }
+
+-- how far the first bit of a select by constants lies from bit 0 of a word
+abbrev chosen_distance : ℤ → ℤ → Chosen → ℤ
+chosen_distance left right (one_bit x) = distance_of left right (known x)
+chosen_distance left right (some_bits k x y) = part_distance left right k (known x) (known y) (chosen_width (some_bits k x y))
+
+chosen-within : (c : Chosen) → Within (chosen_width c)
+chosen-within (one_bit x) = record { least = lit≤ tt; most = lit≤ tt }
+chosen-within (some_bits k x y) = limits (part_count k (known x) (known y))
+
+-- far bits are those of the indexes that are written
+index-bits : (signals : List Signal) {s : Select} {c : Chosen} (w : Word) → MeantSelect signals s c → is_chosen_by_constants c ≡ true → (V : Valuation)
+    → number (chosen_width c) (λ b. bit_or_zero w.bits (place_within w.width (chosen_distance w.left w.right c +ℤ pos b))) ≡ chosen_value w (c ∷ []) V
+index-bits signals w (one_index {x = x} steady meant) fixed V =
+    let still : distance_of w.left w.right (known x) +ℤ pos 0 ≡ distance_of w.left w.right (known x) = omega (arith, ints) in
+    number-suc 0 (λ b. bit_or_zero w.bits (place_within w.width (distance_of w.left w.right (known x) +ℤ pos b)))
+    ∙ ap (λ n. n + (if bit_or_zero w.bits (place_within w.width (distance_of w.left w.right (known x) +ℤ pos 0)) then 1 else 0))
+      (number-zero (λ b. bit_or_zero w.bits (place_within w.width (distance_of w.left w.right (known x) +ℤ pos b))))
+    ∙ ap (λ d. 0 + (if bit_or_zero w.bits (place_within w.width d) then 1 else 0)) still
+    ∙ ap (λ i. 0 + (if bit_at_index w.bits w.width w.left w.right i then 1 else 0)) (sym (integer-steady x steady fixed V))
+    ∙ alone (bit_at_index w.bits w.width w.left w.right (integer x V))
+  where
+    alone : (x : Bool) → 0 + (if x then 1 else 0) ≡ (if x then 1 else 0)
+    alone true = refl
+    alone false = refl
+index-bits signals w (two_indexes {k = k} {x = x} {y = y} steady meant steady_other meant_other) fixed V =
+    let two = and_parts x.constant y.constant fixed in
+    let count = chosen_width (some_bits k x y) in
+    number-same count (λ b. bit_or_zero w.bits (place_within w.width (part_distance w.left w.right k (known x) (known y) count +ℤ pos b)))
+    (λ b. bit_at_index w.bits w.width w.left w.right (base_index k (known x) (known y) +ℤ part_offset k (descends w.left w.right) count b))
+    (λ b below. sym (ap (λ d. bit_or_zero w.bits (place_within w.width d)) (distance-step w.left w.right k (known x) (known y) count b below)))
+    ∙ ap (λ i. part_number w.bits w.width w.left w.right (base_index k i (known y)) count (part_offset k (descends w.left w.right) count)) (sym (integer-steady x steady two.0 V))
+    ∙ ap (λ i. part_number w.bits w.width w.left w.right (base_index k (integer x V) i) count (part_offset k (descends w.left w.right) count)) (sym (integer-steady y steady_other two.1 V))
+
+-- some bits of them are there
+some-bits : (width : ℕ) (left right : ℤ) (c : Chosen) → has_no_bit width left right c ≡ false → 1 ≤ bits_within width (chosen_width c) (chosen_distance left right c)
+some-bits width left right (one_bit x) h = not_zero (bits_within width 1 (distance_of left right (known x))) h
+some-bits width left right (some_bits k x y) h =
+    not_zero (bits_within width (chosen_width (some_bits k x y)) (part_distance left right k (known x) (known y) (chosen_width (some_bits k x y)))) h
+
+-- the node of a select of a word at a variable address
+word-node : (signals : List Signal) {s : Select} {c : Chosen} (a : ArrayOf signals) (rest : List Select) → MeantSelect signals s c
+    → word_node a.first a.count a.low a.width a.left a.right a.index (s ∷ rest) ≡ word_part a.first a.count a.low a.index a.width (chosen_width c) (chosen_distance a.left a.right c)
+word-node signals a rest (one_index steady meant) = refl
+word-node signals a rest (two_indexes steady meant steady_other meant_other) = refl
+
+-- a word at a variable address, or some of its bits
+variable-word : (signals : List Signal) {ss : List Select} {cs : List Chosen} (a : ArrayOf signals) (size : ℕ) (own_signed signed : Bool) (span : Span) (down : Bool)
+    → names_no_bit a.width a.left a.right cs ≡ false → MeantSelects signals ss cs → word_fault span false true down cs ≡ None → Within size
+    → (word_sizing a.width own_signed false (array_word a) cs).width ≤ size
+    → Meant signals (carried size signed (word_sizing a.width own_signed false (array_word a) cs).width (word_node a.first a.count a.low a.width a.left a.right a.index ss))
+      size signed (λ V. (word_sizing a.width own_signed false (array_word a) cs).value V size signed)
+variable-word signals a size own_signed signed span down names none accepted fits wide =
+    let within = within-range a.width a.left a.right a.range in
+    let w = word-meant signals a.width a.left a.right a.first a.count a.low 0 a.width a.index a.of signed within (omega arith) a.some a.there a.meant in
+    carried-meant signals (node.Word a.first a.count a.low a.index 0 a.width) a.width size signed (λ V. number a.width (addressed_bits (addressed a) V)) fits wide
+    (record { of_width = w.of_width; of_sign = w.of_sign; means = λ V. w.means V ∙ from-zero a.width (addressed_bits (addressed a) V); fits = w.fits })
+variable-word signals a size own_signed signed span down names (more {s = s} {c = c} one none) accepted fits wide =
+    let constants = (chosen-known span true down c accepted).1 refl in
+    let some = some-bits a.width a.left a.right c (no_and (is_chosen_by_constants c) (has_no_bit a.width a.left a.right c) constants names) in
+    let w = word_part-meant signals (addressed a) (chosen_width c) (chosen_distance a.left a.right c) signed (chosen-within c) some in
+    subst (λ n. Meant signals (carried size signed (chosen_width c) n) size signed (λ V. extended signed (chosen_width c) size (chosen_value (array_word a V) (c ∷ []) V))) (sym (word-node signals a [] one))
+    ( carried-meant signals (word_part a.first a.count a.low a.index a.width (chosen_width c) (chosen_distance a.left a.right c)) (chosen_width c) size signed
+      (λ V. chosen_value (array_word a V) (c ∷ []) V) fits wide
+      (record { of_width = w.of_width; of_sign = w.of_sign; means = λ V. w.means V ∙ index-bits signals (array_word a V) one constants V; fits = w.fits })
+    )
+  where
+    no_and : (x y : Bool) → x ≡ true → (x && y) ≡ false → y ≡ false
+    no_and true y is h = h
+    no_and false y is h = cc
+variable-word signals a size own_signed signed span down names (more one (more two rest)) accepted fits wide = cc

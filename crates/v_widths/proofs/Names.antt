@@ -29,7 +29,7 @@ pub data MeantSelect (signals : List Signal) : Select → Chosen → Type 0 wher
   two_indexes : {k : PartKind} {x y : Sizing} {t u : Typed} → IsSteady x → Meant signals t x.width x.signed (own x) → IsSteady y → Meant signals u y.width y.signed (own y)
       → MeantSelect signals (part_select k x t y u) (some_bits k x y)
 
-limits : (n : ℕ) → Within (limited n)
+pub limits : (n : ℕ) → Within (limited n)
 limits n = record { least = le-max_left 1 (min n 128); most = max-le (lit≤ tt) (min-le_right n 128) }
 
 -- one bit by its index is a part of one bit
