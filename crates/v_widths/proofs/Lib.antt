@@ -15,3 +15,4 @@ pub mod Arrays
 pub mod WordParts
 pub mod Names
 pub mod Meanings
+pub mod Law

@@ -114,7 +114,7 @@ from-zero : (width : ℕ) (bits : ℕ → Bool) → number width (λ b. bits (0 
 from-zero width bits = number-same width (λ b. bits (0 + b)) bits (λ b below. let same : 0 + b ≡ b = omega arith in ap bits same)
 
 -- a word at a constant address is a signal
-fixed-word : (signals : List Signal) {ss : List Select} {cs : List Chosen} (a : ArrayOf signals) (signal size : ℕ) (own_signed signed : Bool) (span : Span) (down : Bool)
+pub fixed-word : (signals : List Signal) {ss : List Select} {cs : List Chosen} (a : ArrayOf signals) (signal size : ℕ) (own_signed signed : Bool) (span : Span) (down : Bool)
     → a.of.constant ≡ true → word_at a.first a.count a.low (known a.of) ≡ Some signal → MeantSelects signals ss cs → word_fault span false true down cs ≡ None → Within size
     → (word_sizing a.width own_signed false (array_word a) cs).width ≤ size
     → Meant signals (carried size signed (word_sizing a.width own_signed false (array_word a) cs).width (signal_node signal a.width a.left a.right (node.Slice signal 0 a.width) ss))
@@ -152,7 +152,7 @@ abbrev chosen_distance : ℤ → ℤ → Chosen → ℤ
 chosen_distance left right (one_bit x) = distance_of left right (known x)
 chosen_distance left right (some_bits k x y) = part_distance left right k (known x) (known y) (chosen_width (some_bits k x y))
 
-chosen-within : (c : Chosen) → Within (chosen_width c)
+pub chosen-within : (c : Chosen) → Within (chosen_width c)
 chosen-within (one_bit x) = record { least = lit≤ tt; most = lit≤ tt }
 chosen-within (some_bits k x y) = limits (part_count k (known x) (known y))
 
@@ -193,7 +193,7 @@ word-node signals a rest (one_index steady meant) = refl
 word-node signals a rest (two_indexes steady meant steady_other meant_other) = refl
 
 -- a word at a variable address, or some of its bits
-variable-word : (signals : List Signal) {ss : List Select} {cs : List Chosen} (a : ArrayOf signals) (size : ℕ) (own_signed signed : Bool) (span : Span) (down : Bool)
+pub variable-word : (signals : List Signal) {ss : List Select} {cs : List Chosen} (a : ArrayOf signals) (size : ℕ) (own_signed signed : Bool) (span : Span) (down : Bool)
     → names_no_bit a.width a.left a.right cs ≡ false → MeantSelects signals ss cs → word_fault span false true down cs ≡ None → Within size
     → (word_sizing a.width own_signed false (array_word a) cs).width ≤ size
     → Meant signals (carried size signed (word_sizing a.width own_signed false (array_word a) cs).width (word_node a.first a.count a.low a.width a.left a.right a.index ss))
