@@ -35,7 +35,7 @@ use Rattle.v_widths.proofs.Steady.{IsSteady}
 use Rattle.v_widths.proofs.Meant.{Within, Meant, constant-meant}
 use Rattle.v_widths.proofs.Selects.{whole-meant}
 use Rattle.v_widths.proofs.Names.{MeantSelect, one_index, two_indexes}
-use Rattle.v_widths.proofs.Meanings.{MeantSelects, none, more, within-range, chosen-known, chosen-within, signal-meant, ArrayOf, fixed-word, variable-word}
+use Rattle.v_widths.proofs.Meanings.{MeantSelects, none, more, within-range, chosen-known, chosen-within, signal-meant, ArrayOf, array_word, fixed-word, variable-word}
 
 -- ---- names
 -- a constant where the expression is one, else what its parts make
@@ -96,3 +96,68 @@ word-width : (width : ℕ) (own_signed one other : Bool) (word : Valuation → W
     → (word_sizing width own_signed one word cs).width ≡ (word_sizing width own_signed other word cs).width
 word-width width own_signed one other word [] = refl
 word-width width own_signed one other word (c ∷ rest) = refl
+
+-- a name that isn't refused and reads signals
+array-meant : (signals : List Signal) {ss : List Select} {cs : List Chosen} (a : ArrayOf signals) (size : ℕ) (own_signed signed : Bool) (span : Span) (down : Bool)
+    → MeantSelects signals ss cs → word_fault span false true down cs ≡ None → Within size → (fixed : Bool) → a.of.constant ≡ fixed
+    → (word_sizing a.width own_signed (if fixed then is_none (word_at a.first a.count a.low (known a.of)) else names_no_bit a.width a.left a.right cs) (array_word a) cs).constant ≡ false
+    → (word_sizing a.width own_signed (if fixed then is_none (word_at a.first a.count a.low (known a.of)) else names_no_bit a.width a.left a.right cs) (array_word a) cs).width ≤ size
+    → Meant signals
+      ( carried size signed (word_sizing a.width own_signed (if fixed then is_none (word_at a.first a.count a.low (known a.of)) else names_no_bit a.width a.left a.right cs) (array_word a) cs).width
+        ( elim (if fixed then word_at a.first a.count a.low (known a.of) else None) [
+            | Some signal ↦ signal_node signal a.width a.left a.right (node.Slice signal 0 a.width) ss
+            | None ↦ word_node a.first a.count a.low a.width a.left a.right a.index ss
+          ]
+        )
+      ) size signed
+      (λ V. (word_sizing a.width own_signed (if fixed then is_none (word_at a.first a.count a.low (known a.of)) else names_no_bit a.width a.left a.right cs) (array_word a) cs).value V size signed)
+array-meant signals {ss = ss} {cs = cs} a size own_signed signed span down selects accepted fits true is varies wide =
+    by (word_at a.first a.count a.low (known a.of)) refl (sym (word-constant a.width own_signed (is_none (word_at a.first a.count a.low (known a.of))) (array_word a) cs) ∙ varies) wide
+  where
+    by : (o : Option ℕ) → word_at a.first a.count a.low (known a.of) ≡ o → is_none o ≡ false
+        → (word_sizing a.width own_signed (is_none o) (array_word a) cs).width ≤ size
+        → Meant signals
+          ( carried size signed (word_sizing a.width own_signed (is_none o) (array_word a) cs).width
+            ( elim o [
+                | Some signal ↦ signal_node signal a.width a.left a.right (node.Slice signal 0 a.width) ss
+                | None ↦ word_node a.first a.count a.low a.width a.left a.right a.index ss
+              ]
+            )
+          ) size signed (λ V. (word_sizing a.width own_signed (is_none o) (array_word a) cs).value V size signed)
+    by None at h less = cc
+    by (Some signal) at h less = fixed-word signals a signal size own_signed signed span down is at selects accepted fits less
+array-meant signals {ss = ss} {cs = cs} a size own_signed signed span down selects accepted fits false is varies wide =
+    by (names_no_bit a.width a.left a.right cs) refl (sym (word-constant a.width own_signed (names_no_bit a.width a.left a.right cs) (array_word a) cs) ∙ varies) wide
+  where
+    by : (b : Bool) → names_no_bit a.width a.left a.right cs ≡ b → b ≡ false
+        → (word_sizing a.width own_signed b (array_word a) cs).width ≤ size
+        → Meant signals (carried size signed (word_sizing a.width own_signed b (array_word a) cs).width (word_node a.first a.count a.low a.width a.left a.right a.index ss))
+          size signed (λ V. (word_sizing a.width own_signed b (array_word a) cs).value V size signed)
+    by true at h less = cc
+    by false at h less = variable-word signals a size own_signed signed span down at selects accepted fits less
+
+-- a parameter with selects that aren't refused is a constant
+parameter-constant : (span : Span) (down : Bool) (cs : List Chosen) → word_fault span false true down cs ≡ None → list_all is_chosen_by_constants cs ≡ true
+parameter-constant span down [] accepted = refl
+parameter-constant span down (c ∷ []) accepted = ap (λ b. b && true) ((chosen-known span true down c accepted).1 refl)
+parameter-constant span down (c ∷ d ∷ rest) accepted = cc
+
+pub meaning-meant : (signals : List Signal) {ss : List Select} {cs : List Chosen} (m : Meaning) (size : ℕ) (signed : Bool) (span : Span)
+    → IsMeaning m → IsAmong signals m → MeantSelects signals ss cs → name_fault span false (Some m) cs ≡ None → Within size
+    → (meaning_sizing m cs).constant ≡ false → (meaning_sizing m cs).width ≤ size
+    → Meant signals (carried size signed (meaning_sizing m cs).width (meaning_node m ss)) size signed (λ V. (meaning_sizing m cs).value V size signed)
+meaning-meant signals {cs = cs} (meaning.Constant value left right) size signed span is among selects accepted fits varies wide =
+    let holds = parameter-constant span (descends left right) cs accepted in
+    let flag = word-constant (width_of value.bits) value.signed (list_all is_chosen_by_constants cs) (λ _. record { width = width_of value.bits; left = left; right = right; bits = bit (value_of value.bits) }) cs in
+    let e : true ≡ false = sym holds ∙ sym flag ∙ varies in
+    cc
+meaning-meant signals (meaning.Signal signal width own_signed left right) size signed span is among selects accepted fits varies wide =
+    let within = within-range width left right is in
+    signal-meant signals width left right signal (node.Whole signal) size own_signed signed span false (descends left right) within among
+    (whole-meant signals width left right signal signed within among) selects accepted fits wide
+meaning-meant signals (meaning.Array first count low width own_signed left right) size signed span is among none accepted fits varies wide = cc
+meaning-meant signals (meaning.Array first count low width own_signed left right) size signed span is among (more (two_indexes _ _ _ _) rest) accepted fits varies wide = cc
+meaning-meant signals (meaning.Array first count low width own_signed left right) size signed span is among (more (one_index {x = x} {t = t} steady meant) rest) accepted fits varies wide =
+    array-meant signals
+    (record { width = width; left = left; right = right; first = first; count = count; low = low; range = is.0; some = is.1; there = among; index = t; of = x; steady = steady; meant = meant })
+    size own_signed signed span (descends left right) rest accepted fits x.constant refl varies wide

@@ -102,12 +102,12 @@ pub record ArrayOf (signals : List Signal) : Type 0 where
   pub steady : IsSteady of
   pub meant : Meant signals index of.width of.signed (own of)
 
-abbrev addressed : {signals : List Signal} → ArrayOf signals → Addressed signals
+abbrev pub addressed : {signals : List Signal} → ArrayOf signals → Addressed signals
 addressed a = record {
   width = a.width; left = a.left; right = a.right; first = a.first; count = a.count; low = a.low; some = a.some; there = a.there; wide = a.range.most; index = a.index; of = a.of; meant = a.meant
 }
 
-abbrev array_word : {signals : List Signal} → ArrayOf signals → Valuation → Word
+abbrev pub array_word : {signals : List Signal} → ArrayOf signals → Valuation → Word
 array_word a V = record { width = a.width; left = a.left; right = a.right; bits = word_bits V (word_at a.first a.count a.low (integer a.of V)) }
 
 from-zero : (width : ℕ) (bits : ℕ → Bool) → number width (λ b. bits (0 + b)) ≡ number width bits
@@ -148,7 +148,7 @@ fixed-word signals {ss = ss} {cs = cs} a signal size own_signed signed span down
     same (x ∷ xs) m = record { of_width = m.of_width; of_sign = m.of_sign; means = λ V. m.means V ∙ sym (ap (extended signed (chosen_width x) size) (word_is V (x ∷ xs))); fits = m.fits }
 
 -- how far the first bit of a select by constants lies from bit 0 of a word
-abbrev chosen_distance : ℤ → ℤ → Chosen → ℤ
+abbrev pub chosen_distance : ℤ → ℤ → Chosen → ℤ
 chosen_distance left right (one_bit x) = distance_of left right (known x)
 chosen_distance left right (some_bits k x y) = part_distance left right k (known x) (known y) (chosen_width (some_bits k x y))
 
