@@ -15,4 +15,6 @@ pub mod Arrays
 pub mod WordParts
 pub mod Names
 pub mod Meanings
+pub mod Operands
 pub mod Law
+pub mod Sound
