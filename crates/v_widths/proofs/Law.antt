@@ -74,7 +74,7 @@ word-below width own_signed constant word [] V size signed same wide =
 word-below width own_signed constant word (c ∷ rest) V size signed same wide =
     extended-below signed (chosen_width c) size (chosen_value (word V) (c ∷ rest) V) (chosen-below (word V) c rest V) wide
 
-meaning-below : (m : Meaning) (cs : List Chosen) (V : Valuation) (size : ℕ) (signed : Bool) → (meaning_sizing m cs).width ≤ size → (meaning_sizing m cs).value V size signed < 2 ^ size
+pub meaning-below : (m : Meaning) (cs : List Chosen) (V : Valuation) (size : ℕ) (signed : Bool) → (meaning_sizing m cs).width ≤ size → (meaning_sizing m cs).value V size signed < 2 ^ size
 meaning-below (meaning.Constant value left right) cs V size signed wide =
     word-below (width_of value.bits) value.signed (list_all is_chosen_by_constants cs)
     (λ _. record { width = width_of value.bits; left = left; right = right; bits = bit (value_of value.bits) }) cs V size signed (λ U. refl) wide

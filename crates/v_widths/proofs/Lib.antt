@@ -18,3 +18,4 @@ pub mod Meanings
 pub mod Operands
 pub mod Law
 pub mod Sound
+pub mod Whole

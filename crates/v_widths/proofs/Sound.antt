@@ -107,7 +107,7 @@ second-operand look span power left right size signed h of =
       (power_fault span (sizing look left) (sizing look right)) h).1
 
 -- the refusal of a binary operator is that of its class
-binary-refusal : (look : Look) (site : Site) (op : Binary) (left right : Tree) (size : ℕ) (signed : Bool)
+pub binary-refusal : (look : Look) (site : Site) (op : Binary) (left right : Tree) (size : ℕ) (signed : Bool)
     → refusal look false (written.binary site op left right) size signed ≡ class_refusal look site.span (class_of op) left right size signed
 binary-refusal look site op left right size signed = by (class_of op)
   where
