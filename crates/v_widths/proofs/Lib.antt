@@ -19,3 +19,4 @@ pub mod Operands
 pub mod Law
 pub mod Sound
 pub mod Whole
+pub mod Expressions

@@ -52,7 +52,7 @@ one_bit-within : Within 1
 one_bit-within = record { least = lit≤ tt; most = lit≤ tt }
 
 -- ---- numbers
-literal-meant : (signals : List Signal) (text : List ℕ) (size : ℕ) (signed : Bool) → Within (literal_width text) → Within size → literal_width text ≤ size
+pub literal-meant : (signals : List Signal) (text : List ℕ) (size : ℕ) (signed : Bool) → Within (literal_width text) → Within size → literal_width text ≤ size
     → Meant signals (constant size signed (extended signed (literal_width text) size (literal_value text))) size signed (λ V. extended signed (literal_width text) size (literal_value text))
 literal-meant signals text size signed own_within within wide =
     constant-meant signals size signed (extended signed (literal_width text) size (literal_value text)) within
@@ -62,7 +62,7 @@ literal-meant signals text size signed own_within within wide =
     value-low t = mod-lt _ (pow_pos (literal_width t))
 
 -- ---- names
-name-law : (signals : List Signal) {ss : _} {cs : List Chosen} (m : Option Meaning) (size : ℕ) (signed : Bool) (span : Span)
+pub name-law : (signals : List Signal) {ss : _} {cs : List Chosen} (m : Option Meaning) (size : ℕ) (signed : Bool) (span : Span)
     → ((n : Meaning) → m ≡ Some n → IsMeaning n × IsAmong signals n) → MeantSelects signals ss cs → name_fault span false m cs ≡ None → Within size
     → IsSteady (name_sizing m cs) → (name_sizing m cs).width ≤ size
     → Meant signals (folded (name_sizing m cs) size signed (carried size signed (name_sizing m cs).width (name_node m ss))) size signed (λ V. (name_sizing m cs).value V size signed)
@@ -77,7 +77,7 @@ name-law signals {ss = ss} {cs = cs} (Some m) size signed span stands selected a
 cut-low : (width value : ℕ) → Within width → value < 2 ^ width → value % 2 ^ limited width ≡ value
 cut-low width value within low = ap (λ w. value % 2 ^ w) (limited-within width within) ∙ mod-eq_of_lt low
 
-concat-law : (signals : List Signal) {ts : List Typed} {es : List Sizing} (size : ℕ) (signed : Bool) → Within (joined_width es) → MeantAll signals ts es → Within size
+pub concat-law : (signals : List Signal) {ts : List Typed} {es : List Sizing} (size : ℕ) (signed : Bool) → Within (joined_width es) → MeantAll signals ts es → Within size
     → IsSteady (joined es) → limited (joined_width es) ≤ size
     → Meant signals (folded (joined es) size signed (carried size signed (limited (joined_width es)) (node.Join ts))) size signed (λ V. (joined es).value V size signed)
 concat-law signals {ts = ts} {es = es} size signed own_within meant within steady wide =
@@ -92,7 +92,7 @@ concat-law signals {ts = ts} {es = es} size signed own_within meant within stead
           (record { of_width = shape.of_width; of_sign = shape.of_sign; means = λ V. shape.means V ∙ values V; fits = shape.fits })) in
     folded-meant signals (joined es) size signed (carried size signed (limited width) (node.Join ts)) within steady carries
 
-repeat-law : (signals : List Signal) {ts : List Typed} {es : List Sizing} (count : Sizing) (size : ℕ) (signed : Bool) → Within (times_of (known count) * joined_width es)
+pub repeat-law : (signals : List Signal) {ts : List Typed} {es : List Sizing} (count : Sizing) (size : ℕ) (signed : Bool) → Within (times_of (known count) * joined_width es)
     → Within (joined_width es) → MeantAll signals ts es → Within size
     → IsSteady (replicated count es) → limited (times_of (known count) * joined_width es) ≤ size
     → Meant signals
@@ -129,7 +129,7 @@ value_in e = e.value
 abbrev pub InContext : List Signal → Look → Tree → ℕ → Bool → Type 0
 InContext signals look e w s = Meant signals (typed look e w s) w s (λ V. (sizing look e).value V w s)
 
-unary-law : (signals : List Signal) (look : Look) (op : Unary) (operand : Tree) (size : ℕ) (signed : Bool) → Within size
+pub unary-law : (signals : List Signal) (look : Look) (op : Unary) (operand : Tree) (size : ℕ) (signed : Bool) → Within size
     → (keeps_width op ≡ true → InContext signals look operand size signed)
     → (keeps_width op ≡ false → InContext signals look operand (sizing look operand).width (sizing look operand).signed)
     → IsSteady (unary_sizing op (sizing look operand))
@@ -207,7 +207,7 @@ word_of-low width false distance = mod-lt distance (pow_pos width)
 never : {A : Type 0} {b : Bool} → b ≡ true → b ≡ false → A
 never {A} {b} one other = cc
 
-class-law : (signals : List Signal) (look : Look) (c : Class) (left right : Tree) (size : ℕ) (signed : Bool) → Fits c → Within size → OperandsStand signals look c left right size signed
+pub class-law : (signals : List Signal) (look : Look) (c : Class) (left right : Tree) (size : ℕ) (signed : Bool) → Fits c → Within size → OperandsStand signals look c left right size signed
     → IsSteady (class_sizing c (sizing look left) (sizing look right))
     → Meant signals (folded (class_sizing c (sizing look left) (sizing look right)) size signed (class_shape look c left right size signed)) size signed
       (λ V. (class_sizing c (sizing look left) (sizing look right)).value V size signed)

@@ -1,0 +1,184 @@
+-- The law of sized expressions, whole.
+use Rattle.std.proofs.Common.{◌≡◌, ℕ, zero, suc, ◌+◌, ◌-◌, ◌*◌, ◌^◌, ◌<◌, ◌≤◌, Bool, true, false, ◌&&◌, List, [], ◌∷◌, Option, Some, None, refl, ap, sym, subst, ◌∙◌, arith, lit≤}
+use Rattle.std.specs.Prelude.{if◌then◌else◌, max, not, ◌||◌, ◌==◌, nat_le, ℤ, int_lt, pos, negsuc}
+use Rattle.std.specs.Option.{option_or}
+use Rattle.std.proofs.Math.Nat.{le-max_left, le-max_right, add-mul}
+use Rattle.std.proofs.lemmas.Nat.{pow_pos}
+use Rattle.loc_base.specs.Word.{extended}
+use Rattle.loc_base.proofs.Modulo.{wider}
+use Rattle.loc_base.specs.declared.span.Span.{Span}
+use Rattle.v_tree.specs.declared.site.Site.{Site}
+use Rattle.v_tree.specs.declared.operator.Unary.{Unary}
+use Rattle.v_tree.specs.declared.operator.Binary.{Binary}
+use Rattle.v_tree.specs.declared.operator.SystemFunction.{SystemFunction}
+use Rattle.v_tree.specs.declared.operator.SystemFunction.TheVariants as function
+use Rattle.v_tree.specs.Tree.{Tree, Trees, no_tree, tree, Selections, no_select, select}
+use Rattle.v_tree.specs.Tree as written
+use Rattle.design_core.specs.declared.signal.Signal.{Signal}
+use Rattle.design_core.specs.declared.expression.Typed.{Typed}
+use Rattle.design_core.specs.declared.expression.BinaryOp.TheVariants as binary_op
+use Rattle.design_core.specs.Valuation.{Valuation}
+use Rattle.design_core.specs.Constant.{zeros}
+use Rattle.v_widths.specs.declared.error.WidthErr.{WidthErr}
+use Rattle.v_widths.specs.declared.error.WidthErr.TheVariants as fault
+use Rattle.v_widths.specs.declared.meaning.Meaning.{Meaning}
+use Rattle.v_widths.specs.Look.{Look}
+use Rattle.v_widths.specs.Literal.{literal_width}
+use Rattle.v_widths.specs.Operations.{Class, by_context, shift, comparison, logical, quotient, remainder, power, class_of, keeps_width, is_below_0, logarithm_from, ceiling_of_logarithm}
+use Rattle.v_widths.specs.Sizing.{Sizing, sizing, sizings, own, known, limited, times_of, joined_width, chosen_of, class_sizing, called, conditional}
+use Rattle.v_widths.specs.Refusals.{refusal, parts_refusal, selects_refusal, when, is_bad_width, name_fault, first_of, division_fault, power_fault, concat_fault, repeat_fault, called_fault}
+use Rattle.v_widths.specs.Sized.{sized, constant, typed, typed_parts, selects_of, folded, with_sign, with_width}
+use Rattle.v_widths.specs.Context.{IsScope, IsScopeOf, IsMeaning, IsAmong}
+use Rattle.v_widths.proofs.Steady.{IsSteady, sizing-steady}
+use Rattle.v_widths.proofs.Accepted.{or-none, or_false, first_of-none, when-none, good-width, max-within}
+use Rattle.v_widths.proofs.Meant.{Within, Meant, folded-meant, with_sign-meant, with_width-meant}
+use Rattle.v_widths.proofs.Joins.{MeantAll, choose-meant}
+use Rattle.v_widths.proofs.Joins as parts
+use Rattle.v_widths.proofs.Names.{MeantSelect, one_index, two_indexes}
+use Rattle.v_widths.proofs.Meanings.{MeantSelects}
+use Rattle.v_widths.proofs.Meanings as selects
+use Rattle.v_widths.proofs.Operands.{class-fits}
+use Rattle.v_widths.proofs.Law.{folded-by, extended-below}
+use Rattle.v_widths.proofs.Sound.{width-within, class_refusal, binary-refusal}
+use Rattle.v_widths.proofs.Whole.{Standing, InContext, OperandsStand, class_shape, literal-meant, name-law, concat-law, repeat-law, unary-law, class-law}
+
+not_false : (b : Bool) → not b ≡ false → b ≡ true
+not_false true h = refl
+not_false false h = cc
+
+-- an operand in every context in which it isn't refused
+abbrev Everywhere : List Signal → Look → Tree → Type 0
+Everywhere signals look e = (w : ℕ) (s : Bool) → Within w → (sizing look e).width ≤ w → refusal look false e w s ≡ None → InContext signals look e w s
+
+-- ---- operands
+division-constant : (span : Span) (left right : Sizing) (divisor : ℕ) → division_fault span left right divisor ≡ None → (left.constant && right.constant) ≡ true
+division-constant span left right divisor h =
+    not_false (left.constant && right.constant)
+    (when-none (not (left.constant && right.constant)) (fault.NotConstant span) (when (divisor == 0) (fault.ZeroDivisor span) None) h).0
+
+power-constant : (span : Span) (left right : Sizing) → power_fault span left right ≡ None → (left.constant && right.constant) ≡ true
+power-constant span left right h =
+    not_false (left.constant && right.constant)
+    (or_false (not (left.constant && right.constant)) (is_below_0 (known right))
+      (when-none (not (left.constant && right.constant) || is_below_0 (known right)) (fault.NotConstant span) None h).0).0
+
+operands-stand : (signals : List Signal) (look : Look) → IsScope look → (span : Span) (c : Class) (left right : Tree) (size : ℕ) (signed : Bool) → Within size
+    → (class_sizing c (sizing look left) (sizing look right)).width ≤ size → class_refusal look span c left right size signed ≡ None
+    → Everywhere signals look left → Everywhere signals look right → OperandsStand signals look c left right size signed
+operands-stand signals look scope span (by_context op) left right size signed within wide h one other =
+    let l = (sizing look left).width in
+    let r = (sizing look right).width in
+    let parts = first_of-none (refusal look false left size signed) (refusal look false right size signed) None h in
+    (one size signed within (omega (arith, wide, le-max_left l r)) parts.0, other size signed within (omega (arith, wide, le-max_right l r)) parts.1)
+operands-stand signals look scope span (shift op) left right size signed within wide h one other =
+    let r = sizing look right in
+    let parts = first_of-none (refusal look false left size signed) (refusal look false right r.width r.signed) None h in
+    (one size signed within wide parts.0, other r.width r.signed (width-within look scope right r.width r.signed parts.1) (omega arith) parts.1)
+operands-stand signals look scope span (comparison op) left right size signed within wide h one other =
+    let l = (sizing look left).width in
+    let r = (sizing look right).width in
+    let w = max l r in
+    let s = (sizing look left).signed && (sizing look right).signed in
+    let parts = first_of-none (refusal look false left w s) (refusal look false right w s) None h in
+    let both = max-within l r (width-within look scope left w s parts.0) (width-within look scope right w s parts.1) in
+    (one w s both (le-max_left l r) parts.0, other w s both (le-max_right l r) parts.1)
+operands-stand signals look scope span (logical op) left right size signed within wide h one other =
+    let l = sizing look left in
+    let r = sizing look right in
+    let parts = first_of-none (refusal look false left l.width l.signed) (refusal look false right r.width r.signed) None h in
+    ( one l.width l.signed (width-within look scope left l.width l.signed parts.0) (omega arith) parts.0
+    , other r.width r.signed (width-within look scope right r.width r.signed parts.1) (omega arith) parts.1
+    )
+operands-stand signals look scope span quotient left right size signed within wide h one other =
+    division-constant span (sizing look left) (sizing look right) ((sizing look right).value zeros size signed)
+    (first_of-none (refusal look false left size signed) (refusal look false right size signed)
+      (division_fault span (sizing look left) (sizing look right) ((sizing look right).value zeros size signed)) h).2
+operands-stand signals look scope span remainder left right size signed within wide h one other =
+    division-constant span (sizing look left) (sizing look right) ((sizing look right).value zeros size signed)
+    (first_of-none (refusal look false left size signed) (refusal look false right size signed)
+      (division_fault span (sizing look left) (sizing look right) ((sizing look right).value zeros size signed)) h).2
+operands-stand signals look scope span power left right size signed within wide h one other =
+    power-constant span (sizing look left) (sizing look right)
+    (first_of-none (refusal look false left size signed) (refusal look false right (sizing look right).width (sizing look right).signed)
+      (power_fault span (sizing look left) (sizing look right)) h).2
+
+-- the shape of a binary operator is that of its class
+binary-shape : (look : Look) (site : Site) (op : Binary) (left right : Tree) (size : ℕ) (signed : Bool)
+    → typed look (written.binary site op left right) size signed
+    ≡ folded (class_sizing (class_of op) (sizing look left) (sizing look right)) size signed (class_shape look (class_of op) left right size signed)
+binary-shape look site op left right size signed = by (class_of op)
+  where
+    by : (c : Class) → folded (class_sizing c (sizing look left) (sizing look right)) size signed
+        ( elim c [
+            | by_context made ↦ class_shape look (by_context made) left right size signed
+            | shift made ↦ class_shape look (shift made) left right size signed
+            | comparison made ↦ class_shape look (comparison made) left right size signed
+            | logical made ↦ class_shape look (logical made) left right size signed
+            | quotient ↦ constant size signed 0
+            | remainder ↦ constant size signed 0
+            | power ↦ constant size signed 0
+          ]
+        )
+        ≡ folded (class_sizing c (sizing look left) (sizing look right)) size signed (class_shape look c left right size signed)
+    by (by_context made) = refl
+    by (shift made) = refl
+    by (comparison made) = refl
+    by (logical made) = refl
+    by quotient = refl
+    by remainder = refl
+    by power = refl
+
+-- ---- replications
+some-times : (times width : ℕ) → 1 ≤ times → width ≤ times * width
+some-times zero width some = absurd (omega (arith, some))
+some-times (suc times) width some =
+    let spread : (times + 1) * width ≡ times * width + 1 * width = add-mul times 1 width in
+    let next : suc times * width ≡ (times + 1) * width = ap (λ n. n * width) (omega arith) in
+    omega (arith, spread, next)
+
+one-part : (times width : ℕ) → 1 ≤ times → Within (times * width) → Within width
+one-part times zero some within = let nothing : times * 0 ≡ 0 = omega arith in absurd (omega (arith, nothing, within.least))
+one-part times (suc width) some within = record { least = omega arith; most = omega (arith, within.most, some-times times (suc width) some) }
+
+counts : (z : ℤ) → 1 ≤ times_of z
+counts (pos n) = le-max_left 1 n
+counts (negsuc n) = lit≤ tt
+
+-- ---- system functions
+logarithm-most : (more bits n : ℕ) → logarithm_from more bits n ≤ bits + more
+unfolding logarithm_from
+logarithm-most zero bits n = omega arith
+logarithm-most (suc more) bits n = by (nat_le n (2 ^ bits)) (logarithm-most more (bits + 1) n)
+  where
+    by : (holds : Bool) → logarithm_from more (bits + 1) n ≤ bits + 1 + more → (if holds then bits else logarithm_from more (bits + 1) n) ≤ bits + suc more
+    by true h = omega arith
+    by false h = omega (arith, h)
+
+logarithm-low : (n : ℕ) → ceiling_of_logarithm n < 2 ^ 32
+logarithm-low n = omega (arith, logarithm-most 128 0 n)
+
+called-law : (signals : List Signal) (look : Look) (name : SystemFunction) (argument : Tree) (size : ℕ) (signed : Bool) (span : Span) → Within size
+    → Within (sizing look argument).width → InContext signals look argument (sizing look argument).width (sizing look argument).signed
+    → called_fault span name (sizing look argument) ≡ None → IsSteady (called name (sizing look argument)) → (called name (sizing look argument)).width ≤ size
+    → Meant signals
+      (folded (called name (sizing look argument)) size signed (with_width size (with_sign signed (typed look argument (sizing look argument).width (sizing look argument).signed))))
+      size signed (λ V. (called name (sizing look argument)).value V size signed)
+called-law signals look function.Signed argument size signed span within own_within meant accepted steady wide =
+    let e = sizing look argument in
+    let t = typed look argument e.width e.signed in
+    folded-meant signals (called function.Signed e) size signed (with_width size (with_sign signed t)) within steady
+    (with_width-meant signals (with_sign signed t) e.width size signed (own e) within wide (with_sign-meant signals t e.width signed e.signed (own e) own_within meant))
+called-law signals look function.Unsigned argument size signed span within own_within meant accepted steady wide =
+    let e = sizing look argument in
+    let t = typed look argument e.width e.signed in
+    folded-meant signals (called function.Unsigned e) size signed (with_width size (with_sign signed t)) within steady
+    (with_width-meant signals (with_sign signed t) e.width size signed (own e) within wide (with_sign-meant signals t e.width signed e.signed (own e) own_within meant))
+called-law signals look function.Clog2 argument size signed span within own_within meant accepted steady wide =
+    let e = sizing look argument in
+    let fixed = not_false e.constant (when-none (not e.constant) (fault.NotConstant span) None accepted).0 in
+    folded-by signals (called function.Clog2 e) size signed (with_width size (with_sign signed (typed look argument e.width e.signed))) within steady
+    (extended-below signed 32 size (ceiling_of_logarithm (own e zeros)) (logarithm-low (own e zeros)) wide)
+    (λ varies. never fixed varies)
+  where
+    never : {A : Type 0} {b : Bool} → b ≡ true → b ≡ false → A
+    never {A} {b} one other = cc
