@@ -17,6 +17,7 @@ use Rattle.v_tree.specs.Tree as written
 use Rattle.design_core.specs.declared.signal.Signal.{Signal}
 use Rattle.design_core.specs.declared.expression.Typed.{Typed}
 use Rattle.design_core.specs.declared.expression.BinaryOp.TheVariants as binary_op
+use Rattle.design_core.specs.declared.expression.Node.TheVariants as node
 use Rattle.design_core.specs.Valuation.{Valuation}
 use Rattle.design_core.specs.Constant.{zeros}
 use Rattle.v_widths.specs.declared.error.WidthErr.{WidthErr}
@@ -25,7 +26,7 @@ use Rattle.v_widths.specs.declared.meaning.Meaning.{Meaning}
 use Rattle.v_widths.specs.Look.{Look}
 use Rattle.v_widths.specs.Literal.{literal_width}
 use Rattle.v_widths.specs.Operations.{Class, by_context, shift, comparison, logical, quotient, remainder, power, class_of, keeps_width, is_below_0, logarithm_from, ceiling_of_logarithm}
-use Rattle.v_widths.specs.Sizing.{Sizing, sizing, sizings, own, known, limited, times_of, joined_width, chosen_of, class_sizing, called, conditional}
+use Rattle.v_widths.specs.Sizing.{Sizing, sizing, sizings, own, known, limited, times_of, joined_width, chosen_of, class_sizing, unary_sizing, called, conditional}
 use Rattle.v_widths.specs.Refusals.{refusal, parts_refusal, selects_refusal, when, is_bad_width, name_fault, first_of, division_fault, power_fault, concat_fault, repeat_fault, called_fault}
 use Rattle.v_widths.specs.Sized.{sized, constant, typed, typed_parts, selects_of, folded, with_sign, with_width}
 use Rattle.v_widths.specs.Context.{IsScope, IsScopeOf, IsMeaning, IsAmong}
@@ -40,7 +41,7 @@ use Rattle.v_widths.proofs.Meanings as selects
 use Rattle.v_widths.proofs.Operands.{class-fits}
 use Rattle.v_widths.proofs.Law.{folded-by, extended-below}
 use Rattle.v_widths.proofs.Sound.{width-within, class_refusal, binary-refusal}
-use Rattle.v_widths.proofs.Whole.{Standing, InContext, OperandsStand, class_shape, literal-meant, name-law, concat-law, repeat-law, unary-law, class-law}
+use Rattle.v_widths.proofs.Whole.{Standing, InContext, OperandsStand, class_shape, kept_sizing, bit_sizing, literal-meant, name-law, concat-law, repeat-law, unary-law, class-law}
 
 not_false : (b : Bool) → not b ≡ false → b ≡ true
 not_false true h = refl
@@ -182,3 +183,112 @@ called-law signals look function.Clog2 argument size signed span within own_with
   where
     never : {A : Type 0} {b : Bool} → b ≡ true → b ≡ false → A
     never {A} {b} one other = cc
+
+-- ---- unary operators
+abbrev width_of_sizing : Sizing → ℕ
+width_of_sizing s = s.width
+
+kept-wide : (op : Unary) (e : Sizing) (size : ℕ) → keeps_width op ≡ true → (unary_sizing op e).width ≤ size → e.width ≤ size
+kept-wide op e size is wide = subst (λ w. w ≤ size) (ap (λ holds. width_of_sizing (if holds then kept_sizing op e else bit_sizing op e)) is) wide
+
+when-kept : (holds : Bool) (one other : Option WidthErr) → holds ≡ true → (if holds then one else other) ≡ None → one ≡ None
+when-kept true one other is h = h
+when-kept false one other is h = cc
+
+when-reduced : (holds : Bool) (one other : Option WidthErr) → holds ≡ false → (if holds then one else other) ≡ None → other ≡ None
+when-reduced true one other is h = cc
+when-reduced false one other is h = h
+
+-- ---- every expression
+mutual
+  pub law : (signals : List Signal) (look : Look) → Standing signals look → (e : Tree) → Everywhere signals look e
+  law signals look standing (written.number site text) size signed within wide accepted =
+      literal-meant signals text size signed (good-width (literal_width text) (when-none (is_bad_width (literal_width text)) (fault.Range site.span) None accepted).0) within wide
+  law signals look standing (written.wild site text) size signed within wide accepted =
+      literal-meant signals text size signed (good-width (literal_width text) (when-none (is_bad_width (literal_width text)) (fault.Range site.span) None accepted).0) within wide
+  law signals look standing (written.name site text selects) size signed within wide accepted =
+      let split = or-none (selects_refusal look false selects) (name_fault site.span false (look text) (chosen_of look selects)) accepted in
+      name-law signals (look text) size signed site.span (λ n found. (standing.scope text n found, standing.of_design text n found))
+      (selects-law signals look standing selects split.0) split.1 within (sizing-steady look (written.name site text selects)) wide
+  law signals look standing (written.parens site inner) size signed within wide accepted = law signals look standing inner size signed within wide accepted
+  law signals look standing (written.concat site ts) size signed within wide accepted =
+      let split = or-none (parts_refusal look false ts) (concat_fault site.span (sizings look ts)) accepted in
+      concat-law signals size signed (good-width (joined_width (sizings look ts)) (when-none (is_bad_width (joined_width (sizings look ts))) (fault.Range site.span) None split.1).0)
+      (parts-law signals look standing ts split.0) within (sizing-steady look (written.concat site ts)) wide
+  law signals look standing (written.repeat site count ts) size signed within wide accepted =
+      let c = sizing look count in
+      let es = sizings look ts in
+      let split = first_of-none (refusal look false count c.width c.signed) (parts_refusal look false ts) (repeat_fault site.span c es) accepted in
+      let bad = not (int_lt (pos 0) (known c)) || is_bad_width (times_of (known c) * joined_width es) in
+      let sized_well = (when-none (not c.constant) (fault.NotConstant site.span) (when bad (fault.Range site.span) None) split.2).1 in
+      let all = good-width (times_of (known c) * joined_width es)
+          (or_false (not (int_lt (pos 0) (known c))) (is_bad_width (times_of (known c) * joined_width es)) (when-none bad (fault.Range site.span) None sized_well).0).1 in
+      repeat-law signals c size signed all (one-part (times_of (known c)) (joined_width es) (counts (known c)) all)
+      (parts-law signals look standing ts split.1) within (sizing-steady look (written.repeat site count ts)) wide
+  law signals look standing (written.system site name argument) size signed within wide accepted =
+      let e = sizing look argument in
+      let split = or-none (refusal look false argument e.width e.signed) (called_fault site.span name e) accepted in
+      let own_within = width-within look standing.scope argument e.width e.signed split.0 in
+      called-law signals look name argument size signed site.span within own_within
+      (law signals look standing argument e.width e.signed own_within (omega arith) split.0) split.1 (sizing-steady look (written.system site name argument)) wide
+  law signals look standing (written.unary site op operand) size signed within wide accepted =
+      let e = sizing look operand in
+      let kept = refusal look false operand size signed in
+      let reduced = refusal look false operand e.width e.signed in
+      unary-law signals look op operand size signed within
+      (λ is. law signals look standing operand size signed within (kept-wide op e size is wide) (when-kept (keeps_width op) kept reduced is accepted))
+      (λ is.
+        let h = when-reduced (keeps_width op) kept reduced is accepted in
+        law signals look standing operand e.width e.signed (width-within look standing.scope operand e.width e.signed h) (omega arith) h)
+      (sizing-steady look (written.unary site op operand))
+  law signals look standing (written.binary site op left right) size signed within wide accepted =
+      subst (λ t. Meant signals t size signed (λ V. (class_sizing (class_of op) (sizing look left) (sizing look right)).value V size signed)) (sym (binary-shape look site op left right size signed))
+      ( class-law signals look (class_of op) left right size signed (class-fits op) within
+        ( operands-stand signals look standing.scope site.span (class_of op) left right size signed within wide (sym (binary-refusal look site op left right size signed) ∙ accepted)
+          (λ w s fits narrow h. law signals look standing left w s fits narrow h) (λ w s fits narrow h. law signals look standing right w s fits narrow h)
+        )
+        (sizing-steady look (written.binary site op left right))
+      )
+  law signals look standing (written.conditional site condition on_true on_false) size signed within wide accepted =
+      let c = sizing look condition in
+      let a = sizing look on_true in
+      let b = sizing look on_false in
+      let split = first_of-none (refusal look false condition c.width c.signed) (refusal look false on_true size signed) (refusal look false on_false size signed) accepted in
+      let own_within = width-within look standing.scope condition c.width c.signed split.0 in
+      folded-meant signals (conditional c a b) size signed
+      (sized size signed (node.Choose (typed look condition c.width c.signed) (typed look on_true size signed) (typed look on_false size signed))) within
+      (sizing-steady look (written.conditional site condition on_true on_false))
+      ( choose-meant signals (typed look condition c.width c.signed) (typed look on_true size signed) (typed look on_false size signed) c.width size c.signed signed
+        (own c) (λ V. a.value V size signed) (λ V. b.value V size signed)
+        (law signals look standing condition c.width c.signed own_within (omega arith) split.0)
+        (law signals look standing on_true size signed within (omega (arith, wide, le-max_left a.width b.width)) split.1)
+        (law signals look standing on_false size signed within (omega (arith, wide, le-max_right a.width b.width)) split.2)
+      )
+
+  parts-law : (signals : List Signal) (look : Look) → Standing signals look → (ts : Trees) → parts_refusal look false ts ≡ None → MeantAll signals (typed_parts look ts) (sizings look ts)
+  parts-law signals look standing no_tree accepted = parts.none
+  parts-law signals look standing (tree one rest) accepted =
+      let e = sizing look one in
+      let split = or-none (refusal look false one e.width e.signed) (parts_refusal look false rest) accepted in
+      parts.more (law signals look standing one e.width e.signed (width-within look standing.scope one e.width e.signed split.0) (omega arith) split.0)
+      (parts-law signals look standing rest split.1)
+
+  selects-law : (signals : List Signal) (look : Look) → Standing signals look → (ss : Selections) → selects_refusal look false ss ≡ None
+      → MeantSelects signals (selects_of look ss) (chosen_of look ss)
+  selects-law signals look standing no_select accepted = selects.none
+  selects-law signals look standing (select (written.bit site index) rest) accepted =
+      let e = sizing look index in
+      let split = or-none (refusal look false index e.width e.signed) (selects_refusal look false rest) accepted in
+      selects.more
+      (one_index (sizing-steady look index) (law signals look standing index e.width e.signed (width-within look standing.scope index e.width e.signed split.0) (omega arith) split.0))
+      (selects-law signals look standing rest split.1)
+  selects-law signals look standing (select (written.part site k one other) rest) accepted =
+      let x = sizing look one in
+      let y = sizing look other in
+      let split = first_of-none (refusal look false one x.width x.signed) (refusal look false other y.width y.signed) (selects_refusal look false rest) accepted in
+      selects.more
+      ( two_indexes
+        (sizing-steady look one) (law signals look standing one x.width x.signed (width-within look standing.scope one x.width x.signed split.0) (omega arith) split.0)
+        (sizing-steady look other) (law signals look standing other y.width y.signed (width-within look standing.scope other y.width y.signed split.1) (omega arith) split.1)
+      )
+      (selects-law signals look standing rest split.2)

@@ -115,11 +115,11 @@ repeat-law signals {ts = ts} {es = es} count size signed own_within part_within 
     folded-meant signals (replicated count es) size signed (carried size signed (limited width) (node.Repeat times part)) within steady carries
 
 -- ---- operators
-abbrev kept_sizing : Unary → Sizing → Sizing
+abbrev pub kept_sizing : Unary → Sizing → Sizing
 kept_sizing op e =
     record { width = e.width; signed = e.signed; constant = e.constant; value = λ V size signed. operator.unary (unary_of op) size (e.value V size signed) }
 
-abbrev bit_sizing : Unary → Sizing → Sizing
+abbrev pub bit_sizing : Unary → Sizing → Sizing
 bit_sizing op e = by_itself 1 false e.constant (λ V. operator.unary (unary_of op) e.width (own e V))
 
 abbrev value_in : Sizing → Valuation → ℕ → Bool → ℕ
