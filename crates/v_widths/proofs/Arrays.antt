@@ -42,7 +42,7 @@ number-halves a (suc b) f =
     let low = number-halves a b f in
     let top : number (suc (a + b)) f ≡ number (a + b) f + (if f (a + b) then 2 ^ (a + b) else 0) = number-suc (a + b) f in
     let part : number (suc b) (λ i. f (a + i)) * 2 ^ a ≡ (number b (λ i. f (a + i)) + (if f (a + b) then 2 ^ b else 0)) * 2 ^ a =
-        ap (λ n. n * 2 ^ a) (number-suc b (λ i. f (a + i))) in
+    ap (λ n. n * 2 ^ a) (number-suc b (λ i. f (a + i))) in
     let lifted = higher (f (a + b)) a b in
     let next : a + suc b ≡ suc (a + b) = omega arith in
     ap (λ n. number n f) next ∙ top ∙ ap (λ n. n + (if f (a + b) then 2 ^ (a + b) else 0)) low
@@ -88,13 +88,13 @@ there-words signals width left right first count from size within inside some th
     let past : first + (count - 1) < length signals = slice_get_within signals (first + (count - 1)) last.signal last.there in
     let declared : width_at signals first ≡ width = there-width signals width left right first start in
     both_hold
-    ( both_hold (both_hold (le-leb 1 count some) (le-leb (first + count) (length signals) (omega (arith, past, some))))
-      ( both_hold (both_hold (there-signal signals width left right first start) (is-width size within))
-        (le-leb (from + size) (width_at signals first) (subst (λ w. from + size ≤ w) (sym declared) inside))
-      )
+    (both_hold (both_hold (le-leb 1 count some) (le-leb (first + count) (length signals) (omega (arith, past, some))))
+    (both_hold (both_hold (there-signal signals width left right first start) (is-width size within))
+    (le-leb (from + size) (width_at signals first) (subst (λ w. from + size ≤ w) (sym declared) inside))
     )
-    ( words-alike signals first count (width_at signals first)
-      (λ k below. let is = there k below in (is.signal, is.there, is.is.of_width ∙ sym declared))
+    )
+    (words-alike signals first count (width_at signals first)
+    (λ k below. let is = there k below in (is.signal, is.there, is.is.of_width ∙ sym declared))
     )
 
 no_word : (size from : ℕ) (V : Valuation) → number size (λ b. word_bits V None (from + b)) ≡ 0
@@ -113,9 +113,9 @@ word-meant signals width left right first count low from size index x signed wit
       of_width = refl;
       of_sign = refl;
       means = λ V.
-        value_word signals V size first count low index from size
-        ∙ ap (λ i. word_value V from size (word_at first count low i)) (index-means signals index x meant V)
-        ∙ word-same V from size (word_at first count low (integer x V));
+          value_word signals V size first count low index from size
+          ∙ ap (λ i. word_value V from size (word_at first count low i)) (index-means signals index x meant V)
+          ∙ word-same V from size (word_at first count low (integer x V));
       fits = fits_word signals signed size first count low index from size
-        ∙ both_hold (both_hold (there-words signals width left right first count from size within inside some there) (eq-eqb size size refl)) meant.fits
+          ∙ both_hold (both_hold (there-words signals width left right first count from size within inside some there) (eq-eqb size size refl)) meant.fits;
     }

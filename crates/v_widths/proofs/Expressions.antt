@@ -61,7 +61,7 @@ power-constant : (span : Span) (left right : Sizing) → power_fault span left r
 power-constant span left right h =
     not_false (left.constant && right.constant)
     (or_false (not (left.constant && right.constant)) (is_below_0 (known right))
-      (when-none (not (left.constant && right.constant) || is_below_0 (known right)) (fault.NotConstant span) None h).0).0
+    (when-none (not (left.constant && right.constant) || is_below_0 (known right)) (fault.NotConstant span) None h).0).0
 
 operands-stand : (signals : List Signal) (look : Look) → IsScope look → (span : Span) (c : Class) (left right : Tree) (size : ℕ) (signed : Bool) → Within size
     → (class_sizing c (sizing look left) (sizing look right)).width ≤ size → class_refusal look span c left right size signed ≡ None
@@ -86,22 +86,22 @@ operands-stand signals look scope span (comparison op) left right size signed wi
 operands-stand signals look scope span (logical op) left right size signed within wide h one other =
     let l = sizing look left in
     let r = sizing look right in
-    let parts = first_of-none (refusal look false left l.width l.signed) (refusal look false right r.width r.signed) None h in
-    ( one l.width l.signed (width-within look scope left l.width l.signed parts.0) (omega arith) parts.0
-    , other r.width r.signed (width-within look scope right r.width r.signed parts.1) (omega arith) parts.1
+    let parts = first_of-none (refusal look false left l.width l.signed) (refusal look false right r.width r.signed) None h in (
+      one l.width l.signed (width-within look scope left l.width l.signed parts.0) (omega arith) parts.0,
+      other r.width r.signed (width-within look scope right r.width r.signed parts.1) (omega arith) parts.1,
     )
 operands-stand signals look scope span quotient left right size signed within wide h one other =
     division-constant span (sizing look left) (sizing look right) ((sizing look right).value zeros size signed)
     (first_of-none (refusal look false left size signed) (refusal look false right size signed)
-      (division_fault span (sizing look left) (sizing look right) ((sizing look right).value zeros size signed)) h).2
+    (division_fault span (sizing look left) (sizing look right) ((sizing look right).value zeros size signed)) h).2
 operands-stand signals look scope span remainder left right size signed within wide h one other =
     division-constant span (sizing look left) (sizing look right) ((sizing look right).value zeros size signed)
     (first_of-none (refusal look false left size signed) (refusal look false right size signed)
-      (division_fault span (sizing look left) (sizing look right) ((sizing look right).value zeros size signed)) h).2
+    (division_fault span (sizing look left) (sizing look right) ((sizing look right).value zeros size signed)) h).2
 operands-stand signals look scope span power left right size signed within wide h one other =
     power-constant span (sizing look left) (sizing look right)
     (first_of-none (refusal look false left size signed) (refusal look false right (sizing look right).width (sizing look right).signed)
-      (power_fault span (sizing look left) (sizing look right)) h).2
+    (power_fault span (sizing look left) (sizing look right)) h).2
 
 -- the shape of a binary operator is that of its class
 binary-shape : (look : Look) (site : Site) (op : Binary) (left right : Tree) (size : ℕ) (signed : Bool)
@@ -110,15 +110,15 @@ binary-shape : (look : Look) (site : Site) (op : Binary) (left right : Tree) (si
 binary-shape look site op left right size signed = by (class_of op)
   where
     by : (c : Class) → folded (class_sizing c (sizing look left) (sizing look right)) size signed
-        ( elim c [
-            | by_context made ↦ class_shape look (by_context made) left right size signed
-            | shift made ↦ class_shape look (shift made) left right size signed
-            | comparison made ↦ class_shape look (comparison made) left right size signed
-            | logical made ↦ class_shape look (logical made) left right size signed
-            | quotient ↦ constant size signed 0
-            | remainder ↦ constant size signed 0
-            | power ↦ constant size signed 0
-          ]
+        (elim c [
+          | by_context made ↦ class_shape look (by_context made) left right size signed
+          | shift made ↦ class_shape look (shift made) left right size signed
+          | comparison made ↦ class_shape look (comparison made) left right size signed
+          | logical made ↦ class_shape look (logical made) left right size signed
+          | quotient ↦ constant size signed 0
+          | remainder ↦ constant size signed 0
+          | power ↦ constant size signed 0
+        ]
         )
         ≡ folded (class_sizing c (sizing look left) (sizing look right)) size signed (class_shape look c left right size signed)
     by (by_context made) = refl
@@ -162,8 +162,8 @@ called-law : (signals : List Signal) (look : Look) (name : SystemFunction) (argu
     → Within (sizing look argument).width → InContext signals look argument (sizing look argument).width (sizing look argument).signed
     → called_fault span name (sizing look argument) ≡ None → IsSteady (called name (sizing look argument)) → (called name (sizing look argument)).width ≤ size
     → Meant signals
-      (folded (called name (sizing look argument)) size signed (with_width size (with_sign signed (typed look argument (sizing look argument).width (sizing look argument).signed))))
-      size signed (λ V. (called name (sizing look argument)).value V size signed)
+    (folded (called name (sizing look argument)) size signed (with_width size (with_sign signed (typed look argument (sizing look argument).width (sizing look argument).signed))))
+    size signed (λ V. (called name (sizing look argument)).value V size signed)
 called-law signals look function.Signed argument size signed span within own_within meant accepted steady wide =
     let e = sizing look argument in
     let t = typed look argument e.width e.signed in
@@ -222,7 +222,7 @@ mutual
       let bad = not (int_lt (pos 0) (known c)) || is_bad_width (times_of (known c) * joined_width es) in
       let sized_well = (when-none (not c.constant) (fault.NotConstant site.span) (when bad (fault.Range site.span) None) split.2).1 in
       let all = good-width (times_of (known c) * joined_width es)
-          (or_false (not (int_lt (pos 0) (known c))) (is_bad_width (times_of (known c) * joined_width es)) (when-none bad (fault.Range site.span) None sized_well).0).1 in
+      (or_false (not (int_lt (pos 0) (known c))) (is_bad_width (times_of (known c) * joined_width es)) (when-none bad (fault.Range site.span) None sized_well).0).1 in
       repeat-law signals c size signed all (one-part (times_of (known c)) (joined_width es) (counts (known c)) all)
       (parts-law signals look standing ts split.1) within (sizing-steady look (written.repeat site count ts)) wide
   law signals look standing (written.system site name argument) size signed within wide accepted =
@@ -238,16 +238,16 @@ mutual
       unary-law signals look op operand size signed within
       (λ is. law signals look standing operand size signed within (kept-wide op e size is wide) (when-kept (keeps_width op) kept reduced is accepted))
       (λ is.
-        let h = when-reduced (keeps_width op) kept reduced is accepted in
-        law signals look standing operand e.width e.signed (width-within look standing.scope operand e.width e.signed h) (omega arith) h)
+      let h = when-reduced (keeps_width op) kept reduced is accepted in
+      law signals look standing operand e.width e.signed (width-within look standing.scope operand e.width e.signed h) (omega arith) h)
       (sizing-steady look (written.unary site op operand))
   law signals look standing (written.binary site op left right) size signed within wide accepted =
       subst (λ t. Meant signals t size signed (λ V. (class_sizing (class_of op) (sizing look left) (sizing look right)).value V size signed)) (sym (binary-shape look site op left right size signed))
-      ( class-law signals look (class_of op) left right size signed (class-fits op) within
-        ( operands-stand signals look standing.scope site.span (class_of op) left right size signed within wide (sym (binary-refusal look site op left right size signed) ∙ accepted)
-          (λ w s fits narrow h. law signals look standing left w s fits narrow h) (λ w s fits narrow h. law signals look standing right w s fits narrow h)
-        )
-        (sizing-steady look (written.binary site op left right))
+      (class-law signals look (class_of op) left right size signed (class-fits op) within
+      (operands-stand signals look standing.scope site.span (class_of op) left right size signed within wide (sym (binary-refusal look site op left right size signed) ∙ accepted)
+      (λ w s fits narrow h. law signals look standing left w s fits narrow h) (λ w s fits narrow h. law signals look standing right w s fits narrow h)
+      )
+      (sizing-steady look (written.binary site op left right))
       )
   law signals look standing (written.conditional site condition on_true on_false) size signed within wide accepted =
       let c = sizing look condition in
@@ -258,11 +258,11 @@ mutual
       folded-meant signals (conditional c a b) size signed
       (sized size signed (node.Choose (typed look condition c.width c.signed) (typed look on_true size signed) (typed look on_false size signed))) within
       (sizing-steady look (written.conditional site condition on_true on_false))
-      ( choose-meant signals (typed look condition c.width c.signed) (typed look on_true size signed) (typed look on_false size signed) c.width size c.signed signed
-        (own c) (λ V. a.value V size signed) (λ V. b.value V size signed)
-        (law signals look standing condition c.width c.signed own_within (omega arith) split.0)
-        (law signals look standing on_true size signed within (omega (arith, wide, le-max_left a.width b.width)) split.1)
-        (law signals look standing on_false size signed within (omega (arith, wide, le-max_right a.width b.width)) split.2)
+      (choose-meant signals (typed look condition c.width c.signed) (typed look on_true size signed) (typed look on_false size signed) c.width size c.signed signed
+      (own c) (λ V. a.value V size signed) (λ V. b.value V size signed)
+      (law signals look standing condition c.width c.signed own_within (omega arith) split.0)
+      (law signals look standing on_true size signed within (omega (arith, wide, le-max_left a.width b.width)) split.1)
+      (law signals look standing on_false size signed within (omega (arith, wide, le-max_right a.width b.width)) split.2)
       )
 
   parts-law : (signals : List Signal) (look : Look) → Standing signals look → (ts : Trees) → parts_refusal look false ts ≡ None → MeantAll signals (typed_parts look ts) (sizings look ts)
@@ -287,8 +287,8 @@ mutual
       let y = sizing look other in
       let split = first_of-none (refusal look false one x.width x.signed) (refusal look false other y.width y.signed) (selects_refusal look false rest) accepted in
       selects.more
-      ( two_indexes
-        (sizing-steady look one) (law signals look standing one x.width x.signed (width-within look standing.scope one x.width x.signed split.0) (omega arith) split.0)
-        (sizing-steady look other) (law signals look standing other y.width y.signed (width-within look standing.scope other y.width y.signed split.1) (omega arith) split.1)
+      (two_indexes
+      (sizing-steady look one) (law signals look standing one x.width x.signed (width-within look standing.scope one x.width x.signed split.0) (omega arith) split.0)
+      (sizing-steady look other) (law signals look standing other y.width y.signed (width-within look standing.scope other y.width y.signed split.1) (omega arith) split.1)
       )
       (selects-law signals look standing rest split.2)

@@ -85,7 +85,7 @@ join-meant signals ts es signed within meant =
       of_sign = refl;
       means = λ V. value_join signals V width ts ∙ joined-meant signals V 0 meant;
       fits = fits_join signals signed width ts
-        ∙ both_hold (both_hold (is-width width within) (eq-eqb (sum_list ts) width (sum-meant signals meant))) (all-fit signals meant)
+          ∙ both_hold (both_hold (is-width width within) (eq-eqb (sum_list ts) width (sum-meant signals meant))) (all-fit signals meant);
     }
 
 pub repeat-meant : (signals : List Signal) (t : Typed) (times own_width : ℕ) (signed before : Bool) (of : Valuation → ℕ) → Within (times * own_width)
@@ -97,9 +97,9 @@ repeat-meant signals t times own_width signed before of within meant =
       of_width = refl;
       of_sign = refl;
       means = λ V.
-        value_repeat signals V width times t ∙ ap (λ w. repeated times w (value signals V t)) meant.of_width ∙ ap (repeated times own_width) (meant.means V);
+          value_repeat signals V width times t ∙ ap (λ w. repeated times w (value signals V t)) meant.of_width ∙ ap (repeated times own_width) (meant.means V);
       fits = fits_repeat signals signed width times t
-        ∙ both_hold (both_hold (is-width width within) (eq-eqb (times * t.width) width (ap (λ w. times * w) meant.of_width))) meant.fits
+          ∙ both_hold (both_hold (is-width width within) (eq-eqb (times * t.width) width (ap (λ w. times * w) meant.of_width))) meant.fits;
     }
 
 -- a condition and two arms of one width
@@ -111,12 +111,12 @@ choose-meant signals condition on_true on_false own_width width own_signed signe
       of_width = refl;
       of_sign = refl;
       means = λ V.
-        value_choose signals V width condition on_true on_false
-        ∙ ap (λ v. if is_true v then value signals V on_true else value signals V on_false) (tested.means V)
-        ∙ ap (λ v. if is_true (test V) then v else value signals V on_false) (first.means V)
-        ∙ ap (λ v. if is_true (test V) then one V else v) (second.means V);
+          value_choose signals V width condition on_true on_false
+          ∙ ap (λ v. if is_true v then value signals V on_true else value signals V on_false) (tested.means V)
+          ∙ ap (λ v. if is_true (test V) then v else value signals V on_false) (first.means V)
+          ∙ ap (λ v. if is_true (test V) then one V else v) (second.means V);
       fits = fits_choose signals signed width condition on_true on_false
-        ∙ both_hold
+          ∙ both_hold
           (both_hold (both_hold (both_hold (eq-eqb width on_true.width (sym first.of_width)) (eq-eqb width on_false.width (sym second.of_width))) tested.fits) first.fits)
-          second.fits
+          second.fits;
     }

@@ -103,27 +103,27 @@ array-meant : (signals : List Signal) {ss : List Select} {cs : List Chosen} (a :
     → (word_sizing a.width own_signed (if fixed then is_none (word_at a.first a.count a.low (known a.of)) else names_no_bit a.width a.left a.right cs) (array_word a) cs).constant ≡ false
     → (word_sizing a.width own_signed (if fixed then is_none (word_at a.first a.count a.low (known a.of)) else names_no_bit a.width a.left a.right cs) (array_word a) cs).width ≤ size
     → Meant signals
-      ( carried size signed (word_sizing a.width own_signed (if fixed then is_none (word_at a.first a.count a.low (known a.of)) else names_no_bit a.width a.left a.right cs) (array_word a) cs).width
-        ( elim (if fixed then word_at a.first a.count a.low (known a.of) else None) [
-            | Some signal ↦ signal_node signal a.width a.left a.right (node.Slice signal 0 a.width) ss
-            | None ↦ word_node a.first a.count a.low a.width a.left a.right a.index ss
-          ]
-        )
-      ) size signed
-      (λ V. (word_sizing a.width own_signed (if fixed then is_none (word_at a.first a.count a.low (known a.of)) else names_no_bit a.width a.left a.right cs) (array_word a) cs).value V size signed)
+    (carried size signed (word_sizing a.width own_signed (if fixed then is_none (word_at a.first a.count a.low (known a.of)) else names_no_bit a.width a.left a.right cs) (array_word a) cs).width
+    (elim (if fixed then word_at a.first a.count a.low (known a.of) else None) [
+      | Some signal ↦ signal_node signal a.width a.left a.right (node.Slice signal 0 a.width) ss
+      | None ↦ word_node a.first a.count a.low a.width a.left a.right a.index ss
+    ]
+    )
+    ) size signed
+    (λ V. (word_sizing a.width own_signed (if fixed then is_none (word_at a.first a.count a.low (known a.of)) else names_no_bit a.width a.left a.right cs) (array_word a) cs).value V size signed)
 array-meant signals {ss = ss} {cs = cs} a size own_signed signed span down selects accepted fits true is varies wide =
     by (word_at a.first a.count a.low (known a.of)) refl (sym (word-constant a.width own_signed (is_none (word_at a.first a.count a.low (known a.of))) (array_word a) cs) ∙ varies) wide
   where
     by : (o : Option ℕ) → word_at a.first a.count a.low (known a.of) ≡ o → is_none o ≡ false
         → (word_sizing a.width own_signed (is_none o) (array_word a) cs).width ≤ size
         → Meant signals
-          ( carried size signed (word_sizing a.width own_signed (is_none o) (array_word a) cs).width
-            ( elim o [
-                | Some signal ↦ signal_node signal a.width a.left a.right (node.Slice signal 0 a.width) ss
-                | None ↦ word_node a.first a.count a.low a.width a.left a.right a.index ss
-              ]
-            )
-          ) size signed (λ V. (word_sizing a.width own_signed (is_none o) (array_word a) cs).value V size signed)
+        (carried size signed (word_sizing a.width own_signed (is_none o) (array_word a) cs).width
+        (elim o [
+          | Some signal ↦ signal_node signal a.width a.left a.right (node.Slice signal 0 a.width) ss
+          | None ↦ word_node a.first a.count a.low a.width a.left a.right a.index ss
+        ]
+        )
+        ) size signed (λ V. (word_sizing a.width own_signed (is_none o) (array_word a) cs).value V size signed)
     by None at h less = cc
     by (Some signal) at h less = fixed-word signals a signal size own_signed signed span down is at selects accepted fits less
 array-meant signals {ss = ss} {cs = cs} a size own_signed signed span down selects accepted fits false is varies wide =
@@ -132,7 +132,7 @@ array-meant signals {ss = ss} {cs = cs} a size own_signed signed span down selec
     by : (b : Bool) → names_no_bit a.width a.left a.right cs ≡ b → b ≡ false
         → (word_sizing a.width own_signed b (array_word a) cs).width ≤ size
         → Meant signals (carried size signed (word_sizing a.width own_signed b (array_word a) cs).width (word_node a.first a.count a.low a.width a.left a.right a.index ss))
-          size signed (λ V. (word_sizing a.width own_signed b (array_word a) cs).value V size signed)
+        size signed (λ V. (word_sizing a.width own_signed b (array_word a) cs).value V size signed)
     by true at h less = cc
     by false at h less = variable-word signals a size own_signed signed span down at selects accepted fits less
 

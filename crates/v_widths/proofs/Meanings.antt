@@ -60,7 +60,7 @@ pub signal-meant : (signals : List Signal) {ss : List Select} {cs : List Chosen}
     → MeantSelects signals ss cs → word_fault span false fixed down cs ≡ None → Within size
     → (word_sizing width own_signed false (λ V. record { width = width; left = left; right = right; bits = V signal }) cs).width ≤ size
     → Meant signals (carried size signed (word_sizing width own_signed false (λ V. record { width = width; left = left; right = right; bits = V signal }) cs).width (signal_node signal width left right all ss))
-      size signed (λ V. (word_sizing width own_signed false (λ V. record { width = width; left = left; right = right; bits = V signal }) cs).value V size signed)
+    size signed (λ V. (word_sizing width own_signed false (λ V. record { width = width; left = left; right = right; bits = V signal }) cs).value V size signed)
 signal-meant signals width left right signal all size own_signed signed span fixed down within there whole none accepted fits wide =
     carried-meant signals all width size signed (λ V. number width (V signal)) fits wide whole
 signal-meant signals width left right signal all size own_signed signed span fixed down within there whole (more {c = c} {ss = ss} one none) accepted fits wide =
@@ -104,7 +104,18 @@ pub record ArrayOf (signals : List Signal) : Type 0 where
 
 abbrev pub addressed : {signals : List Signal} → ArrayOf signals → Addressed signals
 addressed a = record {
-  width = a.width; left = a.left; right = a.right; first = a.first; count = a.count; low = a.low; some = a.some; there = a.there; wide = a.range.most; index = a.index; of = a.of; meant = a.meant
+  width = a.width;
+  left = a.left;
+  right = a.right;
+  first = a.first;
+  count = a.count;
+  low = a.low;
+  some = a.some;
+  there = a.there;
+  wide = a.range.most;
+  index = a.index;
+  of = a.of;
+  meant = a.meant;
 }
 
 abbrev pub array_word : {signals : List Signal} → ArrayOf signals → Valuation → Word
@@ -118,14 +129,14 @@ pub fixed-word : (signals : List Signal) {ss : List Select} {cs : List Chosen} (
     → a.of.constant ≡ true → word_at a.first a.count a.low (known a.of) ≡ Some signal → MeantSelects signals ss cs → word_fault span false true down cs ≡ None → Within size
     → (word_sizing a.width own_signed false (array_word a) cs).width ≤ size
     → Meant signals (carried size signed (word_sizing a.width own_signed false (array_word a) cs).width (signal_node signal a.width a.left a.right (node.Slice signal 0 a.width) ss))
-      size signed (λ V. (word_sizing a.width own_signed false (array_word a) cs).value V size signed)
+    size signed (λ V. (word_sizing a.width own_signed false (array_word a) cs).value V size signed)
 fixed-word signals {ss = ss} {cs = cs} a signal size own_signed signed span down fixed at selects accepted fits wide =
     let place = word-place a.first a.count a.low (known a.of) signal at in
     let there : IsThere signals a.width a.left a.right signal = subst (λ n. IsThere signals a.width a.left a.right n) place.2 (a.there place.0 place.1) in
     let within = within-range a.width a.left a.right a.range in
     let slice = slice-meant signals a.width a.left a.right signal 0 a.width signed within (omega arith) there in
     let all : Meant signals (sized a.width signed (node.Slice signal 0 a.width)) a.width signed (λ V. number a.width (V signal)) =
-        record { of_width = slice.of_width; of_sign = slice.of_sign; means = λ V. slice.means V ∙ from-zero a.width (V signal); fits = slice.fits } in
+    record { of_width = slice.of_width; of_sign = slice.of_sign; means = λ V. slice.means V ∙ from-zero a.width (V signal); fits = slice.fits } in
     same cs (signal-meant signals a.width a.left a.right signal (node.Slice signal 0 a.width) size own_signed signed span true down within there all selects accepted fits (narrow cs wide))
   where
     read : (V : Valuation) → word_at a.first a.count a.low (integer a.of V) ≡ Some signal
@@ -141,9 +152,9 @@ fixed-word signals {ss = ss} {cs = cs} a signal size own_signed signed span down
 
     same : (c : List Chosen)
         → Meant signals (carried size signed (word_sizing a.width own_signed false (λ V. record { width = a.width; left = a.left; right = a.right; bits = V signal }) c).width (signal_node signal a.width a.left a.right (node.Slice signal 0 a.width) ss))
-          size signed (λ V. (word_sizing a.width own_signed false (λ V. record { width = a.width; left = a.left; right = a.right; bits = V signal }) c).value V size signed)
+        size signed (λ V. (word_sizing a.width own_signed false (λ V. record { width = a.width; left = a.left; right = a.right; bits = V signal }) c).value V size signed)
         → Meant signals (carried size signed (word_sizing a.width own_signed false (array_word a) c).width (signal_node signal a.width a.left a.right (node.Slice signal 0 a.width) ss))
-          size signed (λ V. (word_sizing a.width own_signed false (array_word a) c).value V size signed)
+        size signed (λ V. (word_sizing a.width own_signed false (array_word a) c).value V size signed)
     same [] m = record { of_width = m.of_width; of_sign = m.of_sign; means = λ V. m.means V ∙ sym (ap (extended signed a.width size) (word_is V [])); fits = m.fits }
     same (x ∷ xs) m = record { of_width = m.of_width; of_sign = m.of_sign; means = λ V. m.means V ∙ sym (ap (extended signed (chosen_width x) size) (word_is V (x ∷ xs))); fits = m.fits }
 
@@ -163,7 +174,7 @@ index-bits signals w (one_index {x = x} steady meant) fixed V =
     let still : distance_of w.left w.right (known x) +ℤ pos 0 ≡ distance_of w.left w.right (known x) = omega (arith, ints) in
     number-suc 0 (λ b. bit_or_zero w.bits (place_within w.width (distance_of w.left w.right (known x) +ℤ pos b)))
     ∙ ap (λ n. n + (if bit_or_zero w.bits (place_within w.width (distance_of w.left w.right (known x) +ℤ pos 0)) then 1 else 0))
-      (number-zero (λ b. bit_or_zero w.bits (place_within w.width (distance_of w.left w.right (known x) +ℤ pos b))))
+    (number-zero (λ b. bit_or_zero w.bits (place_within w.width (distance_of w.left w.right (known x) +ℤ pos b))))
     ∙ ap (λ d. 0 + (if bit_or_zero w.bits (place_within w.width d) then 1 else 0)) still
     ∙ ap (λ i. 0 + (if bit_at_index w.bits w.width w.left w.right i then 1 else 0)) (sym (integer-steady x steady fixed V))
     ∙ alone (bit_at_index w.bits w.width w.left w.right (integer x V))
@@ -197,7 +208,7 @@ pub variable-word : (signals : List Signal) {ss : List Select} {cs : List Chosen
     → names_no_bit a.width a.left a.right cs ≡ false → MeantSelects signals ss cs → word_fault span false true down cs ≡ None → Within size
     → (word_sizing a.width own_signed false (array_word a) cs).width ≤ size
     → Meant signals (carried size signed (word_sizing a.width own_signed false (array_word a) cs).width (word_node a.first a.count a.low a.width a.left a.right a.index ss))
-      size signed (λ V. (word_sizing a.width own_signed false (array_word a) cs).value V size signed)
+    size signed (λ V. (word_sizing a.width own_signed false (array_word a) cs).value V size signed)
 variable-word signals a size own_signed signed span down names none accepted fits wide =
     let within = within-range a.width a.left a.right a.range in
     let w = word-meant signals a.width a.left a.right a.first a.count a.low 0 a.width a.index a.of signed within (omega arith) a.some a.there a.meant in
@@ -208,9 +219,9 @@ variable-word signals a size own_signed signed span down names (more {s = s} {c 
     let some = some-bits a.width a.left a.right c (no_and (is_chosen_by_constants c) (has_no_bit a.width a.left a.right c) constants names) in
     let w = word_part-meant signals (addressed a) (chosen_width c) (chosen_distance a.left a.right c) signed (chosen-within c) some in
     subst (λ n. Meant signals (carried size signed (chosen_width c) n) size signed (λ V. extended signed (chosen_width c) size (chosen_value (array_word a V) (c ∷ []) V))) (sym (word-node signals a [] one))
-    ( carried-meant signals (word_part a.first a.count a.low a.index a.width (chosen_width c) (chosen_distance a.left a.right c)) (chosen_width c) size signed
-      (λ V. chosen_value (array_word a V) (c ∷ []) V) fits wide
-      (record { of_width = w.of_width; of_sign = w.of_sign; means = λ V. w.means V ∙ index-bits signals (array_word a V) one constants V; fits = w.fits })
+    (carried-meant signals (word_part a.first a.count a.low a.index a.width (chosen_width c) (chosen_distance a.left a.right c)) (chosen_width c) size signed
+    (λ V. chosen_value (array_word a V) (c ∷ []) V) fits wide
+    (record { of_width = w.of_width; of_sign = w.of_sign; means = λ V. w.means V ∙ index-bits signals (array_word a V) one constants V; fits = w.fits })
     )
   where
     no_and : (x y : Bool) → x ≡ true → (x && y) ≡ false → y ≡ false

@@ -72,7 +72,7 @@ constant-meant signals width signed number within low =
       of_width = refl;
       of_sign = refl;
       means = λ V. word-value width number within low;
-      fits = both_hold (is-width width within) (same-number (width_of (word width number)) width (word-width width number within))
+      fits = both_hold (is-width width within) (same-number (width_of (word width number)) width (word-width width number within));
     }
 
 -- an expression that is a constant, or what its parts make
@@ -105,12 +105,12 @@ resize-meant signals t own width signed of within wide meant =
       of_width = refl;
       of_sign = refl;
       means = λ V.
-        value_resize signals V width t
-        ∙ ap (λ s. resized width s t.width (value signals V t)) meant.of_sign
-        ∙ ap (λ w. resized width signed w (value signals V t)) meant.of_width
-        ∙ ap (resized width signed own) (meant.means V)
-        ∙ resized-wider signed own width (of V) wide;
-      fits = fits_resize signals signed width t ∙ both_hold (is-width width within) meant.fits
+          value_resize signals V width t
+          ∙ ap (λ s. resized width s t.width (value signals V t)) meant.of_sign
+          ∙ ap (λ w. resized width signed w (value signals V t)) meant.of_width
+          ∙ ap (resized width signed own) (meant.means V)
+          ∙ resized-wider signed own width (of V) wide;
+      fits = fits_resize signals signed width t ∙ both_hold (is-width width within) meant.fits;
     }
 
 pub with_width-meant : (signals : List Signal) (t : Typed) (own width : ℕ) (signed : Bool) (of : Valuation → ℕ) → Within width → own ≤ width
@@ -125,7 +125,7 @@ with_width-meant signals t own width signed of within wide meant = by (t.width =
           of_width = same;
           of_sign = meant.of_sign;
           means = λ V. meant.means V ∙ sym (ap (λ w. extended signed w width (of V)) (sym meant.of_width ∙ same) ∙ extended-same signed width (of V));
-          fits = meant.fits
+          fits = meant.fits;
         }
     by false is =
         subst (λ s. Meant signals (sized width s (node.Resize t)) width signed (λ V. extended signed own width (of V))) (sym meant.of_sign)
@@ -152,9 +152,9 @@ with_sign-meant signals t own signed before of within meant = by (same_sign sign
           of_width = meant.of_width;
           of_sign = refl;
           means = λ V.
-            value_resize signals V t.width t ∙ resized-wider t.signed t.width t.width (value signals V t) (omega arith)
-            ∙ extended-same t.signed t.width (value signals V t) ∙ meant.means V;
-          fits = fits_resize signals signed t.width t ∙ both_hold (subst (λ w. is_width w ≡ true) (sym meant.of_width) (is-width own within)) meant.fits
+              value_resize signals V t.width t ∙ resized-wider t.signed t.width t.width (value signals V t) (omega arith)
+              ∙ extended-same t.signed t.width (value signals V t) ∙ meant.means V;
+          fits = fits_resize signals signed t.width t ∙ both_hold (subst (λ w. is_width w ≡ true) (sym meant.of_width) (is-width own within)) meant.fits;
         }
 
 -- ---- operators
@@ -167,7 +167,7 @@ unary-meant signals op a own width signed before of within suits meant =
       of_sign = refl;
       means = λ V. value_unary signals V width op a ∙ ap (λ w. operator.unary op w (value signals V a)) meant.of_width ∙ ap (operator.unary op own) (meant.means V);
       fits = fits_unary signals signed width op a
-        ∙ both_hold (both_hold (is-width width within) (subst (λ w. unary_fits op width w ≡ true) (sym meant.of_width) suits)) meant.fits
+          ∙ both_hold (both_hold (is-width width within) (subst (λ w. unary_fits op width w ≡ true) (sym meant.of_width) suits)) meant.fits;
     }
 
 -- what two operands of a binary operator are
@@ -186,28 +186,28 @@ pub record Operands (signals : List Signal) : Type 0 where
 pub binary-meant : (signals : List Signal) (op : BinaryOp) (width : ℕ) (signed : Bool) (o : Operands signals) → Within width
     → binary_fits op width o.left_width o.right_width ≡ true → signs_fit op signed o.left_signed o.right_signed ≡ true
     → Meant signals (sized width signed (node.Binary op o.left o.right)) width signed
-      (λ V. operator.binary op o.left_width o.left_signed o.right_signed (o.left_of V) (o.right_of V))
+    (λ V. operator.binary op o.left_width o.left_signed o.right_signed (o.left_of V) (o.right_of V))
 binary-meant signals op width signed o within suits signs =
     record {
       of_width = refl;
       of_sign = refl;
       means = λ V.
-        value_binary signals V width op o.left o.right
-        ∙ ap (λ w. operator.binary op w o.left.signed o.right.signed (value signals V o.left) (value signals V o.right)) o.left_meant.of_width
-        ∙ ap (λ s. operator.binary op o.left_width s o.right.signed (value signals V o.left) (value signals V o.right)) o.left_meant.of_sign
-        ∙ ap (λ s. operator.binary op o.left_width o.left_signed s (value signals V o.left) (value signals V o.right)) o.right_meant.of_sign
-        ∙ ap (λ a. operator.binary op o.left_width o.left_signed o.right_signed a (value signals V o.right)) (o.left_meant.means V)
-        ∙ ap (operator.binary op o.left_width o.left_signed o.right_signed (o.left_of V)) (o.right_meant.means V);
+          value_binary signals V width op o.left o.right
+          ∙ ap (λ w. operator.binary op w o.left.signed o.right.signed (value signals V o.left) (value signals V o.right)) o.left_meant.of_width
+          ∙ ap (λ s. operator.binary op o.left_width s o.right.signed (value signals V o.left) (value signals V o.right)) o.left_meant.of_sign
+          ∙ ap (λ s. operator.binary op o.left_width o.left_signed s (value signals V o.left) (value signals V o.right)) o.right_meant.of_sign
+          ∙ ap (λ a. operator.binary op o.left_width o.left_signed o.right_signed a (value signals V o.right)) (o.left_meant.means V)
+          ∙ ap (operator.binary op o.left_width o.left_signed o.right_signed (o.left_of V)) (o.right_meant.means V);
       fits = fits_binary signals signed width op o.left o.right
-        ∙ both_hold
-          ( both_hold
-            ( both_hold
-              ( both_hold (is-width width within)
-                (subst (λ w. binary_fits op width w o.right.width ≡ true) (sym o.left_meant.of_width) (subst (λ w. binary_fits op width o.left_width w ≡ true) (sym o.right_meant.of_width) suits))
-              )
-              (subst (λ s. signs_fit op signed s o.right.signed ≡ true) (sym o.left_meant.of_sign) (subst (λ s. signs_fit op signed o.left_signed s ≡ true) (sym o.right_meant.of_sign) signs))
-            )
-            o.left_meant.fits
+          ∙ both_hold
+          (both_hold
+          (both_hold
+          (both_hold (is-width width within)
+          (subst (λ w. binary_fits op width w o.right.width ≡ true) (sym o.left_meant.of_width) (subst (λ w. binary_fits op width o.left_width w ≡ true) (sym o.right_meant.of_width) suits))
           )
-          o.right_meant.fits
+          (subst (λ s. signs_fit op signed s o.right.signed ≡ true) (sym o.left_meant.of_sign) (subst (λ s. signs_fit op signed o.left_signed s ≡ true) (sym o.right_meant.of_sign) signs))
+          )
+          o.left_meant.fits
+          )
+          o.right_meant.fits;
     }

@@ -89,16 +89,18 @@ when-known false start from h = cc
 pub selected-meant : (signals : List Signal) {s : Select} {c : Chosen} (width : ℕ) (left right : ℤ) (signal : ℕ) (all : Node) (signed : Bool) (rest : List Select) (others : List Chosen)
     → IsThere signals width left right signal → MeantSelect signals s c → has_known_size c ≡ true
     → Meant signals (sized (chosen_width c) signed (signal_node signal width left right all (s ∷ rest))) (chosen_width c) signed
-      (λ V. chosen_value (signal_word width left right signal V) (c ∷ others) V)
+    (λ V. chosen_value (signal_word width left right signal V) (c ∷ others) V)
 selected-meant signals width left right signal all signed rest others there (one_index {x = x} {t = t} steady meant) known_size =
     part-meant signals width left right signal 1 (if x.constant then start_of width 1 (distance_of left right (known x)) else None) (λ b. pos 0) t x signed
     (λ V. if bit_at_index (V signal) width left right (integer x V) then 1 else 0)
     (record { least = lit≤ tt; most = lit≤ tt }) there meant
     (λ from h.
-      let k = when-known x.constant (start_of width 1 (distance_of left right (known x))) from h in
-      ((start-known width 1 (distance_of left right (known x)) from k.1).1, λ V.
-        bit-known (V signal) width from left right (known x) k.1
-        ∙ ap (λ i. if bit_at_index (V signal) width left right i then 1 else 0) (sym (integer-steady x steady k.0 V))))
+    let k = when-known x.constant (start_of width 1 (distance_of left right (known x))) from h in (
+      (start-known width 1 (distance_of left right (known x)) from k.1).1,
+      λ V.
+          bit-known (V signal) width from left right (known x) k.1
+          ∙ ap (λ i. if bit_at_index (V signal) width left right i then 1 else 0) (sym (integer-steady x steady k.0 V)),
+    ))
     (λ V. one-bit (V signal) width left right (integer x V))
 selected-meant signals width left right signal all signed rest others there (two_indexes {k = k} {x = x} {y = y} {t = t} {u = u} steady meant steady_other meant_other) known_size =
     let count = chosen_width (some_bits k x y) in
@@ -108,8 +110,10 @@ selected-meant signals width left right signal all signed rest others there (two
     (λ V. part_number (V signal) width left right (base_index k (integer x V) (integer y V)) count (part_offset k (descends left right) count))
     (limits (part_count k (known x) (known y))) there (base-meant signals k x y t u meant meant_other)
     (λ from h.
-      let at = when-known (base_of k x y).constant (start_of width count (part_distance left right k (known x) (known y) count)) from h in
-      ((start-known width count (part_distance left right k (known x) (known y) count) from at.1).1, λ V.
-        part-known (V signal) width from count left right k (known x) (known y) at.1
-        ∙ ap (λ i. part_number (V signal) width left right i count (part_offset k (descends left right) count)) (part-index k x y steady steady_other known_size at.0 V)))
+    let at = when-known (base_of k x y).constant (start_of width count (part_distance left right k (known x) (known y) count)) from h in (
+      (start-known width count (part_distance left right k (known x) (known y) count) from at.1).1,
+      λ V.
+          part-known (V signal) width from count left right k (known x) (known y) at.1
+          ∙ ap (λ i. part_number (V signal) width left right i count (part_offset k (descends left right) count)) (part-index k x y steady steady_other known_size at.0 V),
+    ))
     (λ V. ap (λ i. part_number (V signal) width left right i count (part_offset k (descends left right) count)) (base-integer k x y V))

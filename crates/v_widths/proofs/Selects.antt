@@ -49,7 +49,7 @@ whole-meant signals width left right signal signed within is =
       of_width = refl;
       of_sign = refl;
       means = λ V. refl;
-      fits = both_hold (both_hold (is-width width within) (there-signal signals width left right signal is)) (eq-eqb (width_at signals signal) width (there-width signals width left right signal is))
+      fits = both_hold (both_hold (is-width width within) (there-signal signals width left right signal is)) (eq-eqb (width_at signals signal) width (there-width signals width left right signal is));
     }
 
 -- ---- some bits that are there
@@ -61,10 +61,10 @@ slice-meant signals width left right signal from count signed within inside is =
       of_sign = refl;
       means = λ V. refl;
       fits = both_hold
-        ( both_hold (both_hold (there-signal signals width left right signal is) (is-width count within))
+          (both_hold (both_hold (there-signal signals width left right signal is) (is-width count within))
           (le-leb (from + count) (width_at signals signal) (subst (λ w. from + count ≤ w) (sym (there-width signals width left right signal is)) inside))
-        )
-        (eq-eqb count count refl)
+          )
+          (eq-eqb count count refl);
     }
 
 -- ---- by an index
@@ -80,7 +80,7 @@ offsets-length : (offset : ℕ → ℤ) (count : ℕ) → length (offsets_to off
 offsets-length offset zero = ap length (offsets-zero offset)
 offsets-length offset (suc count) =
     let one_more : length (offsets_to offset (suc count)) ≡ length (offsets_to offset count) + 1 =
-        ap length (offsets-suc offset count) ∙ length-append (offsets_to offset count) (offset count ∷ []) in
+    ap length (offsets-suc offset count) ∙ length-append (offsets_to offset count) (offset count ∷ []) in
     omega (arith, one_more, offsets-length offset count)
 
 slice-front : {X : Type 0} (xs ys : List X) (b : ℕ) → b < length xs → slice_get (xs ++ ys) b ≡ slice_get xs b
@@ -122,15 +122,15 @@ pick-meant signals width left right signal count offset index x signed within is
       of_width = refl;
       of_sign = refl;
       means = λ V.
-        value_pick signals V count signal index (offsets_to offset count)
-        ∙ ap (λ i. number count (picked signals V signal i (offsets_to offset count))) (index-means signals index x meant V)
-        ∙ number-same count (picked signals V signal (integer x V) (offsets_to offset count)) (λ b. bit_at_index (V signal) width left right (integer x V +ℤ offset b))
+          value_pick signals V count signal index (offsets_to offset count)
+          ∙ ap (λ i. number count (picked signals V signal i (offsets_to offset count))) (index-means signals index x meant V)
+          ∙ number-same count (picked signals V signal (integer x V) (offsets_to offset count)) (λ b. bit_at_index (V signal) width left right (integer x V +ℤ offset b))
           (λ b below.
-            ap (λ o. bit_or_zero (V signal) (option_and_then (λ k. position_at signals signal (integer x V +ℤ k)) o)) (offset-at offset count b below)
-            ∙ ap (bit_or_zero (V signal)) (there-position signals width left right signal (integer x V +ℤ offset b) is));
+          ap (λ o. bit_or_zero (V signal) (option_and_then (λ k. position_at signals signal (integer x V +ℤ k)) o)) (offset-at offset count b below)
+          ∙ ap (bit_or_zero (V signal)) (there-position signals width left right signal (integer x V +ℤ offset b) is));
       fits = fits_pick signals signed count signal index (offsets_to offset count)
-        ∙ both_hold (both_hold (both_hold (is-width count within) (there-signal signals width left right signal is))
-            (eq-eqb (length (offsets_to offset count)) count (offsets-length offset count))) meant.fits
+          ∙ both_hold (both_hold (both_hold (is-width count within) (there-signal signals width left right signal is))
+          (eq-eqb (length (offsets_to offset count)) count (offsets-length offset count))) meant.fits;
     }
 
 -- ---- at a known place
@@ -156,7 +156,7 @@ bit-known bits width from left right index h =
     let zero_on : pos from ≡ pos from +ℤ pos 0 = omega (arith, ints) in
     number-suc 0 (λ b. bits (from + b)) ∙ ap (λ n. n + (if bits (from + 0) then 1 else 0)) (number-zero (λ b. bits (from + b)))
     ∙ bit-number (bits (from + 0)) (bit_at_index bits width left right index)
-      (sym (ap (λ d. bit_or_zero bits (place_within width d)) (k.0 ∙ zero_on) ∙ inside bits width from 0 (omega (arith, k.1))))
+    (sym (ap (λ d. bit_or_zero bits (place_within width d)) (k.0 ∙ zero_on) ∙ inside bits width from 0 (omega (arith, k.1))))
   where
     bit-number : (x y : Bool) → x ≡ y → 0 + (if x then 1 else 0) ≡ (if y then 1 else 0)
     bit-number true true e = refl
@@ -172,5 +172,5 @@ part-known bits width from count left right k one other h =
     let s = start-known width count (part_distance left right k one other count) from h in
     number-same count (λ b. bits (from + b)) (λ b. bit_at_index bits width left right (base_index k one other +ℤ part_offset k (descends left right) count b))
     (λ b below.
-      sym (ap (λ d. bit_or_zero bits (place_within width d)) (distance-step left right k one other count b below ∙ ap (λ d. d +ℤ pos b) s.0)
-        ∙ inside bits width from b (omega (arith, s.1, below))))
+    sym (ap (λ d. bit_or_zero bits (place_within width d)) (distance-step left right k one other count b below ∙ ap (λ d. d +ℤ pos b) s.0)
+    ∙ inside bits width from b (omega (arith, s.1, below))))

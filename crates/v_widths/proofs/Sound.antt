@@ -74,13 +74,13 @@ first-operand look span (logical op) left right size signed h of =
     (first_of-none (refusal look false left (sizing look left).width (sizing look left).signed) (refusal look false right (sizing look right).width (sizing look right).signed) None h).0
 first-operand look span quotient left right size signed h of =
     of size signed (first_of-none (refusal look false left size signed) (refusal look false right size signed)
-      (division_fault span (sizing look left) (sizing look right) ((sizing look right).value zeros size signed)) h).0
+    (division_fault span (sizing look left) (sizing look right) ((sizing look right).value zeros size signed)) h).0
 first-operand look span remainder left right size signed h of =
     of size signed (first_of-none (refusal look false left size signed) (refusal look false right size signed)
-      (division_fault span (sizing look left) (sizing look right) ((sizing look right).value zeros size signed)) h).0
+    (division_fault span (sizing look left) (sizing look right) ((sizing look right).value zeros size signed)) h).0
 first-operand look span power left right size signed h of =
     of size signed (first_of-none (refusal look false left size signed) (refusal look false right (sizing look right).width (sizing look right).signed)
-      (power_fault span (sizing look left) (sizing look right)) h).0
+    (power_fault span (sizing look left) (sizing look right)) h).0
 
 second-operand : {A : Type 0} (look : Look) (span : Span) (c : Class) (left right : Tree) (size : ℕ) (signed : Bool) → class_refusal look span c left right size signed ≡ None
     → ((w : ℕ) (s : Bool) → refusal look false right w s ≡ None → A) → A
@@ -97,29 +97,29 @@ second-operand look span (logical op) left right size signed h of =
     (first_of-none (refusal look false left (sizing look left).width (sizing look left).signed) (refusal look false right (sizing look right).width (sizing look right).signed) None h).1
 second-operand look span quotient left right size signed h of =
     of size signed (first_of-none (refusal look false left size signed) (refusal look false right size signed)
-      (division_fault span (sizing look left) (sizing look right) ((sizing look right).value zeros size signed)) h).1
+    (division_fault span (sizing look left) (sizing look right) ((sizing look right).value zeros size signed)) h).1
 second-operand look span remainder left right size signed h of =
     of size signed (first_of-none (refusal look false left size signed) (refusal look false right size signed)
-      (division_fault span (sizing look left) (sizing look right) ((sizing look right).value zeros size signed)) h).1
+    (division_fault span (sizing look left) (sizing look right) ((sizing look right).value zeros size signed)) h).1
 second-operand look span power left right size signed h of =
     of (sizing look right).width (sizing look right).signed
     (first_of-none (refusal look false left size signed) (refusal look false right (sizing look right).width (sizing look right).signed)
-      (power_fault span (sizing look left) (sizing look right)) h).1
+    (power_fault span (sizing look left) (sizing look right)) h).1
 
 -- the refusal of a binary operator is that of its class
 pub binary-refusal : (look : Look) (site : Site) (op : Binary) (left right : Tree) (size : ℕ) (signed : Bool)
     → refusal look false (written.binary site op left right) size signed ≡ class_refusal look site.span (class_of op) left right size signed
 binary-refusal look site op left right size signed = by (class_of op)
   where
-    by : (c : Class) → ( elim c [
-        | by_context _ ↦ first_of (refusal look false left size signed) (refusal look false right size signed) None
-        | shift _ ↦ first_of (refusal look false left size signed) (refusal look false right (sizing look right).width (sizing look right).signed) None
-        | comparison _ ↦ class_refusal look site.span (comparison binary_op.Less) left right size signed
-        | logical _ ↦ class_refusal look site.span (logical binary_op.LogicalOr) left right size signed
-        | quotient ↦ class_refusal look site.span quotient left right size signed
-        | remainder ↦ class_refusal look site.span remainder left right size signed
-        | power ↦ class_refusal look site.span power left right size signed
-      ]) ≡ class_refusal look site.span c left right size signed
+    by : (c : Class) → (elim c [
+      | by_context _ ↦ first_of (refusal look false left size signed) (refusal look false right size signed) None
+      | shift _ ↦ first_of (refusal look false left size signed) (refusal look false right (sizing look right).width (sizing look right).signed) None
+      | comparison _ ↦ class_refusal look site.span (comparison binary_op.Less) left right size signed
+      | logical _ ↦ class_refusal look site.span (logical binary_op.LogicalOr) left right size signed
+      | quotient ↦ class_refusal look site.span quotient left right size signed
+      | remainder ↦ class_refusal look site.span remainder left right size signed
+      | power ↦ class_refusal look site.span power left right size signed
+    ]) ≡ class_refusal look site.span c left right size signed
     by (by_context _) = refl
     by (shift _) = refl
     by (comparison _) = refl
@@ -183,10 +183,10 @@ width-within look scope (written.repeat site count parts) size signed accepted =
 width-within look scope (written.system site name argument) size signed accepted =
     system-within name (sizing look argument)
     (width-within look scope argument (sizing look argument).width (sizing look argument).signed
-      (or-none (refusal look false argument (sizing look argument).width (sizing look argument).signed) (called_fault site.span name (sizing look argument)) accepted).0)
+    (or-none (refusal look false argument (sizing look argument).width (sizing look argument).signed) (called_fault site.span name (sizing look argument)) accepted).0)
 width-within look scope (written.unary site op operand) size signed accepted =
     unary-within op (sizing look operand) (by (keeps_width op) accepted (λ h. width-within look scope operand size signed h)
-      (λ h. width-within look scope operand (sizing look operand).width (sizing look operand).signed h))
+    (λ h. width-within look scope operand (sizing look operand).width (sizing look operand).signed h))
   where
     by : (holds : Bool) → (if holds then refusal look false operand size signed else refusal look false operand (sizing look operand).width (sizing look operand).signed) ≡ None
         → (refusal look false operand size signed ≡ None → Within (sizing look operand).width)

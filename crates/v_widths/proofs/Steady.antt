@@ -214,19 +214,19 @@ no_bit-value : (w : Word) (c : Chosen) (rest : List Chosen) → ChosenSteady c �
 no_bit-value w (one_bit index) rest steady is missing V =
     ap (λ at. if bit_at_index w.bits w.width w.left w.right at then 1 else 0) (integer-steady index steady is V)
     ∙ ap (λ set. if set then 1 else 0)
-      ( ap (λ d. bit_or_zero w.bits (place_within w.width d)) (omega (arith, ints))
-      ∙ out_of_word w (distance_of w.left w.right (known index)) 0 1 (eqb-true (bits_within w.width 1 (distance_of w.left w.right (known index))) 0 missing) (omega arith)
-      )
+    (ap (λ d. bit_or_zero w.bits (place_within w.width d)) (omega (arith, ints))
+    ∙ out_of_word w (distance_of w.left w.right (known index)) 0 1 (eqb-true (bits_within w.width 1 (distance_of w.left w.right (known index))) 0 missing) (omega arith)
+    )
 no_bit-value w (some_bits k one other) rest steady is missing V =
     let two = and_parts one.constant other.constant is in
     let count = chosen_width (some_bits k one other) in
     ap (λ at. part_number w.bits w.width w.left w.right at count (part_offset k (descends w.left w.right) count))
     (both (base_index k) (integer-steady one steady.0 two.0 V) (integer-steady other steady.1 two.1 V))
     ∙ number-same count
-      (λ b. bit_at_index w.bits w.width w.left w.right (base_index k (known one) (known other) +ℤ part_offset k (descends w.left w.right) count b)) (λ b. false)
-      (λ b below. ap (λ d. bit_or_zero w.bits (place_within w.width d)) (distance-step w.left w.right k (known one) (known other) count b below)
-          ∙ out_of_word w (part_distance w.left w.right k (known one) (known other) count) b count
-            (eqb-true (bits_within w.width count (part_distance w.left w.right k (known one) (known other) count)) 0 missing) below)
+    (λ b. bit_at_index w.bits w.width w.left w.right (base_index k (known one) (known other) +ℤ part_offset k (descends w.left w.right) count b)) (λ b. false)
+    (λ b below. ap (λ d. bit_or_zero w.bits (place_within w.width d)) (distance-step w.left w.right k (known one) (known other) count b below)
+    ∙ out_of_word w (part_distance w.left w.right k (known one) (known other) count) b count
+    (eqb-true (bits_within w.width count (part_distance w.left w.right k (known one) (known other) count)) 0 missing) below)
     ∙ number-none count
 
 -- ---- expressions
@@ -237,7 +237,7 @@ none-of (Some x) h = cc
 array-steady : (width : ℕ) (signed : Bool) (first count : ℕ) (low left right : ℤ) (index : Sizing) (rest : List Chosen)
     → IsSteady index → AllChosenSteady rest → (fixed : Bool) → index.constant ≡ fixed
     → IsSteady (word_sizing width signed (if fixed then is_none (word_at first count low (known index)) else names_no_bit width left right rest)
-        (λ U. record { width = width; left = left; right = right; bits = word_bits U (word_at first count low (integer index U)) }) rest)
+    (λ U. record { width = width; left = left; right = right; bits = word_bits U (word_at first count low (integer index U)) }) rest)
 array-steady width signed first count low left right index [] steady others true fixed is V size as_signed =
     beyond-steady width signed first count low left right index [] steady fixed (none-of (word_at first count low (known index)) is) V size as_signed
 array-steady width signed first count low left right index (c ∷ rest) steady others true fixed is V size as_signed =
@@ -246,7 +246,7 @@ array-steady width signed first count low left right index [] steady others fals
 array-steady width signed first count low left right index (c ∷ rest) steady (one_more chosen others) false fixed is V size as_signed =
     let parts = and_parts (is_chosen_by_constants c) (has_no_bit width left right c) is in
     ap (extended as_signed (chosen_width c) size)
-    ( no_bit-value (record { width = width; left = left; right = right; bits = word_bits V (word_at first count low (integer index V)) }) c rest chosen parts.0 parts.1 V
+    (no_bit-value (record { width = width; left = left; right = right; bits = word_bits V (word_at first count low (integer index V)) }) c rest chosen parts.0 parts.1 V
     ∙ sym (no_bit-value (record { width = width; left = left; right = right; bits = word_bits zeros (word_at first count low (integer index zeros)) }) c rest chosen parts.0 parts.1 zeros)
     )
 

@@ -85,20 +85,20 @@ concat-law signals {ts = ts} {es = es} size signed own_within meant within stead
     let same : limited width ≡ width = limited-within width own_within in
     let shape = join-meant signals ts es signed own_within meant in
     let values : (V : Valuation) → joined_value 0 es V ≡ joined_value 0 es V % 2 ^ limited width =
-        λ V. sym (cut-low width (joined_value 0 es V) own_within (below signals (sized width signed (node.Join ts)) width signed (joined_value 0 es) shape V)) in
+    λ V. sym (cut-low width (joined_value 0 es V) own_within (below signals (sized width signed (node.Join ts)) width signed (joined_value 0 es) shape V)) in
     let carries : Meant signals (carried size signed (limited width) (node.Join ts)) size signed (λ V. extended signed (limited width) size (joined_value 0 es V % 2 ^ limited width)) =
-        subst (λ w. Meant signals (carried size signed w (node.Join ts)) size signed (λ V. extended signed w size (joined_value 0 es V % 2 ^ limited width))) (sym same)
-        (carried-meant signals (node.Join ts) width size signed (λ V. joined_value 0 es V % 2 ^ limited width) within (subst (λ w. w ≤ size) same wide)
-          (record { of_width = shape.of_width; of_sign = shape.of_sign; means = λ V. shape.means V ∙ values V; fits = shape.fits })) in
+    subst (λ w. Meant signals (carried size signed w (node.Join ts)) size signed (λ V. extended signed w size (joined_value 0 es V % 2 ^ limited width))) (sym same)
+    (carried-meant signals (node.Join ts) width size signed (λ V. joined_value 0 es V % 2 ^ limited width) within (subst (λ w. w ≤ size) same wide)
+    (record { of_width = shape.of_width; of_sign = shape.of_sign; means = λ V. shape.means V ∙ values V; fits = shape.fits })) in
     folded-meant signals (joined es) size signed (carried size signed (limited width) (node.Join ts)) within steady carries
 
 pub repeat-law : (signals : List Signal) {ts : List Typed} {es : List Sizing} (count : Sizing) (size : ℕ) (signed : Bool) → Within (times_of (known count) * joined_width es)
     → Within (joined_width es) → MeantAll signals ts es → Within size
     → IsSteady (replicated count es) → limited (times_of (known count) * joined_width es) ≤ size
     → Meant signals
-      ( folded (replicated count es) size signed
-        (carried size signed (limited (times_of (known count) * joined_width es)) (node.Repeat (times_of (known count)) (sized (joined_width es) false (node.Join ts))))
-      ) size signed (λ V. (replicated count es).value V size signed)
+    (folded (replicated count es) size signed
+    (carried size signed (limited (times_of (known count) * joined_width es)) (node.Repeat (times_of (known count)) (sized (joined_width es) false (node.Join ts))))
+    ) size signed (λ V. (replicated count es).value V size signed)
 repeat-law signals {ts = ts} {es = es} count size signed own_within part_within meant within steady wide =
     let times = times_of (known count) in
     let width = times * joined_width es in
@@ -107,11 +107,11 @@ repeat-law signals {ts = ts} {es = es} count size signed own_within part_within 
     let shape = repeat-meant signals part times (joined_width es) signed false (joined_value 0 es) own_within (join-meant signals ts es false part_within meant) in
     let of : Valuation → ℕ = λ V. operator.repeated times (joined_width es) (joined_value 0 es V) in
     let values : (V : Valuation) → of V ≡ of V % 2 ^ limited width =
-        λ V. sym (cut-low width (of V) own_within (below signals (sized width signed (node.Repeat times part)) width signed of shape V)) in
+    λ V. sym (cut-low width (of V) own_within (below signals (sized width signed (node.Repeat times part)) width signed of shape V)) in
     let carries : Meant signals (carried size signed (limited width) (node.Repeat times part)) size signed (λ V. extended signed (limited width) size (of V % 2 ^ limited width)) =
-        subst (λ w. Meant signals (carried size signed w (node.Repeat times part)) size signed (λ V. extended signed w size (of V % 2 ^ limited width))) (sym same)
-        (carried-meant signals (node.Repeat times part) width size signed (λ V. of V % 2 ^ limited width) within (subst (λ w. w ≤ size) same wide)
-          (record { of_width = shape.of_width; of_sign = shape.of_sign; means = λ V. shape.means V ∙ values V; fits = shape.fits })) in
+    subst (λ w. Meant signals (carried size signed w (node.Repeat times part)) size signed (λ V. extended signed w size (of V % 2 ^ limited width))) (sym same)
+    (carried-meant signals (node.Repeat times part) width size signed (λ V. of V % 2 ^ limited width) within (subst (λ w. w ≤ size) same wide)
+    (record { of_width = shape.of_width; of_sign = shape.of_sign; means = λ V. shape.means V ∙ values V; fits = shape.fits })) in
     folded-meant signals (replicated count es) size signed (carried size signed (limited width) (node.Repeat times part)) within steady carries
 
 -- ---- operators
@@ -134,40 +134,48 @@ pub unary-law : (signals : List Signal) (look : Look) (op : Unary) (operand : Tr
     → (keeps_width op ≡ false → InContext signals look operand (sizing look operand).width (sizing look operand).signed)
     → IsSteady (unary_sizing op (sizing look operand))
     → Meant signals
-      ( folded (unary_sizing op (sizing look operand)) size signed
-        ( if keeps_width op
-          then sized size signed (node.Unary (unary_of op) (typed look operand size signed))
-          else carried size signed 1 (node.Unary (unary_of op) (typed look operand (sizing look operand).width (sizing look operand).signed))
-        )
-      ) size signed (λ V. (unary_sizing op (sizing look operand)).value V size signed)
+    (folded (unary_sizing op (sizing look operand)) size signed
+    (if keeps_width op
+    then sized size signed (node.Unary (unary_of op) (typed look operand size signed))
+    else carried size signed 1 (node.Unary (unary_of op) (typed look operand (sizing look operand).width (sizing look operand).signed))
+    )
+    ) size signed (λ V. (unary_sizing op (sizing look operand)).value V size signed)
 unary-law signals look op operand size signed within kept reduced steady = by (keeps_width op) refl steady
   where
     by : (holds : Bool) → keeps_width op ≡ holds
         → IsSteady (if holds then kept_sizing op (sizing look operand) else bit_sizing op (sizing look operand))
         → Meant signals
-          ( folded (if holds then kept_sizing op (sizing look operand) else bit_sizing op (sizing look operand)) size signed
-            ( if holds
-              then sized size signed (node.Unary (unary_of op) (typed look operand size signed))
-              else carried size signed 1 (node.Unary (unary_of op) (typed look operand (sizing look operand).width (sizing look operand).signed))
-            )
-          ) size signed (λ V. value_in (if holds then kept_sizing op (sizing look operand) else bit_sizing op (sizing look operand)) V size signed)
+        (folded (if holds then kept_sizing op (sizing look operand) else bit_sizing op (sizing look operand)) size signed
+        (if holds
+        then sized size signed (node.Unary (unary_of op) (typed look operand size signed))
+        else carried size signed 1 (node.Unary (unary_of op) (typed look operand (sizing look operand).width (sizing look operand).signed))
+        )
+        ) size signed (λ V. value_in (if holds then kept_sizing op (sizing look operand) else bit_sizing op (sizing look operand)) V size signed)
     by true is steady_too =
         folded-meant signals (kept_sizing op (sizing look operand)) size signed (sized size signed (node.Unary (unary_of op) (typed look operand size signed))) within steady_too
         (unary-meant signals (unary_of op) (typed look operand size signed) size size signed signed (λ V. (sizing look operand).value V size signed) within (keeps-fits op size is) (kept is))
     by false is steady_too =
         folded-meant signals (bit_sizing op (sizing look operand)) size signed
         (carried size signed 1 (node.Unary (unary_of op) (typed look operand (sizing look operand).width (sizing look operand).signed))) within steady_too
-        ( carried-meant signals (node.Unary (unary_of op) (typed look operand (sizing look operand).width (sizing look operand).signed)) 1 size signed
-          (λ V. operator.unary (unary_of op) (sizing look operand).width (own (sizing look operand) V)) within within.least
-          (unary-meant signals (unary_of op) (typed look operand (sizing look operand).width (sizing look operand).signed) (sizing look operand).width 1 signed (sizing look operand).signed
-            (own (sizing look operand)) one_bit-within (bit-fits op (sizing look operand).width is) (reduced is))
+        (carried-meant signals (node.Unary (unary_of op) (typed look operand (sizing look operand).width (sizing look operand).signed)) 1 size signed
+        (λ V. operator.unary (unary_of op) (sizing look operand).width (own (sizing look operand) V)) within within.least
+        (unary-meant signals (unary_of op) (typed look operand (sizing look operand).width (sizing look operand).signed) (sizing look operand).width 1 signed (sizing look operand).signed
+        (own (sizing look operand)) one_bit-within (bit-fits op (sizing look operand).width is) (reduced is))
         )
 
 -- two operands of a binary operator
 abbrev operands : (signals : List Signal) (look : Look) (left right : Tree) (lw rw : ℕ) (ls rs : Bool) → InContext signals look left lw ls → InContext signals look right rw rs → Operands signals
 operands signals look left right lw rw ls rs one other = record {
-  left = typed look left lw ls; left_width = lw; left_signed = ls; left_of = λ V. (sizing look left).value V lw ls; left_meant = one;
-  right = typed look right rw rs; right_width = rw; right_signed = rs; right_of = λ V. (sizing look right).value V rw rs; right_meant = other
+  left = typed look left lw ls;
+  left_width = lw;
+  left_signed = ls;
+  left_of = λ V. (sizing look left).value V lw ls;
+  left_meant = one;
+  right = typed look right rw rs;
+  right_width = rw;
+  right_signed = rs;
+  right_of = λ V. (sizing look right).value V rw rs;
+  right_meant = other;
 }
 
 -- the shape of an operator of two operands, by its class
@@ -210,7 +218,7 @@ never {A} {b} one other = cc
 pub class-law : (signals : List Signal) (look : Look) (c : Class) (left right : Tree) (size : ℕ) (signed : Bool) → Fits c → Within size → OperandsStand signals look c left right size signed
     → IsSteady (class_sizing c (sizing look left) (sizing look right))
     → Meant signals (folded (class_sizing c (sizing look left) (sizing look right)) size signed (class_shape look c left right size signed)) size signed
-      (λ V. (class_sizing c (sizing look left) (sizing look right)).value V size signed)
+    (λ V. (class_sizing c (sizing look left) (sizing look right)).value V size signed)
 class-law signals look (by_context op) left right size signed suits within stand steady =
     folded-meant signals (class_sizing (by_context op) (sizing look left) (sizing look right)) size signed (class_shape look (by_context op) left right size signed) within steady
     (binary-meant signals op size signed (operands signals look left right size size signed signed stand.0 stand.1) within (suits.widths size) (suits.signs signed))
@@ -223,18 +231,18 @@ class-law signals look (comparison op) left right size signed suits within stand
     let s = (sizing look left).signed && (sizing look right).signed in
     let o = operands signals look left right w w s s stand.0 stand.1 in
     folded-meant signals (class_sizing (comparison op) (sizing look left) (sizing look right)) size signed (class_shape look (comparison op) left right size signed) within steady
-    ( carried-meant signals (node.Binary op (typed look left w s) (typed look right w s)) 1 size signed
-      (λ V. operator.binary op w s s ((sizing look left).value V w s) ((sizing look right).value V w s)) within within.least
-      (binary-meant signals op 1 signed o one_bit-within (suits.widths w) (suits.signs signed s))
+    (carried-meant signals (node.Binary op (typed look left w s) (typed look right w s)) 1 size signed
+    (λ V. operator.binary op w s s ((sizing look left).value V w s) ((sizing look right).value V w s)) within within.least
+    (binary-meant signals op 1 signed o one_bit-within (suits.widths w) (suits.signs signed s))
     )
 class-law signals look (logical op) left right size signed suits within stand steady =
     let l = sizing look left in
     let r = sizing look right in
     let o = operands signals look left right l.width r.width l.signed r.signed stand.0 stand.1 in
     folded-meant signals (class_sizing (logical op) l r) size signed (class_shape look (logical op) left right size signed) within steady
-    ( carried-meant signals (node.Binary op (typed look left l.width l.signed) (typed look right r.width r.signed)) 1 size signed
-      (λ V. operator.binary op l.width l.signed r.signed (own l V) (own r V)) within within.least
-      (binary-meant signals op 1 signed o one_bit-within (suits.widths l.width r.width) (suits.signs signed l.signed r.signed))
+    (carried-meant signals (node.Binary op (typed look left l.width l.signed) (typed look right r.width r.signed)) 1 size signed
+    (λ V. operator.binary op l.width l.signed r.signed (own l V) (own r V)) within within.least
+    (binary-meant signals op 1 signed o one_bit-within (suits.widths l.width r.width) (suits.signs signed l.signed r.signed))
     )
 class-law signals look quotient left right size signed suits within stand steady =
     folded-by signals (class_sizing quotient (sizing look left) (sizing look right)) size signed (constant size signed 0) within steady

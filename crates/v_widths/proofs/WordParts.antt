@@ -71,7 +71,7 @@ padded bits width size d fits =
     let f = far_bit bits width d in
     let top : number high (λ j. f (low + within + j)) ≡ 0 = number-zeros high (λ j. f (low + within + j)) (λ j below. high-bit bits width size d j (omega (arith, below))) in
     let middle : number within (λ i. f (low + i)) ≡ number within (λ i. bits (start_within d + i)) =
-        number-same within (λ i. f (low + i)) (λ i. bits (start_within d + i)) (λ i below. middle-bit bits width size d i below) in
+    number-same within (λ i. f (low + i)) (λ i. bits (start_within d + i)) (λ i below. middle-bit bits width size d i below) in
     let bottom : number low f ≡ 0 = number-zeros low f (λ b below. low-bit bits width size d b below) in
     let one : number (low + within + high) f ≡ number high (λ j. f (low + within + j)) * 2 ^ (low + within) + number (low + within) f = number-halves (low + within) high f in
     let two : number (low + within) f ≡ number within (λ i. f (low + i)) * 2 ^ low + number low f = number-halves low within f in
@@ -177,17 +177,17 @@ word_part-meant signals a size d signed fits some = by (bits_within a.width size
 
     by : (holds : Bool) → (bits_within a.width size d == size) ≡ holds
         → Meant signals
-          ( sized size signed
-            ( if holds
-              then node.Word a.first a.count a.low a.index (start_within d) (bits_within a.width size d)
-              else node.Join
-                ( zeros_before (size - (bits_below size d + bits_within a.width size d))
-                  ( sized (bits_within a.width size d) false (node.Word a.first a.count a.low a.index (start_within d) (bits_within a.width size d))
-                  ∷ zeros_before (bits_below size d) []
-                  )
-                )
-            )
-          ) size signed (λ V. number size (far_bit (addressed_bits a V) a.width d))
+        (sized size signed
+        (if holds
+        then node.Word a.first a.count a.low a.index (start_within d) (bits_within a.width size d)
+        else node.Join
+        (zeros_before (size - (bits_below size d + bits_within a.width size d))
+        (sized (bits_within a.width size d) false (node.Word a.first a.count a.low a.index (start_within d) (bits_within a.width size d))
+        ∷ zeros_before (bits_below size d) []
+        )
+        )
+        )
+        ) size signed (λ V. number size (far_bit (addressed_bits a V) a.width d))
     by true is =
         let same : bits_within a.width size d ≡ size = eqb-true (bits_within a.width size d) size is in
         let none_below : bits_below size d ≡ 0 = omega (arith, same, bits-fit a.width size d some) in
@@ -196,11 +196,11 @@ word_part-meant signals a size d signed fits some = by (bits_within a.width size
           of_width = refl;
           of_sign = refl;
           means = λ V.
-            ap (λ w. node_value signals V w (node.Word a.first a.count a.low a.index (start_within d) (bits_within a.width size d))) (sym same)
-            ∙ r.means V
-            ∙ unshifted (number (bits_within a.width size d) (λ i. addressed_bits a V (start_within d + i))) (bits_below size d) none_below
-            ∙ values V;
-          fits = ap (λ w. node_fits signals w signed (node.Word a.first a.count a.low a.index (start_within d) (bits_within a.width size d))) (sym same) ∙ r.fits
+              ap (λ w. node_value signals V w (node.Word a.first a.count a.low a.index (start_within d) (bits_within a.width size d))) (sym same)
+              ∙ r.means V
+              ∙ unshifted (number (bits_within a.width size d) (λ i. addressed_bits a V (start_within d + i))) (bits_below size d) none_below
+              ∙ values V;
+          fits = ap (λ w. node_fits signals w signed (node.Word a.first a.count a.low a.index (start_within d) (bits_within a.width size d))) (sym same) ∙ r.fits;
         }
       where
         unshifted : (n k : ℕ) → k ≡ 0 → n ≡ n * 2 ^ k
@@ -209,26 +209,26 @@ word_part-meant signals a size d signed fits some = by (bits_within a.width size
         let es = before_of (size - (bits_below size d + bits_within a.width size d)) (read_of signals a size d ∷ before_of (bits_below size d) []) in
         let wide : sizing.joined_width es ≡ size = total in
         let j = join-meant signals
-                ( zeros_before (size - (bits_below size d + bits_within a.width size d))
-                  ( sized (bits_within a.width size d) false (node.Word a.first a.count a.low a.index (start_within d) (bits_within a.width size d))
-                  ∷ zeros_before (bits_below size d) []
-                  )
-                ) es signed (subst Within (sym wide) fits)
-                (padding-meant signals (size - (bits_below size d + bits_within a.width size d))
-                  ( sized (bits_within a.width size d) false (node.Word a.first a.count a.low a.index (start_within d) (bits_within a.width size d))
-                  ∷ zeros_before (bits_below size d) []
-                  ) (read_of signals a size d ∷ before_of (bits_below size d) []) (omega (arith, fits.most))
-                  (more (read false) (padding-meant signals (bits_below size d) [] [] (omega (arith, fits.most, bits-fit a.width size d some)) none))) in
+        (zeros_before (size - (bits_below size d + bits_within a.width size d))
+        (sized (bits_within a.width size d) false (node.Word a.first a.count a.low a.index (start_within d) (bits_within a.width size d))
+        ∷ zeros_before (bits_below size d) []
+        )
+        ) es signed (subst Within (sym wide) fits)
+        (padding-meant signals (size - (bits_below size d + bits_within a.width size d))
+        (sized (bits_within a.width size d) false (node.Word a.first a.count a.low a.index (start_within d) (bits_within a.width size d))
+        ∷ zeros_before (bits_below size d) []
+        ) (read_of signals a size d ∷ before_of (bits_below size d) []) (omega (arith, fits.most))
+        (more (read false) (padding-meant signals (bits_below size d) [] [] (omega (arith, fits.most, bits-fit a.width size d some)) none))) in
         subst (λ w. Meant signals
-            ( sized w signed
-              ( node.Join
-                ( zeros_before (size - (bits_below size d + bits_within a.width size d))
-                  ( sized (bits_within a.width size d) false (node.Word a.first a.count a.low a.index (start_within d) (bits_within a.width size d))
-                  ∷ zeros_before (bits_below size d) []
-                  )
-                )
-              )
-            ) w signed (λ V. number size (far_bit (addressed_bits a V) a.width d))) wide
+        (sized w signed
+        (node.Join
+        (zeros_before (size - (bits_below size d + bits_within a.width size d))
+        (sized (bits_within a.width size d) false (node.Word a.first a.count a.low a.index (start_within d) (bits_within a.width size d))
+        ∷ zeros_before (bits_below size d) []
+        )
+        )
+        )
+        ) w signed (λ V. number size (far_bit (addressed_bits a V) a.width d))) wide
         (record { of_width = j.of_width; of_sign = j.of_sign; means = λ V. j.means V ∙ meaning V; fits = j.fits })
       where
         total : sizing.joined_width (before_of (size - (bits_below size d + bits_within a.width size d)) (read_of signals a size d ∷ before_of (bits_below size d) [])) ≡ size

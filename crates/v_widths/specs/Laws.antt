@@ -2,11 +2,8 @@
 use Rattle.std.specs.Prelude.{ℕ, ◌≡◌, Bool, true, false, List, None}
 use Rattle.v_tree.specs.Tree.{Tree}
 use Rattle.design_core.specs.declared.signal.Signal.{Signal}
-use Rattle.design_core.specs.Valuation.{Valuation}
-use Rattle.design_core.specs.Value as design
 use Rattle.design_core.specs.WellFormed.{typed_fits}
 use Rattle.v_widths.specs.Look.{Look}
-use Rattle.v_widths.specs.Sizing.{sizing}
 use Rattle.v_widths.specs.Refusals.{refusal}
 use Rattle.v_widths.specs.Sized.{typed}
 use Rattle.v_widths.specs.Context.{IsScope, IsScopeOf, IsContext}
@@ -18,19 +15,16 @@ pub record Stands (signals : List Signal) (look : Look) (e : Tree) (width : ℕ)
   pub context : IsContext look e width signed
   pub accepted : refusal look false e width signed ≡ None
 
--- the value of the sized expression is the value of the expression (5.4, 5.5)
-abbrev pub SameValue : Type 0
-SameValue =
-    (signals : List Signal) (look : Look) (e : Tree) (width : ℕ) (signed : Bool) → Stands signals look e width signed
-    → (V : Valuation) → design.value signals V (typed look e width signed) ≡ (sizing look e).value V width signed
-
--- it is of the context's width and sign, and its parts fit it
+-- the sized expression is of the context's width and sign, and its parts fit it
 pub record IsSized (signals : List Signal) (look : Look) (e : Tree) (width : ℕ) (signed : Bool) : Type 0 where
   pub of_width : (typed look e width signed).width ≡ width
   pub of_sign : (typed look e width signed).signed ≡ signed
   pub fits : typed_fits signals (typed look e width signed) ≡ true
 
-abbrev pub Fitting : Type 0
-Fitting =
-    (signals : List Signal) (look : Look) (e : Tree) (width : ℕ) (signed : Bool) → Stands signals look e width signed
-    → IsSized signals look e width signed
+-- an expression in a context
+pub record InContext : Type 0 where
+  pub signals : List Signal
+  pub look : Look
+  pub e : Tree
+  pub width : ℕ
+  pub signed : Bool

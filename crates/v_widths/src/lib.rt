@@ -5,6 +5,7 @@
 mod divide;
 mod error;
 mod fold;
+pub mod laws;
 mod literal;
 mod meaning;
 mod node;
