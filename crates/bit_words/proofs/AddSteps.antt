@@ -1,17 +1,15 @@
 -- Steps of sums.
-use Rattle.std.proofs.Common.{◌≡◌, ℕ, suc, ◌+◌, ◌-◌, ◌≤◌, ◌<◌, min, Bool, true, false, not, ◌&&◌, ltb, List, [], ◌∷◌, ◌++◌, length, get_or, drop, map, replicate, take, ◌⊎◌, inl, inr, refl, sym, ◌∙◌, ap, ap₂, arith, add-one, drop-cons, length-drop}
-use Rattle.std.proofs.lemmas.List.{drop_all}
+use Rattle.std.proofs.Common.{◌≡◌, ℕ, suc, ◌+◌, ◌-◌, ◌≤◌, ◌<◌, min, Bool, true, false, ltb, List, [], ◌∷◌, length, get_or, drop, map, inl, inr, refl, ◌∙◌, ap, ap₂, arith, length-drop}
 use Rattle.gate_base.specs.declared.literal.Literal.{Literal}
 use Rattle.gate_base.specs.declared.literal.Literal.TheVariants.{Known}
 use Rattle.gate_base.specs.declared.node.Node.{Node}
-use Rattle.gate_base.specs.Literals.{opposite}
-use Rattle.gate_base.specs.Nodes.{Made, made, Word, word, counted, and_made, or_made, xor_made, mux_made, AddsCounted}
+use Rattle.gate_base.specs.Nodes.{word, counted, and_made, xor_made, AddsCounted}
 use Rattle.gate_base.proofs.Counts.{refused-more, adds-none, adds-then, adds-counted, and-adds, or-adds, xor-adds, mux-adds, counted-and, counted-or, counted-xor, counted-mux}
 use Rattle.gate_base.proofs.Chains.{drop-literal}
 use Rattle.std.proofs.lemmas.List.{get_or-map, length-map}
 use Rattle.std.proofs.lemmas.Grind.{common_steps}
 use Rattle.bit_words.specs.Bits.{have_more, turned}
-use Rattle.bit_words.specs.Add.{Column, column, carry_made, carry_if, column_made, sum_made}
+use Rattle.bit_words.specs.Add.{carry_made, carry_if, column_made, sum_made}
 use Rattle.bit_words.proofs.Steps.{ended}
 
 zero-within : (n : ℕ) → false ≡ ltb 0 (min 0 n)
@@ -85,9 +83,9 @@ sum-step nodes bits xs ys carry x y follows rest_x rest_y xs_is ys_is follows_is
 pub sum-more : (negated : Bool) (nodes : List Node) (bits xs ys : List Literal) (carry : Literal) (i : ℕ) → i < length xs → i < length ys
     → sum_made nodes bits (drop i xs) (drop i (map (turned negated) ys)) carry
     ≡ sum_made (column_made nodes bits (ltb (i + 1) (min (length xs) (length ys))) (get_or xs i (Known false)) (turned negated (get_or ys i (Known false))) carry).nodes
-      (column_made nodes bits (ltb (i + 1) (min (length xs) (length ys))) (get_or xs i (Known false)) (turned negated (get_or ys i (Known false))) carry).bits
-      (drop (i + 1) xs) (drop (i + 1) (map (turned negated) ys))
-      (column_made nodes bits (ltb (i + 1) (min (length xs) (length ys))) (get_or xs i (Known false)) (turned negated (get_or ys i (Known false))) carry).carry
+    (column_made nodes bits (ltb (i + 1) (min (length xs) (length ys))) (get_or xs i (Known false)) (turned negated (get_or ys i (Known false))) carry).bits
+    (drop (i + 1) xs) (drop (i + 1) (map (turned negated) ys))
+    (column_made nodes bits (ltb (i + 1) (min (length xs) (length ys))) (get_or xs i (Known false)) (turned negated (get_or ys i (Known false))) carry).carry
 sum-more negated nodes bits xs ys carry i in_xs in_ys =
     let zs = map (turned negated) ys in
     let in_zs : i < length zs = rw (length-map ys (turned negated)) in_ys in
@@ -108,8 +106,10 @@ unfolding sum_made
 sum-end negated nodes bits xs ys carry i end =
     let zs = map (turned negated) ys in
     let past : min (length xs) (length zs) ≤ i = rw (length-map ys (turned negated)) end in
-    elim (ended xs zs i past) [ inl is ↦ ap (λ ws. sum_made nodes bits ws (drop i zs) carry) is
-    | inr is ↦ ap (λ ws. sum_made nodes bits (drop i xs) ws carry) is ∙ sum-none nodes bits (drop i xs) carry ]
+    elim (ended xs zs i past) [
+      | inl is ↦ ap (λ ws. sum_made nodes bits ws (drop i zs) carry) is
+      | inr is ↦ ap (λ ws. sum_made nodes bits (drop i xs) ws carry) is ∙ sum-none nodes bits (drop i xs) carry
+    ]
 
 pub counted-sum_more : (negated : Bool) (nodes : List Node) (bits xs ys : List Literal) (carry : Literal) (i : ℕ) → i < length xs → i < length ys
     → counted (column_made nodes bits (ltb (i + 1) (min (length xs) (length ys))) (get_or xs i (Known false)) (turned negated (get_or ys i (Known false))) carry).nodes

@@ -1,11 +1,9 @@
 -- Steps of the operators that go bit by bit.
-use Rattle.std.proofs.Common.{◌≡◌, ℕ, ◌+◌, ◌≤◌, ◌<◌, min, Bool, true, false, not, ◌&&◌, ltb, List, [], ◌∷◌, ◌++◌, length, get_or, drop, map, replicate, take, ◌⊎◌, inl, inr, refl, sym, ◌∙◌, ap, ap₂, arith, add-one, drop-cons}
-use Rattle.std.proofs.lemmas.List.{drop_all}
+use Rattle.std.proofs.Common.{◌≡◌, ℕ, ◌+◌, ◌≤◌, ◌<◌, min, false, List, [], ◌∷◌, ◌++◌, length, get_or, drop, inl, inr, refl, ◌∙◌, ap, ap₂}
 use Rattle.gate_base.specs.declared.literal.Literal.{Literal}
 use Rattle.gate_base.specs.declared.literal.Literal.TheVariants.{Known}
 use Rattle.gate_base.specs.declared.node.Node.{Node}
-use Rattle.gate_base.specs.Literals.{opposite}
-use Rattle.gate_base.specs.Nodes.{Made, made, Word, word, counted, and_made, or_made, xor_made, mux_made, AddsCounted}
+use Rattle.gate_base.specs.Nodes.{word, counted, AddsCounted}
 use Rattle.gate_base.proofs.Counts.{refused-more, adds-none, adds-then, adds-counted, and-adds, or-adds, xor-adds, mux-adds, counted-and, counted-or, counted-xor, counted-mux}
 use Rattle.gate_base.proofs.Chains.{drop-literal}
 use Rattle.bit_words.specs.declared.bitwise.Bitwise.{Bitwise}
@@ -30,7 +28,7 @@ bitwise-adds operator nodes bits (x ∷ xs) (y ∷ ys) =
 pub bitwise-more : (operator : Bitwise) (nodes : List Node) (bits xs ys : List Literal) (i : ℕ) → i < length xs → i < length ys
     → bitwise_made operator nodes bits (drop i xs) (drop i ys)
     ≡ bitwise_made operator (bit_made operator nodes (get_or xs i (Known false)) (get_or ys i (Known false))).nodes
-      (bits ++ (bit_made operator nodes (get_or xs i (Known false)) (get_or ys i (Known false))).bit ∷ []) (drop (i + 1) xs) (drop (i + 1) ys)
+    (bits ++ (bit_made operator nodes (get_or xs i (Known false)) (get_or ys i (Known false))).bit ∷ []) (drop (i + 1) xs) (drop (i + 1) ys)
 unfolding bitwise_made
 bitwise-more operator nodes bits xs ys i in_xs in_ys = ap₂ (bitwise_made operator nodes bits) (drop-literal xs i in_xs) (drop-literal ys i in_ys)
 
@@ -43,8 +41,10 @@ pub bitwise-end : (operator : Bitwise) (nodes : List Node) (bits xs ys : List Li
     → bitwise_made operator nodes bits (drop i xs) (drop i ys) ≡ word nodes bits
 unfolding bitwise_made
 bitwise-end operator nodes bits xs ys i end =
-    elim (ended xs ys i end) [ inl is ↦ ap (λ zs. bitwise_made operator nodes bits zs (drop i ys)) is
-    | inr is ↦ ap (λ zs. bitwise_made operator nodes bits (drop i xs) zs) is ∙ bitwise-none operator nodes bits (drop i xs) ]
+    elim (ended xs ys i end) [
+      | inl is ↦ ap (λ zs. bitwise_made operator nodes bits zs (drop i ys)) is
+      | inr is ↦ ap (λ zs. bitwise_made operator nodes bits (drop i xs) zs) is ∙ bitwise-none operator nodes bits (drop i xs)
+    ]
 
 pub counted-bitwise_more : (operator : Bitwise) (nodes : List Node) (bits xs ys : List Literal) (i : ℕ) → i < length xs → i < length ys
     → counted (bit_made operator nodes (get_or xs i (Known false)) (get_or ys i (Known false))).nodes ≤ counted (bitwise_made operator nodes bits (drop i xs) (drop i ys)).nodes

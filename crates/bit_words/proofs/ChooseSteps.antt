@@ -1,11 +1,9 @@
 -- Steps of a choice of two words.
-use Rattle.std.proofs.Common.{◌≡◌, ℕ, ◌+◌, ◌≤◌, ◌<◌, min, Bool, true, false, not, ◌&&◌, ltb, List, [], ◌∷◌, ◌++◌, length, get_or, drop, map, replicate, take, ◌⊎◌, inl, inr, refl, sym, ◌∙◌, ap, ap₂, arith, add-one, drop-cons}
-use Rattle.std.proofs.lemmas.List.{drop_all}
+use Rattle.std.proofs.Common.{◌≡◌, ℕ, ◌+◌, ◌≤◌, ◌<◌, min, false, List, [], ◌∷◌, ◌++◌, length, get_or, drop, inl, inr, refl, ◌∙◌, ap, ap₂}
 use Rattle.gate_base.specs.declared.literal.Literal.{Literal}
 use Rattle.gate_base.specs.declared.literal.Literal.TheVariants.{Known}
 use Rattle.gate_base.specs.declared.node.Node.{Node}
-use Rattle.gate_base.specs.Literals.{opposite}
-use Rattle.gate_base.specs.Nodes.{Made, made, Word, word, counted, and_made, or_made, xor_made, mux_made, AddsCounted}
+use Rattle.gate_base.specs.Nodes.{word, counted, mux_made, AddsCounted}
 use Rattle.gate_base.proofs.Counts.{refused-more, adds-none, adds-then, adds-counted, and-adds, or-adds, xor-adds, mux-adds, counted-and, counted-or, counted-xor, counted-mux}
 use Rattle.gate_base.proofs.Chains.{drop-literal}
 use Rattle.bit_words.specs.Choose.{choice_made}
@@ -21,7 +19,7 @@ choice-adds nodes bits c (x ∷ xs) (y ∷ ys) =
 pub choice-more : (nodes : List Node) (bits : List Literal) (c : Literal) (xs ys : List Literal) (i : ℕ) → i < length xs → i < length ys
     → choice_made nodes bits c (drop i xs) (drop i ys)
     ≡ choice_made (mux_made nodes c (get_or xs i (Known false)) (get_or ys i (Known false))).nodes
-      (bits ++ (mux_made nodes c (get_or xs i (Known false)) (get_or ys i (Known false))).bit ∷ []) c (drop (i + 1) xs) (drop (i + 1) ys)
+    (bits ++ (mux_made nodes c (get_or xs i (Known false)) (get_or ys i (Known false))).bit ∷ []) c (drop (i + 1) xs) (drop (i + 1) ys)
 unfolding choice_made
 choice-more nodes bits c xs ys i in_xs in_ys = ap₂ (choice_made nodes bits c) (drop-literal xs i in_xs) (drop-literal ys i in_ys)
 
@@ -34,8 +32,10 @@ pub choice-end : (nodes : List Node) (bits : List Literal) (c : Literal) (xs ys 
     → choice_made nodes bits c (drop i xs) (drop i ys) ≡ word nodes bits
 unfolding choice_made
 choice-end nodes bits c xs ys i end =
-    elim (ended xs ys i end) [ inl is ↦ ap (λ zs. choice_made nodes bits c zs (drop i ys)) is
-    | inr is ↦ ap (λ zs. choice_made nodes bits c (drop i xs) zs) is ∙ choice-none nodes bits c (drop i xs) ]
+    elim (ended xs ys i end) [
+      | inl is ↦ ap (λ zs. choice_made nodes bits c zs (drop i ys)) is
+      | inr is ↦ ap (λ zs. choice_made nodes bits c (drop i xs) zs) is ∙ choice-none nodes bits c (drop i xs)
+    ]
 
 pub counted-choice_more : (nodes : List Node) (bits : List Literal) (c : Literal) (xs ys : List Literal) (i : ℕ) → i < length xs → i < length ys
     → counted (mux_made nodes c (get_or xs i (Known false)) (get_or ys i (Known false))).nodes ≤ counted (choice_made nodes bits c (drop i xs) (drop i ys)).nodes

@@ -1,11 +1,10 @@
 -- Steps of the comparison for equality.
-use Rattle.std.proofs.Common.{◌≡◌, ℕ, ◌+◌, ◌≤◌, ◌<◌, min, Bool, true, false, not, ◌&&◌, ltb, List, [], ◌∷◌, ◌++◌, length, get_or, drop, map, replicate, take, ◌⊎◌, inl, inr, refl, sym, ◌∙◌, ap, ap₂, arith, add-one, drop-cons}
-use Rattle.std.proofs.lemmas.List.{drop_all}
+use Rattle.std.proofs.Common.{◌≡◌, ℕ, ◌+◌, ◌≤◌, ◌<◌, min, false, List, [], ◌∷◌, length, get_or, drop, inl, inr, refl, ◌∙◌, ap, ap₂, arith}
 use Rattle.gate_base.specs.declared.literal.Literal.{Literal}
 use Rattle.gate_base.specs.declared.literal.Literal.TheVariants.{Known}
 use Rattle.gate_base.specs.declared.node.Node.{Node}
 use Rattle.gate_base.specs.Literals.{opposite}
-use Rattle.gate_base.specs.Nodes.{Made, made, Word, word, counted, and_made, or_made, xor_made, mux_made, AddsCounted}
+use Rattle.gate_base.specs.Nodes.{made, counted, and_made, xor_made, AddsCounted}
 use Rattle.gate_base.proofs.Counts.{refused-more, adds-none, adds-then, adds-counted, and-adds, or-adds, xor-adds, mux-adds, counted-and, counted-or, counted-xor, counted-mux}
 use Rattle.gate_base.proofs.Chains.{drop-literal}
 use Rattle.bit_words.specs.Equal.{equal_made}
@@ -23,7 +22,7 @@ equal-adds nodes so_far (x ∷ xs) (y ∷ ys) =
 pub equal-more : (nodes : List Node) (so_far : Literal) (xs ys : List Literal) (i : ℕ) → i < length xs → i < length ys
     → equal_made nodes so_far (drop i xs) (drop i ys)
     ≡ equal_made (and_made (xor_made nodes (get_or xs i (Known false)) (get_or ys i (Known false))).nodes so_far (opposite (xor_made nodes (get_or xs i (Known false)) (get_or ys i (Known false))).bit)).nodes
-      (and_made (xor_made nodes (get_or xs i (Known false)) (get_or ys i (Known false))).nodes so_far (opposite (xor_made nodes (get_or xs i (Known false)) (get_or ys i (Known false))).bit)).bit (drop (i + 1) xs) (drop (i + 1) ys)
+    (and_made (xor_made nodes (get_or xs i (Known false)) (get_or ys i (Known false))).nodes so_far (opposite (xor_made nodes (get_or xs i (Known false)) (get_or ys i (Known false))).bit)).bit (drop (i + 1) xs) (drop (i + 1) ys)
 unfolding equal_made
 equal-more nodes so_far xs ys i in_xs in_ys = ap₂ (equal_made nodes so_far) (drop-literal xs i in_xs) (drop-literal ys i in_ys)
 
@@ -36,8 +35,10 @@ pub equal-end : (nodes : List Node) (so_far : Literal) (xs ys : List Literal) (i
     → equal_made nodes so_far (drop i xs) (drop i ys) ≡ made nodes so_far
 unfolding equal_made
 equal-end nodes so_far xs ys i end =
-    elim (ended xs ys i end) [ inl is ↦ ap (λ zs. equal_made nodes so_far zs (drop i ys)) is
-    | inr is ↦ ap (λ zs. equal_made nodes so_far (drop i xs) zs) is ∙ equal-none nodes so_far (drop i xs) ]
+    elim (ended xs ys i end) [
+      | inl is ↦ ap (λ zs. equal_made nodes so_far zs (drop i ys)) is
+      | inr is ↦ ap (λ zs. equal_made nodes so_far (drop i xs) zs) is ∙ equal-none nodes so_far (drop i xs)
+    ]
 
 pub counted-equal_more : (nodes : List Node) (so_far : Literal) (xs ys : List Literal) (i : ℕ) → i < length xs → i < length ys
     → counted (and_made (xor_made nodes (get_or xs i (Known false)) (get_or ys i (Known false))).nodes so_far (opposite (xor_made nodes (get_or xs i (Known false)) (get_or ys i (Known false))).bit)).nodes

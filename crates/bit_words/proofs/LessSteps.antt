@@ -1,11 +1,11 @@
 -- Steps of the carries of a comparison.
-use Rattle.std.proofs.Common.{◌≡◌, ℕ, zero, suc, ◌+◌, ◌≤◌, ◌<◌, min, Bool, true, false, not, ◌&&◌, ltb, List, [], ◌∷◌, ◌++◌, length, get_or, drop, map, replicate, take, ◌⊎◌, inl, inr, refl, sym, ◌∙◌, ap, ap₂, arith, add-one, drop-cons}
+use Rattle.std.proofs.Common.{◌≡◌, ℕ, zero, suc, ◌+◌, ◌≤◌, ◌<◌, Bool, false, List, [], ◌∷◌, length, get_or, drop, map, refl, ◌∙◌, ap, ap₂, arith}
 use Rattle.std.proofs.lemmas.List.{drop_all}
 use Rattle.gate_base.specs.declared.literal.Literal.{Literal}
 use Rattle.gate_base.specs.declared.literal.Literal.TheVariants.{Known}
 use Rattle.gate_base.specs.declared.node.Node.{Node}
 use Rattle.gate_base.specs.Literals.{opposite}
-use Rattle.gate_base.specs.Nodes.{Made, made, Word, word, counted, and_made, or_made, xor_made, mux_made, AddsCounted}
+use Rattle.gate_base.specs.Nodes.{made, counted, xor_made, AddsCounted}
 use Rattle.gate_base.proofs.Counts.{refused-more, adds-none, adds-then, adds-counted, and-adds, or-adds, xor-adds, mux-adds, counted-and, counted-or, counted-xor, counted-mux}
 use Rattle.gate_base.proofs.Chains.{drop-literal}
 use Rattle.std.proofs.lemmas.List.{get_or-map, length-map}
@@ -55,13 +55,13 @@ carries-step nodes carry xs ys x y rest_x rest_y xs_is ys_is = ap₂ (carries_ma
 module _ (signed : Bool) (nodes : List Node) (carry : Literal) (xs ys : List Literal) (i : ℕ) (in_xs : i < length xs) (in_ys : i < length ys) where
   pub carries-more : carries_made nodes carry (drop i (with_top signed xs)) (drop i (map opposite (with_top signed ys)))
       ≡ carries_made
-        (carry_made (xor_made nodes (get_or (with_top signed xs) i (Known false)) (opposite (get_or (with_top signed ys) i (Known false)))).nodes
-          (get_or (with_top signed xs) i (Known false)) (opposite (get_or (with_top signed ys) i (Known false))) carry
-          (xor_made nodes (get_or (with_top signed xs) i (Known false)) (opposite (get_or (with_top signed ys) i (Known false)))).bit).nodes
-        (carry_made (xor_made nodes (get_or (with_top signed xs) i (Known false)) (opposite (get_or (with_top signed ys) i (Known false)))).nodes
-          (get_or (with_top signed xs) i (Known false)) (opposite (get_or (with_top signed ys) i (Known false))) carry
-          (xor_made nodes (get_or (with_top signed xs) i (Known false)) (opposite (get_or (with_top signed ys) i (Known false)))).bit).bit
-        (drop (i + 1) (with_top signed xs)) (drop (i + 1) (map opposite (with_top signed ys)))
+      (carry_made (xor_made nodes (get_or (with_top signed xs) i (Known false)) (opposite (get_or (with_top signed ys) i (Known false)))).nodes
+      (get_or (with_top signed xs) i (Known false)) (opposite (get_or (with_top signed ys) i (Known false))) carry
+      (xor_made nodes (get_or (with_top signed xs) i (Known false)) (opposite (get_or (with_top signed ys) i (Known false)))).bit).nodes
+      (carry_made (xor_made nodes (get_or (with_top signed xs) i (Known false)) (opposite (get_or (with_top signed ys) i (Known false)))).nodes
+      (get_or (with_top signed xs) i (Known false)) (opposite (get_or (with_top signed ys) i (Known false))) carry
+      (xor_made nodes (get_or (with_top signed xs) i (Known false)) (opposite (get_or (with_top signed ys) i (Known false)))).bit).bit
+      (drop (i + 1) (with_top signed xs)) (drop (i + 1) (map opposite (with_top signed ys)))
   carries-more =
       let us = with_top signed xs in
       let vs = with_top signed ys in
@@ -74,8 +74,8 @@ module _ (signed : Bool) (nodes : List Node) (carry : Literal) (xs ys : List Lit
 
   pub counted-carries_more :
       counted (carry_made (xor_made nodes (get_or (with_top signed xs) i (Known false)) (opposite (get_or (with_top signed ys) i (Known false)))).nodes
-          (get_or (with_top signed xs) i (Known false)) (opposite (get_or (with_top signed ys) i (Known false))) carry
-          (xor_made nodes (get_or (with_top signed xs) i (Known false)) (opposite (get_or (with_top signed ys) i (Known false)))).bit).nodes
+      (get_or (with_top signed xs) i (Known false)) (opposite (get_or (with_top signed ys) i (Known false))) carry
+      (xor_made nodes (get_or (with_top signed xs) i (Known false)) (opposite (get_or (with_top signed ys) i (Known false)))).bit).nodes
       ≤ counted (carries_made nodes carry (drop i (with_top signed xs)) (drop i (map opposite (with_top signed ys)))).nodes
   counted-carries_more =
       let x = get_or (with_top signed xs) i (Known false) in

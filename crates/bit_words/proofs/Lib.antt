@@ -4,3 +4,6 @@ pub mod ChooseSteps
 pub mod EqualSteps
 pub mod AddSteps
 pub mod LessSteps
+pub mod Meaning
+pub mod Numbers
+pub mod WordLaws

@@ -1,5 +1,5 @@
 -- Sums and differences (IEEE 1364-2005, 5.1.5), by columns from bit 0 up.
-use Rattle.std.specs.Prelude.{ℕ, Bool, true, false, not, ◌&&◌, ◌||◌, if◌then◌else◌, List, [], ◌∷◌, ◌++◌, map, length, replicate}
+use Rattle.std.specs.Prelude.{ℕ, Bool, true, false, ◌&&◌, ◌||◌, List, [], ◌∷◌, ◌++◌, map, length, replicate}
 use Rattle.gate_base.specs.declared.literal.Literal.{Literal}
 use Rattle.gate_base.specs.declared.literal.Literal.TheVariants.{Known}
 use Rattle.gate_base.specs.declared.node.Node.{Node}

@@ -1,5 +1,6 @@
 -- Words as lists of bits from bit 0 up, and the whole numbers that they mean.
-use Rattle.std.specs.Prelude.{◌≡◌, ℕ, ◌+◌, ◌*◌, Bool, true, false, if◌then◌else◌, List, [], ◌∷◌, length, get_or}
+use Rattle.std.specs.Prelude.{◌≡◌, ℕ, ◌+◌, ◌*◌, Bool, true, false, if◌then◌else◌, ℤ, pos, List, [], ◌∷◌}
+use Rattle.loc_base.specs.Word.{signed_value}
 use Rattle.gate_base.specs.declared.literal.Literal.{Literal}
 use Rattle.gate_base.specs.declared.node.Node.{Node}
 use Rattle.gate_base.specs.Literals.{opposite}
@@ -13,6 +14,10 @@ one_if holds = if holds then 1 else 0
 abbrev pub number_of : List Bool → ℕ
 number_of [] = 0
 number_of (b ∷ bs) = one_if b + 2 * number_of bs
+
+-- the whole number that a word means, by its sign (IEEE 1364-2005, 5.1.3)
+abbrev pub integer_of : Bool → ℕ → ℕ → ℤ
+integer_of signed width value = if signed then signed_value width value else pos value
 
 -- a literal as it stands, or its opposite
 abbrev pub turned : Bool → Literal → Literal

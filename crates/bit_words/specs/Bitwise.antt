@@ -1,5 +1,5 @@
 -- The operators that go bit by bit (IEEE 1364-2005, 5.1.10).
-use Rattle.std.specs.Prelude.{Bool, not, ◌&&◌, ◌||◌, List, [], ◌∷◌, ◌++◌}
+use Rattle.std.specs.Prelude.{ℕ, ◌-◌, ◌^◌, bit_and, bit_or, bit_xor, Bool, not, ◌&&◌, ◌||◌, List, [], ◌∷◌, ◌++◌}
 use Rattle.gate_base.specs.declared.literal.Literal.{Literal}
 use Rattle.gate_base.specs.declared.node.Node.{Node}
 use Rattle.gate_base.specs.Literals.{opposite}
@@ -33,3 +33,10 @@ abbrev pub bits_of : Bitwise → List Bool → List Bool → List Bool
 bits_of operator [] bs = []
 bits_of operator (a ∷ rest) [] = []
 bits_of operator (a ∷ rest) (b ∷ bs) = bit_of operator a b ∷ bits_of operator rest bs
+
+-- what it does to whole numbers of a width
+abbrev pub bitwise_number : Bitwise → ℕ → ℕ → ℕ → ℕ
+bitwise_number bitwise.And width a b = bit_and a b
+bitwise_number bitwise.Or width a b = bit_or a b
+bitwise_number bitwise.Xor width a b = bit_xor a b
+bitwise_number bitwise.Xnor width a b = (2 ^ width - 1) - bit_xor a b

@@ -1,10 +1,11 @@
 -- Whether a word is less than another (IEEE 1364-2005, 5.1.7): the carries alone of the difference.
-use Rattle.std.specs.Prelude.{Bool, true, false, if◌then◌else◌, List, [], ◌∷◌, map}
+use Rattle.std.specs.Prelude.{Bool, true, List, [], ◌∷◌, map}
 use Rattle.gate_base.specs.declared.literal.Literal.{Literal}
 use Rattle.gate_base.specs.declared.literal.Literal.TheVariants.{Known}
 use Rattle.gate_base.specs.declared.node.Node.{Node}
 use Rattle.gate_base.specs.Literals.{opposite}
 use Rattle.gate_base.specs.Nodes.{Made, made, xor_made}
+use Rattle.gate_base.specs.Meaning.{differ}
 use Rattle.bit_words.specs.Bits.{turned}
 use Rattle.bit_words.specs.Add.{carry_made}
 
@@ -28,3 +29,9 @@ unfoldable pub less_made : Bool → List Node → List Literal → List Literal 
 less_made signed nodes xs ys =
     let m = carries_made nodes (Known true) (with_top signed xs) (map opposite (with_top signed ys)) in
     made m.nodes (opposite m.bit)
+
+-- the bits with the top one turned where the word is signed
+abbrev pub topped : Bool → List Bool → List Bool
+topped signed [] = []
+topped signed (b ∷ []) = differ signed b ∷ []
+topped signed (b ∷ c ∷ cs) = b ∷ topped signed (c ∷ cs)

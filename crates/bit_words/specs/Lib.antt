@@ -4,3 +4,4 @@ pub mod Choose
 pub mod Equal
 pub mod Add
 pub mod Less
+pub mod Laws

@@ -29,7 +29,12 @@ pub(crate) fn zeros(alloc: Global, width: usize) -> Result<Items<Literal>, NoMem
 
 /// The carry of a column; `one` says that one of the two bits is true.
 #[tactic(auto, using(gate_base::proofs::Counts::operators), unfolding(crate::specs::Add::carry_made))]
-pub(crate) fn carry(maker: &mut Maker, bits: (Literal, Literal), carry: Literal, one: Literal) -> Result<Literal, MakeErr>
+pub(crate) fn carry(
+    maker: &mut Maker,
+    bits: (Literal, Literal),
+    carry: Literal,
+    one: Literal,
+) -> Result<Literal, MakeErr>
     ensures ok { IfOk result (λ l. made maker.new.nodes l ≡ carry_made maker.old.nodes bits.0 bits.1 carry one) }
     ensures err { IfErr result (λ e. UnlessNoMemory e (maker.old.limit < counted (carry_made maker.old.nodes bits.0 bits.1 carry one).nodes)) }
     ensures limit { maker.new.limit ≡ maker.old.limit }
@@ -70,7 +75,13 @@ impl WordMaker {
 
     /// Appends the sum of a word, another or its opposite bits, and a carry.
     #[tactic(auto, using(crate::proofs::AddSteps::steps))]
-    fn sum(&mut self, left: &[Literal], right: &[Literal], negated: bool, first: Literal) -> Result<(), MakeErr>
+    fn sum(
+        &mut self,
+        left: &[Literal],
+        right: &[Literal],
+        negated: bool,
+        first: Literal,
+    ) -> Result<(), MakeErr>
         ensures ok { OnOk result (word self.new.maker.nodes self.new.bits ≡ sum_made self.old.maker.nodes self.old.bits left.now (map (turned negated) right.now) first) }
         ensures err { IfErr result (λ e. UnlessNoMemory e (self.old.maker.limit < counted (sum_made self.old.maker.nodes self.old.bits left.now (map (turned negated) right.now) first).nodes)) }
         ensures limit { self.new.maker.limit ≡ self.old.maker.limit }
@@ -90,7 +101,12 @@ impl WordMaker {
 
     /// Appends the sum of two words and a carry, as many bits as both have.
     #[tactic(auto, using(crate::proofs::AddSteps::operands))]
-    pub fn add(&mut self, left: &[Literal], right: &[Literal], carry: Literal) -> Result<(), MakeErr>
+    pub fn add(
+        &mut self,
+        left: &[Literal],
+        right: &[Literal],
+        carry: Literal,
+    ) -> Result<(), MakeErr>
         ensures ok { OnOk result (word self.new.maker.nodes self.new.bits ≡ sum_made self.old.maker.nodes self.old.bits left.now right.now carry) }
         ensures err { IfErr result (λ e. UnlessNoMemory e (self.old.maker.limit < counted (sum_made self.old.maker.nodes self.old.bits left.now right.now carry).nodes)) }
         ensures limit { self.new.maker.limit ≡ self.old.maker.limit }

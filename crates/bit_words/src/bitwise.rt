@@ -17,7 +17,12 @@ pub enum Bitwise {
 
 /// One bit of such an operator.
 #[tactic(auto, unfolding(crate::specs::Bitwise::bit_made))]
-fn bit(maker: &mut Maker, operator: Bitwise, left: Literal, right: Literal) -> Result<Literal, MakeErr>
+fn bit(
+    maker: &mut Maker,
+    operator: Bitwise,
+    left: Literal,
+    right: Literal,
+) -> Result<Literal, MakeErr>
     ensures ok { IfOk result (λ l. made maker.new.nodes l ≡ bit_made operator maker.old.nodes left right) }
     ensures err { IfErr result (λ e. UnlessNoMemory e (maker.old.limit < counted (bit_made operator maker.old.nodes left right).nodes)) }
     ensures limit { maker.new.limit ≡ maker.old.limit }
@@ -36,7 +41,12 @@ fn bit(maker: &mut Maker, operator: Bitwise, left: Literal, right: Literal) -> R
 impl WordMaker {
     /// Appends the bits of an operator, as many as both operands have.
     #[tactic(auto, using(crate::proofs::BitwiseSteps::steps))]
-    pub fn bitwise(&mut self, operator: Bitwise, left: &[Literal], right: &[Literal]) -> Result<(), MakeErr>
+    pub fn bitwise(
+        &mut self,
+        operator: Bitwise,
+        left: &[Literal],
+        right: &[Literal],
+    ) -> Result<(), MakeErr>
         ensures ok { OnOk result (word self.new.maker.nodes self.new.bits ≡ bitwise_made operator self.old.maker.nodes self.old.bits left.now right.now) }
         ensures err { IfErr result (λ e. UnlessNoMemory e (self.old.maker.limit < counted (bitwise_made operator self.old.maker.nodes self.old.bits left.now right.now).nodes)) }
         ensures limit { self.new.maker.limit ≡ self.old.maker.limit }

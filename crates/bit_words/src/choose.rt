@@ -9,7 +9,12 @@ use gate_base::{Literal, MakeErr};
 impl WordMaker {
     /// Appends the bits of `yes` where the condition holds, else those of `no`, as many as both have.
     #[tactic(auto, using(crate::proofs::ChooseSteps::steps))]
-    pub fn choose(&mut self, condition: Literal, yes: &[Literal], no: &[Literal]) -> Result<(), MakeErr>
+    pub fn choose(
+        &mut self,
+        condition: Literal,
+        yes: &[Literal],
+        no: &[Literal],
+    ) -> Result<(), MakeErr>
         ensures ok { OnOk result (word self.new.maker.nodes self.new.bits ≡ choice_made self.old.maker.nodes self.old.bits condition yes.now no.now) }
         ensures err { IfErr result (λ e. UnlessNoMemory e (self.old.maker.limit < counted (choice_made self.old.maker.nodes self.old.bits condition yes.now no.now).nodes)) }
         ensures limit { self.new.maker.limit ≡ self.old.maker.limit }

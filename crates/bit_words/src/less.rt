@@ -24,7 +24,12 @@ fn bit_with_top(signed: bool, word: &[Literal], place: usize) -> Literal
 impl WordMaker {
     /// Whether a word is less than another of its width, both of two's complement where they are signed.
     #[tactic(auto, using(crate::proofs::LessSteps::steps), unfolding(crate::specs::Less::less_made))]
-    pub fn less(&mut self, signed: bool, left: &[Literal], right: &[Literal]) -> Result<Literal, MakeErr>
+    pub fn less(
+        &mut self,
+        signed: bool,
+        left: &[Literal],
+        right: &[Literal],
+    ) -> Result<Literal, MakeErr>
         requires { length left.now ≡ length right.now }
         ensures ok { IfOk result (λ l. made self.new.maker.nodes l ≡ less_made signed self.old.maker.nodes left.now right.now) }
         ensures err { IfErr result (λ e. UnlessNoMemory e (self.old.maker.limit < counted (less_made signed self.old.maker.nodes left.now right.now).nodes)) }

@@ -5,6 +5,7 @@ mod add;
 mod bitwise;
 mod choose;
 mod equal;
+pub mod laws;
 mod less;
 mod word_maker;
 

@@ -9,5 +9,5 @@ invariant-loop-i l = record {
   limit : l.self.maker.limit ≡ l.fn.self.maker.limit;
   bits : l.self.bits ≡ l.fn.self.bits;
   rest : carries_made l.fn.self.maker.nodes (Known true) (with_top l.signed l.left) (map opposite (with_top l.signed l.right))
-      ≡ carries_made l.self.maker.nodes l.carried (drop l.i (with_top l.signed l.left)) (drop l.i (map opposite (with_top l.signed l.right)))
+      ≡ carries_made l.self.maker.nodes l.carried (drop l.i (with_top l.signed l.left)) (drop l.i (map opposite (with_top l.signed l.right)));
 }

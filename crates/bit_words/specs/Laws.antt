@@ -1,0 +1,19 @@
+-- What the laws speak of: two words, a literal and a condition, and what they mean.
+use Rattle.std.specs.Prelude.{ℕ, Bool, List}
+use Rattle.gate_base.specs.declared.literal.Literal.{Literal}
+use Rattle.gate_base.specs.declared.node.Node.{Node}
+use Rattle.gate_base.specs.Meaning.{Source}
+use Rattle.bit_words.specs.declared.bitwise.Bitwise.{Bitwise}
+
+pub record Operands : Type 0 where
+  pub source : Source
+  pub nodes : List Node
+  pub left : List Literal
+  pub right : List Literal
+  pub a : ℕ
+  pub b : ℕ
+  -- a carry or a condition
+  pub literal : Literal
+  pub c : Bool
+  pub operator : Bitwise
+  pub signed : Bool

@@ -1,0 +1,47 @@
+//! What the operators mean: whole numbers of the standard's operators. Each law is the contract of a function that does
+//! nothing.
+
+ghost use Rattle.std.specs.Prelude.{[], ◌%◌, ◌+◌, ◌-◌, ◌==◌, ◌^◌, ◌≡◌, ◌≤◌, if◌then◌else◌, int_lt, length, true};
+ghost use Rattle.gate_base.specs.Meaning.{Gives, Means};
+ghost use Rattle.gate_base.specs.declared.literal.Literal.TheVariants.{Known};
+ghost use Rattle.bit_words.specs.Bits.{GivesWord, IsWord, integer_of, one_if};
+ghost use Rattle.bit_words.specs.Bitwise.{bitwise_made, bitwise_number};
+ghost use Rattle.bit_words.specs.Choose.{choice_made};
+ghost use Rattle.bit_words.specs.Equal.{equal_made};
+ghost use Rattle.bit_words.specs.Add.{difference_made, minus_made, sum_made};
+ghost use Rattle.bit_words.specs.Less.{less_made};
+ghost use Rattle.bit_words.specs.Laws.{Operands};
+
+/// Sums, differences and minus a word are those of the numbers, as far as the width reaches (5.1.5).
+pub fn sums_mean()
+    ghost of: { Operands }
+    requires left { IsWord of.source of.nodes of.left of.a }
+    requires right { IsWord of.source of.nodes of.right of.b }
+    requires carry { Means of.source of.nodes of.literal of.c }
+    requires widths { length of.left ≡ length of.right }
+    ensures sum { GivesWord of.source of.nodes (sum_made of.nodes [] of.left of.right of.literal) ((of.a + of.b + one_if of.c) % 2 ^ length of.left) }
+    ensures difference { GivesWord of.source of.nodes (difference_made of.nodes [] of.left of.right) ((of.a + (2 ^ length of.left - of.b)) % 2 ^ length of.left) }
+    ensures minus { GivesWord of.source of.nodes (minus_made of.nodes [] of.left) ((2 ^ length of.left - of.a) % 2 ^ length of.left) }
+{}
+
+/// Comparisons are those of the whole numbers that the words mean, by sign (5.1.7, 5.1.8).
+pub fn comparisons_mean()
+    ghost of: { Operands }
+    requires left { IsWord of.source of.nodes of.left of.a }
+    requires right { IsWord of.source of.nodes of.right of.b }
+    requires widths { length of.left ≡ length of.right }
+    requires some { 1 ≤ length of.left }
+    ensures equal { Gives of.source of.nodes (equal_made of.nodes (Known true) of.left of.right) (of.a == of.b) }
+    ensures less { Gives of.source of.nodes (less_made of.signed of.nodes of.left of.right) (int_lt (integer_of of.signed (length of.left) of.a) (integer_of of.signed (length of.left) of.b)) }
+{}
+
+/// A choice is the chosen number, and operators that go bit by bit are those of the numbers (5.1.10, 5.1.13).
+pub fn choices_mean()
+    ghost of: { Operands }
+    requires left { IsWord of.source of.nodes of.left of.a }
+    requires right { IsWord of.source of.nodes of.right of.b }
+    requires condition { Means of.source of.nodes of.literal of.c }
+    requires widths { length of.left ≡ length of.right }
+    ensures choice { GivesWord of.source of.nodes (choice_made of.nodes [] of.literal of.left of.right) (if of.c then of.a else of.b) }
+    ensures bitwise { GivesWord of.source of.nodes (bitwise_made of.operator of.nodes [] of.left of.right) (bitwise_number of.operator (length of.left) of.a of.b) }
+{}
