@@ -43,7 +43,7 @@ declared_without : (h : Header) (ports : List Port) (table : Table) (code : List
     → role_of table.codes code ≡ None → not (is_declared h code) ≡ true
 declared_without h ports table code t has = ap not (sym (t.declared code) ∙ ap is_some has)
 
-any_less : (one other : Port → Bool) (ports : List Port) → list_any one ports ≡ false → list_any (λ port. one port && other port) ports ≡ false
+pub any_less : (one other : Port → Bool) (ports : List Port) → list_any one ports ≡ false → list_any (λ port. one port && other port) ports ≡ false
 any_less one other [] none = refl
 any_less one other (port ∷ ports) none =
     elim (cases_Bool (one port)) [

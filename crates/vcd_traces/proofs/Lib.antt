@@ -1,5 +1,8 @@
 pub mod RunningLaws
 pub mod ChangeLaws
+pub mod TableLaws
+pub mod SiteLaws
+pub mod SizeLaws
 pub mod RowLaws
 pub mod KeptLaws
 pub mod MomentLaws

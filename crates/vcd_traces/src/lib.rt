@@ -8,4 +8,5 @@ mod pieces;
 mod reader;
 mod rows;
 mod running;
+mod sites;
 mod table;
