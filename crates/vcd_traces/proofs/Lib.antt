@@ -3,6 +3,7 @@ pub mod ChangeLaws
 pub mod TableLaws
 pub mod SiteLaws
 pub mod SizeLaws
+pub mod WatchLaws
 pub mod RowLaws
 pub mod KeptLaws
 pub mod MomentLaws

@@ -38,9 +38,9 @@ abbrev pub site_fits : Site → Bool
 site_fits site = fits (site_port site)
 
 -- what is sampled of ports of which so many are inputs, the next are outputs, and the last may be a clock
-abbrev pub watches_from : Header → List Port → ℕ → ℕ → Watches
-watches_from h ports inputs outputs = record {
-  clock = option_map (code_of h ports) (slice_get (drop outputs (drop inputs ports)) 0);
-  inputs = map (watch_of h ports) (take inputs ports);
-  outputs = map (watch_of h ports) (take outputs (drop inputs ports));
+abbrev pub watches_from : Header → List Port → ℕ → ℕ → List Port → Watches
+watches_from h all inputs outputs ports = record {
+  clock = option_map (code_of h all) (slice_get (drop outputs (drop inputs ports)) 0);
+  inputs = map (watch_of h all) (take inputs ports);
+  outputs = map (watch_of h all) (take outputs (drop inputs ports));
 }

@@ -10,3 +10,4 @@ mod rows;
 mod running;
 mod sites;
 mod table;
+mod watches;
