@@ -16,4 +16,7 @@ pub mod GoingLaws
 pub mod TraceLaws
 pub mod BeginLaws
 pub mod FinishLaws
+pub mod PortLaws
+pub mod AnswerLaws
+pub mod DumpLaws
 mod Examples

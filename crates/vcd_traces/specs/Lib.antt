@@ -10,3 +10,5 @@ pub mod Closing
 pub mod Plan
 pub mod Going
 pub mod Finish
+pub mod Dump
+pub mod Answers

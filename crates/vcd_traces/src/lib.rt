@@ -3,11 +3,16 @@
 
 mod changes;
 mod codes;
+mod dump;
 mod moment;
 mod pieces;
 mod reader;
 mod rows;
 mod running;
+mod sampling;
 mod sites;
 mod table;
 mod watches;
+
+pub use sampling::samples;
+pub use vcd_reading::VcdErr;
