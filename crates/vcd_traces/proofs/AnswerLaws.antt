@@ -1,5 +1,5 @@
 -- What is answered of a text, and that nothing else is.
-use Rattle.std.proofs.Common.{◌≡◌, ◌≢◌, ℕ, List, [], ◌∷◌, length, refl, sym, ◌∙◌, ap, subst, Option, Some, None, Result, Ok, Err, Bool, false, true, ◌||◌}
+use Rattle.std.proofs.Common.{◌≡◌, ◌≢◌, ℕ, List, [], ◌∷◌, refl, sym, ◌∙◌, ap, subst, Option, Some, None, Result, Ok, Err, false, ◌||◌}
 use Rattle.std.specs.List.{list_any}
 use Rattle.std.specs.Option.{option_map, option_map_or, option_or}
 use Rattle.std.specs.Result.{IfOk, IfErr}
@@ -20,11 +20,11 @@ use Rattle.vcd_traces.specs.declared.codes.Role.{Role}
 use Rattle.vcd_traces.specs.declared.codes.Role.TheVariants.{Other, Port as OfPort}
 use Rattle.vcd_traces.specs.declared.table.Table.{Table}
 use Rattle.vcd_traces.specs.declared.rows.Rows.{Rows}
-use Rattle.vcd_traces.specs.Table.{role_of, cell_codes, IsRole, IsTable, IsTableOf}
+use Rattle.vcd_traces.specs.Table.{cell_codes, IsRole, IsTable, IsTableOf}
 use Rattle.vcd_traces.specs.Rows.{rows_of}
 use Rattle.vcd_traces.specs.Kept.{AreKept}
 use Rattle.vcd_traces.specs.Finish.{refused, Finishes}
-use Rattle.vcd_traces.specs.Samples.{Watches, AreSamples, least_port, scope_refusal, width_refusal, cycle_refusal, unknown_from, moments, cycles_of, watches_of, refusal_of, HasSamples, IsRefused, at_word, as_whole}
+use Rattle.vcd_traces.specs.Samples.{Watches, AreSamples, least_port, scope_refusal, width_refusal, moments, cycles_of, watches_of, refusal_of, HasSamples, IsRefused, at_word, as_whole}
 use Rattle.vcd_traces.specs.Dump.{EndsWith}
 use Rattle.vcd_traces.specs.Answers.{Answers, IsSameTrace, IsOnly, IsOnlyFault}
 

@@ -1,6 +1,6 @@
 -- The variables of ports are found in their scope.
-use Rattle.std.proofs.Common.{◌≡◌, ℕ, zero, suc, ◌+◌, ◌<◌, ◌≤◌, Bool, true, false, ◌&&◌, ◌||◌, if◌then◌else◌, List, [], ◌∷◌, ◌++◌, length, map, take, drop, get_or, refl, sym, ◌∙◌, ap, subst, inl, inr, arith, Option, Some, None, is_some}
-use Rattle.std.specs.Prelude.{slice_get, All, fold, nat_lt}
+use Rattle.std.proofs.Common.{◌≡◌, ℕ, zero, suc, ◌+◌, ◌<◌, ◌≤◌, Bool, true, false, ◌||◌, if◌then◌else◌, List, [], ◌∷◌, ◌++◌, length, map, take, get_or, sym, ◌∙◌, ap, subst, inl, inr, arith, Option, Some, None, is_some}
+use Rattle.std.specs.Prelude.{slice_get, All, nat_lt}
 use Rattle.std.specs.List.{list_any, list_all}
 use Rattle.std.specs.Option.{option_map, option_and_then, option_map_or, option_or, option_copied, IfSome}
 use Rattle.std.specs.Borrow.{Bor}
@@ -19,11 +19,10 @@ use Rattle.vcd_reading.specs.Header.{Header, Variable}
 use Rattle.vcd_reading.specs.HeaderView.{variable_of}
 use Rattle.vcd_reading.specs.NameView.{number_at}
 use Rattle.vcd_reading.specs.PortView.{port_of, ports_in}
-use Rattle.vcd_reading.specs.Scopes.{Port, is_named, variable_in, port_variable, declares, least_below, scope_of, has_code, is_of_port}
-use Rattle.vcd_reading.specs.Found.{place_of, IsIndex}
+use Rattle.vcd_reading.specs.Scopes.{Port, is_named, variable_in, port_variable, declares, least_below, scope_of, has_code}
+use Rattle.vcd_reading.specs.Found.{place_of}
 use Rattle.vcd_reading.proofs.ByteLaws.{same_self}
 use Rattle.vcd_reading.proofs.IndexLaws.{place_finds}
-use Rattle.vcd_traces.specs.declared.codes.Role.{Role}
 use Rattle.vcd_traces.specs.declared.table.Table.{Table}
 use Rattle.vcd_traces.specs.declared.sites.Site.{Site}
 use Rattle.vcd_traces.specs.declared.sites.Scope.{Scope}

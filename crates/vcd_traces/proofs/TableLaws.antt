@@ -1,12 +1,11 @@
 -- One more port in the table of codes.
-use Rattle.std.proofs.Common.{◌≡◌, ◌≢◌, ℕ, zero, suc, ◌<◌, ◌≤◌, ◌-◌, Bool, true, false, ◌&&◌, ◌||◌, if◌then◌else◌, min, List, [], ◌∷◌, ◌++◌, length, refl, sym, ◌∙◌, ap, subst, inl, inr, arith, Option, Some, None, is_some, nat_lt}
+use Rattle.std.proofs.Common.{◌≡◌, ℕ, zero, suc, Bool, true, false, ◌&&◌, ◌||◌, if◌then◌else◌, min, List, [], ◌∷◌, ◌++◌, length, refl, sym, ◌∙◌, ap, subst, inl, inr, arith, Option, Some, None, is_some, nat_lt}
 use Rattle.std.specs.Prelude.{slice_get}
 use Rattle.std.specs.List.{list_any, find}
 use Rattle.std.specs.Option.{option_and_then, option_map_or}
-use Rattle.std.proofs.lemmas.Bool.{cases_Bool, cond-true, cond-false, true≢false, false≢true}
+use Rattle.std.proofs.lemmas.Bool.{cases_Bool, cond-true, cond-false, false≢true}
 use Rattle.std.proofs.lemmas.Bool.Decides.{nat_tests}
 use Rattle.std.proofs.lemmas.List.Folds.{list_any-append}
-use Rattle.std.proofs.lemmas.Option.{slice_get_within}
 use Rattle.loc_base.proofs.ShelfBools.{or-false, or-true}
 use Rattle.vcd_reading.specs.Commands.{same_bytes}
 use Rattle.vcd_reading.specs.Header.{Header, Variable}
@@ -59,22 +58,20 @@ role_here : (h : Header) (ports seen : List Port) (port : Port) (code : List ℕ
     → IsRole h ports (seen ++ port ∷ []) (with_cell old cells code) code (given_role old (length cells) port.width)
 role_here h ports seen port code cells None here some is = absurd (false≢true some)
 role_here h ports seen port code cells (Some Other) here some is =
-    let none : list_any (has_code h ports code) seen ≡ false = is Other refl in
-    (
+    let none : list_any (has_code h ports code) seen ≡ false = is Other refl in (
       any_here (has_code h ports code) seen port here,
       λ digits.
-      any_more (too_long h ports code digits) seen port
-      ∙ ap (λ b. b || too_long h ports code digits port) (any_less (has_code h ports code) (λ (p : Port). nat_lt p.width digits) seen none)
-      ∙ ap (λ b. b && nat_lt port.width digits) here,
+          any_more (too_long h ports code digits) seen port
+          ∙ ap (λ b. b || too_long h ports code digits port) (any_less (has_code h ports code) (λ (p : Port). nat_lt p.width digits) seen none)
+          ∙ ap (λ b. b && nat_lt port.width digits) here,
       cell_next cells code,
     )
 role_here h ports seen port code cells (Some (OfPort cell limit)) here some is =
-    let facts = is (OfPort cell limit) refl in
-    (
+    let facts = is (OfPort cell limit) refl in (
       any_here (has_code h ports code) seen port here,
       λ digits.
-      any_more (too_long h ports code digits) seen port ∙ ap (λ b. b || too_long h ports code digits port) (facts.1 digits)
-      ∙ ap (λ b. nat_lt limit digits || (b && nat_lt port.width digits)) here ∙ less_both limit port.width digits,
+          any_more (too_long h ports code digits) seen port ∙ ap (λ b. b || too_long h ports code digits port) (facts.1 digits)
+          ∙ ap (λ b. nat_lt limit digits || (b && nat_lt port.width digits)) here ∙ less_both limit port.width digits,
       facts.2,
     )
 
@@ -83,12 +80,11 @@ role_away : (h : Header) (ports seen : List Port) (port : Port) (code : List ℕ
     → has_code h ports code port ≡ false → ((k : ℕ) → slice_get cells k ≡ Some code → slice_get more k ≡ Some code)
     → IsRole h ports seen cells code role → IsRole h ports (seen ++ port ∷ []) more code role
 role_away h ports seen port code cells more Other away stays is = any_away (has_code h ports code) seen port away ∙ is
-role_away h ports seen port code cells more (OfPort cell limit) away stays is =
-    (
-      any_away (has_code h ports code) seen port away ∙ is.0,
-      λ digits. any_away (too_long h ports code digits) seen port (ap (λ b. b && nat_lt port.width digits) away) ∙ is.1 digits,
-      stays cell is.2,
-    )
+role_away h ports seen port code cells more (OfPort cell limit) away stays is = (
+  any_away (has_code h ports code) seen port away ∙ is.0,
+  λ digits. any_away (too_long h ports code digits) seen port (ap (λ b. b && nat_lt port.width digits) away) ∙ is.1 digits,
+  stays cell is.2,
+)
 
 with_stays : (o : Option Role) (cells : List (List ℕ)) (code other : List ℕ) (k : ℕ) → slice_get cells k ≡ Some other
     → slice_get (with_cell o cells code) k ≡ Some other
@@ -216,6 +212,7 @@ table_first h ports table none roles = record {
     first_declared : (b : Bool) (o : Option Role) → o ≡ (if b then Some Other else None) → is_some o ≡ b
     first_declared true o is = ap is_some is
     first_declared false o is = ap is_some is
+
     first_role : (h : Header) (ports : List Port) (cells : List (List ℕ)) (code : List ℕ) (role : Role) (b : Bool)
         → (if b then Some Other else None) ≡ Some role → IsRole h ports [] cells code role
     first_role h ports cells code role true is =
@@ -223,6 +220,7 @@ table_first h ports table none roles = record {
         let P : Role → Type 0 = λ r. IsRole h ports [] cells code r in
         subst P one refl
     first_role h ports cells code role false is = cc
+
     no_cell : (code : List ℕ) (k : ℕ) → slice_get [] k ≡ Some code → ⊥
     no_cell code k at = cc
 

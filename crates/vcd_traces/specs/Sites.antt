@@ -1,5 +1,5 @@
 -- The variables of a design's ports, as they are found.
-use Rattle.std.specs.Prelude.{ℕ, ◌≡◌, ◌&&◌, Bool, true, nat_le, List, map, length, take, drop, Option, Some, None, All, slice_get}
+use Rattle.std.specs.Prelude.{ℕ, ◌≡◌, ◌&&◌, Bool, true, nat_le, List, map, take, drop, Some, All, slice_get}
 use Rattle.std.specs.Option.{option_map}
 use Rattle.vcd_reading.specs.Header.{Header}
 use Rattle.vcd_reading.specs.HeaderView.{variable_of}
@@ -8,7 +8,7 @@ use Rattle.vcd_reading.specs.Scopes.{Port, scope_of, port_variable, is_of_port, 
 use Rattle.vcd_reading.specs.Found.{IsIndex}
 use Rattle.vcd_traces.specs.declared.sites.Site.{Site}
 use Rattle.vcd_traces.specs.declared.sites.Scope.{Scope}
-use Rattle.vcd_traces.specs.Samples.{Watch, Watches, watch_of}
+use Rattle.vcd_traces.specs.Samples.{Watches, watch_of}
 
 -- the first scope that declares every port, with the variables of a header
 pub record IsScope (h : Header) (ports : List Port) (scope : Scope) : Type 0 where

@@ -3,7 +3,6 @@ use Rattle.std.specs.List.{list_any}
 use Rattle.vcd_reading.specs.Commands.{same_bytes}
 use Rattle.vcd_reading.specs.Header.{Variable}
 use Rattle.vcd_traces.specs.declared.codes.Role.TheVariants.{Other}
-use Rattle.vcd_traces.specs.Table.{cell_codes}
 use Rattle.vcd_traces.proofs.TableLaws.{table_first}
 use Rattle.vcd_traces.proofs.SiteLaws.{table_site, table_whole}
 use Rattle.vcd_traces.proofs.table.port_table.Goals as goal

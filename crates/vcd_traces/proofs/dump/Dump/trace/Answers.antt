@@ -1,4 +1,4 @@
-use Rattle.std.proofs.Common.{◌≡◌, ◌∙◌, ap, sym, Some, None, arith, length}
+use Rattle.std.proofs.Common.{◌≡◌, ◌∙◌, ap, sym, None, arith, length}
 use Rattle.vcd_reading.specs.PortView.{ports_in}
 use Rattle.vcd_reading.specs.Scopes.{scope_of}
 use Rattle.vcd_traces.specs.Dump.{dump_header}

@@ -1,4 +1,4 @@
-use Rattle.std.proofs.Common.{◌∙◌, ap, sym, map, refl, rules}
+use Rattle.std.proofs.Common.{ap, sym, map, refl, rules}
 use Rattle.vcd_reading.specs.HeaderView.{variable_of}
 use Rattle.vcd_reading.specs.Scopes.{ports_of}
 use Rattle.vcd_traces.specs.Dump.{dump_header}

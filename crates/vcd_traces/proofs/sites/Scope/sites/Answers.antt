@@ -1,4 +1,4 @@
-use Rattle.std.proofs.Common.{sym, ◌∙◌, ◌+◌, ap, subst, List, take, Vec, Global, ◌≡◌}
+use Rattle.std.proofs.Common.{sym, ◌∙◌, ◌+◌, ap, subst, List, take, Vec, Global}
 use Rattle.vcd_reading.specs.PortView.{ports_in}
 use Rattle.vcd_traces.specs.declared.sites.Site.{Site}
 use Rattle.vcd_traces.specs.Sites.{AreSites}
