@@ -7,3 +7,5 @@ pub mod LessSteps
 pub mod Meaning
 pub mod Numbers
 pub mod WordLaws
+pub mod MultiplySteps
+pub mod ShiftSteps

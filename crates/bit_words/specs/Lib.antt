@@ -4,4 +4,6 @@ pub mod Choose
 pub mod Equal
 pub mod Add
 pub mod Less
+pub mod Multiply
+pub mod Shift
 pub mod Laws

@@ -7,7 +7,10 @@ mod choose;
 mod equal;
 pub mod laws;
 mod less;
+mod multiply;
+mod shift;
 mod word_maker;
 
 pub use bitwise::Bitwise;
+pub use shift::{Direction, Shift};
 pub use word_maker::WordMaker;
