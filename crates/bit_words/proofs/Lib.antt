@@ -9,3 +9,4 @@ pub mod Numbers
 pub mod WordLaws
 pub mod MultiplySteps
 pub mod ShiftSteps
+pub mod PartNumbers

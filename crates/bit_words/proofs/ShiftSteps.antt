@@ -1,6 +1,6 @@
 -- Steps of shifts.
 use Rattle.std.proofs.Common.{◌≡◌, ℕ, suc, ◌+◌, ◌-◌, ◌≤◌, ◌<◌, min, Bool, true, false, not, ◌&&◌, ltb, cond, if◌then◌else◌, List, [], ◌∷◌, ◌++◌, length, get_or, drop, map, replicate, take, ◌⊎◌, inl, inr, refl, sym, ◌∙◌, ap, ap₂, arith, add-one, drop-cons, length-append, length-take, length-drop}
-use Rattle.std.proofs.lemmas.List.{drop_all, length-replicate}
+use Rattle.std.proofs.lemmas.List.{drop_all, take_all, length-replicate}
 use Rattle.std.proofs.lemmas.Grind.{common_steps}
 use Rattle.gate_base.specs.declared.literal.Literal.{Literal}
 use Rattle.gate_base.specs.declared.literal.Literal.TheVariants.{Known}
@@ -91,11 +91,11 @@ stages-more nodes direction fill places ys xs i within less =
     ∙ stages-less nodes direction fill places (get_or ys i (Known false)) (drop (i + 1) ys) xs (is-less places (length xs) less)
 
 pub stages-rest : (nodes : List Node) (direction : Direction) (fill : Literal) (places : ℕ) (ys xs : List Literal) (i : ℕ) → i < length ys → length xs ≤ places
-    → stages_made nodes direction fill places (drop i ys) xs ≡ past_made nodes fill (drop i ys) xs
+    → stages_made nodes direction fill places (drop i ys) xs ≡ past_made nodes fill (take (length ys - i) (drop i ys)) xs
 stages-rest nodes direction fill places ys xs i within past =
     ap (λ zs. stages_made nodes direction fill places zs xs) (drop-literal ys i within)
     ∙ stages-past nodes direction fill places (get_or ys i (Known false)) (drop (i + 1) ys) xs (is-past places (length xs) past)
-    ∙ ap (λ zs. past_made nodes fill zs xs) (sym (drop-literal ys i within))
+    ∙ ap (λ zs. past_made nodes fill zs xs) (sym (drop-literal ys i within) ∙ sym (take_all (length ys - i) (drop i ys) (omega (arith, length-drop i ys))))
 
 pub stages-end : (nodes : List Node) (direction : Direction) (fill : Literal) (places : ℕ) (ys xs : List Literal) (i : ℕ) → length ys ≤ i
     → stages_made nodes direction fill places (drop i ys) xs ≡ past_made nodes fill [] xs
