@@ -10,3 +10,5 @@ pub mod WordLaws
 pub mod MultiplySteps
 pub mod ShiftSteps
 pub mod PartNumbers
+pub mod ProductLaws
+pub mod ShiftLaws

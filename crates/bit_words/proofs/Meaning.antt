@@ -42,11 +42,11 @@ zeros-mean e nodes zero = none
 zeros-mean e nodes (suc width) = more (known-means e nodes false) (zeros-mean e nodes width)
 
 -- a word to which nothing is added
-ends : {e : Source} {nodes : List Node} {xs : List Literal} {bs : List Bool} → MeansAll e nodes xs bs → GivesAll e nodes (word nodes xs) (bs ++ [])
+pub ends : {e : Source} {nodes : List Node} {xs : List Literal} {bs : List Bool} → MeansAll e nodes xs bs → GivesAll e nodes (word nodes xs) (bs ++ [])
 ends {nodes = nodes} {bs = bs} ms = record { grown = grown-none nodes; means = all-as (sym (append-nil bs)) ms }
 
 -- one more bit, and then the rest
-one_more : {e : Source} {nodes more_nodes : List Node} {w : Word} (done : List Bool) (b : Bool) (rest : List Bool)
+pub one_more : {e : Source} {nodes more_nodes : List Node} {w : Word} (done : List Bool) (b : Bool) (rest : List Bool)
     → Grown nodes more_nodes → GivesAll e more_nodes w ((done ++ b ∷ []) ++ rest) → GivesAll e nodes w (done ++ b ∷ rest)
 one_more done b rest grown gives = record {
   grown = grown-then grown gives.grown;

@@ -22,7 +22,7 @@ use Rattle.bit_words.specs.Less.{topped}
 pub double : (n : ℕ) → 2 ^ suc n ≡ 2 * 2 ^ n
 double n = omega (arith, pow-suc 2 n)
 
-one_if-below : (b : Bool) → one_if b ≤ 1
+pub one_if-below : (b : Bool) → one_if b ≤ 1
 one_if-below true = omega arith
 one_if-below false = omega arith
 

@@ -66,21 +66,21 @@ stages-adds nodes direction fill places (y ∷ ys) xs =
       | false ↦ past-adds nodes fill (y ∷ ys) xs
     ]
 
-stages-less : (nodes : List Node) (direction : Direction) (fill : Literal) (places : ℕ) (y : Literal) (ys xs : List Literal) → ltb places (length xs) ≡ true
+pub stages-less : (nodes : List Node) (direction : Direction) (fill : Literal) (places : ℕ) (y : Literal) (ys xs : List Literal) → ltb places (length xs) ≡ true
     → stages_made nodes direction fill places (y ∷ ys) xs
     ≡ stages_made (stage_made nodes direction fill places y xs).nodes direction fill (places + places) ys (stage_made nodes direction fill places y xs).bits
 unfolding stages_made
 stages-less nodes direction fill places y ys xs less = rw less refl
 
-stages-past : (nodes : List Node) (direction : Direction) (fill : Literal) (places : ℕ) (y : Literal) (ys xs : List Literal) → ltb places (length xs) ≡ false
+pub stages-past : (nodes : List Node) (direction : Direction) (fill : Literal) (places : ℕ) (y : Literal) (ys xs : List Literal) → ltb places (length xs) ≡ false
     → stages_made nodes direction fill places (y ∷ ys) xs ≡ past_made nodes fill (y ∷ ys) xs
 unfolding stages_made
 stages-past nodes direction fill places y ys xs past = rw past refl
 
-is-less : (m n : ℕ) → m < n → ltb m n ≡ true
+pub is-less : (m n : ℕ) → m < n → ltb m n ≡ true
 is-less m n less = grind (arith, common_steps)
 
-is-past : (m n : ℕ) → n ≤ m → ltb m n ≡ false
+pub is-past : (m n : ℕ) → n ≤ m → ltb m n ≡ false
 is-past m n past = grind (arith, common_steps)
 
 pub stages-more : (nodes : List Node) (direction : Direction) (fill : Literal) (places : ℕ) (ys xs : List Literal) (i : ℕ) → i < length ys → places < length xs

@@ -3,6 +3,7 @@ use Rattle.std.specs.Prelude.{ℕ, Bool, List}
 use Rattle.gate_base.specs.declared.literal.Literal.{Literal}
 use Rattle.gate_base.specs.declared.node.Node.{Node}
 use Rattle.gate_base.specs.Meaning.{Source}
+use Rattle.bit_words.specs.declared.shift.Direction.{Direction}
 use Rattle.bit_words.specs.declared.bitwise.Bitwise.{Bitwise}
 
 pub record Operands : Type 0 where
@@ -12,8 +13,9 @@ pub record Operands : Type 0 where
   pub right : List Literal
   pub a : ℕ
   pub b : ℕ
-  -- a carry or a condition
+  -- a carry, a condition or a fill
   pub literal : Literal
   pub c : Bool
   pub operator : Bitwise
   pub signed : Bool
+  pub direction : Direction

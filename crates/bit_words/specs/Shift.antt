@@ -1,5 +1,5 @@
 -- Shifts by a word (IEEE 1364-2005, 5.1.12): for each bit of it, in turn, a choice of the word moved by its power of two.
-use Rattle.std.specs.Prelude.{ℕ, ◌+◌, ◌-◌, Bool, false, if◌then◌else◌, nat_lt, List, [], ◌∷◌, ◌++◌, length, take, drop, replicate}
+use Rattle.std.specs.Prelude.{ℕ, ◌≡◌, ◌+◌, ◌-◌, ◌*◌, ◌/◌, ◌%◌, ◌^◌, Bool, false, if◌then◌else◌, nat_lt, List, [], ◌∷◌, ◌++◌, length, take, drop, replicate}
 use Rattle.gate_base.specs.declared.literal.Literal.{Literal}
 use Rattle.gate_base.specs.declared.literal.Literal.TheVariants.{Known}
 use Rattle.gate_base.specs.declared.node.Node.{Node}
@@ -33,3 +33,13 @@ stages_made nodes direction fill places (y ∷ ys) xs =
 -- a word shifted by another
 abbrev pub shift_made : List Node → Direction → Literal → List Literal → List Literal → Word
 shift_made nodes direction fill xs ys = stages_made nodes direction fill 1 ys xs
+
+-- zeros come in at the right
+abbrev pub MayFill : Direction → Bool → Type 0
+MayFill Left fill = fill ≡ false
+MayFill Right fill = Unit {0}
+
+-- the number of a word of a width shifted by a number of places, ones coming in at the left where the fill is true
+abbrev pub shifted_number : Direction → Bool → ℕ → ℕ → ℕ → ℕ
+shifted_number Left fill width a places = a * 2 ^ places % 2 ^ width
+shifted_number Right fill width a places = if fill then (2 ^ width - 1) - ((2 ^ width - 1) - a) / 2 ^ places else a / 2 ^ places

@@ -1,7 +1,8 @@
 //! What the operators mean: whole numbers of the standard's operators. Each law is the contract of a function that does
 //! nothing.
 
-ghost use Rattle.std.specs.Prelude.{[], ◌%◌, ◌+◌, ◌-◌, ◌==◌, ◌^◌, ◌≡◌, ◌≤◌, if◌then◌else◌, int_lt, length, true};
+ghost use Rattle.std.specs.Prelude.{[], ◌%◌, ◌*◌, ◌+◌, ◌-◌, ◌==◌, ◌^◌, ◌≡◌, ◌≤◌, false, if◌then◌else◌, int_lt, length, slice_index_or, true};
+ghost use Rattle.loc_base.specs.Word.{is_negative};
 ghost use Rattle.gate_base.specs.Meaning.{Gives, Means};
 ghost use Rattle.gate_base.specs.declared.literal.Literal.TheVariants.{Known};
 ghost use Rattle.bit_words.specs.Bits.{GivesWord, IsWord, integer_of, one_if};
@@ -10,6 +11,8 @@ ghost use Rattle.bit_words.specs.Choose.{choice_made};
 ghost use Rattle.bit_words.specs.Equal.{equal_made};
 ghost use Rattle.bit_words.specs.Add.{difference_made, minus_made, sum_made};
 ghost use Rattle.bit_words.specs.Less.{less_made};
+ghost use Rattle.bit_words.specs.Multiply.{product_made};
+ghost use Rattle.bit_words.specs.Shift.{MayFill, shift_made, shifted_number};
 ghost use Rattle.bit_words.specs.Laws.{Operands};
 
 /// Sums, differences and minus a word are those of the numbers, as far as the width reaches (5.1.5).
@@ -44,4 +47,31 @@ pub fn choices_mean()
     requires widths { length of.left ≡ length of.right }
     ensures choice { GivesWord of.source of.nodes (choice_made of.nodes [] of.literal of.left of.right) (if of.c then of.a else of.b) }
     ensures bitwise { GivesWord of.source of.nodes (bitwise_made of.operator of.nodes [] of.left of.right) (bitwise_number of.operator (length of.left) of.a of.b) }
+{}
+
+/// A product is that of the numbers, as far as the width reaches (5.1.5).
+pub fn products_mean()
+    ghost of: { Operands }
+    requires left { IsWord of.source of.nodes of.left of.a }
+    requires right { IsWord of.source of.nodes of.right of.b }
+    requires widths { length of.left ≡ length of.right }
+    ensures { GivesWord of.source of.nodes (product_made of.nodes of.left of.right) (of.a * of.b % 2 ^ length of.left) }
+{}
+
+/// A shift is that of the numbers; at the right end zeros come in (5.1.12).
+pub fn shifts_mean()
+    ghost of: { Operands }
+    requires fill { Means of.source of.nodes of.literal of.c }
+    requires left { IsWord of.source of.nodes of.left of.a }
+    requires right { IsWord of.source of.nodes of.right of.b }
+    requires may { MayFill of.direction of.c }
+    ensures { GivesWord of.source of.nodes (shift_made of.nodes of.direction of.literal of.left of.right) (shifted_number of.direction of.c (length of.left) of.a of.b) }
+{}
+
+/// The top bit of a word says whether it is negative as two's complement.
+pub fn top_bit_means()
+    ghost of: { Operands }
+    requires word { IsWord of.source of.nodes of.left of.a }
+    requires some { 1 ≤ length of.left }
+    ensures { Means of.source of.nodes (slice_index_or of.left (length of.left - 1) (Known false)) (is_negative (length of.left) of.a) }
 {}
