@@ -34,7 +34,8 @@ use Rattle.vcd_traces.specs.Table.{cell_codes, IsTable, IsTableOf}
 use Rattle.vcd_traces.specs.Plan.{cell_code, watch_in, has_cell, Holds, IsPlan, IsWatched}
 use Rattle.vcd_traces.specs.Going.{Going, Gone, Ends}
 use Rattle.vcd_traces.specs.Dump.{dump_header, IsFront, AreFound, EndsWith, Comes}
-use Rattle.vcd_traces.specs.Sites.{site_port, fits, site_fits, watches_from, IsScope, IsSite, AreSites}
+use Rattle.vcd_traces.specs.Ports.{fits, HasPorts}
+use Rattle.vcd_traces.specs.Sites.{site_port, site_fits, watches_from, IsScope, IsSite, AreSites}
 use Rattle.vcd_traces.specs.Answers.{Answers}
 use Rattle.vcd_traces.proofs.PortLaws.{ports_count, ports_fit, watched_from}
 use Rattle.vcd_reading.proofs.ReadSteps.{at_map}
@@ -178,8 +179,8 @@ top_count d clock ports given same is =
     subst P all (ports_count d clock)
 
 pub top_fit : (d : Design) (clock : Option (List ℕ)) (ports given : List port_code.Port.Port) → ports_in ports ≡ ports_of d clock → given ≡ ports
-    → IsWellFormed d → IsTrue (list_all fits (ports_in given))
-top_fit d clock ports given same is formed = ap (list_all fits) (top_same d clock ports given same is) ∙ ports_fit d clock formed
+    → HasPorts d → IsTrue (list_all fits (ports_in given))
+top_fit d clock ports given same is has = ap (list_all fits) (top_same d clock ports given same is) ∙ ports_fit d clock has
 
 -- a refused header
 pub answers_header : (text : List ℕ) (d : Design) (clock : Option (List ℕ)) (fault : VcdErr) (r : Result Trace VcdErr)

@@ -16,7 +16,8 @@ use Rattle.design_core.specs.WellFormed.{IsWellFormed, signal_fits, input_fits, 
 use Rattle.vcd_reading.specs.Header.{Header}
 use Rattle.vcd_reading.specs.Scopes.{Port, port_at, clock_port, input_ports, output_ports, clock_ports, ports_of, code_of}
 use Rattle.vcd_traces.specs.Samples.{Watches, watch_of, watches_of}
-use Rattle.vcd_traces.specs.Sites.{fits, watches_from}
+use Rattle.vcd_traces.specs.Ports.{fits, is_port, HasPorts, FormedHasPorts}
+use Rattle.vcd_traces.specs.Sites.{watches_from}
 
 parts_of : (d : Design) (clock : Option (List ℕ)) → ports_of d clock ≡ input_ports d ++ (output_ports d ++ clock_ports d clock)
 parts_of d clock = append_assoc (input_ports d) (output_ports d) (clock_ports d clock)
@@ -72,16 +73,29 @@ each_fits one f each (x ∷ xs) all =
     let parts = and_parts (one x) (list_all one xs) all in
     and_from (fits (f x)) (list_all fits (map f xs)) (each x parts.0) (each_fits one f each xs parts.1)
 
+each_port : (one other : ℕ → Bool) → ((s : ℕ) → one s ≡ true → other s ≡ true) → (numbers : List ℕ) → list_all one numbers ≡ true → list_all other numbers ≡ true
+each_port one other each [] all = refl
+each_port one other each (s ∷ numbers) all =
+    let parts = and_parts (one s) (list_all one numbers) all in
+    and_from (other s) (list_all other numbers) (each s parts.0) (each_port one other each numbers parts.1)
+
+pub formed_has_ports : FormedHasPorts
+formed_has_ports d few formed = record {
+  few = few;
+  inputs = each_port (input_fits d.signals.items) (is_port d) (λ s is. input_fits_port d s formed.signals is) d.inputs.items formed.inputs;
+  outputs = each_port (is_signal d.signals.items) (is_port d) (λ s is. output_fits_port d s formed.signals is) d.outputs.items formed.outputs;
+}
+
 clock_fits : (d : Design) (clock : Option (List ℕ)) → list_all fits (clock_ports d clock) ≡ true
 clock_fits d None = refl
 clock_fits d (Some name) = refl
 
-pub ports_fit : (d : Design) (clock : Option (List ℕ)) → IsWellFormed d → IsTrue (list_all fits (ports_of d clock))
-ports_fit d clock formed =
+pub ports_fit : (d : Design) (clock : Option (List ℕ)) → HasPorts d → IsTrue (list_all fits (ports_of d clock))
+ports_fit d clock has =
     ap (list_all fits) (parts_of d clock) ∙ list_all-append fits (input_ports d) (output_ports d ++ clock_ports d clock)
-    ∙ and_from _ _ (each_fits (input_fits d.signals.items) (port_at d) (λ s is. input_fits_port d s formed.signals is) d.inputs.items formed.inputs)
+    ∙ and_from _ _ (each_fits (is_port d) (port_at d) (λ s is. is) d.inputs.items has.inputs)
     (list_all-append fits (output_ports d) (clock_ports d clock)
-    ∙ and_from _ _ (each_fits (is_signal d.signals.items) (port_at d) (λ s is. output_fits_port d s formed.signals is) d.outputs.items formed.outputs)
+    ∙ and_from _ _ (each_fits (is_port d) (port_at d) (λ s is. is) d.outputs.items has.outputs)
     (clock_fits d clock))
 
 -- ---- which is which
@@ -117,3 +131,5 @@ watched_from d clock h =
     ∙ ap (λ l. made (option_map (code_of h ports) (slice_get (clock_ports d clock) 0)) l (take m (drop n ports)) h ports) inputs
     ∙ ap (λ l. made (option_map (code_of h ports) (slice_get (clock_ports d clock) 0)) (input_ports d) l h ports) outputs
     ∙ ap (λ c. made c (input_ports d) (output_ports d) h ports) (clock_of d clock h ports)
+
+pub ruleset port_laws = (formed_has_ports)

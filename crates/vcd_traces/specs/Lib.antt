@@ -2,6 +2,7 @@ pub mod Running
 pub mod Table
 pub mod Levels
 pub mod Samples
+pub mod Ports
 pub mod Sites
 pub mod Moment
 pub mod Rows

@@ -8,6 +8,7 @@ use Rattle.vcd_reading.specs.Scopes.{Port, scope_of, port_variable, is_of_port, 
 use Rattle.vcd_reading.specs.Found.{IsIndex}
 use Rattle.vcd_traces.specs.declared.sites.Site.{Site}
 use Rattle.vcd_traces.specs.declared.sites.Scope.{Scope}
+use Rattle.vcd_traces.specs.Ports.{fits}
 use Rattle.vcd_traces.specs.Samples.{Watches, watch_of}
 
 -- the first scope that declares every port, with the variables of a header
@@ -31,9 +32,6 @@ pub record AreSites (h : Header) (ports seen : List Port) (sites : List Site) : 
   pub each : All (IsSite h ports) sites
 
 -- a port of 1 to 128 bits
-abbrev pub fits : Port → Bool
-fits port = nat_le 1 port.width && nat_le port.width 128
-
 abbrev pub site_fits : Site → Bool
 site_fits site = fits (site_port site)
 

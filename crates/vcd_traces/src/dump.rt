@@ -7,7 +7,8 @@ ghost use Rattle.vcd_reading.specs.PortView.{ports_in};
 ghost use Rattle.vcd_traces.specs.Samples.{Watches};
 ghost use Rattle.vcd_traces.specs.Moment.{has_width};
 ghost use Rattle.vcd_traces.specs.Plan.{IsPlan};
-ghost use Rattle.vcd_traces.specs.Sites.{fits, site_fits};
+ghost use Rattle.vcd_traces.specs.Ports.{fits};
+ghost use Rattle.vcd_traces.specs.Sites.{site_fits};
 ghost use Rattle.vcd_traces.specs.Dump.{dump_header, IsFront, AreFound, Comes};
 ghost use Rattle.vcd_traces.specs.Answers.{Answers};
 

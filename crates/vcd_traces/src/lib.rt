@@ -3,6 +3,7 @@
 
 mod changes;
 mod codes;
+mod condition;
 mod dump;
 mod moment;
 mod pieces;
@@ -14,5 +15,6 @@ mod sites;
 mod table;
 mod watches;
 
+pub use condition::{formed_has_ports, has_ports};
 pub use sampling::samples;
 pub use vcd_reading::VcdErr;

@@ -1,10 +1,10 @@
 //! The public call (IEEE 1364-2005, clause 18).
-ghost use Rattle.std.specs.Prelude.{◌<◌, ◌^◌, ◌≢◌, IfOk, IfErr, length};
+ghost use Rattle.std.specs.Prelude.{◌≢◌, IfOk, IfErr};
 ghost use Rattle.std.specs.Option.{option_copied};
-ghost use Rattle.design_core.specs.WellFormed.{IsWellFormed};
 ghost use Rattle.design_core.specs.declared.trace.Trace.{Trace as TheTrace};
 ghost use Rattle.vcd_reading.specs.declared.error.VcdErr.{VcdErr as TheFault};
 ghost use Rattle.vcd_reading.specs.declared.error.VcdErr.TheVariants.{NoMemory as OutOfMemory};
+ghost use Rattle.vcd_traces.specs.Ports.{HasPorts};
 ghost use Rattle.vcd_traces.specs.Samples.{HasSamples, IsRefused};
 ghost use Rattle.vcd_traces.specs.Answers.{Answers, IsOnly, IsOnlyFault};
 
@@ -21,8 +21,7 @@ fn answer(
     design: &Design,
     clock: Option<&Name>,
 ) -> Result<Trace, VcdErr>
-    requires few { length design.now.signals.items < 2 ^ 32 }
-    requires well_formed { IsWellFormed design.now }
+    requires { HasPorts design.now }
     ensures { Answers text.now design.now (option_copied clock.entry) result }
 {
     let dump = Dump {
@@ -44,8 +43,7 @@ pub fn samples(
     design: &Design,
     clock: Option<&Name>,
 ) -> Result<Trace, VcdErr>
-    requires few { length design.now.signals.items < 2 ^ 32 }
-    requires well_formed { IsWellFormed design.now }
+    requires { HasPorts design.now }
     ensures samples { IfOk result (λ trace. HasSamples text.now design.now (option_copied clock.entry) trace) }
     ensures refused { IfErr result (λ fault. fault ≢ OutOfMemory → IsRefused text.now design.now (option_copied clock.entry) fault) }
     ensures only { (trace : TheTrace) → HasSamples text.now design.now (option_copied clock.entry) trace → IsOnly trace result }

@@ -15,7 +15,7 @@ trace-requires-clause-count c =
 pub trace-requires-clause-widths : goal.trace-requires-clause-widths
 trace-requires-clause-widths c =
     top_fit c.args.design.now (option_copied c.args.clock) c.in_ok-ports.ports.items c.as_slice.result.now c.in_ok-ports.ensures c.as_slice.ensures.value
-    c.requires.well_formed
+    c.requires
 
 pub returns : goal.returns
 returns c =
