@@ -1,4 +1,7 @@
+pub mod Ascending
 pub mod ChooseLaws
 pub mod FirstLaws
 pub mod GroupLaws
 pub mod Steps
+pub mod SuspectLaws
+pub mod SuspectsFound

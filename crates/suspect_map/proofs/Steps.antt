@@ -7,7 +7,7 @@ use Rattle.std.proofs.lemmas.List.{get_or-map}
 use Rattle.std.proofs.lemmas.Slice.Eq.{bytes_eq-Decides}
 use Rattle.std.specs.Cmp.Lexicographic.{pointwise}
 use Rattle.design_core.specs.declared.place.Place.{Place}
-use Rattle.suspect_map.specs.Kinds.{modules}
+use Rattle.suspect_map.specs.Modules.{modules}
 use Rattle.loc_base.proofs.ShelfLists.{take-at, drop-at}
 use Rattle.suspect_map.specs.Groups.{numbers_at}
 use Rattle.suspect_map.specs.Grouping.{first_at, is_same, first_by, met, after, with_place}

@@ -13,7 +13,9 @@ mod group;
 mod grouping;
 mod instance_outputs;
 mod label;
+pub mod laws;
 mod modules;
+mod numbered;
 mod statements;
 
 pub use blocks::Blocks;

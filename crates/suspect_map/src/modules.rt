@@ -3,7 +3,7 @@ ghost use Rattle.std.specs.Cmp.Lexicographic.{pointwise};
 ghost use Rattle.loc_base.specs.NameTable.{number_of};
 ghost use Rattle.suspect_map.specs.Groups.{groups_of};
 ghost use Rattle.suspect_map.specs.Grouping.{after, firsts_by, met};
-ghost use Rattle.suspect_map.specs.Kinds.{modules};
+ghost use Rattle.suspect_map.specs.Modules.{modules};
 
 use crate::granularity::Granularity;
 use crate::group::Groups;

@@ -5,7 +5,7 @@ use Rattle.design_core.specs.declared.place.Place.{Place}
 use Rattle.loc_base.specs.NameTable.{number_of}
 use Rattle.loc_base.proofs.ShelfLists.{map-take_at}
 use Rattle.suspect_map.specs.Grouping.{first_by}
-use Rattle.suspect_map.specs.Kinds.{modules}
+use Rattle.suspect_map.specs.Modules.{modules}
 use Rattle.suspect_map.proofs.Steps.{same_name, met-first, after-first, module-key}
 use Rattle.suspect_map.proofs.modules.firsts_by_module.Goals as goal
 
