@@ -1,4 +1,5 @@
 pub mod Ascending
+pub mod ChainLaws
 pub mod ChooseLaws
 pub mod FirstLaws
 pub mod GroupLaws

@@ -22,7 +22,7 @@ record Splits {A : Type 0} (xs : List A) (at : ℕ) (rest : List A) : Type 0 whe
   is : xs ≡ before ++ rest
   there : at ≡ length before
 
-Splits-next : {A : Type 0} (xs : List A) (at : ℕ) (x : A) (rest : List A) → Splits xs at (x ∷ rest) → Splits xs (at + 1) rest
+abbrev Splits-next : {A : Type 0} (xs : List A) (at : ℕ) (x : A) (rest : List A) → Splits xs at (x ∷ rest) → Splits xs (at + 1) rest
 Splits-next xs at x rest s = record {
   before = s.before ++ x ∷ [];
   is = s.is ∙ sym (append_assoc s.before (x ∷ []) rest);
@@ -44,9 +44,9 @@ numbers_at-skip : {A : Type 0} (test : A → Bool) (at : ℕ) (before rest : Lis
 numbers_at-skip test at [] rest none = ap (λ n. numbers_at test n rest) (omega arith)
 numbers_at-skip test at (x ∷ xs) rest none =
     elim (cases_Bool (test x)) [
-      | inl e ↦ absurd (false≢true (sym none ∙ cond-true _ _ _ e))
+      | inl e ↦ absurd (false≢true (sym none ∙ ap (λ b. b || list_any test xs) e))
       | inr e ↦
-          cond-false _ _ _ e ∙ numbers_at-skip test (at + 1) xs rest (sym (cond-false _ _ _ e) ∙ none)
+          cond-false _ _ _ e ∙ numbers_at-skip test (at + 1) xs rest (sym (ap (λ b. b || list_any test xs) e) ∙ none)
           ∙ ap (λ n. numbers_at test n rest) (omega arith)
     ]
 
@@ -223,7 +223,7 @@ module _ {K : Type 0} (g : Grouping K) (decides : TestsKeys g) (kind : List ℕ)
         | inr e ↦
             let next : Splits places (at + 1) rest = Splits-next places at place rest s in
             let later : Found k (groups_from g kind places (at + 1) rest) =
-            found-from (at + 1) rest next k (list_any-append (has_key g k) s.before (place ∷ []) ∙ other e) (sym (cond-false _ _ _ e) ∙ some) in
+            found-from (at + 1) rest next k (list_any-append (has_key g k) s.before (place ∷ []) ∙ other e) (sym (ap (λ b. b || list_any (has_key g k) rest) e) ∙ some) in
             record {
               group = later.group;
               member = Contains-append_right (group_at g kind places at place (g.key place)) (groups_from g kind places (at + 1) rest) later.group later.member;
@@ -234,7 +234,7 @@ module _ {K : Type 0} (g : Grouping K) (decides : TestsKeys g) (kind : List ℕ)
       other : has_key g k place ≡ false → (list_any (has_key g k) s.before || list_any (has_key g k) (place ∷ [])) ≡ false
       other e = rw none (rw e refl)
 
-  whole : Splits places 0 places
+  abbrev whole : Splits places 0 places
   whole = record { before = []; is = refl; there = refl }
 
   all-of : (k : K) (number : ℕ) → HasKey g places k number → (group : Group) × Contains (groups_of g kind places) group × Contains group.places number

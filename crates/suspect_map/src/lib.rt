@@ -5,6 +5,7 @@
 #![tactic(auto)]
 
 mod blocks;
+mod chains;
 mod choose;
 mod firsts;
 mod gates;

@@ -8,7 +8,7 @@ use Rattle.suspect_map.proofs.grouping.Grain.groups_by_number.Goals as goal
 pub returns-clause-lists : goal.returns-clause-lists
 returns-clause-lists g c =
     lists-by (record { key = g.N.Numbered.number; same = nat_eq; label = c.args.self.now.label }) same_number c.args.self.now.kind.now c.args.self.now.places.now c.deref-2.result.now c.groups.result
-    (c.deref-2.ensures.value ∙ c.in_ok-firsts.ensures ∙ ap (firsts_by nat_eq) (c.deref.ensures.value ∙ c.in_ok-numbers_of.ensures)) c.groups.ensures
+    (c.deref-2.ensures.value ∙ c.in_ok-firsts.ensures.firsts ∙ ap (firsts_by nat_eq) (c.deref.ensures.value ∙ c.in_ok-numbers_of.ensures)) c.groups.ensures
 
 pub returns-clause-within : goal.returns-clause-within
 returns-clause-within g c =

@@ -7,7 +7,7 @@ use Rattle.suspect_map.proofs.modules.ModulesGranularity.groups.Goals as goal
 
 pub returns-clause-lists : goal.returns-clause-lists
 returns-clause-lists c =
-    lists-by modules same_name (codes "module") c.args.places.now c.deref.result.now c.groups.result (c.deref.ensures.value ∙ c.in_ok-firsts.ensures) c.groups.ensures
+    lists-by modules same_name (codes "module") c.args.places.now c.deref.result.now c.groups.result (c.deref.ensures.value ∙ c.in_ok-firsts.ensures.firsts) c.groups.ensures
 
 pub returns-clause-within : goal.returns-clause-within
 returns-clause-within c = within-by modules same_name (codes "module") c.args.places.now c.groups.result (returns-clause-lists c)
