@@ -1,5 +1,5 @@
 -- Steps of the loops that chain places and that follow a chain.
-use Rattle.std.proofs.Common.{◌≡◌, ◌≢◌, ℕ, zero, suc, ◌+◌, ◌<◌, ◌≤◌, Bool, true, false, List, [], ◌∷◌, ◌++◌, length, get_or, set, drop, map, replicate, Option, Some, None, if◌then◌else◌, refl, sym, ◌∙◌, ap, subst, arith, inl, inr, append_assoc, nat_eq}
+use Rattle.std.proofs.Common.{◌≡◌, ◌≢◌, ℕ, zero, suc, ◌+◌, ◌<◌, ◌≤◌, Bool, List, [], ◌∷◌, ◌++◌, length, get_or, set, drop, replicate, Option, Some, None, refl, sym, ◌∙◌, ap, subst, arith, inl, inr, append_assoc, nat_eq}
 use Rattle.std.specs.Prelude.{◌-◌, All}
 use Rattle.std.specs.Option.{option_map_or}
 use Rattle.std.proofs.lemmas.Bool.{cases_Bool, cases_lt, cond-true, cond-false, false≢true, eqb-true, eq-eqb}
@@ -34,7 +34,7 @@ chained-none firsts n long = record {
   heads_from = λ p q is. absurd (none-some q (sym (nothing n p) ∙ is));
   forward = λ p q is. absurd (none-some q (sym (nothing n p) ∙ is));
   runs = λ p within. subst (λ rest. RunsThrough (replicate n None) (get_or (replicate n None) p None) (numbers_at (is_number p) n rest))
-  (sym (ap (λ k. drop k firsts) long ∙ drop-length firsts)) (nothing n p);
+      (sym (ap (λ k. drop k firsts) long ∙ drop-length firsts)) (nothing n p);
 }
 
 module _ (firsts : List (Option ℕ)) (i : ℕ) (heads next : List (Option ℕ)) (chained : IsChained firsts (i + 1) heads next) (within : i < length firsts) where
@@ -46,7 +46,7 @@ module _ (firsts : List (Option ℕ)) (i : ℕ) (heads next : List (Option ℕ))
     heads_from = λ p q is. let (from, below) = chained.heads_from p q is in (omega (arith, from), below);
     forward = chained.forward;
     runs = λ p below. subst (λ rest. RunsThrough next (get_or heads p None) (numbers_at (is_number p) i rest))
-    (sym (drop-at firsts i None within (sym none ∙ get_or_default firsts i None None within))) (chained.runs p below);
+        (sym (drop-at firsts i None within (sym none ∙ get_or_default firsts i None None within))) (chained.runs p below);
   }
 
   module _ (f : ℕ) (first : get_or firsts i None ≡ Some f) (f_within : f < length firsts) where
@@ -119,7 +119,7 @@ module _ (firsts : List (Option ℕ)) (i : ℕ) (heads next : List (Option ℕ))
       heads_from = heads_from-add;
       forward = forward-add;
       runs = λ p below. subst (λ rest. RunsThrough (set next i (get_or heads f None)) (get_or (set heads f (Some i)) p None) (numbers_at (is_number p) i rest))
-      (sym (drop-at firsts i (Some f) within (sym first ∙ get_or_default firsts i None (Some f) within))) (runs-add p below);
+          (sym (drop-at firsts i (Some f) within (sym first ∙ get_or_default firsts i None (Some f) within))) (runs-add p below);
     }
 
 -- what was followed of a chain, and where it goes on
@@ -181,6 +181,7 @@ firsts-within same keys firsts is = subst (λ xs. PointsWithin (length xs) xs) (
   where
     long : length (firsts_by same keys) ≡ length keys
     long = length-map keys (first_by same keys)
+
     within : PointsWithin (length (firsts_by same keys)) (firsts_by same keys)
     within p q there =
         elim (cases_lt p (length keys)) [

@@ -1,6 +1,6 @@
 -- There is one list of the suspects of some places.
 use Rattle.std.proofs.Common.{◌≡◌, ℕ, ◌<◌, List, [], ◌∷◌, length, get_or, map, refl, sym, ◌∙◌, ap, ap₂, subst, arith, inl, inr}
-use Rattle.std.specs.Prelude.{Contains, All, slice_get}
+use Rattle.std.specs.Prelude.{Contains, slice_get}
 use Rattle.std.specs.List.Sorted.{IsStrictlyIncreasing}
 use Rattle.std.proofs.lemmas.List.{get_or-map, get_or_default, length-map}
 use Rattle.std.proofs.lemmas.List.Folds.{map_fixed}
@@ -27,12 +27,12 @@ module _ {A : Type 0} (f : A → ℕ) where
       elim (Contains-cons y ys x there) [
         | inl same ↦ sym same
         | inr behind ↦ elim (Contains-cons x xs y back) [
-            | inl same ↦ same
-            | inr later ↦
-                let above : f x < f y = head-least x xs one y later in
-                let below : f y < f x = head-least y ys other x behind in
-                absurd (omega (arith, above, below))
-          ]
+          | inl same ↦ same
+          | inr later ↦
+              let above : f x < f y = head-least x xs one y later in
+              let below : f y < f x = head-least y ys other x behind in
+              absurd (omega (arith, above, below))
+        ]
       ]
 
   -- and what is behind the one's first is behind the other's

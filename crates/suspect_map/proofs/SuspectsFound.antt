@@ -1,6 +1,6 @@
 -- The suspects of the keys are those of the places.
-use Rattle.std.proofs.Common.{◌≡◌, ℕ, zero, suc, ◌+◌, ◌<◌, ◌≤◌, Bool, true, false, ◌||◌, List, [], ◌∷◌, ◌++◌, length, get_or, take, map, Option, Some, None, if◌then◌else◌, refl, sym, ◌∙◌, ap, ap₂, subst, arith, inl, inr, append_assoc, add-one, add-suc}
-use Rattle.std.specs.Prelude.{◌↔◌, Contains, All, Decides, slice_get, slice_index}
+use Rattle.std.proofs.Common.{◌≡◌, ℕ, zero, suc, ◌+◌, ◌≤◌, Bool, true, false, ◌||◌, List, [], ◌∷◌, ◌++◌, length, get_or, take, map, Option, Some, None, refl, sym, ◌∙◌, ap, ap₂, subst, arith, inl, inr, append_assoc}
+use Rattle.std.specs.Prelude.{◌↔◌, Contains, All, slice_get, slice_index}
 use Rattle.std.specs.Option.{option_map_or}
 use Rattle.std.specs.List.{list_any}
 use Rattle.std.specs.List.Sorted.{IsStrictlyIncreasing}
@@ -75,9 +75,9 @@ numbers_at-passes test at [] number member = absurd (Contains-empty number membe
 numbers_at-passes test at (x ∷ xs) number member =
     elim (cases_Bool (test x)) [
       | inl e ↦ elim (Contains-cons at (numbers_at test (at + 1) xs) number (subst (λ numbers. Contains numbers number) (cond-true _ _ _ e) member)) [
-          | inl same ↦ record { place = 0; item = x; number_is = omega (arith, same); there = refl; passes = e }
-          | inr later ↦ Passes-later test x xs at number (numbers_at-passes test (at + 1) xs number later)
-        ]
+        | inl same ↦ record { place = 0; item = x; number_is = omega (arith, same); there = refl; passes = e }
+        | inr later ↦ Passes-later test x xs at number (numbers_at-passes test (at + 1) xs number later)
+      ]
       | inr e ↦ Passes-later test x xs at number (numbers_at-passes test (at + 1) xs number (subst (λ numbers. Contains numbers number) (cond-false _ _ _ e) member))
     ]
 
@@ -181,6 +181,7 @@ module _ {K : Type 0} (g : Grouping K) (decides : TestsKeys g) (kind : List ℕ)
     where
       weaker : Ascends at (map least behind)
       weaker = record { ascends = later.ascends; above = λ k d within. let h : at + 1 ≤ get_or (map least behind) k d = later.above k d within in omega arith }
+
       first : list_any (has_key g k) (take at places) ≡ false
           → Ascends at (slice_index (numbers_at (has_key g k) 0 places) 0 ∷ map least behind)
       first none =

@@ -2,8 +2,9 @@
 
 use crate::own::{Crowd, Everything};
 use crate::places::{name, shared_inverter};
+use crate::shown::shown;
 use design_core::Place;
-use loc_base::Name;
+use loc_base::{Bytes, Name};
 use std::alloc::Global;
 use std::test::Fail;
 use suspect_map::{ChooseErr, Granularity, Groups, InstanceOutputs, Modules, Statements, chosen};
@@ -31,13 +32,30 @@ fn asked(
     }
 }
 
-/// The first letters of the suspects' kinds.
-fn letters(alloc: Global, groups: &Groups) -> Result<Vec<u8>, Fail> {
-    let mut letters = Vec::new(alloc);
-    for group in groups.as_slice() {
-        letters.push(group.kind.as_bytes()[0])?;
+/// The suspects that are chosen by these names.
+fn suspects(
+    alloc: Global,
+    kinds: &[Box<dyn Granularity>],
+    texts: &[&str],
+    places: &[Place],
+) -> Result<Bytes, Fail> {
+    match asked(alloc, kinds, texts, places)? {
+        Ok(groups) => shown(alloc, &groups),
+        Err(_) => Err(Fail::new("no suspects")),
     }
-    Ok(letters)
+}
+
+/// The name that is refused.
+fn refused(
+    alloc: Global,
+    kinds: &[Box<dyn Granularity>],
+    texts: &[&str],
+    places: &[Place],
+) -> Result<Name, Fail> {
+    match asked(alloc, kinds, texts, places)? {
+        Err(ChooseErr::UnknownKind { name }) => Ok(name),
+        _ => Err(Fail::new("no name is refused")),
+    }
 }
 
 #[test]
@@ -46,22 +64,54 @@ fn suspects_come_in_the_order_of_the_names(rt: HostRuntime) -> Result<(), Fail> 
     let mut kinds: Vec<Box<dyn Granularity>> = Vec::new(alloc);
     kinds.push(Box::new(alloc, InstanceOutputs)?)?;
     kinds.push(Box::new(alloc, Statements)?)?;
-    kinds.push(Box::new(alloc, Crowd { count: 3 })?)?;
     kinds.push(Box::new(alloc, Modules)?)?;
     kinds.push(Box::new(alloc, Everything)?)?;
     let places = shared_inverter(alloc)?;
     for (texts, wanted) in [
-        (["stmt", "module"], "smm"),
-        (["module", "stmt"], "mms"),
-        (["all", "instance"], "aii"),
-        (["stmt", "stmt"], "ss"),
+        (
+            ["stmt", "module"],
+            "stmt inv 2 3; module m 0 1; module inv 2 3; ",
+        ),
+        (
+            ["module", "stmt"],
+            "module m 0 1; module inv 2 3; stmt inv 2 3; ",
+        ),
+        (
+            ["all", "instance"],
+            "all all 0 1 2 3; instance m.u 0; instance m.v 1; ",
+        ),
+        (["stmt", "stmt"], "stmt inv 2 3; stmt inv 2 3; "),
     ] {
-        let groups = match asked(alloc, &kinds, &texts, &places)? {
-            Ok(groups) => groups,
-            Err(_) => return Err(Fail::new("no suspects")),
-        };
-        assert_eq!(rt; letters(alloc, &groups)?.as_slice(), wanted.as_bytes());
+        assert_eq!(rt;
+            suspects(alloc, &kinds, &texts, &places)?.as_slice(),
+            wanted.as_bytes()
+        );
     }
+    assert_eq!(rt;
+        suspects(alloc, &kinds, &[], &places)?.as_slice(),
+        b"".as_slice()
+    );
+    Ok(())
+}
+
+#[test]
+fn the_first_granularity_of_a_name_counts(rt: HostRuntime) -> Result<(), Fail> {
+    let alloc = rt.alloc();
+    let places = shared_inverter(alloc)?;
+    let mut crowd_first: Vec<Box<dyn Granularity>> = Vec::new(alloc);
+    crowd_first.push(Box::new(alloc, Crowd { count: 2 })?)?;
+    crowd_first.push(Box::new(alloc, Statements)?)?;
+    assert_eq!(rt;
+        suspects(alloc, &crowd_first, &["stmt"], &places)?.as_slice(),
+        b"stmt stmt; stmt stmt; ".as_slice()
+    );
+    let mut crowd_last: Vec<Box<dyn Granularity>> = Vec::new(alloc);
+    crowd_last.push(Box::new(alloc, Statements)?)?;
+    crowd_last.push(Box::new(alloc, Crowd { count: 2 })?)?;
+    assert_eq!(rt;
+        suspects(alloc, &crowd_last, &["stmt"], &places)?.as_slice(),
+        b"stmt inv 2 3; ".as_slice()
+    );
     Ok(())
 }
 
@@ -69,18 +119,17 @@ fn suspects_come_in_the_order_of_the_names(rt: HostRuntime) -> Result<(), Fail> 
 fn the_first_unknown_name_is_refused(rt: HostRuntime) -> Result<(), Fail> {
     let alloc = rt.alloc();
     let mut kinds: Vec<Box<dyn Granularity>> = Vec::new(alloc);
-    kinds.push(Box::new(alloc, Statements)?)?;
+    kinds.push(Box::new(alloc, Crowd { count: 4097 })?)?;
     let places = shared_inverter(alloc)?;
-    match asked(alloc, &kinds, &["stmt", "gates", "modules"], &places)? {
-        Err(ChooseErr::UnknownKind { name }) => assert_eq!(rt;
-            name.as_bytes(),
-            b"gates".as_slice()
-        ),
-        _ => return Err(Fail::new("all names are known")),
-    }
-    match asked(alloc, &kinds, &[], &places)? {
-        Ok(groups) => assert!(rt; groups.is_empty()),
-        Err(_) => return Err(Fail::new("no names are refused")),
+    for (texts, wanted) in [
+        (["gates", "modules", "stmt"], "gates"),
+        (["stmt", "gate", "modules"], "gate"),
+        (["stmt", "stmt", "stm"], "stm"),
+    ] {
+        assert_eq!(rt;
+            refused(alloc, &kinds, &texts, &places)?.as_bytes(),
+            wanted.as_bytes()
+        );
     }
     Ok(())
 }
@@ -88,16 +137,22 @@ fn the_first_unknown_name_is_refused(rt: HostRuntime) -> Result<(), Fail> {
 #[test]
 fn more_than_4096_suspects_are_refused(rt: HostRuntime) -> Result<(), Fail> {
     let alloc = rt.alloc();
-    let mut kinds: Vec<Box<dyn Granularity>> = Vec::new(alloc);
-    kinds.push(Box::new(alloc, Crowd { count: 4096 })?)?;
-    kinds.push(Box::new(alloc, Everything)?)?;
     let places = shared_inverter(alloc)?;
-    match asked(alloc, &kinds, &["stmt"], &places)? {
+    let mut fewer: Vec<Box<dyn Granularity>> = Vec::new(alloc);
+    fewer.push(Box::new(alloc, Crowd { count: 4096 })?)?;
+    fewer.push(Box::new(alloc, Everything)?)?;
+    match asked(alloc, &fewer, &["stmt"], &places)? {
         Ok(groups) => assert_eq!(rt; groups.len(), 4096),
         Err(_) => return Err(Fail::new("4,096 suspects are refused")),
     }
-    match asked(alloc, &kinds, &["stmt", "all"], &places)? {
+    match asked(alloc, &fewer, &["all", "stmt"], &places)? {
+        Err(ChooseErr::Suspects) => {}
+        _ => return Err(Fail::new("4,097 suspects of two granularities are taken")),
+    }
+    let mut more: Vec<Box<dyn Granularity>> = Vec::new(alloc);
+    more.push(Box::new(alloc, Crowd { count: 4097 })?)?;
+    match asked(alloc, &more, &["stmt"], &places)? {
         Err(ChooseErr::Suspects) => Ok(()),
-        _ => Err(Fail::new("4,097 suspects are taken")),
+        _ => Err(Fail::new("4,097 suspects of one granularity are taken")),
     }
 }

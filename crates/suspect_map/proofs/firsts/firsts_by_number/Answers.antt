@@ -2,7 +2,7 @@ use Rattle.std.proofs.Common.{◌≡◌, ◌++◌, ◌∷◌, [], ◌∙◌, sym
 use Rattle.std.proofs.lemmas.List.{get_or_default}
 use Rattle.loc_base.proofs.ShelfLists.{map-take_at}
 use Rattle.std.proofs.lemmas.List.{take_all}
-use Rattle.suspect_map.specs.Grouping.{first_by, firsts_by, under}
+use Rattle.suspect_map.specs.Grouping.{first_by, under}
 use Rattle.suspect_map.proofs.ChainLaws.{firsts-within}
 use Rattle.suspect_map.proofs.Steps.{same_number, met-first, after-first}
 use Rattle.suspect_map.proofs.firsts.firsts_by_number.Goals as goal

@@ -4,7 +4,7 @@ use Rattle.std.proofs.lemmas.List.{length-map, take_all}
 use Rattle.design_core.specs.declared.place.Place.{Place}
 use Rattle.loc_base.specs.NameTable.{number_of}
 use Rattle.loc_base.proofs.ShelfLists.{map-take_at}
-use Rattle.suspect_map.specs.Grouping.{first_by, firsts_by}
+use Rattle.suspect_map.specs.Grouping.{first_by}
 use Rattle.suspect_map.proofs.ChainLaws.{firsts-within}
 use Rattle.suspect_map.specs.Modules.{modules}
 use Rattle.suspect_map.proofs.Steps.{same_name, met-first, after-first, module-key}

@@ -1,6 +1,6 @@
-use Rattle.std.proofs.Common.{◌≡◌, ◌+◌, ◌-◌, ◌<◌, sym, ap, subst, arith, ◌∙◌, length, get_or, set, None, Some, Option, List, ℕ}
+use Rattle.std.proofs.Common.{◌≡◌, ◌+◌, ◌-◌, ◌<◌, sym, subst, arith, length, get_or, set, None, Some, Option, ℕ}
 use Rattle.suspect_map.specs.Grouping.{IsChained}
-use Rattle.suspect_map.proofs.ChainLaws.{chained-none, chained-skip, chained-add, read-none, none-from}
+use Rattle.suspect_map.proofs.ChainLaws.{chained-skip, chained-add, read-none, none-from}
 use Rattle.suspect_map.proofs.chains.Chains.new.Goals as goal
 
 pub loop-place-preserved-in-Some : goal.loop-place-preserved-in-Some

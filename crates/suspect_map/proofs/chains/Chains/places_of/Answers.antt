@@ -1,4 +1,4 @@
-use Rattle.std.proofs.Common.{◌≡◌, ◌<◌, sym, ◌∙◌, length, get_or, None, Some, ℕ}
+use Rattle.std.proofs.Common.{◌≡◌, ◌<◌, sym, ◌∙◌, length, get_or, None}
 use Rattle.suspect_map.proofs.ChainLaws.{follows-begun, follows-on, follows-end, far-next, read-none, none-from}
 use Rattle.suspect_map.proofs.chains.Chains.places_of.Goals as goal
 

@@ -1,5 +1,4 @@
 use Rattle.std.proofs.Common.{◌∙◌, ap, nat_eq}
-use Rattle.suspect_map.specs.Groups.{Grouping}
 use Rattle.suspect_map.specs.Grouping.{firsts_by}
 use Rattle.suspect_map.proofs.Steps.{same_number}
 use Rattle.suspect_map.proofs.GroupLaws.{lists-by, within-by, ascending-by}
