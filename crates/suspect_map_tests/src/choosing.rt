@@ -4,7 +4,7 @@ use crate::own::{Crowd, Everything};
 use crate::places::{name, shared_inverter};
 use crate::shown::shown;
 use design_core::Place;
-use loc_base::{Bytes, Name};
+use loc_base::Name;
 use std::alloc::Global;
 use std::test::Fail;
 use suspect_map::{ChooseErr, Granularity, Groups, InstanceOutputs, Modules, Statements, chosen};
@@ -32,29 +32,57 @@ fn asked(
     }
 }
 
-/// The suspects that are chosen by these names.
-fn suspects(
+/// Whether these are the suspects that are chosen by the names.
+fn gives(
     alloc: Global,
     kinds: &[Box<dyn Granularity>],
     texts: &[&str],
-    places: &[Place],
-) -> Result<Bytes, Fail> {
-    match asked(alloc, kinds, texts, places)? {
-        Ok(groups) => shown(alloc, &groups),
-        Err(_) => Err(Fail::new("no suspects")),
+    wanted: &str,
+) -> Result<bool, Fail> {
+    let places = shared_inverter(alloc)?;
+    match asked(alloc, kinds, texts, &places)? {
+        Ok(groups) => Ok(shown(alloc, &groups)?.as_slice() == wanted.as_bytes()),
+        Err(_) => Ok(false),
     }
 }
 
-/// The name that is refused.
-fn refused(
+/// Whether this is the name that is refused.
+fn refuses(
     alloc: Global,
     kinds: &[Box<dyn Granularity>],
     texts: &[&str],
-    places: &[Place],
-) -> Result<Name, Fail> {
-    match asked(alloc, kinds, texts, places)? {
-        Err(ChooseErr::UnknownKind { name }) => Ok(name),
-        _ => Err(Fail::new("no name is refused")),
+    wanted: &str,
+) -> Result<bool, Fail> {
+    let places = shared_inverter(alloc)?;
+    match asked(alloc, kinds, texts, &places)? {
+        Err(ChooseErr::UnknownKind { name }) => Ok(name.as_bytes() == wanted.as_bytes()),
+        _ => Ok(false),
+    }
+}
+
+/// Whether there are too many suspects.
+fn has_too_many(
+    alloc: Global,
+    kinds: &[Box<dyn Granularity>],
+    texts: &[&str],
+) -> Result<bool, Fail> {
+    let places = shared_inverter(alloc)?;
+    match asked(alloc, kinds, texts, &places)? {
+        Err(ChooseErr::Suspects) => Ok(true),
+        _ => Ok(false),
+    }
+}
+
+/// How many suspects are chosen.
+fn count(
+    alloc: Global,
+    kinds: &[Box<dyn Granularity>],
+    texts: &[&str],
+) -> Result<usize, Fail> {
+    let places = shared_inverter(alloc)?;
+    match asked(alloc, kinds, texts, &places)? {
+        Ok(groups) => Ok(groups.len()),
+        Err(_) => Err(Fail::new("no suspects")),
     }
 }
 
@@ -66,7 +94,6 @@ fn suspects_come_in_the_order_of_the_names(rt: HostRuntime) -> Result<(), Fail> 
     kinds.push(Box::new(alloc, Statements)?)?;
     kinds.push(Box::new(alloc, Modules)?)?;
     kinds.push(Box::new(alloc, Everything)?)?;
-    let places = shared_inverter(alloc)?;
     for (texts, wanted) in [
         (
             ["stmt", "module"],
@@ -82,36 +109,29 @@ fn suspects_come_in_the_order_of_the_names(rt: HostRuntime) -> Result<(), Fail> 
         ),
         (["stmt", "stmt"], "stmt inv 2 3; stmt inv 2 3; "),
     ] {
-        assert_eq!(rt;
-            suspects(alloc, &kinds, &texts, &places)?.as_slice(),
-            wanted.as_bytes()
-        );
+        assert!(rt; gives(alloc, &kinds, &texts, wanted)?);
     }
-    assert_eq!(rt;
-        suspects(alloc, &kinds, &[], &places)?.as_slice(),
-        b"".as_slice()
-    );
+    assert!(rt; gives(alloc, &kinds, &[], "")?);
     Ok(())
 }
 
 #[test]
 fn the_first_granularity_of_a_name_counts(rt: HostRuntime) -> Result<(), Fail> {
     let alloc = rt.alloc();
-    let places = shared_inverter(alloc)?;
-    let mut crowd_first: Vec<Box<dyn Granularity>> = Vec::new(alloc);
-    crowd_first.push(Box::new(alloc, Crowd { count: 2 })?)?;
-    crowd_first.push(Box::new(alloc, Statements)?)?;
-    assert_eq!(rt;
-        suspects(alloc, &crowd_first, &["stmt"], &places)?.as_slice(),
-        b"stmt stmt; stmt stmt; ".as_slice()
-    );
-    let mut crowd_last: Vec<Box<dyn Granularity>> = Vec::new(alloc);
-    crowd_last.push(Box::new(alloc, Statements)?)?;
-    crowd_last.push(Box::new(alloc, Crowd { count: 2 })?)?;
-    assert_eq!(rt;
-        suspects(alloc, &crowd_last, &["stmt"], &places)?.as_slice(),
-        b"stmt inv 2 3; ".as_slice()
-    );
+    let mut kinds: Vec<Box<dyn Granularity>> = Vec::new(alloc);
+    kinds.push(Box::new(alloc, Crowd { count: 2 })?)?;
+    kinds.push(Box::new(alloc, Statements)?)?;
+    assert!(rt; gives(alloc, &kinds, &["stmt"], "stmt stmt; stmt stmt; ")?);
+    Ok(())
+}
+
+#[test]
+fn a_later_granularity_of_a_name_does_not(rt: HostRuntime) -> Result<(), Fail> {
+    let alloc = rt.alloc();
+    let mut kinds: Vec<Box<dyn Granularity>> = Vec::new(alloc);
+    kinds.push(Box::new(alloc, Statements)?)?;
+    kinds.push(Box::new(alloc, Crowd { count: 2 })?)?;
+    assert!(rt; gives(alloc, &kinds, &["stmt"], "stmt inv 2 3; ")?);
     Ok(())
 }
 
@@ -120,39 +140,24 @@ fn the_first_unknown_name_is_refused(rt: HostRuntime) -> Result<(), Fail> {
     let alloc = rt.alloc();
     let mut kinds: Vec<Box<dyn Granularity>> = Vec::new(alloc);
     kinds.push(Box::new(alloc, Crowd { count: 4097 })?)?;
-    let places = shared_inverter(alloc)?;
     for (texts, wanted) in [
         (["gates", "modules", "stmt"], "gates"),
         (["stmt", "gate", "modules"], "gate"),
         (["stmt", "stmt", "stm"], "stm"),
     ] {
-        assert_eq!(rt;
-            refused(alloc, &kinds, &texts, &places)?.as_bytes(),
-            wanted.as_bytes()
-        );
+        assert!(rt; refuses(alloc, &kinds, &texts, wanted)?);
     }
+    assert!(rt; has_too_many(alloc, &kinds, &["stmt"])?);
     Ok(())
 }
 
 #[test]
 fn more_than_4096_suspects_are_refused(rt: HostRuntime) -> Result<(), Fail> {
     let alloc = rt.alloc();
-    let places = shared_inverter(alloc)?;
-    let mut fewer: Vec<Box<dyn Granularity>> = Vec::new(alloc);
-    fewer.push(Box::new(alloc, Crowd { count: 4096 })?)?;
-    fewer.push(Box::new(alloc, Everything)?)?;
-    match asked(alloc, &fewer, &["stmt"], &places)? {
-        Ok(groups) => assert_eq!(rt; groups.len(), 4096),
-        Err(_) => return Err(Fail::new("4,096 suspects are refused")),
-    }
-    match asked(alloc, &fewer, &["all", "stmt"], &places)? {
-        Err(ChooseErr::Suspects) => {}
-        _ => return Err(Fail::new("4,097 suspects of two granularities are taken")),
-    }
-    let mut more: Vec<Box<dyn Granularity>> = Vec::new(alloc);
-    more.push(Box::new(alloc, Crowd { count: 4097 })?)?;
-    match asked(alloc, &more, &["stmt"], &places)? {
-        Err(ChooseErr::Suspects) => Ok(()),
-        _ => Err(Fail::new("4,097 suspects of one granularity are taken")),
-    }
+    let mut kinds: Vec<Box<dyn Granularity>> = Vec::new(alloc);
+    kinds.push(Box::new(alloc, Crowd { count: 4096 })?)?;
+    kinds.push(Box::new(alloc, Everything)?)?;
+    assert_eq!(rt; count(alloc, &kinds, &["stmt"])?, 4096);
+    assert!(rt; has_too_many(alloc, &kinds, &["all", "stmt"])?);
+    Ok(())
 }

@@ -2,7 +2,7 @@
 
 use crate::own::Everything;
 use crate::places::{or_not, shared_inverter, two_blocks, two_gates};
-use crate::shown::made;
+use crate::shown::makes;
 use std::test::Fail;
 use suspect_map::{Blocks, Gates, InstanceOutputs, Modules, Statements};
 
@@ -10,22 +10,12 @@ use suspect_map::{Blocks, Gates, InstanceOutputs, Modules, Statements};
 fn a_shared_statement_is_one_suspect_with_all_its_copies(rt: HostRuntime) -> Result<(), Fail> {
     let alloc = rt.alloc();
     let places = shared_inverter(alloc)?;
-    for (made, wanted) in [
-        (made(alloc, &Statements, &places)?, "stmt inv 2 3; "),
-        (made(alloc, &Blocks, &places)?, ""),
-        (made(alloc, &Gates, &places)?, ""),
-        (
-            made(alloc, &InstanceOutputs, &places)?,
-            "instance m.u 0; instance m.v 1; ",
-        ),
-        (
-            made(alloc, &Modules, &places)?,
-            "module m 0 1; module inv 2 3; ",
-        ),
-        (made(alloc, &Everything, &places)?, "all all 0 1 2 3; "),
-    ] {
-        assert_eq!(rt; made.as_slice(), wanted.as_bytes());
-    }
+    assert!(rt; makes(alloc, &Statements, &places, "stmt inv 2 3; ")?);
+    assert!(rt; makes(alloc, &Blocks, &places, "")?);
+    assert!(rt; makes(alloc, &Gates, &places, "")?);
+    assert!(rt; makes(alloc, &InstanceOutputs, &places, "instance m.u 0; instance m.v 1; ")?);
+    assert!(rt; makes(alloc, &Modules, &places, "module m 0 1; module inv 2 3; ")?);
+    assert!(rt; makes(alloc, &Everything, &places, "all all 0 1 2 3; ")?);
     Ok(())
 }
 
@@ -33,16 +23,12 @@ fn a_shared_statement_is_one_suspect_with_all_its_copies(rt: HostRuntime) -> Res
 fn each_gate_is_a_suspect(rt: HostRuntime) -> Result<(), Fail> {
     let alloc = rt.alloc();
     let places = or_not(alloc)?;
-    for (made, wanted) in [
-        (made(alloc, &Statements, &places)?, ""),
-        (made(alloc, &Blocks, &places)?, ""),
-        (made(alloc, &Gates, &places)?, "gate m.g1 0; gate m.g2 1; "),
-        (made(alloc, &InstanceOutputs, &places)?, ""),
-        (made(alloc, &Modules, &places)?, "module m 0 1; "),
-        (made(alloc, &Everything, &places)?, "all all 0 1; "),
-    ] {
-        assert_eq!(rt; made.as_slice(), wanted.as_bytes());
-    }
+    assert!(rt; makes(alloc, &Statements, &places, "")?);
+    assert!(rt; makes(alloc, &Blocks, &places, "")?);
+    assert!(rt; makes(alloc, &Gates, &places, "gate m.g1 0; gate m.g2 1; ")?);
+    assert!(rt; makes(alloc, &InstanceOutputs, &places, "")?);
+    assert!(rt; makes(alloc, &Modules, &places, "module m 0 1; ")?);
+    assert!(rt; makes(alloc, &Everything, &places, "all all 0 1; ")?);
     Ok(())
 }
 
@@ -50,35 +36,16 @@ fn each_gate_is_a_suspect(rt: HostRuntime) -> Result<(), Fail> {
 fn a_gate_is_a_suspect_with_all_its_outputs(rt: HostRuntime) -> Result<(), Fail> {
     let alloc = rt.alloc();
     let places = two_gates(alloc)?;
-    for (made, wanted) in [
-        (
-            made(alloc, &Gates, &places)?,
-            "gate m.g1 0; gate m.g2 1 2; ",
-        ),
-        (made(alloc, &Modules, &places)?, "module m 0 1 2; "),
-    ] {
-        assert_eq!(rt; made.as_slice(), wanted.as_bytes());
-    }
+    assert!(rt; makes(alloc, &Gates, &places, "gate m.g1 0; gate m.g2 1 2; ")?);
+    assert!(rt; makes(alloc, &Modules, &places, "module m 0 1 2; ")?);
     Ok(())
 }
 
 #[test]
-fn a_block_is_a_suspect_with_all_assignments_of_all_its_copies(
-    rt: HostRuntime,
-) -> Result<(), Fail> {
+fn a_block_is_a_suspect_with_all_assignments_of_all_its_copies(rt: HostRuntime) -> Result<(), Fail> {
     let alloc = rt.alloc();
     let places = two_blocks(alloc)?;
-    for (made, wanted) in [
-        (
-            made(alloc, &Blocks, &places)?,
-            "block c 0 1 3 4; block c 2 5; ",
-        ),
-        (
-            made(alloc, &Statements, &places)?,
-            "stmt c 0 3; stmt c 1 4; stmt c 2 5; ",
-        ),
-    ] {
-        assert_eq!(rt; made.as_slice(), wanted.as_bytes());
-    }
+    assert!(rt; makes(alloc, &Blocks, &places, "block c 0 1 3 4; block c 2 5; ")?);
+    assert!(rt; makes(alloc, &Statements, &places, "stmt c 0 3; stmt c 1 4; stmt c 2 5; ")?);
     Ok(())
 }

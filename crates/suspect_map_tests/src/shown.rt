@@ -27,11 +27,17 @@ pub fn shown(alloc: Global, groups: &Groups) -> Result<Bytes, Fail> {
     Ok(text)
 }
 
-/// The suspects that a granularity makes of places.
-pub fn made<G: Granularity>(alloc: Global, kind: &G, places: &[Place]) -> Result<Bytes, Fail> {
-    if places.len() < 1000 {
-        shown(alloc, &kind.groups(alloc, places)?)
+/// Whether these are the suspects that a granularity makes of places.
+pub fn makes<G: Granularity>(
+    alloc: Global,
+    kind: &G,
+    places: &[Place],
+    wanted: &str,
+) -> Result<bool, Fail> {
+    let groups = if places.len() < 1000 {
+        kind.groups(alloc, places)?
     } else {
-        Err(Fail::new("too many places for a test"))
-    }
+        return Err(Fail::new("too many places for a test"));
+    };
+    Ok(shown(alloc, &groups)?.as_slice() == wanted.as_bytes())
 }

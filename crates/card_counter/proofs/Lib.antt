@@ -1,0 +1,4 @@
+pub mod AtMost
+pub mod Counting
+pub mod Said
+pub mod Steps
