@@ -1,6 +1,6 @@
 -- An assignment that counts satisfies the counter's clauses, and there is one for any selectors.
 use Rattle.std.proofs.Common.{◌≡◌, ℕ, zero, suc, ◌+◌, ◌<◌, ◌≤◌, Bool, true, false, ◌&&◌, not, List, [], ◌∷◌, ◌++◌, length, take, if◌then◌else◌, refl, sym, ◌∙◌, ap, ap₂, subst, arith, inl, inr, add-one, append_assoc}
-use Rattle.std.specs.Prelude.{◌-◌, ◌⊎◌, cond, count_by, nat_le, nat_lt, All}
+use Rattle.std.specs.Prelude.{◌-◌, ◌*◌, ◌⊎◌, cond, count_by, nat_le, nat_lt, All}
 use Rattle.std.proofs.lemmas.Bool.{cases_Bool, cases_lt, cond-true, cond-false, false≢true, leb-true, leb-false, le-leb, lt-leb, ltb-true, ltb-false, lt-ltb, le-ltb, and_from, and_left, and_right}
 use Rattle.std.proofs.lemmas.List.{take_at, length_push, take_all}
 use Rattle.std.proofs.lemmas.List.Sums.{sum_by-append}
@@ -136,6 +136,11 @@ starts-within k i n below =
     let number : i + 1 + (n - (i + 1)) ≡ n = omega (arith, below) in
     let same : starts k (i + 1 + (n - (i + 1))) ≡ starts k n = ap (starts k) number in
     omega (arith, starts-ascend k (i + 1) (n - (i + 1)), same, starts-next k i)
+
+-- so many selectors have few counters
+pub starts-few : (k n most : ℕ) → n ≤ most + 1 → starts k n ≤ n * most
+starts-few k zero most few = omega arith
+starts-few k (suc n) most few = let before : starts k n ≤ n * most = starts-few k n most (omega (arith, few)) in omega (arith, before, few)
 
 -- a counter's value
 row-value : (a : ℕ → Bool) (k : ℕ) (xs : List Lit) (i below more p : ℕ) → more < length xs → p < width k (i + more + 1)

@@ -10,3 +10,4 @@ mod step;
 
 pub use bounds::bound;
 pub use clauses::counter;
+pub use place::counters;

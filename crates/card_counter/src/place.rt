@@ -14,7 +14,7 @@ pub(crate) fn width_of(k: u32, selectors: usize) -> usize
 
 /// How many counters stand before those of that many selectors.
 pub(crate) fn start_of(k: u32, selectors: usize) -> usize
-    requires { starts k selectors < 2 ^ 32 }
+    requires { selectors ≤ 2 ^ 32 }
     ensures { result ≡ starts k selectors }
 {
     let mut start = 0;
@@ -22,6 +22,13 @@ pub(crate) fn start_of(k: u32, selectors: usize) -> usize
         start += width_of(k, before);
     }
     start
+}
+
+/// How many counters `n` selectors have, by a counter up to `k + 1`. It takes no memory.
+pub fn counters(n: u32, k: u32) -> usize
+    ensures { result ≡ starts k (n + 1) }
+{
+    start_of(k, n as usize + 1)
 }
 
 pub(crate) fn positive(var: usize) -> Lit

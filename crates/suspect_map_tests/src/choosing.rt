@@ -74,11 +74,7 @@ fn has_too_many(
 }
 
 /// How many suspects are chosen.
-fn count(
-    alloc: Global,
-    kinds: &[Box<dyn Granularity>],
-    texts: &[&str],
-) -> Result<usize, Fail> {
+fn count(alloc: Global, kinds: &[Box<dyn Granularity>], texts: &[&str]) -> Result<usize, Fail> {
     let places = shared_inverter(alloc)?;
     match asked(alloc, kinds, texts, &places)? {
         Ok(groups) => Ok(groups.len()),

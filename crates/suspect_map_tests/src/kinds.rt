@@ -13,7 +13,14 @@ fn a_shared_statement_is_one_suspect_with_all_its_copies(rt: HostRuntime) -> Res
     assert!(rt; makes(alloc, &Statements, &places, "stmt inv 2 3; ")?);
     assert!(rt; makes(alloc, &Blocks, &places, "")?);
     assert!(rt; makes(alloc, &Gates, &places, "")?);
-    assert!(rt; makes(alloc, &InstanceOutputs, &places, "instance m.u 0; instance m.v 1; ")?);
+    assert!(rt;
+        makes(
+            alloc,
+            &InstanceOutputs,
+            &places,
+            "instance m.u 0; instance m.v 1; "
+        )?
+    );
     assert!(rt; makes(alloc, &Modules, &places, "module m 0 1; module inv 2 3; ")?);
     assert!(rt; makes(alloc, &Everything, &places, "all all 0 1 2 3; ")?);
     Ok(())
@@ -42,10 +49,19 @@ fn a_gate_is_a_suspect_with_all_its_outputs(rt: HostRuntime) -> Result<(), Fail>
 }
 
 #[test]
-fn a_block_is_a_suspect_with_all_assignments_of_all_its_copies(rt: HostRuntime) -> Result<(), Fail> {
+fn a_block_is_a_suspect_with_all_assignments_of_all_its_copies(
+    rt: HostRuntime,
+) -> Result<(), Fail> {
     let alloc = rt.alloc();
     let places = two_blocks(alloc)?;
     assert!(rt; makes(alloc, &Blocks, &places, "block c 0 1 3 4; block c 2 5; ")?);
-    assert!(rt; makes(alloc, &Statements, &places, "stmt c 0 3; stmt c 1 4; stmt c 2 5; ")?);
+    assert!(rt;
+        makes(
+            alloc,
+            &Statements,
+            &places,
+            "stmt c 0 3; stmt c 1 4; stmt c 2 5; "
+        )?
+    );
     Ok(())
 }
