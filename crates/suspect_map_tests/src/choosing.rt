@@ -3,11 +3,10 @@
 use crate::own::{Crowd, Everything};
 use crate::places::{name, shared_inverter};
 use crate::shown::shown;
-use design_core::Place;
 use loc_base::Name;
 use std::alloc::Global;
 use std::test::Fail;
-use suspect_map::{ChooseErr, Granularity, Groups, InstanceOutputs, Modules, Statements, chosen};
+use suspect_map::{ChooseErr, Granularity, Groups, Modules, Statements, chosen};
 
 fn names(alloc: Global, texts: &[&str]) -> Result<Vec<Name>, Fail> {
     let mut names = Vec::new(alloc);
@@ -17,68 +16,53 @@ fn names(alloc: Global, texts: &[&str]) -> Result<Vec<Name>, Fail> {
     Ok(names)
 }
 
-/// What is chosen by these names.
+/// What is chosen by these names of the places of the shared inverter.
 fn asked(
     alloc: Global,
     kinds: &[Box<dyn Granularity>],
     texts: &[&str],
-    places: &[Place],
 ) -> Result<Result<Groups, ChooseErr>, Fail> {
     let names = names(alloc, texts)?;
+    let places = shared_inverter(alloc)?;
     if places.len() < 1000 {
-        Ok(chosen(alloc, kinds, &names, places))
+        Ok(chosen(alloc, kinds, &names, &places))
     } else {
         Err(Fail::new("too many places for a test"))
     }
 }
 
 /// Whether these are the suspects that are chosen by the names.
-fn gives(
-    alloc: Global,
-    kinds: &[Box<dyn Granularity>],
-    texts: &[&str],
-    wanted: &str,
-) -> Result<bool, Fail> {
-    let places = shared_inverter(alloc)?;
-    match asked(alloc, kinds, texts, &places)? {
-        Ok(groups) => Ok(shown(alloc, &groups)?.as_slice() == wanted.as_bytes()),
-        Err(_) => Ok(false),
+fn gives(alloc: Global, kinds: &[Box<dyn Granularity>], texts: &[&str], wanted: &str) -> bool {
+    let Ok(Ok(groups)) = asked(alloc, kinds, texts) else {
+        return false;
+    };
+    match shown(alloc, &groups) {
+        Ok(text) => text.as_slice() == wanted.as_bytes(),
+        Err(_) => false,
     }
 }
 
 /// Whether this is the name that is refused.
-fn refuses(
-    alloc: Global,
-    kinds: &[Box<dyn Granularity>],
-    texts: &[&str],
-    wanted: &str,
-) -> Result<bool, Fail> {
-    let places = shared_inverter(alloc)?;
-    match asked(alloc, kinds, texts, &places)? {
-        Err(ChooseErr::UnknownKind { name }) => Ok(name.as_bytes() == wanted.as_bytes()),
-        _ => Ok(false),
+fn refuses(alloc: Global, kinds: &[Box<dyn Granularity>], texts: &[&str], wanted: &str) -> bool {
+    match asked(alloc, kinds, texts) {
+        Ok(Err(ChooseErr::UnknownKind { name })) => name.as_bytes() == wanted.as_bytes(),
+        _ => false,
     }
 }
 
 /// Whether there are too many suspects.
-fn has_too_many(
-    alloc: Global,
-    kinds: &[Box<dyn Granularity>],
-    texts: &[&str],
-) -> Result<bool, Fail> {
-    let places = shared_inverter(alloc)?;
-    match asked(alloc, kinds, texts, &places)? {
-        Err(ChooseErr::Suspects) => Ok(true),
-        _ => Ok(false),
+fn has_too_many(alloc: Global, kinds: &[Box<dyn Granularity>], texts: &[&str]) -> bool {
+    match asked(alloc, kinds, texts) {
+        Ok(Err(ChooseErr::Suspects)) => true,
+        _ => false,
     }
 }
 
-/// How many suspects are chosen.
-fn count(alloc: Global, kinds: &[Box<dyn Granularity>], texts: &[&str]) -> Result<usize, Fail> {
-    let places = shared_inverter(alloc)?;
-    match asked(alloc, kinds, texts, &places)? {
-        Ok(groups) => Ok(groups.len()),
-        Err(_) => Err(Fail::new("no suspects")),
+/// Whether so many suspects are chosen.
+fn are(alloc: Global, kinds: &[Box<dyn Granularity>], texts: &[&str], count: usize) -> bool {
+    match asked(alloc, kinds, texts) {
+        Ok(Ok(groups)) => groups.len() == count,
+        _ => false,
     }
 }
 
@@ -86,7 +70,6 @@ fn count(alloc: Global, kinds: &[Box<dyn Granularity>], texts: &[&str]) -> Resul
 fn suspects_come_in_the_order_of_the_names(rt: HostRuntime) -> Result<(), Fail> {
     let alloc = rt.alloc();
     let mut kinds: Vec<Box<dyn Granularity>> = Vec::new(alloc);
-    kinds.push(Box::new(alloc, InstanceOutputs)?)?;
     kinds.push(Box::new(alloc, Statements)?)?;
     kinds.push(Box::new(alloc, Modules)?)?;
     kinds.push(Box::new(alloc, Everything)?)?;
@@ -100,14 +83,14 @@ fn suspects_come_in_the_order_of_the_names(rt: HostRuntime) -> Result<(), Fail> 
             "module m 0 1; module inv 2 3; stmt inv 2 3; ",
         ),
         (
-            ["all", "instance"],
-            "all all 0 1 2 3; instance m.u 0; instance m.v 1; ",
+            ["all", "module"],
+            "all all 0 1 2 3; module m 0 1; module inv 2 3; ",
         ),
         (["stmt", "stmt"], "stmt inv 2 3; stmt inv 2 3; "),
     ] {
-        assert!(rt; gives(alloc, &kinds, &texts, wanted)?);
+        assert!(rt; gives(alloc, &kinds, &texts, wanted));
     }
-    assert!(rt; gives(alloc, &kinds, &[], "")?);
+    assert!(rt; gives(alloc, &kinds, &[], ""));
     Ok(())
 }
 
@@ -117,7 +100,7 @@ fn the_first_granularity_of_a_name_counts(rt: HostRuntime) -> Result<(), Fail> {
     let mut kinds: Vec<Box<dyn Granularity>> = Vec::new(alloc);
     kinds.push(Box::new(alloc, Crowd { count: 2 })?)?;
     kinds.push(Box::new(alloc, Statements)?)?;
-    assert!(rt; gives(alloc, &kinds, &["stmt"], "stmt stmt; stmt stmt; ")?);
+    assert!(rt; gives(alloc, &kinds, &["stmt"], "stmt stmt; stmt stmt; "));
     Ok(())
 }
 
@@ -127,7 +110,7 @@ fn a_later_granularity_of_a_name_does_not(rt: HostRuntime) -> Result<(), Fail> {
     let mut kinds: Vec<Box<dyn Granularity>> = Vec::new(alloc);
     kinds.push(Box::new(alloc, Statements)?)?;
     kinds.push(Box::new(alloc, Crowd { count: 2 })?)?;
-    assert!(rt; gives(alloc, &kinds, &["stmt"], "stmt inv 2 3; ")?);
+    assert!(rt; gives(alloc, &kinds, &["stmt"], "stmt inv 2 3; "));
     Ok(())
 }
 
@@ -141,9 +124,9 @@ fn the_first_unknown_name_is_refused(rt: HostRuntime) -> Result<(), Fail> {
         (["stmt", "gate", "modules"], "gate"),
         (["stmt", "stmt", "stm"], "stm"),
     ] {
-        assert!(rt; refuses(alloc, &kinds, &texts, wanted)?);
+        assert!(rt; refuses(alloc, &kinds, &texts, wanted));
     }
-    assert!(rt; has_too_many(alloc, &kinds, &["stmt"])?);
+    assert!(rt; has_too_many(alloc, &kinds, &["stmt"]));
     Ok(())
 }
 
@@ -153,7 +136,7 @@ fn more_than_4096_suspects_are_refused(rt: HostRuntime) -> Result<(), Fail> {
     let mut kinds: Vec<Box<dyn Granularity>> = Vec::new(alloc);
     kinds.push(Box::new(alloc, Crowd { count: 4096 })?)?;
     kinds.push(Box::new(alloc, Everything)?)?;
-    assert_eq!(rt; count(alloc, &kinds, &["stmt"])?, 4096);
-    assert!(rt; has_too_many(alloc, &kinds, &["all", "stmt"])?);
+    assert!(rt; are(alloc, &kinds, &["stmt"], 4096));
+    assert!(rt; has_too_many(alloc, &kinds, &["all", "stmt"]));
     Ok(())
 }
