@@ -13,7 +13,7 @@ use std::alloc::Global;
 
 /// A suspect for each always block of the text, with all assignments in all its copies. It is called `block`, and its label
 /// is the module's name.
-#[derive(Clone, Copy, Debug, Drop)]
+#[derive(Clone, Copy, Drop)]
 pub struct Blocks;
 
 impl Numbered for Blocks {

@@ -15,7 +15,7 @@ use std::alloc::{AllocError, AllocFailed, Global};
 const MOST_SUSPECTS: usize = 4096;
 
 /// Why no suspects are given.
-#[derive(Debug, Drop)]
+#[derive(Drop)]
 pub enum ChooseErr {
     NoMemory,
     /// No granularity has the name.

@@ -12,7 +12,7 @@ use loc_base::NoMemory;
 use std::alloc::Global;
 
 /// A suspect for each copy of a gate, with its outputs. It is called `gate`, and its label is the gate's path.
-#[derive(Clone, Copy, Debug, Drop)]
+#[derive(Clone, Copy, Drop)]
 pub struct Gates;
 
 impl Numbered for Gates {

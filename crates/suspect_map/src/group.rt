@@ -1,7 +1,6 @@
 use loc_base::{Items, Name};
 
 /// One suspect: some places that are chosen together or not at all.
-#[derive(Debug)]
 pub struct Group {
     /// The name of the granularity that made it.
     pub kind: Name,

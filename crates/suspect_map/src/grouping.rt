@@ -11,7 +11,7 @@ use loc_base::{Items, Name, NoMemory};
 use std::alloc::Global;
 
 /// The suspects that are to be made of some places.
-#[derive(Clone, Copy, Debug, Drop)]
+#[derive(Clone, Copy, Drop)]
 pub(crate) struct Grain<'a> {
     /// The name of the granularity.
     pub kind: &'a str,

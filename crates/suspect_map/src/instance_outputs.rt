@@ -13,7 +13,7 @@ use std::alloc::Global;
 
 /// A suspect for each module instance, with its output connections. It is called `instance`, and its label is the
 /// instance's path.
-#[derive(Clone, Copy, Debug, Drop)]
+#[derive(Clone, Copy, Drop)]
 pub struct InstanceOutputs;
 
 impl Numbered for InstanceOutputs {

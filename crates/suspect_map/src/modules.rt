@@ -15,7 +15,7 @@ use std::alloc::Global;
 
 /// A suspect for each module of the text that has a place, with all places whose text stands in it. It is called `module`,
 /// and its label is the module's name.
-#[derive(Clone, Copy, Debug, Drop)]
+#[derive(Clone, Copy, Drop)]
 pub struct Modules;
 
 /// The number of a name: the one that it has, which is the given one from now on where it had none.

@@ -13,7 +13,7 @@ use std::alloc::Global;
 
 /// A suspect for each assignment of the text, continuous or procedural, with all its copies. It is called `stmt`, and its
 /// label is the module's name.
-#[derive(Clone, Copy, Debug, Drop)]
+#[derive(Clone, Copy, Drop)]
 pub struct Statements;
 
 impl Numbered for Statements {
