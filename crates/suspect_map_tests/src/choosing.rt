@@ -1,67 +1,61 @@
 //! The suspects of the granularities that are asked for.
 
 use crate::own::{Crowd, Everything};
-use crate::places::{name, shared_inverter};
-use crate::shown::shown;
-use loc_base::Name;
+use crate::places::shared_inverter;
+use crate::shown::reads;
+use design_core::Place;
+use loc_base::{Name, NoMemory};
 use std::alloc::Global;
 use std::test::Fail;
 use suspect_map::{ChooseErr, Granularity, Groups, Modules, Statements, chosen};
 
-fn names(alloc: Global, texts: &[&str]) -> Result<Vec<Name>, Fail> {
+/// The names of these texts. One that is no name is answered as want of memory, so that no test passes by it.
+fn names(alloc: Global, texts: &[&str]) -> Result<Vec<Name>, NoMemory> {
     let mut names = Vec::new(alloc);
     for text in texts {
-        names.push(name(alloc, text)?)?;
+        match Name::new(alloc, text.as_bytes())? {
+            Some(name) => names.push(name)?,
+            None => return Err(NoMemory),
+        }
     }
     Ok(names)
 }
 
-/// What is chosen by these names of the places of the shared inverter.
+/// What is chosen by these names.
 fn asked(
     alloc: Global,
     kinds: &[Box<dyn Granularity>],
     texts: &[&str],
-) -> Result<Result<Groups, ChooseErr>, Fail> {
+    places: &[Place],
+) -> Result<Groups, ChooseErr> {
     let names = names(alloc, texts)?;
-    let places = shared_inverter(alloc)?;
     if places.len() < 1000 {
-        Ok(chosen(alloc, kinds, &names, &places))
+        chosen(alloc, kinds, &names, places)
     } else {
-        Err(Fail::new("too many places for a test"))
+        Err(ChooseErr::NoMemory)
     }
 }
 
-/// Whether these are the suspects that are chosen by the names.
-fn gives(alloc: Global, kinds: &[Box<dyn Granularity>], texts: &[&str], wanted: &str) -> bool {
-    let Ok(Ok(groups)) = asked(alloc, kinds, texts) else {
-        return false;
-    };
-    match shown(alloc, &groups) {
-        Ok(text) => text.as_slice() == wanted.as_bytes(),
+/// Whether these are the suspects that are chosen.
+fn gives(alloc: Global, chosen: Result<Groups, ChooseErr>, wanted: &str) -> bool {
+    match chosen {
+        Ok(groups) => reads(alloc, &groups, wanted),
         Err(_) => false,
     }
 }
 
 /// Whether this is the name that is refused.
-fn refuses(alloc: Global, kinds: &[Box<dyn Granularity>], texts: &[&str], wanted: &str) -> bool {
-    match asked(alloc, kinds, texts) {
-        Ok(Err(ChooseErr::UnknownKind { name })) => name.as_bytes() == wanted.as_bytes(),
+fn refuses(chosen: Result<Groups, ChooseErr>, wanted: &str) -> bool {
+    match chosen {
+        Err(ChooseErr::UnknownKind { name }) => name.as_bytes() == wanted.as_bytes(),
         _ => false,
     }
 }
 
 /// Whether there are too many suspects.
-fn has_too_many(alloc: Global, kinds: &[Box<dyn Granularity>], texts: &[&str]) -> bool {
-    match asked(alloc, kinds, texts) {
-        Ok(Err(ChooseErr::Suspects)) => true,
-        _ => false,
-    }
-}
-
-/// Whether so many suspects are chosen.
-fn are(alloc: Global, kinds: &[Box<dyn Granularity>], texts: &[&str], count: usize) -> bool {
-    match asked(alloc, kinds, texts) {
-        Ok(Ok(groups)) => groups.len() == count,
+fn has_too_many(chosen: Result<Groups, ChooseErr>) -> bool {
+    match chosen {
+        Err(ChooseErr::Suspects) => true,
         _ => false,
     }
 }
@@ -73,6 +67,7 @@ fn suspects_come_in_the_order_of_the_names(rt: HostRuntime) -> Result<(), Fail> 
     kinds.push(Box::new(alloc, Statements)?)?;
     kinds.push(Box::new(alloc, Modules)?)?;
     kinds.push(Box::new(alloc, Everything)?)?;
+    let places = shared_inverter(alloc)?;
     for (texts, wanted) in [
         (
             ["stmt", "module"],
@@ -88,9 +83,9 @@ fn suspects_come_in_the_order_of_the_names(rt: HostRuntime) -> Result<(), Fail> 
         ),
         (["stmt", "stmt"], "stmt inv 2 3; stmt inv 2 3; "),
     ] {
-        assert!(rt; gives(alloc, &kinds, &texts, wanted));
+        assert!(rt; gives(alloc, asked(alloc, &kinds, &texts, &places), wanted));
     }
-    assert!(rt; gives(alloc, &kinds, &[], ""));
+    assert!(rt; gives(alloc, asked(alloc, &kinds, &[], &places), ""));
     Ok(())
 }
 
@@ -100,7 +95,9 @@ fn the_first_granularity_of_a_name_counts(rt: HostRuntime) -> Result<(), Fail> {
     let mut kinds: Vec<Box<dyn Granularity>> = Vec::new(alloc);
     kinds.push(Box::new(alloc, Crowd { count: 2 })?)?;
     kinds.push(Box::new(alloc, Statements)?)?;
-    assert!(rt; gives(alloc, &kinds, &["stmt"], "stmt stmt; stmt stmt; "));
+    let places = shared_inverter(alloc)?;
+    let chosen = asked(alloc, &kinds, &["stmt"], &places);
+    assert!(rt; gives(alloc, chosen, "stmt stmt; stmt stmt; "));
     Ok(())
 }
 
@@ -110,7 +107,9 @@ fn a_later_granularity_of_a_name_does_not(rt: HostRuntime) -> Result<(), Fail> {
     let mut kinds: Vec<Box<dyn Granularity>> = Vec::new(alloc);
     kinds.push(Box::new(alloc, Statements)?)?;
     kinds.push(Box::new(alloc, Crowd { count: 2 })?)?;
-    assert!(rt; gives(alloc, &kinds, &["stmt"], "stmt inv 2 3; "));
+    let places = shared_inverter(alloc)?;
+    let chosen = asked(alloc, &kinds, &["stmt"], &places);
+    assert!(rt; gives(alloc, chosen, "stmt inv 2 3; "));
     Ok(())
 }
 
@@ -119,14 +118,15 @@ fn the_first_unknown_name_is_refused(rt: HostRuntime) -> Result<(), Fail> {
     let alloc = rt.alloc();
     let mut kinds: Vec<Box<dyn Granularity>> = Vec::new(alloc);
     kinds.push(Box::new(alloc, Crowd { count: 4097 })?)?;
+    let places = shared_inverter(alloc)?;
     for (texts, wanted) in [
         (["gates", "modules", "stmt"], "gates"),
         (["stmt", "gate", "modules"], "gate"),
         (["stmt", "stmt", "stm"], "stm"),
     ] {
-        assert!(rt; refuses(alloc, &kinds, &texts, wanted));
+        assert!(rt; refuses(asked(alloc, &kinds, &texts, &places), wanted));
     }
-    assert!(rt; has_too_many(alloc, &kinds, &["stmt"]));
+    assert!(rt; has_too_many(asked(alloc, &kinds, &["stmt"], &places)));
     Ok(())
 }
 
@@ -136,7 +136,11 @@ fn more_than_4096_suspects_are_refused(rt: HostRuntime) -> Result<(), Fail> {
     let mut kinds: Vec<Box<dyn Granularity>> = Vec::new(alloc);
     kinds.push(Box::new(alloc, Crowd { count: 4096 })?)?;
     kinds.push(Box::new(alloc, Everything)?)?;
-    assert!(rt; are(alloc, &kinds, &["stmt"], 4096));
-    assert!(rt; has_too_many(alloc, &kinds, &["all", "stmt"]));
+    let places = shared_inverter(alloc)?;
+    match asked(alloc, &kinds, &["stmt"], &places) {
+        Ok(groups) => assert_eq!(rt; groups.len(), 4096),
+        Err(_) => return Err(Fail::new("4,096 suspects are refused")),
+    }
+    assert!(rt; has_too_many(asked(alloc, &kinds, &["all", "stmt"], &places)));
     Ok(())
 }

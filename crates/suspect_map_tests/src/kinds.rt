@@ -19,7 +19,7 @@ fn a_shared_statement_is_one_suspect_with_all_its_copies(rt: HostRuntime) -> Res
             &InstanceOutputs,
             &places,
             "instance m.u 0; instance m.v 1; "
-        )?
+        )
     );
     assert!(rt; makes(alloc, &Modules, &places, "module m 0 1; module inv 2 3; "));
     assert!(rt; makes(alloc, &Everything, &places, "all all 0 1 2 3; "));
@@ -61,7 +61,7 @@ fn a_block_is_a_suspect_with_all_assignments_of_all_its_copies(
             &Statements,
             &places,
             "stmt c 0 3; stmt c 1 4; stmt c 2 5; "
-        )?
+        )
     );
     Ok(())
 }

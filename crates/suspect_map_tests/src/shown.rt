@@ -1,13 +1,12 @@
 //! Suspects as texts.
 
 use design_core::Place;
-use loc_base::Bytes;
+use loc_base::{Bytes, NoMemory};
 use std::alloc::Global;
-use std::test::Fail;
 use suspect_map::{Granularity, Group, Groups};
 
 /// Appends a suspect's kind and label, and the numbers of its places, which are digits here.
-fn show(text: &mut Bytes, group: &Group) -> Result<(), Fail> {
+fn show(text: &mut Bytes, group: &Group) -> Result<(), NoMemory> {
     text.append(group.kind.as_bytes())?;
     text.append(b" ")?;
     text.append(group.label.as_bytes())?;
@@ -19,7 +18,7 @@ fn show(text: &mut Bytes, group: &Group) -> Result<(), Fail> {
     Ok(())
 }
 
-pub fn shown(alloc: Global, groups: &Groups) -> Result<Bytes, Fail> {
+fn shown(alloc: Global, groups: &Groups) -> Result<Bytes, NoMemory> {
     let mut text = Bytes::new(alloc);
     for group in groups.as_slice() {
         show(&mut text, group)?;
@@ -27,19 +26,21 @@ pub fn shown(alloc: Global, groups: &Groups) -> Result<Bytes, Fail> {
     Ok(text)
 }
 
-/// The suspects that a granularity makes of places.
-fn made<G: Granularity>(alloc: Global, kind: &G, places: &[Place]) -> Result<Bytes, Fail> {
-    if places.len() < 1000 {
-        shown(alloc, &kind.groups(alloc, places)?)
-    } else {
-        Err(Fail::new("too many places for a test"))
+/// Whether suspects read so.
+pub fn reads(alloc: Global, groups: &Groups, wanted: &str) -> bool {
+    match shown(alloc, groups) {
+        Ok(text) => text.as_slice() == wanted.as_bytes(),
+        Err(_) => false,
     }
 }
 
 /// Whether these are the suspects that a granularity makes of places.
 pub fn makes<G: Granularity>(alloc: Global, kind: &G, places: &[Place], wanted: &str) -> bool {
-    match made(alloc, kind, places) {
-        Ok(text) => text.as_slice() == wanted.as_bytes(),
+    if places.len() >= 1000 {
+        return false;
+    }
+    match kind.groups(alloc, places) {
+        Ok(groups) => reads(alloc, &groups, wanted),
         Err(_) => false,
     }
 }
