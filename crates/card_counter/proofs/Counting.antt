@@ -222,22 +222,27 @@ is-counter first k selectors before = record {
   exists = λ a. counts-as a first k selectors before;
 }
 
+-- where few are true, the bound is false in an assignment that counts
+pub few-bound : (first k : ℕ) (selectors : List Lit) (a : ℕ → Bool) → AreBefore first selectors → (c : CountsAs a first k selectors) (j : ℕ) → j ≤ k
+    → j < length selectors → true_count a selectors ≤ j → c.other (at_least first k (length selectors) (j + 1)) ≡ false
+few-bound first k selectors a before c j size more few =
+    let same : true_count c.other selectors ≡ true_count a selectors = true_count-same first c.other a (λ v lower. c.same v (inl lower)) selectors before in
+    let all : take (length selectors) selectors ≡ selectors = take_all (length selectors) selectors (omega arith) in
+    let told : c.other (at_least first k (length selectors) (j + 1)) ≡ nat_le (j + 1) (true_count c.other (take (length selectors) selectors)) =
+    c.counts (length selectors) (j + 1) (omega arith) (omega arith) (omega (arith, size, more)) in
+    let counted : true_count c.other (take (length selectors) selectors) ≡ true_count a selectors = ap (true_count c.other) all ∙ same in
+    told ∙ lt-leb (j + 1) (true_count c.other (take (length selectors) selectors)) (omega (arith, counted, few))
+
 module _ (of : Bounded) (before : AreBefore of.first of.selectors) (size : of.j ≤ of.k) (more : of.j < length of.selectors) where
   -- where few are true the bound can be met
   pub few-meet : true_count of.assignment of.selectors ≤ of.j → MeetsBound of (counter_clauses of.selectors of.k of.first)
   few-meet few =
       let c : CountsAs of.assignment of.first of.k of.selectors = counts-as of.assignment of.first of.k of.selectors before in
-      let same : true_count c.other of.selectors ≡ true_count of.assignment of.selectors =
-      true_count-same of.first c.other of.assignment (λ v lower. c.same v (inl lower)) of.selectors before in
-      let all : take (length of.selectors) of.selectors ≡ of.selectors = take_all (length of.selectors) of.selectors (omega arith) in
-      let told : c.other (at_least of.first of.k (length of.selectors) (of.j + 1)) ≡ nat_le (of.j + 1) (true_count c.other (take (length of.selectors) of.selectors)) =
-      c.counts (length of.selectors) (of.j + 1) (omega arith) (omega arith) (omega (arith, size, more)) in
-      let counted : true_count c.other (take (length of.selectors) of.selectors) ≡ true_count of.assignment of.selectors = ap (true_count c.other) all ∙ same in
       record {
         other = c.other;
         same = c.same;
         satisfies = meets c.other of.first of.k of.selectors c.counts;
-        bound = told ∙ lt-leb (of.j + 1) (true_count c.other (take (length of.selectors) of.selectors)) (omega (arith, counted, few));
+        bound = few-bound of.first of.k of.selectors of.assignment before c of.j size more few;
       }
 
   -- and only there
