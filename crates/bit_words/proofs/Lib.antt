@@ -12,3 +12,4 @@ pub mod ShiftSteps
 pub mod PartNumbers
 pub mod ProductLaws
 pub mod ShiftLaws
+pub mod IndexSteps

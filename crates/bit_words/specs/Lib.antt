@@ -6,4 +6,5 @@ pub mod Add
 pub mod Less
 pub mod Multiply
 pub mod Shift
+pub mod Index
 pub mod Laws

@@ -5,6 +5,7 @@ mod add;
 mod bitwise;
 mod choose;
 mod equal;
+mod index;
 pub mod laws;
 mod less;
 mod multiply;
