@@ -1,10 +1,10 @@
 -- Steps of reads and stores by a variable index.
-use Rattle.std.proofs.Common.{◌≡◌, ℕ, suc, ◌+◌, ◌/◌, ◌%◌, ◌≤◌, ◌<◌, ◌==◌, min, Bool, true, false, List, [], ◌∷◌, ◌++◌, length, get_or, drop, Option, Some, None, ◌⊎◌, inl, inr, refl, sym, ◌∙◌, ap, ap₂, arith, add-one, drop-cons}
+use Rattle.std.proofs.Common.{◌≡◌, ℕ, ◌+◌, ◌/◌, ◌%◌, ◌≤◌, ◌<◌, ◌==◌, min, true, false, List, [], ◌∷◌, length, get_or, drop, Option, Some, None, ◌⊎◌, inl, inr, refl, sym, ◌∙◌, ap, ap₂, arith, add-one, drop-cons}
 use Rattle.std.proofs.lemmas.List.{drop_all}
 use Rattle.gate_base.specs.declared.literal.Literal.{Literal}
 use Rattle.gate_base.specs.declared.literal.Literal.TheVariants.{Known}
 use Rattle.gate_base.specs.declared.node.Node.{Node}
-use Rattle.gate_base.specs.Nodes.{Made, made, counted, and_made, or_made, mux_made, AddsCounted}
+use Rattle.gate_base.specs.Nodes.{made, counted, and_made, or_made, mux_made, AddsCounted}
 use Rattle.gate_base.proofs.Counts.{refused-more, adds-none, adds-then, adds-counted, and-adds, or-adds, mux-adds}
 use Rattle.gate_base.proofs.Chains.{drop-literal}
 use Rattle.bit_words.specs.Bits.{turned}
@@ -76,8 +76,10 @@ pub pick-end : (nodes : List Node) (so_far : Literal) (index xs : List Literal) 
     → pick_made nodes so_far index (drop i xs) (drop i names) ≡ made nodes so_far
 unfolding pick_made
 pick-end nodes so_far index xs names i end =
-    elim (past xs names i end) [ inl is ↦ ap (λ zs. pick_made nodes so_far index zs (drop i names)) is
-    | inr is ↦ ap (λ zs. pick_made nodes so_far index (drop i xs) zs) is ∙ pick-none nodes so_far index (drop i xs) ]
+    elim (past xs names i end) [
+      | inl is ↦ ap (λ zs. pick_made nodes so_far index zs (drop i names)) is
+      | inr is ↦ ap (λ zs. pick_made nodes so_far index (drop i xs) zs) is ∙ pick-none nodes so_far index (drop i xs)
+    ]
 
 module _ (nodes : List Node) (so_far : Literal) (index xs : List Literal) (names : List (Option ℕ)) (i : ℕ) (in_xs : i < length xs) (in_names : i < length names) where
   pub counted-pick_more : counted (or_made (and_made (match_made nodes index (get_or names i None)).nodes (get_or xs i (Known false)) (match_made nodes index (get_or names i None)).bit).nodes so_far (and_made (match_made nodes index (get_or names i None)).nodes (get_or xs i (Known false)) (match_made nodes index (get_or names i None)).bit).bit).nodes ≤ counted (pick_made nodes so_far index (drop i xs) (drop i names)).nodes
@@ -115,8 +117,10 @@ pub put-end : (nodes : List Node) (so_far : Literal) (index xs : List Literal) (
     → put_made nodes so_far index (drop i xs) (drop i names) ≡ made nodes so_far
 unfolding put_made
 put-end nodes so_far index xs names i end =
-    elim (past xs names i end) [ inl is ↦ ap (λ zs. put_made nodes so_far index zs (drop i names)) is
-    | inr is ↦ ap (λ zs. put_made nodes so_far index (drop i xs) zs) is ∙ put-none nodes so_far index (drop i xs) ]
+    elim (past xs names i end) [
+      | inl is ↦ ap (λ zs. put_made nodes so_far index zs (drop i names)) is
+      | inr is ↦ ap (λ zs. put_made nodes so_far index (drop i xs) zs) is ∙ put-none nodes so_far index (drop i xs)
+    ]
 
 module _ (nodes : List Node) (so_far : Literal) (index xs : List Literal) (names : List (Option ℕ)) (i : ℕ) (in_xs : i < length xs) (in_names : i < length names) where
   pub counted-put_more : counted (mux_made (match_made nodes index (get_or names i None)).nodes (match_made nodes index (get_or names i None)).bit (get_or xs i (Known false)) so_far).nodes ≤ counted (put_made nodes so_far index (drop i xs) (drop i names)).nodes

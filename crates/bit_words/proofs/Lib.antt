@@ -13,3 +13,4 @@ pub mod PartNumbers
 pub mod ProductLaws
 pub mod ShiftLaws
 pub mod IndexSteps
+pub mod IndexLaws

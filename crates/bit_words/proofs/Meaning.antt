@@ -177,7 +177,7 @@ carries-means (x ∷ xs) (y ∷ ys) mk (more mx mxs) (more my mys) =
     let r = carries-means xs ys next.means (keep_all grown mxs) (keep_all grown mys) in
     record { grown = grown-then grown r.grown; means = r.means }
 
-turned-means : (negated : Bool) {e : Source} {nodes : List Node} {l : Literal} {b : Bool} → Means e nodes l b → Means e nodes (turned negated l) (differ negated b)
+pub turned-means : (negated : Bool) {e : Source} {nodes : List Node} {l : Literal} {b : Bool} → Means e nodes l b → Means e nodes (turned negated l) (differ negated b)
 turned-means true m = opposite-means m
 turned-means false m = m
 

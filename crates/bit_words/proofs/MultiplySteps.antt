@@ -1,11 +1,10 @@
 -- Steps of products.
-use Rattle.std.proofs.Common.{◌≡◌, ℕ, suc, ◌+◌, ◌-◌, ◌≤◌, ◌<◌, min, Bool, true, false, not, ◌&&◌, ltb, cond, if◌then◌else◌, List, [], ◌∷◌, ◌++◌, length, get_or, drop, map, replicate, take, ◌⊎◌, inl, inr, refl, sym, ◌∙◌, ap, ap₂, arith, add-one, drop-cons, length-append, length-take, length-drop}
-use Rattle.std.proofs.lemmas.List.{drop_all, length-replicate}
-use Rattle.std.proofs.lemmas.Grind.{common_steps}
+use Rattle.std.proofs.Common.{◌≡◌, ℕ, ◌+◌, ◌-◌, ◌≤◌, ◌<◌, false, List, [], ◌∷◌, ◌++◌, length, get_or, drop, take, ap}
+use Rattle.std.proofs.lemmas.List.{drop_all}
 use Rattle.gate_base.specs.declared.literal.Literal.{Literal}
 use Rattle.gate_base.specs.declared.literal.Literal.TheVariants.{Known}
 use Rattle.gate_base.specs.declared.node.Node.{Node}
-use Rattle.gate_base.specs.Nodes.{Made, made, Word, word, counted, and_made, mux_made, or_all_made, AddsCounted}
+use Rattle.gate_base.specs.Nodes.{word, counted, and_made, AddsCounted}
 use Rattle.gate_base.proofs.Counts.{refused-more, adds-none, adds-then, adds-counted, and-adds, or_all-adds, counted-or_all}
 use Rattle.gate_base.proofs.Chains.{drop-literal}
 use Rattle.bit_words.specs.Add.{sum_made, zeros}

@@ -1,16 +1,15 @@
 -- What a product means: the product of the numbers, as far as the width reaches.
-use Rattle.std.proofs.Common.{◌≡◌, ℕ, zero, suc, ◌+◌, ◌-◌, ◌*◌, ◌/◌, ◌%◌, ◌^◌, ◌≤◌, ◌<◌, Bool, true, false, not, ◌&&◌, if◌then◌else◌, List, [], ◌∷◌, ◌++◌, length, map, replicate, take, drop, refl, sym, ◌∙◌, ap, ap₂, subst, pow-suc, mul_comm, mul_assoc, add_assoc, add_comm, zero-add, add-zero, add-one, length-append, length-take-le, arith}
+use Rattle.std.proofs.Common.{◌≡◌, ℕ, zero, suc, ◌+◌, ◌-◌, ◌*◌, ◌/◌, ◌%◌, ◌^◌, ◌≤◌, ◌<◌, Bool, true, false, ◌&&◌, List, [], ◌∷◌, ◌++◌, length, map, replicate, take, refl, sym, ◌∙◌, ap, ap₂, subst, add_comm, zero-add, add-zero, add-one, length-append, length-take-le, arith}
 use Rattle.std.proofs.lemmas.List.{length-map, length-replicate}
 use Rattle.std.proofs.lemmas.Nat.{pow-add}
 use Rattle.std.proofs.Math.Nat.{add-mul-mod_self_right, mod-eq_of_lt, div-add-mod', add-mod-mod}
 use Rattle.gate_base.specs.declared.literal.Literal.{Literal}
 use Rattle.gate_base.specs.declared.literal.Literal.TheVariants.{Known}
 use Rattle.gate_base.specs.declared.node.Node.{Node}
-use Rattle.gate_base.specs.Nodes.{Word, word, and_made}
-use Rattle.gate_base.specs.Meaning.{Source, Means, Grown, Gives, MeansAll, none, more, GivesAll}
+use Rattle.gate_base.specs.Meaning.{Source, Means, Grown, MeansAll, none, more, GivesAll}
 use Rattle.gate_base.proofs.Meaning.{known-means, keep, keep_all, grown-none, grown-then, and-means}
 use Rattle.bit_words.specs.Bits.{one_if, number_of, IsWord, GivesWord}
-use Rattle.bit_words.specs.Add.{sum_made, sum_bits, zeros}
+use Rattle.bit_words.specs.Add.{sum_bits, zeros}
 use Rattle.bit_words.specs.Multiply.{row_made, row_added, rows_added, product_made}
 use Rattle.bit_words.proofs.Meaning.{MeansAll-push, ends, one_more, zeros-mean, sum-means}
 use Rattle.bit_words.proofs.Numbers.{number_of-below, sum-mod, length-sum_bits, double}
@@ -49,6 +48,7 @@ moved-low n a k p h M is =
   where
     spread : (n q r h p k : ℕ) → n + (q * h + r) * p * k ≡ (n + (r * k) * p) + (q * k) * (h * p)
     spread n q r h p k = omega arith
+
     split : (q r : ℕ) → q * h + r ≡ a → n + a * p * k ≡ (n + (r * k) * p) + (q * k) * M
     split q r whole =
         ap (λ x. n + x * p * k) (sym whole) ∙ spread n q r h p k ∙ ap (λ x. (n + (r * k) * p) + (q * k) * x) is
@@ -74,19 +74,21 @@ module _ {e : Source} (xs : List Literal) {a : ℕ} where
       let part = map (λ y. y && k) (take low x.bits) in
       let row = row-means (take low xs) (zeros-mean e nodes place) (MeansAll-take low x.means) mb in
       let long : length (replicate place false ++ part) ≡ length xs =
-        length-append (replicate place false) part ∙ ap₂ (λ p q. p + q) (length-replicate place false) (length-map (take low x.bits) (λ y. y && k) ∙ length-take-le low x.bits inside) ∙ back place (length xs) within in
+      length-append (replicate place false) part ∙ ap₂ (λ p q. p + q) (length-replicate place false) (length-map (take low x.bits) (λ y. y && k) ∙ length-take-le low x.bits inside) ∙ back place (length xs) within in
       let same : length s.bits ≡ length (replicate place false ++ part) = ws ∙ sym long in
       let sum = sum-means so_far (row_made nodes (zeros place) (take low xs) b).bits none (keep_all row.grown s.means) row.means (known-means e _ false) in
       let number : number_of (sum_bits s.bits (replicate place false ++ part) false) ≡ (n + a * 2 ^ place * one_if k) % 2 ^ length xs =
-        sum-mod s.bits (replicate place false ++ part) false same
-        ∙ ap₂ (λ p q. (p + q + 0) % 2 ^ length s.bits) s.number (number_of-zeros_below place part ∙ ap (λ m. m * 2 ^ place) (number_of-and (take low x.bits) k ∙ ap (λ m. m * one_if k) (number_of-take low x.bits inside ∙ ap (λ m. m % 2 ^ low) x.number)))
-        ∙ ap₂ (λ m w. m % 2 ^ w) (add-zero (n + (a % 2 ^ low * one_if k) * 2 ^ place)) ws
-        ∙ moved-low n a (one_if k) (2 ^ place) (2 ^ low) (2 ^ length xs) (sym (pow-add 2 low place) ∙ ap (λ m. 2 ^ m) (forth place (length xs) within)) in
-      (record { grown = grown-then row.grown sum.grown; is = record { bits = sum_bits s.bits (replicate place false ++ part) false; means = sum.means; number = number } },
-      sym (MeansAll-length sum.means) ∙ length-sum_bits s.bits (replicate place false ++ part) false same ∙ ws)
+      sum-mod s.bits (replicate place false ++ part) false same
+      ∙ ap₂ (λ p q. (p + q + 0) % 2 ^ length s.bits) s.number (number_of-zeros_below place part ∙ ap (λ m. m * 2 ^ place) (number_of-and (take low x.bits) k ∙ ap (λ m. m * one_if k) (number_of-take low x.bits inside ∙ ap (λ m. m % 2 ^ low) x.number)))
+      ∙ ap₂ (λ m w. m % 2 ^ w) (add-zero (n + (a % 2 ^ low * one_if k) * 2 ^ place)) ws
+      ∙ moved-low n a (one_if k) (2 ^ place) (2 ^ low) (2 ^ length xs) (sym (pow-add 2 low place) ∙ ap (λ m. 2 ^ m) (forth place (length xs) within)) in (
+        record { grown = grown-then row.grown sum.grown; is = record { bits = sum_bits s.bits (replicate place false ++ part) false; means = sum.means; number = number } },
+        sym (MeansAll-length sum.means) ∙ length-sum_bits s.bits (replicate place false ++ part) false same ∙ ws,
+      )
     where
       back : (p w : ℕ) → p ≤ w → p + (w - p) ≡ w
       back p w inside = omega arith
+
       forth : (p w : ℕ) → p ≤ w → (w - p) + p ≡ w
       forth p w inside = omega arith
 
@@ -101,8 +103,8 @@ module _ {e : Source} (xs : List Literal) {a : ℕ} where
         is = record {
           bits = s.bits;
           means = s.means;
-          number = s.number ∙ sym (ap (λ m. m % 2 ^ length xs) (nothing n (a * 2 ^ place)) ∙ mod-eq_of_lt below)
-        }
+          number = s.number ∙ sym (ap (λ m. m % 2 ^ length xs) (nothing n (a * 2 ^ place)) ∙ mod-eq_of_lt below);
+        };
       }
     where
       nothing : (n q : ℕ) → n + q * 0 ≡ n
@@ -115,8 +117,8 @@ module _ {e : Source} (xs : List Literal) {a : ℕ} where
         is = record {
           bits = rest.is.bits;
           means = rest.is.means;
-          number = rest.is.number ∙ next-rows n a (2 ^ place) (one_if k) (number_of bs) (2 ^ length xs) (2 ^ (place + 1)) (ap (λ m. 2 ^ m) (add-one place) ∙ double place)
-        }
+          number = rest.is.number ∙ next-rows n a (2 ^ place) (one_if k) (number_of bs) (2 ^ length xs) (2 ^ (place + 1)) (ap (λ m. 2 ^ m) (add-one place) ∙ double place);
+        };
       }
 
 -- a product is that of the numbers, as far as the width reaches
@@ -129,8 +131,8 @@ product-law {e} {nodes} {xs} {ys} {a} {b} x y same =
       is = record {
         bits = g.is.bits;
         means = g.is.means;
-        number = g.is.number ∙ ap (λ m. m % 2 ^ length xs) (first a (number_of y.bits) ∙ ap (λ m. a * m) y.number)
-      }
+        number = g.is.number ∙ ap (λ m. m % 2 ^ length xs) (first a (number_of y.bits) ∙ ap (λ m. a * m) y.number);
+      };
     }
   where
     first : (a n : ℕ) → 0 + a * 2 ^ 0 * n ≡ a * n

@@ -1,5 +1,5 @@
 -- What a shift means: the number shifted by the number of the other word.
-use Rattle.std.proofs.Common.{◌≡◌, ℕ, zero, suc, ◌+◌, ◌-◌, ◌*◌, ◌/◌, ◌%◌, ◌^◌, ◌≤◌, ◌<◌, Bool, true, false, not, ◌&&◌, ◌||◌, ltb, leb, get_or, if◌then◌else◌, List, [], ◌∷◌, ◌++◌, length, map, replicate, take, drop, refl, sym, ◌∙◌, ap, ap₂, subst, mul_assoc, zero-add, add-zero, length-append, length-take, length-drop, arith, ◌⊎◌, inl, inr}
+use Rattle.std.proofs.Common.{◌≡◌, ℕ, zero, suc, ◌+◌, ◌-◌, ◌*◌, ◌/◌, ◌%◌, ◌^◌, ◌≤◌, ◌<◌, Bool, true, false, not, leb, get_or, if◌then◌else◌, List, [], ◌∷◌, ◌++◌, length, map, replicate, take, drop, refl, sym, ◌∙◌, ap, ap₂, subst, mul_assoc, length-append, length-take, length-drop, arith, ◌⊎◌, inl, inr}
 use Rattle.std.proofs.lemmas.List.{length-map, length-replicate, map-append, drop-map}
 use Rattle.std.proofs.lemmas.Bool.{cases_lt, true≢false}
 use Rattle.std.proofs.lemmas.Nat.{pow-add, pow_pos, shr-shr, shr_le}
@@ -10,13 +10,13 @@ use Rattle.loc_base.proofs.Modulo.{shifted_out, shifted_down}
 use Rattle.gate_base.specs.declared.literal.Literal.{Literal}
 use Rattle.gate_base.specs.declared.literal.Literal.TheVariants.{Known}
 use Rattle.gate_base.specs.declared.node.Node.{Node}
-use Rattle.gate_base.specs.Nodes.{Word, word, or_all_made}
-use Rattle.gate_base.specs.Meaning.{Source, Means, Grown, Gives, MeansAll, none, more, GivesAll, some_of}
-use Rattle.gate_base.proofs.Meaning.{known-means, keep, keep_all, grown-none, grown-then, chain-or}
+use Rattle.gate_base.specs.Nodes.{Word}
+use Rattle.gate_base.specs.Meaning.{Source, Means, MeansAll, none, more, some_of}
+use Rattle.gate_base.proofs.Meaning.{keep, keep_all, grown-then, chain-or}
 use Rattle.bit_words.specs.declared.shift.Direction.{Direction}
 use Rattle.bit_words.specs.declared.shift.Direction.TheVariants.{Left, Right}
 use Rattle.bit_words.specs.Bits.{one_if, number_of, IsWord, GivesWord}
-use Rattle.bit_words.specs.Choose.{choice_made, chosen_bits}
+use Rattle.bit_words.specs.Choose.{chosen_bits}
 use Rattle.bit_words.specs.Shift.{moved, stage_made, past_made, stages_made, shift_made, MayFill, shifted_number}
 use Rattle.bit_words.proofs.Meaning.{means-as, MeansAll-append, choice-means}
 use Rattle.bit_words.proofs.Numbers.{double, one_if-below, number_of-below, number_of-not, number_of-zeros, chosen-number}
@@ -69,6 +69,7 @@ low-part a p h M is some_p some_h =
   where
     spread : (q h r p : ℕ) → (q * h + r) * p ≡ r * p + q * (h * p)
     spread q h r p = omega arith
+
     split : (q r : ℕ) → q * h + r ≡ a → a * p ≡ r * p + q * M
     split q r whole = ap (λ n. n * p) (sym whole) ∙ spread q h r p ∙ ap (λ n. r * p + q * n) is
 
@@ -87,12 +88,12 @@ moved-number Right false places bs may within = number_of-zeros_above places (dr
 moved-number Right true places bs may within =
     let zs = drop places bs ++ replicate places true in
     let turned : map not zs ≡ drop places (map not bs) ++ replicate places false =
-      map-append not (drop places bs) (replicate places true) ∙ ap₂ (λ p q. p ++ q) (sym (drop-map not places bs)) (map-fill places) in
+    map-append not (drop places bs) (replicate places true) ∙ ap₂ (λ p q. p ++ q) (sym (drop-map not places bs)) (map-fill places) in
     opposite-number zs
     ∙ ap₂ (λ w n. (2 ^ w - 1) - n) (length-moved Right true places bs within)
-      (ap number_of turned ∙ number_of-zeros_above places (drop places (map not bs))
-      ∙ number_of-drop places (map not bs) (rw (length-map bs not) within)
-      ∙ ap (λ n. n / 2 ^ places) (lacks-other (number_of (map not bs)) (number_of bs) (2 ^ length bs) (number_of-not bs)))
+    (ap number_of turned ∙ number_of-zeros_above places (drop places (map not bs))
+    ∙ number_of-drop places (map not bs) (rw (length-map bs not) within)
+    ∙ ap (λ n. n / 2 ^ places) (lacks-other (number_of (map not bs)) (number_of bs) (2 ^ length bs) (number_of-not bs)))
 
 -- ---- shifts one after another
 
@@ -114,6 +115,7 @@ shifted-twice Right true w a s t may below =
   where
     twice_lacks : (m n : ℕ) → n ≤ m → m - (m - n) ≡ n
     twice_lacks m n inside = omega arith
+
     at_most : (m a p : ℕ) → (m - a) / p ≤ m - a → (m - a) / p ≤ m
     at_most m a p less = omega arith
 
@@ -130,6 +132,7 @@ shifted-none Right true w a below = ap (λ n. (2 ^ w - 1) - n) (one ((2 ^ w - 1)
   where
     one : (a : ℕ) → a / 2 ^ 0 ≡ a
     one a = omega arith
+
     twice_lacks : (p a : ℕ) → a < p → (p - 1) - ((p - 1) - a) ≡ a
     twice_lacks p a inside = omega arith
 
@@ -150,6 +153,7 @@ shifted-past Right true w a s may below past =
   where
     lower : (p a : ℕ) → 0 < p → (p - 1) - a < p
     lower p a some = omega arith
+
     less-none : (m : ℕ) → m - 0 ≡ m
     less-none m = omega arith
 
@@ -188,9 +192,9 @@ stage-law direction places {fill = fill} {xs = xs} {f = f} {k = k} {a = a} may w
         bits = chosen_bits k (moved direction f places x.bits) x.bits;
         means = g.means;
         number = chosen-number k (moved direction f places x.bits) x.bits (length-moved direction f places x.bits inside)
-          ∙ staged-number direction f k places x.bits may inside
-          ∙ ap₂ (λ w n. shifted_number direction f w n (places * one_if k)) width x.number
-      }
+            ∙ staged-number direction f k places x.bits may inside
+            ∙ ap₂ (λ w n. shifted_number direction f w n (places * one_if k)) width x.number;
+      };
     }
 
 past-law : (ys : List Literal) {e : Source} {nodes : List Node} {fill : Literal} {xs : List Literal} {f : Bool} {a : ℕ} {ks : List Bool}
@@ -206,8 +210,8 @@ past-law ys {fill = fill} {xs = xs} {f = f} {ks = ks} x mf mys =
         bits = chosen_bits (some_of ks) (replicate (length xs) f) x.bits;
         means = g.means;
         number = chosen-number (some_of ks) (replicate (length xs) f) x.bits (length-replicate (length xs) f ∙ sym (MeansAll-length x.means))
-          ∙ ap (λ n. if some_of ks then number_of (replicate (length xs) f) else n) x.number
-      }
+            ∙ ap (λ n. if some_of ks then number_of (replicate (length xs) f) else n) x.number;
+      };
     }
 
 some-number : (ks : List Bool) → ((some_of ks ≡ true) × (1 ≤ number_of ks)) ⊎ ((some_of ks ≡ false) × (number_of ks ≡ 0))
@@ -226,6 +230,7 @@ past-number direction f w a places ks may below past = elim (some-number ks) [
   where
     far : (w p n : ℕ) → w ≤ p → 1 ≤ n → w ≤ p * n
     far w p n past some = omega (arith, mul-le-mul_left p some)
+
     never : (n : ℕ) → n * 0 ≡ 0
     never n = omega arith
 
@@ -252,10 +257,10 @@ stages-law (y ∷ ys) direction places {e} {nodes} {fill} {xs} {f} {a} may x mf 
               bits = rest.is.bits;
               means = rest.is.means;
               number = rest.is.number
-                ∙ ap (λ w. shifted_number direction f w (shifted_number direction f (length xs) a (places * one_if k)) ((places + places) * number_of bs)) width
-                ∙ shifted-twice direction f (length xs) a (places * one_if k) ((places + places) * number_of bs) may (word-below x)
-                ∙ ap (shifted_number direction f (length xs) a) (together places (one_if k) (number_of bs))
-            }
+                  ∙ ap (λ w. shifted_number direction f w (shifted_number direction f (length xs) a (places * one_if k)) ((places + places) * number_of bs)) width
+                  ∙ shifted-twice direction f (length xs) a (places * one_if k) ((places + places) * number_of bs) may (word-below x)
+                  ∙ ap (shifted_number direction f (length xs) a) (together places (one_if k) (number_of bs));
+            };
           })
       | inr past ↦
           subst (λ w. GivesWord e nodes w (shifted_number direction f (length xs) a (places * (one_if k + 2 * number_of bs))))

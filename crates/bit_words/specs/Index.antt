@@ -1,5 +1,5 @@
 -- Bits by a variable index (IEEE 1364-2005, 5.2.1): the index is held against each number that names a bit.
-use Rattle.std.specs.Prelude.{ℕ, ◌/◌, ◌%◌, ◌==◌, Bool, true, false, ◌&&◌, ◌||◌, if◌then◌else◌, List, [], ◌∷◌, Option, Some, None}
+use Rattle.std.specs.Prelude.{ℕ, ◌^◌, ◌<◌, ◌/◌, ◌%◌, ◌==◌, Bool, true, false, ◌&&◌, ◌||◌, if◌then◌else◌, List, [], ◌∷◌, Option, Some, None}
 use Rattle.gate_base.specs.declared.literal.Literal.{Literal}
 use Rattle.gate_base.specs.declared.literal.Literal.TheVariants.{Known}
 use Rattle.gate_base.specs.declared.node.Node.{Node}
@@ -52,3 +52,12 @@ abbrev pub put : ℕ → Bool → List Bool → List (Option ℕ) → Bool
 put index so_far [] names = so_far
 put index so_far (b ∷ bs) [] = so_far
 put index so_far (b ∷ bs) (name ∷ names) = put index (if is_named index name then b else so_far) bs names
+
+-- the names are numbers of the index's width
+abbrev pub NameFits : ℕ → Option ℕ → Type 0
+NameFits width None = Unit {0}
+NameFits width (Some number) = number < 2 ^ width
+
+abbrev pub NamesFit : ℕ → List (Option ℕ) → Type 0
+NamesFit width [] = Unit {0}
+NamesFit width (name ∷ names) = NameFits width name × NamesFit width names

@@ -40,7 +40,12 @@ impl WordMaker {
 
     /// The bit of a word that an index names, each bit with the number of the index that names it.
     #[tactic(auto, using(crate::proofs::IndexSteps::picks))]
-    pub fn pick(&mut self, index: &[Literal], word: &[Literal], names: &[Option<u128>]) -> Result<Literal, MakeErr>
+    pub fn pick(
+        &mut self,
+        index: &[Literal],
+        word: &[Literal],
+        names: &[Option<u128>],
+    ) -> Result<Literal, MakeErr>
         ensures ok { IfOk result (λ l. made self.new.maker.nodes l ≡ pick_made self.old.maker.nodes (Known false) index.now word.now names.now) }
         ensures err { IfErr result (λ e. UnlessNoMemory e (self.old.maker.limit < counted (pick_made self.old.maker.nodes (Known false) index.now word.now names.now).nodes)) }
         ensures limit { self.new.maker.limit ≡ self.old.maker.limit }
@@ -58,7 +63,13 @@ impl WordMaker {
 
     /// A bit into which the bits of a value are stored, each where the index has the number that puts it there.
     #[tactic(auto, using(crate::proofs::IndexSteps::puts))]
-    pub fn put(&mut self, index: &[Literal], value: &[Literal], names: &[Option<u128>], old: Literal) -> Result<Literal, MakeErr>
+    pub fn put(
+        &mut self,
+        index: &[Literal],
+        value: &[Literal],
+        names: &[Option<u128>],
+        old: Literal,
+    ) -> Result<Literal, MakeErr>
         ensures ok { IfOk result (λ l. made self.new.maker.nodes l ≡ put_made self.old.maker.nodes old index.now value.now names.now) }
         ensures err { IfErr result (λ e. UnlessNoMemory e (self.old.maker.limit < counted (put_made self.old.maker.nodes old index.now value.now names.now).nodes)) }
         ensures limit { self.new.maker.limit ≡ self.old.maker.limit }

@@ -3,7 +3,7 @@
 
 ghost use Rattle.std.specs.Prelude.{[], ◌%◌, ◌*◌, ◌+◌, ◌-◌, ◌==◌, ◌^◌, ◌≡◌, ◌≤◌, false, if◌then◌else◌, int_lt, length, slice_index_or, true};
 ghost use Rattle.loc_base.specs.Word.{is_negative};
-ghost use Rattle.gate_base.specs.Meaning.{Gives, Means};
+ghost use Rattle.gate_base.specs.Meaning.{Gives, Means, MeansAll};
 ghost use Rattle.gate_base.specs.declared.literal.Literal.TheVariants.{Known};
 ghost use Rattle.bit_words.specs.Bits.{GivesWord, IsWord, integer_of, one_if};
 ghost use Rattle.bit_words.specs.Bitwise.{bitwise_made, bitwise_number};
@@ -13,7 +13,8 @@ ghost use Rattle.bit_words.specs.Add.{difference_made, minus_made, sum_made};
 ghost use Rattle.bit_words.specs.Less.{less_made};
 ghost use Rattle.bit_words.specs.Multiply.{product_made};
 ghost use Rattle.bit_words.specs.Shift.{MayFill, shift_made, shifted_number};
-ghost use Rattle.bit_words.specs.Laws.{Operands};
+ghost use Rattle.bit_words.specs.Index.{NamesFit, pick_made, picked, put, put_made};
+ghost use Rattle.bit_words.specs.Laws.{Indexed, Operands};
 
 /// Sums, differences and minus a word are those of the numbers, as far as the width reaches (5.1.5).
 pub fn sums_mean()
@@ -74,4 +75,16 @@ pub fn top_bit_means()
     requires word { IsWord of.source of.nodes of.left of.a }
     requires some { 1 ≤ length of.left }
     ensures { Means of.source of.nodes (slice_index_or of.left (length of.left - 1) (Known false)) (is_negative (length of.left) of.a) }
+{}
+
+/// A read by an index is the bit that the index's number names, if any, and a store puts the last bit that it names
+/// (5.2.1).
+pub fn indexes_mean()
+    ghost of: { Indexed }
+    requires index { IsWord of.source of.nodes of.index of.v }
+    requires word { MeansAll of.source of.nodes of.literals of.bits }
+    requires old { Means of.source of.nodes of.old of.a }
+    requires fit { NamesFit (length of.index) of.names }
+    ensures pick { Gives of.source of.nodes (pick_made of.nodes (Known false) of.index of.literals of.names) (picked of.v false of.bits of.names) }
+    ensures put { Gives of.source of.nodes (put_made of.nodes of.old of.index of.literals of.names) (put of.v of.a of.bits of.names) }
 {}

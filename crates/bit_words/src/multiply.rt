@@ -27,7 +27,13 @@ impl WordMaker {
 
     /// Adds the row of a bit at a place to the word at hand.
     #[tactic(auto, using(crate::proofs::MultiplySteps::added), unfolding(crate::specs::Multiply::row_added))]
-    fn add_row(&mut self, alloc: Global, left: &[Literal], place: usize, bit: Literal) -> Result<(), MakeErr>
+    fn add_row(
+        &mut self,
+        alloc: Global,
+        left: &[Literal],
+        place: usize,
+        bit: Literal,
+    ) -> Result<(), MakeErr>
         requires { place ≤ length left.now }
         ensures ok { OnOk result (word self.new.maker.nodes self.new.bits ≡ row_added self.old.maker.nodes self.old.bits left.now place bit) }
         ensures err { IfErr result (λ e. UnlessNoMemory e (self.old.maker.limit < counted (row_added self.old.maker.nodes self.old.bits left.now place bit).nodes)) }
@@ -42,7 +48,12 @@ impl WordMaker {
 
     /// Puts the product of two words of one width in the place of the word at hand.
     #[tactic(auto, using(crate::proofs::MultiplySteps::products))]
-    pub fn multiply(&mut self, alloc: Global, left: &[Literal], right: &[Literal]) -> Result<(), MakeErr>
+    pub fn multiply(
+        &mut self,
+        alloc: Global,
+        left: &[Literal],
+        right: &[Literal],
+    ) -> Result<(), MakeErr>
         requires { length left.now ≡ length right.now }
         ensures ok { OnOk result (word self.new.maker.nodes self.new.bits ≡ product_made self.old.maker.nodes left.now right.now) }
         ensures err { IfErr result (λ e. UnlessNoMemory e (self.old.maker.limit < counted (product_made self.old.maker.nodes left.now right.now).nodes)) }

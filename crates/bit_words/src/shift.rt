@@ -33,7 +33,12 @@ fn filled(alloc: Global, fill: Literal, width: usize) -> Result<Items<Literal>, 
 
 /// A word moved by a number of places.
 #[tactic(auto, using(crate::proofs::ShiftSteps::moves))]
-fn moved(alloc: Global, shift: Shift, places: usize, left: &[Literal]) -> Result<Items<Literal>, NoMemory>
+fn moved(
+    alloc: Global,
+    shift: Shift,
+    places: usize,
+    left: &[Literal],
+) -> Result<Items<Literal>, NoMemory>
     requires { places ≤ length left.now }
     ensures { IfOk result (λ word. word ≡ moved shift.direction shift.fill places left.now) }
 {
@@ -54,7 +59,13 @@ fn moved(alloc: Global, shift: Shift, places: usize, left: &[Literal]) -> Result
 impl WordMaker {
     /// Moves the word at hand where a bit is true.
     #[tactic(auto, unfolding(crate::specs::Shift::stage_made))]
-    fn stage(&mut self, alloc: Global, shift: Shift, places: usize, bit: Literal) -> Result<(), MakeErr>
+    fn stage(
+        &mut self,
+        alloc: Global,
+        shift: Shift,
+        places: usize,
+        bit: Literal,
+    ) -> Result<(), MakeErr>
         requires { places ≤ length self.old.bits }
         ensures ok { OnOk result (word self.new.maker.nodes self.new.bits ≡ stage_made self.old.maker.nodes shift.direction shift.fill places bit self.old.bits) }
         ensures err { IfErr result (λ e. UnlessNoMemory e (self.old.maker.limit < counted (stage_made self.old.maker.nodes shift.direction shift.fill places bit self.old.bits).nodes)) }
@@ -80,7 +91,13 @@ impl WordMaker {
 
     /// Puts a word shifted by another in the place of the word at hand.
     #[tactic(auto, using(crate::proofs::ShiftSteps::steps))]
-    pub fn shift(&mut self, alloc: Global, shift: Shift, left: &[Literal], by: &[Literal]) -> Result<(), MakeErr>
+    pub fn shift(
+        &mut self,
+        alloc: Global,
+        shift: Shift,
+        left: &[Literal],
+        by: &[Literal],
+    ) -> Result<(), MakeErr>
         requires { length left.now ≤ 128 }
         ensures ok { OnOk result (word self.new.maker.nodes self.new.bits ≡ shift_made self.old.maker.nodes shift.direction shift.fill left.now by.now) }
         ensures err { IfErr result (λ e. UnlessNoMemory e (self.old.maker.limit < counted (shift_made self.old.maker.nodes shift.direction shift.fill left.now by.now).nodes)) }

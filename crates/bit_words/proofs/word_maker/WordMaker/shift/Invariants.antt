@@ -7,5 +7,5 @@ invariant-loop-i l = record {
   limit : l.self.maker.limit ≡ l.fn.self.maker.limit;
   width : length l.self.bits ≡ length l.left;
   rest : stages_made l.fn.self.maker.nodes l.shift.direction l.shift.fill 1 l.by l.left
-      ≡ stages_made l.self.maker.nodes l.shift.direction l.shift.fill l.places (drop l.i l.by) l.self.bits
+      ≡ stages_made l.self.maker.nodes l.shift.direction l.shift.fill l.places (drop l.i l.by) l.self.bits;
 }
