@@ -2,6 +2,7 @@
 """Runs the gate and prints the processor seconds that each crate took: its proof, its tests, its must-fail edits.
 
 usage: bench/gate.py [COMMAND..]     at the top of the repository; COMMAND is `rt ci` where none is given
+       bench/gate.py --join LOG..    one table of those that earlier runs of it, each of some crates, wrote to these files
 
 The command's own output goes through. The prover's processes are looked at twice a second, so what a process took after
 the last look at it is missed: a sum may be low by some hundredths. Only what is proved in this run is counted: begin with
@@ -90,22 +91,29 @@ def dearest_chain(crates, below):
     return max(ends, default=(0, []))
 
 
+def tables_in(logs):
+    """The tables that runs wrote, as one: of each cell the most, since a run leaves out what an earlier one proved."""
+    crates = {}
+    for log in logs:
+        with open(log, errors="replace") as file:
+            for line in file:
+                cells = [cell.strip() for cell in line.strip().strip("|").split("|")]
+                if len(cells) == len(KINDS) + 2 and cells[0] != "all" and all(cell.isdigit() for cell in cells[1:]):
+                    own = crates.setdefault(cells[0], Counter())
+                    for kind, cell in zip(KINDS, cells[1:]):
+                        own[kind] = max(own[kind], int(cell))
+    return crates
+
+
 def row(name, seconds):
     cells = [f"{seconds[kind]:.0f}" for kind in KINDS] + [f"{sum(seconds.values()):.0f}"]
     return f"| {name} | " + " | ".join(cells) + " |"
 
 
-def main():
-    begun = time.time()
-    gate = subprocess.Popen(sys.argv[1:] or ["rt", "ci"])
-    seen = {}
-    while gate.poll() is None:
-        look(gate.pid, seen)
-        time.sleep(PAUSE)
-    crates, whole = {}, Counter()
-    for crate, kind, seconds in seen.values():
-        crates.setdefault(crate, Counter())[kind] += seconds
-        whole[kind] += seconds
+def show(crates):
+    whole = Counter()
+    for seconds in crates.values():
+        whole += seconds
     print("\n| crate | " + " | ".join(KINDS) + " | all |")
     print("|---" * (len(KINDS) + 2) + "|")
     for name, seconds in sorted(crates.items(), key=lambda entry: -sum(entry[1].values())):
@@ -113,6 +121,22 @@ def main():
     print(row("all", whole))
     seconds, chain = dearest_chain(crates, crates_below())
     print(f"\ndearest chain: {seconds:.0f} processor seconds, {', '.join(chain)}")
+
+
+def main():
+    if sys.argv[1:2] == ["--join"]:
+        show(tables_in(sys.argv[2:]))
+        return 0
+    begun = time.time()
+    gate = subprocess.Popen(sys.argv[1:] or ["rt", "ci"])
+    seen = {}
+    while gate.poll() is None:
+        look(gate.pid, seen)
+        time.sleep(PAUSE)
+    crates = {}
+    for crate, kind, seconds in seen.values():
+        crates.setdefault(crate, Counter())[kind] += seconds
+    show(crates)
     print(f"{time.time() - begun:.0f} seconds by the clock, {os.cpu_count()} processors")
     return gate.returncode
 

@@ -347,8 +347,7 @@ def main():
         for fault in faults:
             print("FAULT " + fault)
         sys.exit(1 if faults else 0)
-    print("""The solver propagates over all clauses, without watch lists, restarts or an order by activity, so the formulas are
-small; a family ends with the first formula that takes more than %g s. Times are milliseconds, by the clock for solve and check
+    print("""A family ends with the first formula that takes more than %g s. minisat simplifies the formula first, which the solver doesn't. Times are milliseconds, by the clock for solve and check
 (the least of three runs where one takes less than a second) and of the processor for minisat and the ratio to it; memory is MB.""" % limit)
     if shutil.which("minisat") is None:
         print("minisat isn't installed: its columns are empty.")

@@ -15,7 +15,7 @@ use Rattle.trail_core.specs.Values.{IsTrueIn}
 use Rattle.trail_core.proofs.Truth.{values-up_to_some}
 use Rattle.trail_core.proofs.Changes.{up_to_push}
 use Rattle.sat_core.proofs.Resolving.{no_entry, true_at}
-use Rattle.sat_core.specs.Choices.{choice_at, AreChosen, MayChoose, PassedTo, IsPassed}
+use Rattle.sat_core.specs.Choices.{choice_at, end_of, AreChosen, MayChoose, PassedTo, IsPassed}
 
 -- a decision is of a level from 1 to the present one
 pub decision_level_bounds : (t : TrailState) (i : ℕ) (d : Entry) → IsTrail t → i < length t.entries → is_decision (get_or t.entries i d) ≡ true → (1 ≤ (get_or t.entries i d).decision_level) × ((get_or t.entries i d).decision_level ≤ t.level)
@@ -30,9 +30,9 @@ AreChosen-decide t assume preferred chosen place l h a m = record {
     | inl u ↦ omega (arith, a.within k u, get_or_append_left chosen (place ∷ []) 0 k u)
     | inr u ↦ let e : length chosen ≡ k = omega (arith, u, w, length_push chosen place) in omega (arith, m.within, get_or_push chosen place 0 k e)
   ];
-  choice = λ i d e k y. elim (cases_lt i (length t.entries)) [
-    | inl w ↦ old i d e w y
-    | inr w ↦ new i d e (omega (arith, w, k, length_push t.entries x))
+  choice = λ i d e k y z. elim (cases_lt i (length t.entries)) [
+    | inl w ↦ old i d e w y z
+    | inr w ↦ new i d e (omega (arith, w, k, length_push t.entries x)) z
   ];
   before = λ k j w b. elim (cases_lt k (length chosen)) [
     | inl u ↦ subst (λ es. IsPassed (values_of es) assume preferred j) (sym (up_to_push k t.entries x (omega (arith, u, a.count))))
@@ -44,24 +44,24 @@ AreChosen-decide t assume preferred chosen place l h a m = record {
     x : Entry
     x = record { lit = l; decision_level = t.level + 1; reason = None }
 
-    old : (i : ℕ) (d e : Entry) → i < length t.entries → is_decision (get_or (t.entries ++ x ∷ []) i d) ≡ true → (get_or (t.entries ++ x ∷ []) i e).lit ≡ choice_at assume preferred (get_or (chosen ++ place ∷ []) ((get_or (t.entries ++ x ∷ []) i d).decision_level - 1) 0)
-    old i d e w y =
+    old : (i : ℕ) (d e : Entry) → i < length t.entries → is_decision (get_or (t.entries ++ x ∷ []) i d) ≡ true → get_or (chosen ++ place ∷ []) ((get_or (t.entries ++ x ∷ []) i d).decision_level - 1) 0 < end_of assume preferred → (get_or (t.entries ++ x ∷ []) i e).lit ≡ choice_at assume preferred (get_or (chosen ++ place ∷ []) ((get_or (t.entries ++ x ∷ []) i d).decision_level - 1) 0)
+    old i d e w y z =
         let p = get_or_append_left t.entries (x ∷ []) d i w in
         let q = get_or_append_left t.entries (x ∷ []) e i w in
         let y' : is_decision (get_or t.entries i d) ≡ true = subst (λ (z : Entry). is_decision z ≡ true) p y in
         let bounds = decision_level_bounds t i d h w y' in
         let r : get_or (chosen ++ place ∷ []) ((get_or (t.entries ++ x ∷ []) i d).decision_level - 1) 0 ≡ get_or chosen ((get_or t.entries i d).decision_level - 1) 0 =
         ap (λ (z : Entry). get_or (chosen ++ place ∷ []) (z.decision_level - 1) 0) p ∙ get_or_append_left chosen (place ∷ []) 0 ((get_or t.entries i d).decision_level - 1) (omega (arith, bounds.0, bounds.1, a.count)) in
-        ap (λ (z : Entry). z.lit) q ∙ (a.choice i d e w y' ∙ ap (choice_at assume preferred) (sym r))
+        ap (λ (z : Entry). z.lit) q ∙ (a.choice i d e w y' (subst (λ n. n < end_of assume preferred) r z) ∙ ap (choice_at assume preferred) (sym r))
 
-    new : (i : ℕ) (d e : Entry) → length t.entries ≡ i → (get_or (t.entries ++ x ∷ []) i e).lit ≡ choice_at assume preferred (get_or (chosen ++ place ∷ []) ((get_or (t.entries ++ x ∷ []) i d).decision_level - 1) 0)
-    new i d e w =
+    new : (i : ℕ) (d e : Entry) → length t.entries ≡ i → get_or (chosen ++ place ∷ []) ((get_or (t.entries ++ x ∷ []) i d).decision_level - 1) 0 < end_of assume preferred → (get_or (t.entries ++ x ∷ []) i e).lit ≡ choice_at assume preferred (get_or (chosen ++ place ∷ []) ((get_or (t.entries ++ x ∷ []) i d).decision_level - 1) 0)
+    new i d e w z =
         let p = get_or_push t.entries x d i w in
         let q = get_or_push t.entries x e i w in
         let n : length chosen ≡ x.decision_level - 1 = omega (arith, a.count) in
         let r : get_or (chosen ++ place ∷ []) ((get_or (t.entries ++ x ∷ []) i d).decision_level - 1) 0 ≡ place =
         ap (λ (z : Entry). get_or (chosen ++ place ∷ []) (z.decision_level - 1) 0) p ∙ get_or_push chosen place 0 (x.decision_level - 1) n in
-        ap (λ (z : Entry). z.lit) q ∙ (m.literal ∙ ap (choice_at assume preferred) (sym r))
+        ap (λ (z : Entry). z.lit) q ∙ (m.literal (subst (λ n. n < end_of assume preferred) r z) ∙ ap (choice_at assume preferred) (sym r))
 
     last : (k j : ℕ) → length chosen ≡ k → j < get_or (chosen ++ place ∷ []) k 0 → IsPassed (values_of (up_to k (t.entries ++ x ∷ []))) assume preferred j
     last k j u b =
@@ -73,14 +73,14 @@ pub AreChosen-back : (t : TrailState) (assume : List Lit) (preferred chosen : Li
 AreChosen-back t assume preferred chosen k h low a = record {
   count = size;
   within = λ j w. let u : j < k = omega (arith, w, size) in omega (arith, a.within j (omega (arith, u, low, a.count)), get_or-take k chosen j 0 u);
-  choice = λ i d e w y.
+  choice = λ i d e w y z.
       let q : i < length t.entries = omega (arith, w, up_to-length t.entries k) in
       let y' : is_decision (get_or t.entries i d) ≡ true = subst (λ (z : Entry). is_decision z ≡ true) (same i d w) y in
       let bounds = decision_level_bounds t i d h q y' in
       let under : (get_or t.entries i d).decision_level ≤ k = leb-true (get_or t.entries i d).decision_level k (subst (λ (z : Entry). leb z.decision_level k ≡ true) (same i d w) (filter_passes (λ (z : Entry). leb z.decision_level k) t.entries i d w)) in
       let r : get_or (take k chosen) ((get_or (up_to k t.entries) i d).decision_level - 1) 0 ≡ get_or chosen ((get_or t.entries i d).decision_level - 1) 0 =
       ap (λ (z : Entry). get_or (take k chosen) (z.decision_level - 1) 0) (same i d w) ∙ get_or-take k chosen ((get_or t.entries i d).decision_level - 1) 0 (omega (arith, bounds.0, under)) in
-      ap (λ (z : Entry). z.lit) (same i e w) ∙ (a.choice i d e q y' ∙ ap (choice_at assume preferred) (sym r));
+      ap (λ (z : Entry). z.lit) (same i e w) ∙ (a.choice i d e q y' (subst (λ n. n < end_of assume preferred) r z) ∙ ap (choice_at assume preferred) (sym r));
   before = λ j i w b.
       let u : j < k = omega (arith, w, size) in
       subst (λ es. IsPassed (values_of es) assume preferred i) (sym (up_to-up_to t.entries j k (omega (arith, u))))
@@ -114,9 +114,9 @@ some_no_decision (Some x) s n = false≢true n
 pub AreChosen-propagates : (old new : TrailState) (assume : List Lit) (preferred chosen : List ℕ) → Propagates old new → AreChosen old assume preferred chosen → AreChosen new assume preferred chosen
 AreChosen-propagates old new assume preferred chosen p a = record {
   count = a.count ∙ sym p.level;
-  within = λ k w. omega (arith, a.within k w, p.vars);
-  choice = λ i d e w y. elim (cases_lt i (length old.entries)) [
-    | inl u ↦ ap (λ (z : Entry). z.lit) (sym (same i e u)) ∙ (a.choice i d e u (subst (λ (z : Entry). is_decision z ≡ true) (sym (same i d u)) y) ∙ ap (λ (z : Entry). choice_at assume preferred (get_or chosen (z.decision_level - 1) 0)) (same i d u))
+  within = a.within;
+  choice = λ i d e w y z. elim (cases_lt i (length old.entries)) [
+    | inl u ↦ ap (λ (z : Entry). z.lit) (sym (same i e u)) ∙ (a.choice i d e u (subst (λ (z : Entry). is_decision z ≡ true) (sym (same i d u)) y) (subst (λ (w : Entry). get_or chosen (w.decision_level - 1) 0 < end_of assume preferred) (sym (same i d u)) z) ∙ ap (λ (z : Entry). choice_at assume preferred (get_or chosen (z.decision_level - 1) 0)) (same i d u))
     | inr u ↦ absurd (some_no_decision (get_or new.entries i d).reason (p.reasoned i d u w) y)
   ];
   before = λ k j w b. subst (λ es. IsPassed (values_of es) assume preferred j) (sym (up_to_forced old new k p (omega (arith, w, a.count)))) (a.before k j w b);
@@ -157,14 +157,14 @@ passed_up t assume preferred k place h p = record {
 }
 
 -- the places up to the last decision's are passed
-pub PassedTo-chosen : (t : TrailState) (assume : List Lit) (preferred chosen : List ℕ) (from : ℕ) → IsTrail t → AreChosen t assume preferred chosen → (length chosen ≡ 0 → from ≡ 0) → (1 ≤ length chosen → from ≡ get_or chosen (length chosen - 1) 0 + 1) → PassedTo t assume preferred from
+pub PassedTo-chosen : (t : TrailState) (assume : List Lit) (preferred chosen : List ℕ) (from : ℕ) → IsTrail t → AreChosen t assume preferred chosen → (length chosen ≡ 0 → from ≡ 0) → (1 ≤ length chosen → (from ≤ get_or chosen (length chosen - 1) 0 + 1) × (from ≤ end_of assume preferred)) → PassedTo t assume preferred from
 PassedTo-chosen t assume preferred chosen from h a none some place l =
     elim (cases_lt 0 (length chosen)) [
       | inl b ↦ at_some (omega (arith, b)) (some (omega (arith, b)))
       | inr b ↦ let e = none (omega (arith, b)) in absurd (omega (arith, e, l))
     ]
   where
-    at_some : 1 ≤ length chosen → from ≡ get_or chosen (length chosen - 1) 0 + 1 → IsPassed (values_of t.entries) assume preferred place
+    at_some : 1 ≤ length chosen → (from ≤ get_or chosen (length chosen - 1) 0 + 1) × (from ≤ end_of assume preferred) → IsPassed (values_of t.entries) assume preferred place
     at_some b e = elim (cases_lt place (get_or chosen (length chosen - 1) 0)) [
       | inl u ↦ passed_up t assume preferred (length chosen - 1) place h (a.before (length chosen - 1) place (omega (arith, b)) u)
       | inr u ↦
@@ -172,9 +172,9 @@ PassedTo-chosen t assume preferred chosen from h a none some place l =
           let r = last_decision t.entries (length t.entries) (omega arith) (omega (arith, b, a.count, all)) in
           let lev : (get_or t.entries r.place no_entry).decision_level ≡ t.level = h.leveled r.place no_entry r.under ∙ (r.count ∙ all) in
           let n : length chosen - 1 ≡ (get_or t.entries r.place no_entry).decision_level - 1 = omega (arith, lev, a.count) in
-          let here : place ≡ get_or chosen (length chosen - 1) 0 = omega (arith, u, e, l) in
+          let here : place ≡ get_or chosen (length chosen - 1) 0 = omega (arith, u, e.0, l) in
           let q : place ≡ get_or chosen ((get_or t.entries r.place no_entry).decision_level - 1) 0 = here ∙ ap (λ j. get_or chosen j 0) n in
-          let lit : (get_or t.entries r.place no_entry).lit ≡ choice_at assume preferred place = a.choice r.place no_entry no_entry r.under (r.decision no_entry) ∙ ap (choice_at assume preferred) (sym q) in
+          let lit : (get_or t.entries r.place no_entry).lit ≡ choice_at assume preferred place = a.choice r.place no_entry no_entry r.under (r.decision no_entry) (subst (λ n. n < end_of assume preferred) q (omega (arith, e.1, l))) ∙ ap (choice_at assume preferred) (sym q) in
           let holds : IsTrueIn (values_of t.entries) (choice_at assume preferred place) = subst (IsTrueIn (values_of t.entries)) lit (true_at t r.place no_entry h r.under) in
           record { valued = ap is_some holds; assumed = λ m. holds }
     ]

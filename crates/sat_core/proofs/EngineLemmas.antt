@@ -1,5 +1,5 @@
 -- What a step of learning leaves.
-use Rattle.std.proofs.Common.{◌≡◌, ℕ, ◌+◌, ◌-◌, ◌<◌, ◌≤◌, Bool, false, Result, Ok, Err, List, [], ◌∷◌, ◌++◌, length, get_or, take, sym, ap, ◌∙◌, subst, map, arith}
+use Rattle.std.proofs.Common.{◌≡◌, ℕ, ◌+◌, ◌-◌, ◌<◌, ◌≤◌, Bool, false, Result, Ok, Err, List, [], ◌∷◌, ◌++◌, length, get_or, take, sym, ap, ◌∙◌, subst, map, arith, ◌⊎◌, inl, inr}
 use Rattle.std.specs.Result.{is_err, OnOk, OnErr}
 use Rattle.std.proofs.lemmas.Bool.{false≢true}
 use Rattle.clause_base.specs.declared.literal.Lit.{Lit}
@@ -10,7 +10,7 @@ use Rattle.clause_base.proofs.Accepted.{clauses_of-more}
 use Rattle.std.proofs.lemmas.List.{get_or-map, length-map, get_or_push, length_push}
 use Rattle.clause_base.specs.declared.log.Step.{Step}
 use Rattle.clause_base.specs.declared.log.StepKind.TheVariants.{Learned as learned_kind}
-use Rattle.trail_core.specs.TrailState.{TrailState, IsTrail, MayAdd, with_clause, back_at}
+use Rattle.trail_core.specs.TrailState.{TrailState, IsTrail, MayAdd, at_start, with_clause, back_at}
 use Rattle.sat_core.specs.Derivation.{Learns}
 use Rattle.sat_core.specs.declared.engine.Engine.{Engine}
 use Rattle.sat_core.specs.Engines.{LearnsStep, KeepsPace}
@@ -34,6 +34,15 @@ last_learned old new literals chain n found e l p =
 -- the clause may be added where the trail stands, as the calls give them
 pub may_add : (t back : TrailState) (level : ℕ) (literals clause : List Lit) → back ≡ back_at t level → clause ≡ literals → MayAdd (back_at t level) literals → MayAdd back clause
 may_add t back level literals clause p q m = subst (λ s. MayAdd s clause) (sym p) (subst (MayAdd (back_at t level)) (sym q) m)
+
+-- at level 0 any clause may be added
+pub may_add_from : (t : TrailState) (asserting level : ℕ) (literals : List Lit) → (level ≡ asserting) ⊎ (level ≡ 0) → MayAdd (back_at t asserting) literals → MayAdd (back_at t level) literals
+may_add_from t asserting level literals (inl e) m = subst (λ k. MayAdd (back_at t k) literals) (sym e) m
+may_add_from t asserting level literals (inr e) m = at_start e
+
+pub lower_from : (asserting level present : ℕ) → (level ≡ asserting) ⊎ (level ≡ 0) → asserting < present → level < present
+lower_from asserting level present (inl e) l = omega (arith, e, l)
+lower_from asserting level present (inr e) l = omega (arith, e, l)
 
 -- the trail with the clause
 pub trail_after : (t back after : TrailState) (level : ℕ) (literals clause : List Lit) → back ≡ back_at t level → clause ≡ literals → after ≡ with_clause back clause → after ≡ with_clause (back_at t level) literals

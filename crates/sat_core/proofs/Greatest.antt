@@ -60,21 +60,21 @@ decisions_hold t assume preferred chosen other i place h a r l k f s q d low y =
     too_late : length assume + i < x → ⊥
     too_late b =
         let p : length assume + i - length assume ≡ i = omega arith in
-        let var : choice_at assume preferred (length assume + i) ≡ positive (get_or preferred i 0) = choice_prefer assume preferred (length assume + i) (omega arith) (omega (arith, l)) ∙ ap (λ n. positive (get_or preferred n 0)) p in
+        let var : choice_at assume preferred (length assume + i) ≡ positive (get_or preferred i 0) = choice_prefer assume preferred (length assume + i) (omega arith) ∙ ap (λ n. positive (get_or preferred n 0)) p in
         some_split (values_of (up_to ((get_or t.entries q d).decision_level - 1) t.entries) (get_or preferred i 0))
         (subst (λ (c : Lit). is_some (values_of (up_to ((get_or t.entries q d).decision_level - 1) t.entries) c.var) ≡ true) var (a.before ((get_or t.entries q d).decision_level - 1) (length assume + i) number b).valued) ⊥
         (λ v w. let z = level_up_to t ((get_or t.entries q d).decision_level - 1) (get_or preferred i 0) v h w in
         let same : z.0 ≡ (get_or t.entries place d).decision_level = same_Some z.0 (get_or t.entries place d).decision_level (sym z.1 ∙ s d) in
         absurd (omega (arith, z.2, same, level, level_le t.entries h.leveled q place d (omega (arith, low)) k)))
 
-    literal : (get_or t.entries q d).lit ≡ choice_at assume preferred x
-    literal = a.choice q d d within y
+    literal : x ≤ length assume + i → (get_or t.entries q d).lit ≡ choice_at assume preferred x
+    literal b = a.choice q d d within y (omega (arith, b, l))
 
     early : x ≤ length assume + i → value_of other (get_or t.entries q d).lit ≡ true
     early b =
         elim (cases_lt x (length assume)) [
-          | inl c ↦ subst (λ (m : Lit). value_of other m ≡ true) (sym (literal ∙ choice_assume assume preferred x c)) (r.assumed x no_literal c)
-          | inr c ↦ at_preferred (x - length assume) (omega (arith, b, c)) (literal ∙ choice_prefer assume preferred x c (omega (arith, b, l)))
+          | inl c ↦ subst (λ (m : Lit). value_of other m ≡ true) (sym (literal b ∙ choice_assume assume preferred x c)) (r.assumed x no_literal c)
+          | inr c ↦ at_preferred (x - length assume) (omega (arith, b, c)) (literal b ∙ choice_prefer assume preferred x c)
         ]
       where
         at_preferred : (j : ℕ) → j ≤ i → (get_or t.entries q d).lit ≡ positive (get_or preferred j 0) → value_of other (get_or t.entries q d).lit ≡ true

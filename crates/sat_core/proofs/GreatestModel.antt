@@ -5,7 +5,7 @@ use Rattle.std.proofs.lemmas.Bool.{false≢true, cases_lt}
 use Rattle.std.proofs.lemmas.List.{get_or_default, get_or-set_same, get_or-set_other}
 use Rattle.clause_base.specs.declared.literal.Lit.{Lit}
 use Rattle.clause_base.specs.declared.log.Step.{Step}
-use Rattle.clause_base.specs.Literal.{negative, IsWithin}
+use Rattle.clause_base.specs.Literal.{IsWithin}
 use Rattle.clause_base.specs.Satisfaction.{value_of, is_satisfied, Satisfies}
 use Rattle.clause_base.specs.Acceptance.{numbered, clauses_of}
 use Rattle.clause_base.proofs.Soundness.{is_satisfied-Holds}
@@ -14,9 +14,9 @@ use Rattle.trail_core.specs.TrailState.{TrailState, IsNumber, AllRest, values_of
 use Rattle.trail_core.proofs.Looks.{variable_of}
 use Rattle.sat_core.specs.declared.engine.Engine.{Engine}
 use Rattle.sat_core.specs.SolverState.{assignment_of, MakesTrue, IsGreatestModel}
-use Rattle.sat_core.specs.Choices.{choice_at, no_literal, PassedTo}
+use Rattle.sat_core.specs.Choices.{choice_at, end_of, no_literal, PassedTo, AllValued}
 use Rattle.sat_core.specs.Searching.{form_of, IsUnderWay, IsModelOf}
-use Rattle.sat_core.proofs.OrderLemmas.{choice_assume, choice_rest}
+use Rattle.sat_core.proofs.OrderLemmas.{choice_assume}
 use Rattle.sat_core.proofs.Greatest.{IsRival, false_in_rivals}
 use Rattle.sat_core.proofs.SearchLemmas.{whole_clauses}
 
@@ -33,8 +33,8 @@ sign_true false b e = e
 no_value : (o : Option Bool) (b : Bool) → o ≡ None → o ≡ Some b → ⊥
 no_value o b p q = let e : None ≡ Some b = sym p ∙ q in cc
 
-pub complete_model : (e : Engine) (model : List Bool) (log : List Step) (assume : List Lit) → IsUnderWay e log assume → IsWithin e.trail.vars assume → AllRest e.trail.clauses (values_of e.trail.entries) → PassedTo e.trail assume e.preferred.items (length assume + length e.preferred.items + e.trail.vars) → IsModelOf e.trail model → IsGreatestModel (record { vars = e.trail.vars; form = form_of e; preferred = e.preferred.items; log = log; model = model }) assume
-complete_model e model log assume u within rest passed m = record {
+pub complete_model : (e : Engine) (model : List Bool) (log : List Step) (assume : List Lit) → IsUnderWay e log assume → IsWithin e.trail.vars assume → AllRest e.trail.clauses (values_of e.trail.entries) → PassedTo e.trail assume e.preferred.items (end_of assume e.preferred.items) → AllValued e.trail → IsModelOf e.trail model → IsGreatestModel (record { vars = e.trail.vars; form = form_of e; preferred = e.preferred.items; log = log; model = model }) assume
+complete_model e model log assume u within rest passed valued m = record {
   satisfies = subst (Satisfies (assignment_of model)) (whole_clauses e log assume u) (λ i d k. clause_at i d k);
   assumed = λ i d k. assumed_at i d k;
   greatest = λ other sat holds i k same y. greatest_at other sat holds i k same y;
@@ -42,14 +42,6 @@ complete_model e model log assume u within rest passed m = record {
   where
     preferred : List ℕ
     preferred = e.preferred.items
-
-    valued : (v : ℕ) → IsVariable e.trail.vars v → is_some (values_of e.trail.entries v) ≡ true
-    valued v i =
-        let place : ℕ = length assume + length preferred + (v - 1) in
-        let p = passed place (omega (arith, i.above, i.within)) in
-        let n : place - length assume - length preferred + 1 ≡ v = omega (arith, i.above) in
-        let literal : choice_at assume preferred place ≡ negative v = choice_rest assume preferred place (omega arith) ∙ ap negative n in
-        subst (λ (l : Lit). is_some (values_of e.trail.entries l.var) ≡ true) literal p.valued
 
     value_at : (v : ℕ) → IsVariable e.trail.vars v → HasValue e.trail model v
     value_at v i = at (values_of e.trail.entries v) refl (valued v i)

@@ -234,7 +234,7 @@ has_place (x ∷ ls) l h = ⊎_elim
 pub decision_assumed : (t : TrailState) (assume : List Lit) (preferred chosen : List ℕ) (a : Lit) (i : ℕ) (d : Entry) → IsTrail t → AreChosen t assume preferred chosen → IsContrary t assume a → i < length t.entries → is_decision (get_or t.entries i d) ≡ true → has assume (get_or t.entries i d).lit ≡ true
 decision_assumed t assume preferred chosen a i d h c k l y =
     elim (cases_lt x (length assume)) [
-      | inl b ↦ subst (λ m. has assume m ≡ true) (sym (c.choice i d d l y)) (contrary_member assume preferred x b)
+      | inl b ↦ subst (λ m. has assume m ≡ true) (sym (c.choice i d d l y (omega (arith, b)))) (contrary_member assume preferred x b)
       | inr b ↦ absurd (late b)
     ]
   where
@@ -325,7 +325,7 @@ IsUnderWay-start e log assume r s = record {
   chosen = record {
     count = ap length s.chosen ∙ sym s.level;
     within = λ k l. absurd (omega (arith, l, ap length s.chosen));
-    choice = λ i d x l y. let b = decision_level_bounds e.trail i d r.fit.trail l y in absurd (omega (arith, b.0, b.1, s.level));
+    choice = λ i d x l y z. let b = decision_level_bounds e.trail i d r.fit.trail l y in absurd (omega (arith, b.0, b.1, s.level));
     before = λ k place l b. absurd (omega (arith, l, ap length s.chosen));
   };
 }

@@ -21,6 +21,8 @@ pub(crate) struct Analysis {
     pub(crate) chain: Vec<u32>,
     /// How many literals of the set became false at the present decision level.
     pub(crate) present: u32,
+    /// The variables that were in the set.
+    pub(crate) met: Vec<u32>,
 }
 
 impl Analysis {
@@ -36,6 +38,7 @@ impl Analysis {
             literals: Vec::new(alloc),
             chain: Vec::new(alloc),
             present: 0,
+            met: Vec::new(alloc),
         })
     }
 
@@ -202,6 +205,7 @@ impl Analysis {
         self.literals.clear();
         self.chain.clear();
         self.present = 0;
+        self.met.clear();
     }
 
     /// Empties the set and the chain.
@@ -213,6 +217,7 @@ impl Analysis {
         self.literals.clear();
         self.chain.clear();
         self.present = 0;
+        self.met.clear();
     }
 
     /// Writes the step of the clause and the chain into a log. After `NoMemory` the log is as it was.
@@ -335,6 +340,7 @@ impl Analysis {
         ensures marks { OnOk result (self.new.marked.items ≡ slice_set self.old.marked.items (l.var - 1) true) }
         ensures size { length self.new.marked.items ≡ length self.old.marked.items }
     {
+        self.met.push(l.var)?;
         if trail.level_of(l.var) == Some(trail.level()) {
             self.present += 1;
         } else {

@@ -5,6 +5,8 @@ ghost use Rattle.sat_core.specs.Searching.{IsModelOf};
 use crate::analysis::Analysis;
 use crate::budget::Budget;
 use crate::order::{Choice, choose};
+use crate::ranking::Ranking;
+use crate::restarts::Restarts;
 use crate::verdict::Verdict;
 use clause_base::{Lit, Log, StepKind};
 use loc_base::NoMemory;
@@ -25,6 +27,9 @@ pub(crate) struct Engine {
     pub(crate) known: usize,
     /// The values of the variables in the last model, at the variable less 1.
     pub(crate) model: Vec<bool>,
+    /// The order in which the variables that aren't preferred are decided.
+    pub(crate) ranking: Ranking,
+    pub(crate) restarts: Restarts,
 }
 
 impl Engine {
@@ -34,7 +39,7 @@ impl Engine {
     ghost use Rattle.trail_core.specs.Values.{IsVariable, IsUnassignedIn, IsFalseIn, IsFalsified};
     ghost use Rattle.trail_core.specs.TrailState.{AllRest, IsNumber, values_of, reason_in, with_decision};
     ghost use Rattle.sat_core.specs.Outcome.{Grows, Says, closings};
-    ghost use Rattle.sat_core.specs.Choices.{AreChosen, ChoiceGives};
+    ghost use Rattle.sat_core.specs.Choices.{AreChosen, ChoiceGives, PassedTo, end_of};
     ghost use Rattle.sat_core.specs.Engines.{IsFit, Learned, KeptLog, KeepsPace};
     ghost use Rattle.sat_core.specs.Searching.{form_of, state_of, IsReady, IsUnderWay, IsAtStart, Keeps, DerivesStep, ExtendGives, StepGives, closings_at};
 
@@ -75,6 +80,7 @@ impl Engine {
         ensures ok { OnOk result (IsAtStart self.new log.now) }
     {
         self.chosen.truncate(0);
+        self.ranking.release(&self.trail, 0);
         self.trail.back_to(0);
         self.catch_up(log)
     }
@@ -184,7 +190,29 @@ impl Engine {
                     step: log.len() as u32,
                 }))
             }
-            Choice::Complete => {
+            Choice::Free => self.decide_free(assume, log),
+        }
+    }
+
+    /// Decides the first variable of the ranking that has no value, or keeps the model where each has one.
+    fn decide_free(&mut self, assume: &[Lit], log: &Log) -> Result<Option<Verdict>, NoMemory>
+        requires under_way { IsUnderWay self.old log.now assume.now }
+        requires assume { IsWithin self.old.trail.vars assume.now }
+        requires small { length assume.now ≤ 2 ^ 32 }
+        requires rest { AllRest self.old.trail.clauses (values_of self.old.trail.entries) }
+        requires passed { PassedTo self.old.trail assume.now self.old.preferred.items (end_of assume.now self.old.preferred.items) }
+        ensures ready { IsReady self.new log.now }
+        ensures keeps { Keeps self.old self.new }
+        ensures grows { Grows (form_of self.old) log.now log.now 0 0 (closings_at result) }
+        ensures gives { IfOk result (ExtendGives self.old self.new log.now assume.now) }
+    {
+        let place = assume.len() + self.preferred.len();
+        match self.ranking.choose(&self.trail) {
+            Some(l) => {
+                self.decide(place, l)?;
+                Ok(None)
+            }
+            None => {
                 keep(&mut self.model, &self.trail);
                 Ok(Some(Verdict::Model))
             }
@@ -204,7 +232,7 @@ impl Engine {
         let from = if count == 0 {
             0
         } else {
-            self.chosen[count - 1] + 1
+            (self.chosen[count - 1] + 1).min(assume.len() + self.preferred.len())
         };
         choose(&self.trail, assume, &self.preferred, from)
     }
@@ -253,12 +281,15 @@ impl Engine {
             self.analysis.reset();
             return learned;
         }
-        let level = self.analysis.lower_level(&self.trail);
+        let asserting = self.analysis.lower_level(&self.trail);
+        let level = self.restarts.level_from(asserting);
         let recorded = self.analysis.record(log, StepKind::Learned);
+        self.ranking.meet(&self.analysis.met);
         self.analysis.clear();
         recorded?;
         budget.take();
         self.chosen.truncate(level as usize);
+        self.ranking.release(&self.trail, level);
         self.trail.back_to(level);
         self.trail.add_clause(log.clause(log.len() - 1))?;
         self.known += 1;

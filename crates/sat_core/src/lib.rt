@@ -5,8 +5,11 @@
 mod analysis;
 mod budget;
 mod engine;
+mod heap;
 mod laws;
 mod order;
+mod ranking;
+mod restarts;
 mod solver;
 mod verdict;
 

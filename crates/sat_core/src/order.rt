@@ -1,7 +1,7 @@
-ghost use Rattle.std.specs.Prelude.{◌≡◌, ◌+◌, ◌-◌, ◌^◌, ◌<◌, ◌≤◌, length, All};
+ghost use Rattle.std.specs.Prelude.{◌≡◌, ◌+◌, ◌^◌, ◌<◌, ◌≤◌, length, All};
 ghost use Rattle.clause_base.specs.Literal.{IsWithin};
 ghost use Rattle.trail_core.specs.TrailState.{IsTrail};
-ghost use Rattle.sat_core.specs.Choices.{choice_at, PassedTo, ChoiceGives};
+ghost use Rattle.sat_core.specs.Choices.{choice_at, end_of, PassedTo, ChoiceGives};
 
 use clause_base::Lit;
 use trail_core::Trail;
@@ -13,8 +13,8 @@ pub(crate) enum Choice {
     Decide(usize, Lit),
     /// This assumption is false.
     Refuted(Lit),
-    /// All variables have values.
-    Complete,
+    /// All assumptions are true, and all preferred variables have values.
+    Free,
 }
 
 /// The first literal from a place of the order of decisions on that is unassigned, or that is an assumption and false.
@@ -26,8 +26,7 @@ pub(crate) fn choose(trail: &Trail, assume: &[Lit], preferred: &[u32], from: usi
     requires passed { PassedTo trail.now assume.now preferred.now from }
     ensures { ChoiceGives trail.now assume.now preferred.now result }
 {
-    let end = assume.len() + preferred.len() + trail.vars() as usize;
-    for place in from..end {
+    for place in from..assume.len() + preferred.len() {
         let l = item(assume, preferred, place);
         match trail.value(l.var) {
             None => return Choice::Decide(place, l),
@@ -35,27 +34,21 @@ pub(crate) fn choose(trail: &Trail, assume: &[Lit], preferred: &[u32], from: usi
             Some(_) => {}
         }
     }
-    Choice::Complete
+    Choice::Free
 }
 
-/// The literal at a place of the order of decisions: the assumptions, the preferred variables, each true, and all
-/// variables, each false.
+/// The literal at a place of the order of decisions: the assumptions, and the preferred variables, each true.
 fn item(assume: &[Lit], preferred: &[u32], place: usize) -> Lit
     requires small { length assume.now + length preferred.now < 2 ^ 63 }
-    requires place { place + 1 < length assume.now + length preferred.now + 2 ^ 32 }
+    requires place { place < end_of assume.now preferred.now }
     ensures { result ≡ choice_at assume.now preferred.now place }
 {
     if place < assume.len() {
         assume[place]
-    } else if place < assume.len() + preferred.len() {
+    } else {
         Lit {
             var: preferred[place - assume.len()],
             negated: false,
-        }
-    } else {
-        Lit {
-            var: (place - assume.len() - preferred.len()) as u32 + 1,
-            negated: true,
         }
     }
 }

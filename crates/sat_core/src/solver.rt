@@ -5,6 +5,8 @@ ghost use Rattle.trail_core.specs.TrailState.{IsTrail};
 use crate::analysis::Analysis;
 use crate::budget::Budget;
 use crate::engine::Engine;
+use crate::ranking::Ranking;
+use crate::restarts::Restarts;
 use crate::verdict::Verdict;
 use clause_base::{Clause, Form, Lit, Log, StepKind};
 use loc_base::NoMemory;
@@ -55,6 +57,8 @@ impl Solver {
             form_len: form.clauses.len(),
             known: 0,
             model: vec![in alloc; false; form.vars as usize]?,
+            ranking: Ranking::new(alloc, form.vars)?,
+            restarts: Restarts::new(),
         };
         Ok(Solver {
             engine,

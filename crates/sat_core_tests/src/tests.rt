@@ -197,12 +197,12 @@ const ROWS: [Row<'static>; 4] = [
             Call {
                 assume: &[1],
                 units: 10,
-                answer: Answer::Model(&[true, true, false, false]),
+                answer: Answer::Model(&[true, true, false, true]),
             },
             Call {
                 assume: &[-1],
                 units: 10,
-                answer: Answer::Model(&[false, false, true, false]),
+                answer: Answer::Model(&[false, false, true, true]),
             },
         ],
     },

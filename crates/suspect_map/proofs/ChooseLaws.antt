@@ -2,6 +2,7 @@
 use Rattle.std.proofs.Common.{◌≡◌, ℕ, ◌+◌, ◌<◌, Bool, true, false, List, [], ◌++◌, length, get_or, drop, Some, None, sym, ◌∙◌, ap, subst, nat_eq, append_assoc}
 use Rattle.std.specs.Prelude.{All, option_map}
 use Rattle.std.specs.Option.{option_map_or}
+use Rattle.std.specs.List.Sorted.{IsStrictlyIncreasing}
 use Rattle.std.specs.Cmp.Lexicographic.{pointwise}
 use Rattle.std.proofs.lemmas.Bool.{cond-true, cond-false}
 use Rattle.std.proofs.lemmas.List.Elements.{All-append}
@@ -9,7 +10,7 @@ use Rattle.loc_base.proofs.ShelfLists.{drop-at}
 use Rattle.loc_base.proofs.ShelfOptions.{option_map-some}
 use Rattle.design_core.specs.declared.place.Place.{Place}
 use Rattle.suspect_map.specs.declared.group.Group.{Group}
-use Rattle.suspect_map.specs.Groups.{AreWithin}
+use Rattle.suspect_map.specs.Groups.{AreAscending, AreWithin}
 use Rattle.suspect_map.specs.Choose.{named, unknown, unknown_or, joined}
 
 module _ {G : Type 0} (called : G → List ℕ) where
@@ -54,13 +55,14 @@ pub record AreChosen {G : Type 0} (kinds : List G) (called : G → List ℕ) (li
   pub known : unknown called kinds (drop i names) ≡ unknown called kinds names
   pub joins : groups ++ joined called lists kinds (drop i names) places ≡ joined called lists kinds names places
   pub within : AreWithin (length places) groups
+  pub ascending : AreAscending groups
 
 -- and after one more
 pub chosen-next : {G : Type 0} (kinds : List G) (called : G → List ℕ) (lists : G → List Place → List Group) (names : List (List ℕ)) (places : List Place) (i : ℕ) (name : List ℕ)
     (groups more after : List Group) → i < length names → name ≡ get_or names i name
-    → Some more ≡ option_map (λ kind. lists kind places) (named called kinds name) → after ≡ groups ++ more → AreWithin (length places) more
+    → Some more ≡ option_map (λ kind. lists kind places) (named called kinds name) → after ≡ groups ++ more → AreWithin (length places) more → AreAscending more
     → AreChosen kinds called lists names places i groups → AreChosen kinds called lists names places (i + 1) after
-chosen-next kinds called lists names places i name groups more after within is found appended fits before =
+chosen-next kinds called lists names places i name groups more after within is found appended fits ascends before =
     let kind = option_map-some (λ kind. lists kind places) (named called kinds name) more (sym found) in
     let joins : (groups ++ more) ++ joined called lists kinds (drop (i + 1) names) places ≡ groups ++ joined called lists kinds (drop i names) places =
     ap (λ (xs : List Group). (groups ++ xs) ++ joined called lists kinds (drop (i + 1) names) places) (sym kind.2)
@@ -69,4 +71,5 @@ chosen-next kinds called lists names places i name groups more after within is f
       known = sym (unknown-next called lists kinds names places i name within is kind.0 kind.1) ∙ before.known;
       joins = ap (λ (xs : List Group). xs ++ joined called lists kinds (drop (i + 1) names) places) appended ∙ joins ∙ before.joins;
       within = subst (AreWithin (length places)) (sym appended) (All-append (λ group. All (λ number. number < length places) group.places) groups more before.within fits);
+      ascending = subst AreAscending (sym appended) (All-append (λ group. IsStrictlyIncreasing group.places) groups more before.ascending ascends);
     }

@@ -6,11 +6,13 @@ use Rattle.std.specs.List.{list_any}
 use Rattle.std.proofs.lemmas.Bool.{cases_Bool, cond-true, cond-false, false≢true, false_from_ne_true, eqb-true, eq-eqb, ne_eqb}
 use Rattle.std.proofs.lemmas.List.{take_at, length_push}
 use Rattle.std.proofs.lemmas.List.Elements.{All-nil, All-cons, All-append}
+use Rattle.std.specs.List.Sorted.{IsStrictlyIncreasing}
 use Rattle.loc_base.proofs.ShelfLists.{drop-at}
+use Rattle.suspect_map.proofs.Ascending.{numbers_at-ascend}
 use Rattle.design_core.specs.declared.place.Place.{Place}
 use Rattle.suspect_map.specs.declared.group.Group.{Group}
 use Rattle.suspect_map.specs.declared.label.Label.{Label}
-use Rattle.suspect_map.specs.Groups.{Grouping, has_key, numbers_at, group_at, groups_from, groups_of, AreWithin}
+use Rattle.suspect_map.specs.Groups.{Grouping, has_key, numbers_at, group_at, groups_from, groups_of, AreAscending, AreWithin}
 use Rattle.suspect_map.specs.Grouping.{first_at, is_same, first_by, firsts_by, is_number, group_of, led_at, led_from}
 use Rattle.suspect_map.proofs.FirstLaws.{IsFirst, first_at-found, first_at-none, first_at-some, first_at-passes, first_at-map}
 
@@ -142,6 +144,24 @@ module _ {K : Type 0} (g : Grouping K) (decides : (a b : K) → Decides (g.same 
   pub within : (places : List Place) → AreWithin (length places) (groups_of g kind places)
   within places = groups-within places 0 places
 
+  -- and they ascend
+  group-ascends : (places : List Place) (at : ℕ) (place : Place) (key : Option K) → AreAscending (group_at g kind places at place key)
+  group-ascends places at place None = All-nil _
+  group-ascends places at place (Some k) =
+      elim (cases_Bool (list_any (has_key g k) (take at places))) [
+        | inl some ↦ subst AreAscending (sym (cond-true _ _ _ some)) (All-nil _)
+        | inr none ↦ subst AreAscending (sym (cond-false _ _ _ none)) (All-cons (λ group. IsStrictlyIncreasing group.places) (group_of g.label kind place (numbers_at (has_key g k) 0 places)) [] (numbers_at-ascend (has_key g k) 0 places) (All-nil _))
+      ]
+
+  groups-ascend : (places : List Place) (at : ℕ) (rest : List Place) → AreAscending (groups_from g kind places at rest)
+  groups-ascend places at [] = All-nil _
+  groups-ascend places at (place ∷ rest) =
+      All-append (λ group. IsStrictlyIncreasing group.places) (group_at g kind places at place (g.key place)) (groups_from g kind places (at + 1) rest)
+      (group-ascends places at place (g.key place)) (groups-ascend places (at + 1) rest)
+
+  pub ascending : (places : List Place) → AreAscending (groups_of g kind places)
+  ascending places = groups-ascend places 0 places
+
 -- the suspects that places lead, as those of their keys
 pub lists-by : {K E : Type 0} (g : Grouping K) → ((a b : K) → Decides (g.same a b) (a ≡ b)) → (kind : List ℕ) (places : List Place) (firsts : List (Option ℕ)) (result : Result (List Group) E)
     → firsts ≡ firsts_by g.same (map g.key places) → IfOk result (λ groups. groups ≡ led_from g.label kind firsts 0 places firsts) → IfOk result (λ groups. groups ≡ groups_of g kind places)
@@ -155,6 +175,12 @@ pub within-by : {K E : Type 0} (g : Grouping K) → ((a b : K) → Decides (g.sa
     → IfOk result (λ groups. groups ≡ groups_of g kind places) → IfOk result (AreWithin (length places))
 within-by g decides kind places (Ok groups) is = subst (AreWithin (length places)) (sym is) (within g decides kind places)
 within-by g decides kind places (Err err) is = is
+
+-- which ascend
+pub ascending-by : {K E : Type 0} (g : Grouping K) → ((a b : K) → Decides (g.same a b) (a ≡ b)) → (kind : List ℕ) (places : List Place) (result : Result (List Group) E)
+    → IfOk result (λ groups. groups ≡ groups_of g kind places) → IfOk result AreAscending
+ascending-by g decides kind places (Ok groups) is = subst AreAscending (sym is) (ascending g decides kind places)
+ascending-by g decides kind places (Err err) is = is
 
 -- one place more is looked at
 pub led-next : (label : Label) (kind : List ℕ) (firsts : List (Option ℕ)) (places : List Place) (groups after total : List Group) (at : ℕ) (place : Place) (first : Option ℕ)

@@ -1,5 +1,5 @@
 -- Steps of the loops that find the first of each key.
-use Rattle.std.proofs.Common.{◌≡◌, ℕ, ◌+◌, ◌<◌, Bool, true, false, List, [], ◌∷◌, ◌++◌, length, get_or, take, drop, map, Option, Some, None, refl, sym, ◌∙◌, ap, arith, inl, inr, nat_eq}
+use Rattle.std.proofs.Common.{◌≡◌, ℕ, ◌+◌, ◌<◌, Bool, List, ◌∷◌, ◌++◌, length, get_or, take, drop, map, Option, Some, None, refl, sym, ◌∙◌, ap, arith, inl, inr, nat_eq}
 use Rattle.std.specs.Prelude.{unwrap_or, Decides}
 use Rattle.std.proofs.lemmas.Bool.{cases_Bool, eqb-true, eq-eqb}
 use Rattle.std.proofs.lemmas.List.{take-append-drop, length-take-le}
@@ -7,10 +7,9 @@ use Rattle.std.proofs.lemmas.List.{get_or-map}
 use Rattle.std.proofs.lemmas.Slice.Eq.{bytes_eq-Decides}
 use Rattle.std.specs.Cmp.Lexicographic.{pointwise}
 use Rattle.design_core.specs.declared.place.Place.{Place}
-use Rattle.suspect_map.specs.Kinds.{modules}
+use Rattle.suspect_map.specs.Modules.{modules}
 use Rattle.loc_base.proofs.ShelfLists.{take-at, drop-at}
-use Rattle.suspect_map.specs.Groups.{numbers_at}
-use Rattle.suspect_map.specs.Grouping.{first_at, is_same, first_by, met, after, with_place}
+use Rattle.suspect_map.specs.Grouping.{first_at, is_same, first_by, met, after}
 use Rattle.suspect_map.proofs.FirstLaws.{first_or, first_or-false, first_or-true, first_at-push, first_at-found}
 
 -- a list, parted at one of its elements
@@ -52,33 +51,6 @@ module _ {K : Type 0} (same : K → K → Bool) (decides : (a b : K) → Decides
       after-key i key numbers q ∙ ap (λ first. first_or first (is_same same q key) i) table
       ∙ ap (first_or (first_at (is_same same q) 0 (take i keys)) (is_same same q key)) number
       ∙ sym (first_at-push (is_same same q) 0 (take i keys) key) ∙ ap (first_at (is_same same q) 0) (sym (take-at keys i key within is))
-
--- the numbers of one more
-pub numbers_at-push : {A : Type 0} (test : A → Bool) (at : ℕ) (xs : List A) (x : A) → numbers_at test at (xs ++ x ∷ []) ≡ with_place (test x) (at + length xs) (numbers_at test at xs)
-numbers_at-push test at [] x =
-    elim (cases_Bool (test x)) [
-      | inl e ↦ rw e (ap (λ n. n ∷ []) (omega arith))
-      | inr e ↦ rw e refl
-    ]
-numbers_at-push test at (y ∷ ys) x =
-    let later : numbers_at test (at + 1) (ys ++ x ∷ []) ≡ with_place (test x) (at + length (y ∷ ys)) (numbers_at test (at + 1) ys) =
-    numbers_at-push test (at + 1) ys x ∙ ap (λ n. with_place (test x) n (numbers_at test (at + 1) ys)) (omega arith) in
-    elim (cases_Bool (test y)) [
-      | inl e ↦ rw e (ap (λ numbers. at ∷ numbers) later ∙ with_place-behind (test x) at (at + length (y ∷ ys)) (numbers_at test (at + 1) ys))
-      | inr e ↦ rw e later
-    ]
-  where
-    with_place-behind : (own : Bool) (first place : ℕ) (row : List ℕ) → first ∷ with_place own place row ≡ with_place own place (first ∷ row)
-    with_place-behind true first place row = refl
-    with_place-behind false first place row = refl
-
--- the members among one more of the firsts
-pub numbers_at-next : {A : Type 0} (test : A → Bool) (xs : List A) (i : ℕ) (x : A) → i < length xs → x ≡ get_or xs i x
-    → with_place (test x) i (numbers_at test 0 (take i xs)) ≡ numbers_at test 0 (take (i + 1) xs)
-numbers_at-next test xs i x within is =
-    let long : length (take i xs) ≡ i = length-take-le i xs (omega (arith, within)) in
-    let number : i ≡ 0 + length (take i xs) = omega (arith, long) in
-    ap (λ n. with_place (test x) n (numbers_at test 0 (take i xs))) number ∙ sym (numbers_at-push test 0 (take i xs) x) ∙ ap (numbers_at test 0) (sym (take-at xs i x within is))
 
 -- the key of a place at its number
 pub module-key : (places : List Place) (i : ℕ) (place : Place) (name : List ℕ) → i < length places → place ≡ get_or places i place → name ≡ place.«module» → Some name ≡ get_or (map modules.key places) i (Some name)

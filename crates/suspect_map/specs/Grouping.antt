@@ -1,5 +1,5 @@
 -- How suspects are found: each place is given the least place of its suspect, which is the first with its key.
-use Rattle.std.specs.Prelude.{ℕ, ◌+◌, Bool, false, List, [], ◌∷◌, ◌++◌, map, Option, Some, None, if◌then◌else◌, nat_eq, unwrap_or}
+use Rattle.std.specs.Prelude.{◌≡◌, ℕ, ◌+◌, ◌<◌, ◌≤◌, Bool, false, List, [], ◌∷◌, ◌++◌, map, length, drop, slice_index_or, Option, Some, None, if◌then◌else◌, nat_eq, unwrap_or}
 use Rattle.std.specs.Option.{option_map_or}
 use Rattle.std.specs.HashMap.{HashMap}
 use Rattle.std.specs.HashMap as hash
@@ -44,9 +44,26 @@ after same numbers new (Some k) q = if same k q then Some (unwrap_or (numbers k)
 abbrev pub is_number : ℕ → Option ℕ → Bool
 is_number number first = option_map_or (nat_eq number) first false
 
--- a row with one more place, where it is that place's
-abbrev pub with_place : Bool → ℕ → List ℕ → List ℕ
-with_place own place row = if own then row ++ place ∷ [] else row
+-- each number that is given is below one
+abbrev pub PointsWithin : ℕ → List (Option ℕ) → Type 0
+PointsWithin count numbers = (p q : ℕ) → slice_index_or numbers p None ≡ Some q → q < count
+
+-- the chain from a number on runs through these, the next of each number being given
+abbrev pub RunsThrough : List (Option ℕ) → Option ℕ → List ℕ → Type 0
+RunsThrough next at [] = at ≡ None
+RunsThrough next at (number ∷ rest) = (at ≡ Some number) × RunsThrough next (slice_index_or next number None) rest
+
+-- the next of each number is above it, and has a next of its own
+abbrev pub GoesForward : List (Option ℕ) → Type 0
+GoesForward next = (p q : ℕ) → slice_index_or next p None ≡ Some q → (p < q) × (q < length next)
+
+-- the places from a number on are chained by the suspects that their firsts lead
+pub record IsChained (firsts : List (Option ℕ)) (from : ℕ) (heads next : List (Option ℕ)) : Type 0 where
+  pub heads_long : length heads ≡ length firsts
+  pub next_long : length next ≡ length firsts
+  pub heads_from : (p q : ℕ) → slice_index_or heads p None ≡ Some q → (from ≤ q) × (q < length next)
+  pub forward : GoesForward next
+  pub runs : (p : ℕ) → p < length firsts → RunsThrough next (slice_index_or heads p None) (numbers_at (is_number p) from (drop from firsts))
 
 -- a suspect by a place of it and its members
 abbrev pub group_of : Label → List ℕ → Place → List ℕ → Group

@@ -2,6 +2,7 @@
 use Rattle.std.specs.Prelude.{ℕ, ◌+◌, ◌<◌, Bool, false, List, [], ◌∷◌, ◌++◌, take, Option, Some, None, if◌then◌else◌, All}
 use Rattle.std.specs.Option.{option_map_or}
 use Rattle.std.specs.List.{list_any}
+use Rattle.std.specs.List.Sorted.{IsStrictlyIncreasing}
 use Rattle.design_core.specs.declared.place.Place.{Place}
 use Rattle.suspect_map.specs.declared.group.Group.{Group}
 use Rattle.suspect_map.specs.declared.label.Label.{Label}
@@ -47,3 +48,7 @@ groups_of g kind places = groups_from g kind places 0 places
 -- each place of each suspect is below a number
 abbrev pub AreWithin : ℕ → List Group → Type 0
 AreWithin count groups = All (λ group. All (λ place. place < count) group.places) groups
+
+-- the places of each suspect ascend
+abbrev pub AreAscending : List Group → Type 0
+AreAscending groups = All (λ group. IsStrictlyIncreasing group.places) groups

@@ -1,4 +1,9 @@
 pub mod Choose
 pub mod Groups
 pub mod Grouping
-pub mod Kinds
+pub mod Suspects
+pub mod Statements
+pub mod Blocks
+pub mod Gates
+pub mod InstanceOutputs
+pub mod Modules

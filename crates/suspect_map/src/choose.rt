@@ -1,7 +1,7 @@
 //! The suspects of the granularities that are asked for.
 ghost use Rattle.std.specs.Prelude.{◌≡◌, ◌<◌, ◌≤◌, ◌^◌, ℕ, None, length, option_map, nat_eq, IfOk, IfErr, IfSome};
 ghost use Rattle.std.specs.Cmp.Lexicographic.{pointwise};
-ghost use Rattle.suspect_map.specs.Groups.{AreWithin};
+ghost use Rattle.suspect_map.specs.Groups.{AreAscending, AreWithin};
 ghost use Rattle.suspect_map.specs.Choose.{ChooseCause, joined, named, unknown};
 ghost use Rattle.suspect_map.specs.declared.choose.ChooseErr.TheVariants as error;
 
@@ -15,7 +15,7 @@ use std::alloc::{AllocError, AllocFailed, Global};
 const MOST_SUSPECTS: usize = 4096;
 
 /// Why no suspects are given.
-#[derive(Debug, Drop)]
+#[derive(Drop)]
 pub enum ChooseErr {
     NoMemory,
     /// No granularity has the name.
@@ -62,6 +62,7 @@ fn groups_by(
     requires few { length places.now < 2 ^ 32 }
     ensures lists { IfOk result (λ groups. groups ≡ lists kind.now places.now) }
     ensures within { IfOk result (AreWithin (length places.now)) }
+    ensures ascending { IfOk result AreAscending }
 {
     kind.groups(alloc, places)
 }
@@ -76,6 +77,7 @@ fn groups_named(
     requires few { length places.now < 2 ^ 32 }
     ensures lists { IfOk result (λ found. found ≡ option_map (λ kind. lists kind places.now) (named (λ kind. called kind) kinds.now name.now)) }
     ensures within { IfOk result (λ found. IfSome found (AreWithin (length places.now))) }
+    ensures ascending { IfOk result (λ found. IfSome found AreAscending) }
 {
     for kind in kinds {
         if is_called(kind, name) {
@@ -100,6 +102,7 @@ pub fn chosen(
     ensures groups { IfOk result (λ groups. groups ≡ joined (λ kind. called kind) (λ kind. lists kind) kinds.now names.now places.now) }
     ensures count { IfOk result (λ groups. length groups ≤ 4096) }
     ensures within { IfOk result (AreWithin (length places.now)) }
+    ensures ascending { IfOk result AreAscending }
     ensures refused { IfErr result (ChooseCause (unknown (λ kind. called kind) kinds.now names.now) (length (joined (λ kind. called kind) (λ kind. lists kind) kinds.now names.now places.now))) }
 {
     let mut groups = Vec::new(alloc);

@@ -1,6 +1,6 @@
 //! The least place of each suspect: the first that has its key.
 ghost use Rattle.std.specs.Prelude.{◌≡◌, ◌<◌, ◌^◌, ℕ, length, IfOk, OnOk, nat_eq};
-ghost use Rattle.suspect_map.specs.Grouping.{after, firsts_by, met, under};
+ghost use Rattle.suspect_map.specs.Grouping.{after, firsts_by, met, under, PointsWithin};
 
 use loc_base::NoMemory;
 use std::alloc::Global;
@@ -27,7 +27,8 @@ pub(crate) fn firsts_by_number(
     keys: &[Option<u32>],
 ) -> Result<Vec<Option<u32>>, NoMemory>
     requires few { length keys.now < 2 ^ 32 }
-    ensures { IfOk result (λ firsts. firsts.items ≡ firsts_by nat_eq keys.now) }
+    ensures firsts { IfOk result (λ firsts. firsts.items ≡ firsts_by nat_eq keys.now) }
+    ensures within { IfOk result (λ firsts. PointsWithin (length firsts.items) firsts.items) }
 {
     let mut firsts = Vec::new(alloc);
     let mut table = HashMap::new(alloc);

@@ -1,7 +1,7 @@
 ghost use Rattle.std.specs.Prelude.{◌≡◌, ◌<◌, ◌^◌, ℕ, List, length, IfOk};
 ghost use Rattle.design_core.specs.declared.place.Place.{Place};
 ghost use Rattle.suspect_map.specs.declared.group.Group.{Group};
-ghost use Rattle.suspect_map.specs.Groups.{AreWithin};
+ghost use Rattle.suspect_map.specs.Groups.{AreAscending, AreWithin};
 
 use crate::group::Groups;
 use design_core::Place;
@@ -20,9 +20,10 @@ pub trait Granularity: Drop {
     fn name(&self) -> &str
         ensures { result.now ≡ called self.now };
 
-    /// The suspects of a design with these places. Each of their places is the number of one of these.
+    /// The suspects of a design with these places. Each of their places is the number of one of these, and they ascend.
     fn groups(&self, alloc: Global, places: &[Place]) -> Result<Groups, NoMemory>
         requires few { length places.now < 2 ^ 32 }
         ensures lists { IfOk result (λ groups. groups ≡ lists self.now places.now) }
-        ensures within { IfOk result (AreWithin (length places.now)) };
+        ensures within { IfOk result (AreWithin (length places.now)) }
+        ensures ascending { IfOk result AreAscending };
 }

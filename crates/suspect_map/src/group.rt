@@ -1,7 +1,6 @@
 use loc_base::{Items, Name};
 
 /// One suspect: some places that are chosen together or not at all.
-#[derive(Debug, Drop)]
 pub struct Group {
     /// The name of the granularity that made it.
     pub kind: Name,
@@ -9,6 +8,16 @@ pub struct Group {
     pub label: Name,
     /// The numbers of its places, ascending.
     pub places: Items<u32>,
+}
+
+impl Drop for Group {
+    fn drop(self) {
+        let Group {
+            kind: _,
+            label: _,
+            places: _,
+        } = self;
+    }
 }
 
 /// The suspects, numbered from 1.

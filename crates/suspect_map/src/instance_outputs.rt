@@ -1,39 +1,31 @@
-ghost use Rattle.std.specs.Prelude.{◌≡◌, ◌<◌, ◌^◌, length, IfOk, map, codes};
-ghost use Rattle.suspect_map.specs.Groups.{groups_of, AreWithin};
-ghost use Rattle.suspect_map.specs.Kinds.{instance_key, instance_outputs};
+ghost use Rattle.std.specs.Prelude.{codes};
+ghost use Rattle.suspect_map.specs.Groups.{groups_of};
+ghost use Rattle.suspect_map.specs.InstanceOutputs.{instance_key, instance_outputs};
 
-use crate::firsts::firsts_by_number;
 use crate::granularity::Granularity;
 use crate::group::Groups;
 use crate::grouping::Grain;
 use crate::label::Label;
+use crate::numbered::Numbered;
 use design_core::{Place, PlaceKind};
 use loc_base::NoMemory;
 use std::alloc::Global;
 
 /// A suspect for each module instance, with its output connections. It is called `instance`, and its label is the
 /// instance's path.
-#[derive(Clone, Copy, Debug, Drop)]
+#[derive(Clone, Copy, Drop)]
 pub struct InstanceOutputs;
 
-/// The least place of the module instance of an output connection.
-fn key_of(place: &Place) -> Option<u32>
-    ensures { result ≡ instance_key place.now place.now.kind }
-{
-    match place.kind {
-        PlaceKind::PortOut => Some(place.copy),
-        PlaceKind::Assign | PlaceKind::Step | PlaceKind::Gate | PlaceKind::And => None,
-    }
-}
+impl Numbered for InstanceOutputs {
+    ghost number = { λ place. instance_key place place.kind };
 
-fn keys_of(alloc: Global, places: &[Place]) -> Result<Vec<Option<u32>>, NoMemory>
-    ensures { IfOk result (λ keys. keys.items ≡ map (λ place. instance_key place place.kind) places.now) }
-{
-    let mut keys = Vec::new(alloc);
-    for place in places {
-        keys.push(key_of(place))?;
+    /// The least place of the module instance of an output connection.
+    fn number_of(place: &Place) -> Option<u32> {
+        match place.kind {
+            PlaceKind::PortOut => Some(place.copy),
+            PlaceKind::Assign | PlaceKind::Step | PlaceKind::Gate | PlaceKind::And => None,
+        }
     }
-    Ok(keys)
 }
 
 impl Granularity for InstanceOutputs {
@@ -46,12 +38,11 @@ impl Granularity for InstanceOutputs {
     }
 
     fn groups(&self, alloc: Global, places: &[Place]) -> Result<Groups, NoMemory> {
-        let firsts = firsts_by_number(alloc, &keys_of(alloc, places)?)?;
         let grain = Grain {
             kind: "instance",
             label: Label::Path,
             places,
         };
-        grain.groups(alloc, &firsts)
+        grain.groups_by_number::<InstanceOutputs>(alloc)
     }
 }

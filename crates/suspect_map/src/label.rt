@@ -6,7 +6,7 @@ use loc_base::{Name, NoMemory};
 use std::alloc::Global;
 
 /// What is printed for a suspect, by a place of it.
-#[derive(Clone, Copy, Debug)]
+#[derive(Clone, Copy)]
 pub(crate) enum Label {
     /// The module whose text the place stands in.
     Module,

@@ -5,6 +5,7 @@
 #![tactic(auto)]
 
 mod blocks;
+mod chains;
 mod choose;
 mod firsts;
 mod gates;
@@ -13,7 +14,9 @@ mod group;
 mod grouping;
 mod instance_outputs;
 mod label;
+pub mod laws;
 mod modules;
+mod numbered;
 mod statements;
 
 pub use blocks::Blocks;

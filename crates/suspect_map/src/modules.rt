@@ -2,8 +2,8 @@ ghost use Rattle.std.specs.Prelude.{◌≡◌, ◌<◌, ◌^◌, ℕ, List, Some
 ghost use Rattle.std.specs.Cmp.Lexicographic.{pointwise};
 ghost use Rattle.loc_base.specs.NameTable.{number_of};
 ghost use Rattle.suspect_map.specs.Groups.{groups_of};
-ghost use Rattle.suspect_map.specs.Grouping.{after, firsts_by, met};
-ghost use Rattle.suspect_map.specs.Kinds.{modules};
+ghost use Rattle.suspect_map.specs.Grouping.{after, firsts_by, met, PointsWithin};
+ghost use Rattle.suspect_map.specs.Modules.{modules};
 
 use crate::granularity::Granularity;
 use crate::group::Groups;
@@ -15,7 +15,7 @@ use std::alloc::Global;
 
 /// A suspect for each module of the text that has a place, with all places whose text stands in it. It is called `module`,
 /// and its label is the module's name.
-#[derive(Clone, Copy, Debug, Drop)]
+#[derive(Clone, Copy, Drop)]
 pub struct Modules;
 
 /// The number of a name: the one that it has, which is the given one from now on where it had none.
@@ -33,7 +33,8 @@ fn meet<'a>(table: &mut NameTable<'a>, name: &'a [u8], new: u32) -> Result<u32, 
 /// For each place, the first place of its module.
 fn firsts_by_module(alloc: Global, places: &[Place]) -> Result<Vec<Option<u32>>, NoMemory>
     requires few { length places.now < 2 ^ 32 }
-    ensures { IfOk result (λ firsts. firsts.items ≡ firsts_by (pointwise nat_eq) (map modules.key places.now)) }
+    ensures firsts { IfOk result (λ firsts. firsts.items ≡ firsts_by (pointwise nat_eq) (map modules.key places.now)) }
+    ensures within { IfOk result (λ firsts. PointsWithin (length firsts.items) firsts.items) }
 {
     let mut firsts = Vec::new(alloc);
     let mut table = NameTable::new(alloc);

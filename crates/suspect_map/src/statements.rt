@@ -1,39 +1,31 @@
-ghost use Rattle.std.specs.Prelude.{◌≡◌, ◌<◌, ◌^◌, length, IfOk, map, codes};
-ghost use Rattle.suspect_map.specs.Groups.{groups_of, AreWithin};
-ghost use Rattle.suspect_map.specs.Kinds.{statement_key, statements};
+ghost use Rattle.std.specs.Prelude.{codes};
+ghost use Rattle.suspect_map.specs.Groups.{groups_of};
+ghost use Rattle.suspect_map.specs.Statements.{statement_key, statements};
 
-use crate::firsts::firsts_by_number;
 use crate::granularity::Granularity;
 use crate::group::Groups;
 use crate::grouping::Grain;
 use crate::label::Label;
+use crate::numbered::Numbered;
 use design_core::{Place, PlaceKind};
 use loc_base::NoMemory;
 use std::alloc::Global;
 
 /// A suspect for each assignment of the text, continuous or procedural, with all its copies. It is called `stmt`, and its
 /// label is the module's name.
-#[derive(Clone, Copy, Debug, Drop)]
+#[derive(Clone, Copy, Drop)]
 pub struct Statements;
 
-/// The number of the first token of an assignment.
-fn key_of(place: &Place) -> Option<u32>
-    ensures { result ≡ statement_key place.now place.now.kind }
-{
-    match place.kind {
-        PlaceKind::Assign | PlaceKind::Step => Some(place.site),
-        PlaceKind::Gate | PlaceKind::PortOut | PlaceKind::And => None,
-    }
-}
+impl Numbered for Statements {
+    ghost number = { λ place. statement_key place place.kind };
 
-fn keys_of(alloc: Global, places: &[Place]) -> Result<Vec<Option<u32>>, NoMemory>
-    ensures { IfOk result (λ keys. keys.items ≡ map (λ place. statement_key place place.kind) places.now) }
-{
-    let mut keys = Vec::new(alloc);
-    for place in places {
-        keys.push(key_of(place))?;
+    /// The number of the first token of an assignment.
+    fn number_of(place: &Place) -> Option<u32> {
+        match place.kind {
+            PlaceKind::Assign | PlaceKind::Step => Some(place.site),
+            PlaceKind::Gate | PlaceKind::PortOut | PlaceKind::And => None,
+        }
     }
-    Ok(keys)
 }
 
 impl Granularity for Statements {
@@ -46,12 +38,11 @@ impl Granularity for Statements {
     }
 
     fn groups(&self, alloc: Global, places: &[Place]) -> Result<Groups, NoMemory> {
-        let firsts = firsts_by_number(alloc, &keys_of(alloc, places)?)?;
         let grain = Grain {
             kind: "stmt",
             label: Label::Module,
             places,
         };
-        grain.groups(alloc, &firsts)
+        grain.groups_by_number::<Statements>(alloc)
     }
 }

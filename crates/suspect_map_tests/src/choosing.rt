@@ -1,17 +1,22 @@
 //! The suspects of the granularities that are asked for.
 
 use crate::own::{Crowd, Everything};
-use crate::places::{name, shared_inverter};
+use crate::places::shared_inverter;
+use crate::shown::reads;
 use design_core::Place;
-use loc_base::Name;
+use loc_base::{Name, NoMemory};
 use std::alloc::Global;
 use std::test::Fail;
-use suspect_map::{ChooseErr, Granularity, Groups, InstanceOutputs, Modules, Statements, chosen};
+use suspect_map::{ChooseErr, Granularity, Groups, Modules, Statements, chosen};
 
-fn names(alloc: Global, texts: &[&str]) -> Result<Vec<Name>, Fail> {
+/// The names of these texts. One that is no name is answered as want of memory, so that no test passes by it.
+fn names(alloc: Global, texts: &[&str]) -> Result<Vec<Name>, NoMemory> {
     let mut names = Vec::new(alloc);
     for text in texts {
-        names.push(name(alloc, text)?)?;
+        match Name::new(alloc, text.as_bytes())? {
+            Some(name) => names.push(name)?,
+            None => return Err(NoMemory),
+        }
     }
     Ok(names)
 }
@@ -22,46 +27,89 @@ fn asked(
     kinds: &[Box<dyn Granularity>],
     texts: &[&str],
     places: &[Place],
-) -> Result<Result<Groups, ChooseErr>, Fail> {
+) -> Result<Groups, ChooseErr> {
     let names = names(alloc, texts)?;
     if places.len() < 1000 {
-        Ok(chosen(alloc, kinds, &names, places))
+        chosen(alloc, kinds, &names, places)
     } else {
-        Err(Fail::new("too many places for a test"))
+        Err(ChooseErr::NoMemory)
     }
 }
 
-/// The first letters of the suspects' kinds.
-fn letters(alloc: Global, groups: &Groups) -> Result<Vec<u8>, Fail> {
-    let mut letters = Vec::new(alloc);
-    for group in groups.as_slice() {
-        letters.push(group.kind.as_bytes()[0])?;
+/// Whether these are the suspects that are chosen.
+fn gives(alloc: Global, chosen: Result<Groups, ChooseErr>, wanted: &str) -> bool {
+    match chosen {
+        Ok(groups) => reads(alloc, &groups, wanted),
+        Err(_) => false,
     }
-    Ok(letters)
+}
+
+/// Whether this is the name that is refused.
+fn refuses(chosen: Result<Groups, ChooseErr>, wanted: &str) -> bool {
+    match chosen {
+        Err(ChooseErr::UnknownKind { name }) => name.as_bytes() == wanted.as_bytes(),
+        _ => false,
+    }
+}
+
+/// Whether there are too many suspects.
+fn has_too_many(chosen: Result<Groups, ChooseErr>) -> bool {
+    match chosen {
+        Err(ChooseErr::Suspects) => true,
+        _ => false,
+    }
 }
 
 #[test]
 fn suspects_come_in_the_order_of_the_names(rt: HostRuntime) -> Result<(), Fail> {
     let alloc = rt.alloc();
     let mut kinds: Vec<Box<dyn Granularity>> = Vec::new(alloc);
-    kinds.push(Box::new(alloc, InstanceOutputs)?)?;
     kinds.push(Box::new(alloc, Statements)?)?;
-    kinds.push(Box::new(alloc, Crowd { count: 3 })?)?;
     kinds.push(Box::new(alloc, Modules)?)?;
     kinds.push(Box::new(alloc, Everything)?)?;
     let places = shared_inverter(alloc)?;
     for (texts, wanted) in [
-        (["stmt", "module"], "smm"),
-        (["module", "stmt"], "mms"),
-        (["all", "instance"], "aii"),
-        (["stmt", "stmt"], "ss"),
+        (
+            ["stmt", "module"],
+            "stmt inv 2 3; module m 0 1; module inv 2 3; ",
+        ),
+        (
+            ["module", "stmt"],
+            "module m 0 1; module inv 2 3; stmt inv 2 3; ",
+        ),
+        (
+            ["all", "module"],
+            "all all 0 1 2 3; module m 0 1; module inv 2 3; ",
+        ),
+        (["stmt", "stmt"], "stmt inv 2 3; stmt inv 2 3; "),
     ] {
-        let groups = match asked(alloc, &kinds, &texts, &places)? {
-            Ok(groups) => groups,
-            Err(_) => return Err(Fail::new("no suspects")),
-        };
-        assert_eq!(rt; letters(alloc, &groups)?.as_slice(), wanted.as_bytes());
+        assert!(rt; gives(alloc, asked(alloc, &kinds, &texts, &places), wanted));
     }
+    assert!(rt; gives(alloc, asked(alloc, &kinds, &[], &places), ""));
+    Ok(())
+}
+
+#[test]
+fn the_first_granularity_of_a_name_counts(rt: HostRuntime) -> Result<(), Fail> {
+    let alloc = rt.alloc();
+    let mut kinds: Vec<Box<dyn Granularity>> = Vec::new(alloc);
+    kinds.push(Box::new(alloc, Crowd { count: 2 })?)?;
+    kinds.push(Box::new(alloc, Statements)?)?;
+    let places = shared_inverter(alloc)?;
+    let chosen = asked(alloc, &kinds, &["stmt"], &places);
+    assert!(rt; gives(alloc, chosen, "stmt stmt; stmt stmt; "));
+    Ok(())
+}
+
+#[test]
+fn a_later_granularity_of_a_name_does_not(rt: HostRuntime) -> Result<(), Fail> {
+    let alloc = rt.alloc();
+    let mut kinds: Vec<Box<dyn Granularity>> = Vec::new(alloc);
+    kinds.push(Box::new(alloc, Statements)?)?;
+    kinds.push(Box::new(alloc, Crowd { count: 2 })?)?;
+    let places = shared_inverter(alloc)?;
+    let chosen = asked(alloc, &kinds, &["stmt"], &places);
+    assert!(rt; gives(alloc, chosen, "stmt inv 2 3; "));
     Ok(())
 }
 
@@ -69,19 +117,16 @@ fn suspects_come_in_the_order_of_the_names(rt: HostRuntime) -> Result<(), Fail> 
 fn the_first_unknown_name_is_refused(rt: HostRuntime) -> Result<(), Fail> {
     let alloc = rt.alloc();
     let mut kinds: Vec<Box<dyn Granularity>> = Vec::new(alloc);
-    kinds.push(Box::new(alloc, Statements)?)?;
+    kinds.push(Box::new(alloc, Crowd { count: 4097 })?)?;
     let places = shared_inverter(alloc)?;
-    match asked(alloc, &kinds, &["stmt", "gates", "modules"], &places)? {
-        Err(ChooseErr::UnknownKind { name }) => assert_eq!(rt;
-            name.as_bytes(),
-            b"gates".as_slice()
-        ),
-        _ => return Err(Fail::new("all names are known")),
+    for (texts, wanted) in [
+        (["gates", "modules", "stmt"], "gates"),
+        (["stmt", "gate", "modules"], "gate"),
+        (["stmt", "stmt", "stm"], "stm"),
+    ] {
+        assert!(rt; refuses(asked(alloc, &kinds, &texts, &places), wanted));
     }
-    match asked(alloc, &kinds, &[], &places)? {
-        Ok(groups) => assert!(rt; groups.is_empty()),
-        Err(_) => return Err(Fail::new("no names are refused")),
-    }
+    assert!(rt; has_too_many(asked(alloc, &kinds, &["stmt"], &places)));
     Ok(())
 }
 
@@ -92,12 +137,10 @@ fn more_than_4096_suspects_are_refused(rt: HostRuntime) -> Result<(), Fail> {
     kinds.push(Box::new(alloc, Crowd { count: 4096 })?)?;
     kinds.push(Box::new(alloc, Everything)?)?;
     let places = shared_inverter(alloc)?;
-    match asked(alloc, &kinds, &["stmt"], &places)? {
+    match asked(alloc, &kinds, &["stmt"], &places) {
         Ok(groups) => assert_eq!(rt; groups.len(), 4096),
         Err(_) => return Err(Fail::new("4,096 suspects are refused")),
     }
-    match asked(alloc, &kinds, &["stmt", "all"], &places)? {
-        Err(ChooseErr::Suspects) => Ok(()),
-        _ => Err(Fail::new("4,097 suspects are taken")),
-    }
+    assert!(rt; has_too_many(asked(alloc, &kinds, &["all", "stmt"], &places)));
+    Ok(())
 }

@@ -9,3 +9,5 @@ mod kinds;
 mod own;
 #[cfg(test)]
 mod places;
+#[cfg(test)]
+mod shown;

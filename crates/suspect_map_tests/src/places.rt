@@ -64,6 +64,14 @@ pub fn two_gates(alloc: Global) -> Result<Vec<Place>, Fail> {
     Ok(places)
 }
 
+/// `or g1(n, a, b); not g2(y, n);` in `module m(input a, input b, output y); wire n; .. endmodule`.
+pub fn or_not(alloc: Global) -> Result<Vec<Place>, Fail> {
+    let mut places = Vec::new(alloc);
+    places.push(place(alloc, PlaceKind::Gate, at(19, 16, 0), ("m", "m.g1"))?)?;
+    places.push(place(alloc, PlaceKind::Gate, at(29, 26, 1), ("m", "m.g2"))?)?;
+    Ok(places)
+}
+
 /// Two always blocks, of two assignments and of one, in two copies of their module.
 pub fn two_blocks(alloc: Global) -> Result<Vec<Place>, Fail> {
     let mut places = Vec::new(alloc);

@@ -1,12 +1,12 @@
 -- The fields after going back to a level.
-use Rattle.std.proofs.Common.{◌≡◌, ℕ, ◌<◌, length, get_or, take, sym, ap, ◌∙◌, subst, arith}
+use Rattle.std.proofs.Common.{◌≡◌, ℕ, ◌<◌, map, length, get_or, take, sym, ap, ◌∙◌, subst, arith}
 use Rattle.std.specs.Prelude.{is_some}
 use Rattle.std.specs.List.{count_by}
 use Rattle.std.specs.Vec.{vec_capacity}
 use Rattle.std.proofs.lemmas.List.{length-take-le}
 use Rattle.trail_core.specs.declared.plain.PlainTrail.TheInside.{Inside}
 use Rattle.trail_core.specs.TrailState.{IsTrail, back_at, up_to}
-use Rattle.trail_core.specs.Layout.{state_of, IsIndex, AreStarts, IsLaidOut}
+use Rattle.trail_core.specs.Layout.{state_of, value_in, IsIndex, AreStarts, IsLaidOut}
 use Rattle.trail_core.proofs.Back.{IsStart, up_to_start, IsTrail-back_at, AreStarts-take}
 
 -- b has the fields of a, gone back to level k, whose entries end at the place m
@@ -19,6 +19,8 @@ pub record GoesBack (a b : Inside) (k m : ℕ) : Type 0 where
   pub size : length b.assigned.items ≡ length a.assigned.items
   pub index : IsIndex b.assigned.items b.entries.items
   pub counted : count_by is_some b.assigned.items ≡ length b.entries.items
+  pub values : b.values.items ≡ map value_in b.assigned.items
+  pub value_size : length b.values.items ≡ length b.assigned.items
   pub entry_room : vec_capacity b.entries ≡ vec_capacity a.entries
   pub start_room : vec_capacity b.starts ≡ vec_capacity a.starts
 
@@ -43,6 +45,8 @@ pub laid_out_back : (a b : Inside) (k m : ℕ) → IsLaidOut a → GoesBack a b 
 laid_out_back a b k m h g = record {
   trail = trail_back a b k m h g;
   index = g.index;
+  values = g.values;
+  value_size = g.value_size;
   counted = g.counted;
   starts = subst (λ s. AreStarts s b.entries.items) (sym g.starts)
       (subst (λ es. AreStarts (take k a.starts.items) es) (sym (g.entries ∙ ap (λ j. take j a.entries.items) g.start)) (AreStarts-take a.starts.items a.entries.items k h.starts g.below));

@@ -1,16 +1,16 @@
 -- The fields after an entry was appended.
-use Rattle.std.proofs.Common.{◌≡◌, ℕ, ◌+◌, ◌-◌, ◌<◌, ◌≤◌, true, not, List, [], ◌∷◌, ◌++◌, length, set, Some, None, sym, ap, ◌∙◌, subst, arith}
+use Rattle.std.proofs.Common.{◌≡◌, ℕ, ◌+◌, ◌-◌, ◌<◌, ◌≤◌, true, not, List, [], ◌∷◌, ◌++◌, map, length, set, Some, None, sym, ap, ◌∙◌, subst, arith}
 use Rattle.std.specs.Prelude.{is_some}
 use Rattle.std.specs.List.{count_by}
 use Rattle.std.specs.Vec.{vec_capacity}
-use Rattle.std.proofs.lemmas.List.{length-set}
+use Rattle.std.proofs.lemmas.List.{length-set, length-map, map-set}
 use Rattle.std.proofs.lemmas.List.Sums.{count_by-le-length}
 use Rattle.clause_base.specs.declared.literal.Lit.{Lit}
 use Rattle.trail_core.specs.declared.entry.Entry.{Entry}
 use Rattle.trail_core.specs.declared.plain.PlainTrail.TheInside.{Inside}
 use Rattle.trail_core.specs.Values.{IsVariable, IsUnassignedIn}
 use Rattle.trail_core.specs.TrailState.{TrailState, IsTrail, IsReason, AllRest, entry_of, values_of, is_decision}
-use Rattle.trail_core.specs.Layout.{state_of, IsIndex, AreStarts, IsLaidOut}
+use Rattle.trail_core.specs.Layout.{state_of, value_in, IsIndex, AreStarts, IsLaidOut}
 use Rattle.trail_core.proofs.Truth.{mapped_none}
 use Rattle.trail_core.proofs.Changes.{MayAppend, MayAppend-decision, MayAppend-forced, with_entry, IsTrail-with_entry}
 use Rattle.trail_core.proofs.LayoutLemmas.{IsFree, room_for, IsIndex-push, counted_push, AreStarts-decide}
@@ -19,6 +19,7 @@ use Rattle.trail_core.proofs.LayoutLemmas.{IsFree, room_for, IsIndex-push, count
 pub record Appends (a b : Inside) (e : Entry) : Type 0 where
   pub clauses : b.clauses ≡ a.clauses
   pub table : b.assigned.items ≡ set a.assigned.items (e.lit.var - 1) (Some e)
+  pub values : b.values.items ≡ set a.values.items (e.lit.var - 1) (Some (not e.lit.negated))
   pub entries : b.entries.items ≡ a.entries.items ++ e ∷ []
   pub entry_room : vec_capacity a.entries ≤ vec_capacity b.entries
   pub start_room : vec_capacity a.starts ≤ vec_capacity b.starts
@@ -49,10 +50,13 @@ pub laid_out_after : (a b : Inside) (e : Entry) → IsLaidOut a → Appends a b 
 laid_out_after a b e h p m s =
     let size : length b.assigned.items ≡ length a.assigned.items = ap length p.table ∙ length-set a.assigned.items (e.lit.var - 1) (Some e) in
     let free = free_at a e.lit m.justified.variable m.justified.unassigned in
+    let values : b.values.items ≡ map value_in b.assigned.items = p.values ∙ (ap (λ vs. set vs (e.lit.var - 1) (Some (not e.lit.negated))) h.values ∙ (sym (map-set value_in a.assigned.items (e.lit.var - 1) (Some e)) ∙ ap (map value_in) (sym p.table))) in
     record {
       trail = trail_after a b e h p m;
       index = subst (λ es. IsIndex b.assigned.items es) (sym p.entries)
           (subst (λ t. IsIndex t (a.entries.items ++ e ∷ [])) (sym p.table) (IsIndex-push a.assigned.items a.entries.items e h.index free));
+      values = values;
+      value_size = ap length values ∙ length-map b.assigned.items value_in;
       counted = ap (count_by is_some) p.table ∙ (counted_push a.assigned.items a.entries.items e h.index h.counted free ∙ sym (ap length p.entries));
       starts = subst (λ es. AreStarts b.starts.items es) (sym p.entries) s;
       small = omega (arith, h.small, size);

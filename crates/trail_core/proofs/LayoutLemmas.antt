@@ -1,15 +1,35 @@
 -- What an appended entry keeps of the fields.
-use Rattle.std.proofs.Common.{◌≡◌, ℕ, ◌+◌, ◌-◌, ◌<◌, ◌≤◌, true, false, eqb, List, [], ◌∷◌, ◌++◌, length, get_or, set, Option, Some, None, refl, sym, ap, ◌∙◌, arith, ◌⊎◌, inl, inr}
+use Rattle.std.proofs.Common.{◌≡◌, ℕ, suc, ◌+◌, ◌-◌, ◌<◌, ◌≤◌, Bool, true, false, cond, eqb, List, [], ◌∷◌, ◌++◌, map, length, get_or, set, Option, Some, None, refl, sym, ap, ◌∙◌, arith, ◌⊎◌, inl, inr}
 use Rattle.std.specs.Prelude.{is_some}
 use Rattle.std.specs.List.{count_by}
 use Rattle.std.specs.Option.{option_or}
 use Rattle.std.proofs.lemmas.Bool.{cases_lt, cases_eq, eq-eqb, ne_eqb}
 use Rattle.std.proofs.lemmas.List.{get_or_append_left, get_or_push, length_push, length-set, take-append-le, take_at, get_or-set_same, get_or-set_other}
+use Rattle.std.proofs.lemmas.List.Sums.{sum_by-cons}
 use Rattle.std.proofs.lemmas.List.Folds.{find-append}
 use Rattle.trail_core.specs.declared.entry.Entry.{Entry}
 use Rattle.trail_core.specs.TrailState.{entry_of, is_decision, decisions}
-use Rattle.trail_core.specs.Layout.{IsIndex, AreStarts}
+use Rattle.trail_core.specs.Layout.{value_in, IsIndex, AreStarts}
 use Rattle.trail_core.proofs.Lists.{count_by_lt, count_by-set}
+
+-- variables without an entry have no value
+pub values_none : (vs : List (Option Bool)) (table : List (Option Entry)) → length vs ≡ length table → ((i : ℕ) → i < length vs → get_or vs i None ≡ None) → ((i : ℕ) → i < length table → get_or table i None ≡ None) → vs ≡ map value_in table
+values_none [] [] l p q = refl
+values_none [] (x ∷ xs) l p q = absurd (omega (arith, l))
+values_none (v ∷ vs) [] l p q = absurd (omega (arith, l))
+values_none (v ∷ vs) (x ∷ xs) l p q =
+    let e : v ≡ value_in x = p 0 (omega arith) ∙ sym (ap value_in (q 0 (omega arith))) in
+    ap (λ y. y ∷ vs) e ∙ ap (λ ys. value_in x ∷ ys) (values_none vs xs (omega (arith, l)) (λ i k. p (suc i) (omega (arith, k))) (λ i k. q (suc i) (omega (arith, k))))
+
+abbrev weight : Option Entry → ℕ
+weight o = cond (is_some o) 1 0
+
+-- and there are no entries
+pub count_none : (table : List (Option Entry)) → ((i : ℕ) → i < length table → get_or table i None ≡ None) → count_by is_some table ≡ 0
+count_none [] q = refl
+count_none (x ∷ xs) q =
+    let off : weight x ≡ 0 = ap weight (q 0 (omega arith)) in
+    omega (arith, off, sum_by-cons (λ o. cond (is_some o) 1 0) x xs, count_none xs (λ i k. q (suc i) (omega (arith, k))))
 
 or_none : {X : Type 0} (o : Option X) → option_or o None ≡ o
 or_none None = refl

@@ -1,4 +1,4 @@
-ghost use Rattle.std.specs.Prelude.{◌≡◌, ℕ, ◌+◌, ◌-◌, ◌^◌, ◌<◌, ◌≤◌, ◌↔◌, [], ◌∷◌, ◌++◌, length, IfOk, OnOk, OnErr, IfSome, IfNone, slice_get, IsTrue};
+ghost use Rattle.std.specs.Prelude.{◌≡◌, ℕ, ◌+◌, ◌-◌, ◌^◌, ◌<◌, ◌≤◌, ◌↔◌, [], ◌∷◌, ◌++◌, length, IfOk, OnOk, OnErr, IfSome, IfNone, None, slice_get, slice_index_or, IsTrue};
 ghost use Rattle.std.specs.Option.{option_map};
 ghost use Rattle.clause_base.specs.Literal.{IsWithin, has_distinct_variables};
 ghost use Rattle.clause_base.specs.Acceptance.{numbered};
@@ -23,6 +23,8 @@ pub(crate) struct PlainTrail {
     clauses: Clauses,
     /// The entry of each variable, at the variable less 1.
     assigned: Vec<Option<Entry>>,
+    /// The value of each variable, at the variable less 1: propagation reads it of each literal that it looks at.
+    values: Vec<Option<bool>>,
     /// The true literals, in order.
     entries: Vec<Entry>,
     /// The place of each level's decision, from level 1.
@@ -48,12 +50,14 @@ impl PlainTrail {
         ensures trail { IfOk result IsTrail }
     {
         let size = vars as usize;
-        let assigned = vec![in alloc; None; size]?;
+        let assigned = no_entries(alloc, size)?;
+        let values = no_values(alloc, size)?;
         let entries = Vec::with_capacity(alloc, size)?;
         let starts = Vec::with_capacity(alloc, size)?;
         Ok(PlainTrail {
             clauses: Clauses::new(alloc),
             assigned,
+            values,
             entries,
             starts,
         })
@@ -124,7 +128,7 @@ impl PlainTrail {
         requires { IsVariable self.now.vars var }
         ensures { result ≡ values_of self.now.entries var }
     {
-        self.entry(var).map(|e| !e.lit.negated)
+        self.values[var as usize - 1]
     }
 
     /// The clause that made the variable's literal true, whose other literals became false before it; none for a
@@ -151,4 +155,22 @@ impl PlainTrail {
     {
         self.assigned[var as usize - 1]
     }
+}
+
+/// So many places without an entry.
+fn no_entries(alloc: Global, size: usize) -> Result<Vec<Option<Entry>>, NoMemory>
+    ensures size { IfOk result (λ v. length v.items ≡ size) }
+    ensures none { IfOk result (λ v. (i : ℕ) → i < length v.items → slice_index_or v.items i None ≡ None) }
+{
+    let table = vec![in alloc; None; size]?;
+    Ok(table)
+}
+
+/// So many places without a value.
+fn no_values(alloc: Global, size: usize) -> Result<Vec<Option<bool>>, NoMemory>
+    ensures size { IfOk result (λ v. length v.items ≡ size) }
+    ensures none { IfOk result (λ v. (i : ℕ) → i < length v.items → slice_index_or v.items i None ≡ None) }
+{
+    let values = vec![in alloc; None; size]?;
+    Ok(values)
 }

@@ -12,9 +12,8 @@ use Rattle.v_tree.specs.Marks.{mark_at, same}
 use Rattle.v_tree.specs.Sites.{site}
 use Rattle.v_tree.specs.Faults.{no_place}
 use Rattle.v_tree.specs.Reading.{Read}
-use Rattle.v_tree.proofs.BindLemmas.{bad, bad_good, if-inv, true_false}
-use Rattle.v_tree.proofs.CompleteLemmas.{then_of, else_of}
-use Rattle.v_tree.proofs.SteadyLemmas.{not_by, st_look, st_if}
+use Rattle.v_tree.proofs.BindLemmas.{bad, bad_good, true_false}
+use Rattle.v_tree.proofs.SteadyLemmas.{not_by}
 use Rattle.v_parts.specs.Reading.{optional_at, list_at, name_at, identifier_at, equals_at, range_at, delay_at, named_value_at, unless_at}
 use Rattle.v_parts.specs.Productions.{IsOptional, AreListed, IsName, IsIdentifier, IsEquals, IsRange, IsDelay, IsNamedValue}
 use Rattle.v_tree.specs.ItemTree.{PlainItem, port_item, net_item, integer_item, genvar_item, parameter_item}

@@ -1,5 +1,5 @@
 -- The readers of assignments, gates and instances read what their productions have.
-use Rattle.std.proofs.Common.{◌≡◌, ◌≢◌, ℕ, ◌+◌, ◌≤◌, ◌⊎◌, inl, inr, Bool, true, false, if◌then◌else◌, List, [], length, Some, None, Option, is_some, sym, ap, ◌∙◌, subst, refl, arith}
+use Rattle.std.proofs.Common.{◌≡◌, ◌≢◌, ℕ, ◌+◌, ◌≤◌, ◌⊎◌, inl, inr, true, false, if◌then◌else◌, List, [], length, Some, None, Option, is_some, sym, ap, ◌∙◌, subst, refl, arith}
 use Rattle.v_lexer.specs.Lexeme.{Lexeme}
 use Rattle.v_tree.specs.declared.item.GateKind.{GateKind}
 use Rattle.v_lexer.specs.declared.types.terminal.Terminal.{Terminal}
@@ -7,10 +7,8 @@ use Rattle.v_lexer.specs.declared.types.terminal.Terminal.TheVariants as marks
 use Rattle.v_tree.specs.Marks.{mark_at}
 use Rattle.v_tree.specs.Tree.{Tree}
 use Rattle.v_tree.specs.Faults.{no_place}
-use Rattle.v_tree.specs.Reading.{Read}
-use Rattle.v_tree.proofs.BindLemmas.{good, bad_good, ok-one, if-inv}
-use Rattle.v_tree.proofs.CompleteLemmas.{then_of, else_of}
-use Rattle.v_tree.proofs.SteadyLemmas.{Steady, st_look, st_if, st_ok, st_no_place, not_by}
+use Rattle.v_tree.proofs.BindLemmas.{good, bad_good, ok-one}
+use Rattle.v_tree.proofs.SteadyLemmas.{Steady, st_look, st_ok, st_no_place, not_by}
 use Rattle.v_parts.specs.Reading.{optional_at, list_at, name_at, value_at, delay_at, left_at}
 use Rattle.v_parts.specs.Productions.{IsOptional, AreListed, IsName, IsValue, IsDelay, IsLeft}
 use Rattle.v_tree.specs.ItemTree.{PlainItem, assign_item, gate_item, instance_item, PlainConnections, ordered, named}

@@ -1,12 +1,7 @@
 -- What contracts see of the names of a net item that a reader found.
-use Rattle.std.specs.Prelude.{ℕ, List, map}
-use Rattle.std.specs.declared.vec.Vec.{Vec}
-use Rattle.std.specs.declared.alloc.Global.{Global}
+use Rattle.std.specs.Prelude.{ℕ}
 use Rattle.v_tree.specs.declared.item.Declarator.{Declarator}
 use Rattle.v_tree.specs.ItemTree.{PlainDeclarator, declarator_of}
 
 abbrev pub seen_declarator : Declarator × ℕ → PlainDeclarator × ℕ
 seen_declarator x = (declarator_of x.0, x.1)
-
-abbrev pub seen_declarators : Vec Declarator Global × ℕ → List PlainDeclarator × ℕ
-seen_declarators x = (map declarator_of x.0.items, x.1)

@@ -1,16 +1,16 @@
 //! Continuous assignments (IEEE 1364-2005, 6.1 and A.6.1).
-ghost use Rattle.std.specs.Prelude.{◌≡◌, ◌<◌, ◌≤◌, ◌^◌, length, IfOk};
+ghost use Rattle.std.specs.Prelude.{◌<◌, ◌≤◌, ◌^◌, length, IfOk};
 ghost use Rattle.v_tree.specs.Faults.{Gives};
+ghost use Rattle.v_tree.specs.ItemTree.{PlainAssignment, assignment_of};
 ghost use Rattle.v_parts.specs.Seen.{Inside};
 ghost use Rattle.v_parts.specs.ItemSeen.{seen_item};
-ghost use Rattle.v_parts.specs.Reading.{list_at};
 ghost use Rattle.v_declarations.specs.StructureReading.{assignment_at, assigns_at};
-ghost use Rattle.v_declarations.specs.StructureSeen.{seen_assignment, seen_assignments};
+ghost use Rattle.v_declarations.specs.StructureSeen.{seen_assignment};
 
 use crate::structure_nodes as nodes;
 use std::alloc::Global;
 use v_lexer::types::Token;
-use v_parts::{Read, delay_if, left, value};
+use v_parts::{PartReader, Read, delay_if, left, listed, value};
 use v_tree::{Item, NetAssignment, Terminal, expect, site_of, stands};
 
 /// `left '=' expr`
@@ -35,26 +35,24 @@ fn assignment(alloc: Global, tokens: &[Token], at: usize, depth: u32) -> Read<Ne
     ))
 }
 
-/// `(left '=' expr),+`
-#[tactic(auto, unfolding(v_parts::specs::Reading::list_at))]
-fn assignments(alloc: Global, tokens: &[Token], at: usize, depth: u32) -> Read<Vec<NetAssignment>>
-    requires short { length tokens.now < 2 ^ 32 }
-    requires inside { at ≤ length tokens.now }
-    ensures gives { Gives seen_assignments result (list_at tokens.now (assignment_at tokens.now depth) at) }
-    ensures inside { IfOk result (Inside tokens.now) }
-{
-    let mut list = Vec::new(alloc);
-    let (first, mut end) = assignment(alloc, tokens, at, depth)?;
-    list.push(first)?;
-    for _ in 0..tokens.len() {
-        if !stands(tokens, end, Terminal::Comma) {
-            return Ok((list, end));
-        }
-        let (part, next) = assignment(alloc, tokens, end + 1, depth)?;
-        list.push(part)?;
-        end = next;
+/// What reads a part of `(left '=' expr),+`.
+#[derive(Drop)]
+struct AssignmentReader {
+    depth: u32,
+}
+
+impl PartReader for AssignmentReader {
+    type Part = NetAssignment;
+
+    ghost Plain = { PlainAssignment };
+
+    ghost plain = { assignment_of };
+
+    ghost part_at = { λ reader tokens. assignment_at tokens reader.depth };
+
+    fn read(&self, alloc: Global, tokens: &[Token], at: usize) -> Read<NetAssignment> {
+        assignment(alloc, tokens, at, self.depth)
     }
-    Ok((list, end))
 }
 
 /// `'assign' delay? (left '=' expr),+ ';'`
@@ -67,7 +65,7 @@ pub fn assigns(alloc: Global, tokens: &[Token], at: usize, depth: u32) -> Read<I
 {
     let next = expect(tokens, Terminal::Assign, at)?;
     let (delay, next) = delay_if(alloc, tokens, next, depth)?;
-    let (list, semicolon) = assignments(alloc, tokens, next, depth)?;
+    let (list, semicolon) = listed(alloc, tokens, next, &AssignmentReader { depth })?;
     let end = expect(tokens, Terminal::Semicolon, semicolon)?;
     let site = site_of(tokens, at, end);
     Ok((nodes::assigns(site, delay, list), end))

@@ -1,11 +1,11 @@
 //! Declarations of ports, nets, registers and parameters (IEEE 1364-2005, clause 4 and A.2).
-ghost use Rattle.std.specs.Prelude.{◌≡◌, ℕ, ◌+◌, ◌<◌, ◌≤◌, ◌^◌, length, option_map, IfOk};
+ghost use Rattle.std.specs.Prelude.{◌≡◌, ◌+◌, ◌<◌, ◌≤◌, ◌^◌, length, option_map, IfOk};
 ghost use Rattle.v_tree.specs.Faults.{Gives};
 ghost use Rattle.v_tree.specs.PartTree.{range_of};
+ghost use Rattle.v_tree.specs.ItemTree.{PlainDeclarator, declarator_of};
 ghost use Rattle.v_parts.specs.Seen.{as_is, seen_identifiers, Inside};
-ghost use Rattle.v_parts.specs.Reading.{list_at};
 ghost use Rattle.v_parts.specs.ItemSeen.{seen_item};
-ghost use Rattle.v_declarations.specs.DeclarationSeen.{seen_declarator, seen_declarators};
+ghost use Rattle.v_declarations.specs.DeclarationSeen.{seen_declarator};
 ghost use Rattle.v_declarations.specs.DeclarationReading.{close_names_at, names_at, port_names_at, ports_at, integers_at, genvars_at, net_at, array_at, scalar_at, behind_name_at, declarator_at, net_names_at, nets_at, parameter_kind_at, parameters_at, is_net, declaration_at};
 
 use crate::declaration_nodes as nodes;
@@ -15,7 +15,9 @@ use crate::types::{
 use loc_base::Name;
 use std::alloc::Global;
 use v_lexer::types::Token;
-use v_parts::{Read, delay_if, identifiers, name, named_values, range, range_if, value_if};
+use v_parts::{
+    PartReader, Read, delay_if, identifiers, listed, name, named_values, range, range_if, value_if,
+};
 use v_tree::{
     Declarator, Fault, Identifier, Item, NetKind, ParameterKind, Range, Stop, Terminal, expect,
     mark_at, no_place, site_of, stands,
@@ -240,36 +242,28 @@ fn declarator(
     behind_name(alloc, tokens, at, name, next, depth, net)
 }
 
-/// `decl,+`
-#[tactic(auto, unfolding(v_parts::specs::Reading::list_at))]
-fn declarators(
-    alloc: Global,
-    tokens: &[Token],
-    at: usize,
+/// What reads a part of `decl,+`.
+#[derive(Drop)]
+struct DeclaratorReader {
     depth: u32,
     net: NetKind,
-) -> Read<Vec<Declarator>>
-    requires short { length tokens.now < 2 ^ 32 }
-    requires inside { at ≤ length tokens.now }
-    ensures gives { Gives seen_declarators result (list_at tokens.now (declarator_at tokens.now depth net) at) }
-    ensures inside { IfOk result (Inside tokens.now) }
-{
-    let mut list = Vec::new(alloc);
-    let (first, mut end) = declarator(alloc, tokens, at, depth, net)?;
-    list.push(first)?;
-    for _ in 0..tokens.len() {
-        if !stands(tokens, end, Terminal::Comma) {
-            return Ok((list, end));
-        }
-        let (part, next) = declarator(alloc, tokens, end + 1, depth, net)?;
-        list.push(part)?;
-        end = next;
+}
+
+impl PartReader for DeclaratorReader {
+    type Part = Declarator;
+
+    ghost Plain = { PlainDeclarator };
+
+    ghost plain = { declarator_of };
+
+    ghost part_at = { λ reader tokens. declarator_at tokens reader.depth reader.net };
+
+    fn read(&self, alloc: Global, tokens: &[Token], at: usize) -> Read<Declarator> {
+        declarator(alloc, tokens, at, self.depth, self.net)
     }
-    Ok((list, end))
 }
 
 /// What stands before the delay of a net item that begins at `from`.
-#[derive(Drop)]
 struct NetWords {
     from: usize,
     net: NetKind,
@@ -293,7 +287,7 @@ fn net_names(alloc: Global, tokens: &[Token], words: NetWords, at: usize, depth:
         range,
     } = words;
     let (delay, next) = delay_if(alloc, tokens, at, depth)?;
-    let (names, semicolon) = declarators(alloc, tokens, next, depth, net)?;
+    let (names, semicolon) = listed(alloc, tokens, next, &DeclaratorReader { depth, net })?;
     let end = expect(tokens, Terminal::Semicolon, semicolon)?;
     let site = site_of(tokens, from, end);
     Ok((

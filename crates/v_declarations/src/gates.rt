@@ -1,19 +1,20 @@
 //! Gates (IEEE 1364-2005, 7.1 to 7.3 and A.3).
 ghost use Rattle.std.specs.Prelude.{◌≡◌, ◌<◌, ◌≤◌, ◌^◌, length, IfOk};
 ghost use Rattle.v_tree.specs.Faults.{Gives};
+ghost use Rattle.v_tree.specs.ItemTree.{PlainGate, gate_of};
 ghost use Rattle.v_lexer.specs.declared.types.terminal.Terminal.TheVariants as marks;
 ghost use Rattle.v_parts.specs.Seen.{as_is, Inside};
 ghost use Rattle.v_parts.specs.ItemSeen.{seen_item};
-ghost use Rattle.v_parts.specs.Reading.{optional_at, list_at, name_at};
+ghost use Rattle.v_parts.specs.Reading.{optional_at, name_at};
 ghost use Rattle.v_declarations.specs.Structures.{gate_kind};
 ghost use Rattle.v_declarations.specs.StructureReading.{gate_word_at, gate_at, gates_at, is_gate};
-ghost use Rattle.v_declarations.specs.StructureSeen.{seen_gate, seen_gates};
+ghost use Rattle.v_declarations.specs.StructureSeen.{seen_gate};
 
 use crate::structure_nodes as nodes;
 use loc_base::Name;
 use std::alloc::Global;
 use v_lexer::types::Token;
-use v_parts::{Read, delay_if, name, values};
+use v_parts::{PartReader, Read, delay_if, listed, name, values};
 use v_tree::{
     GateInstance, GateKind, Item, Stop, Terminal, expect, mark_at, no_place, site_of, stands,
 };
@@ -92,26 +93,24 @@ fn gate(alloc: Global, tokens: &[Token], at: usize, depth: u32) -> Read<GateInst
     ))
 }
 
-/// `(NAME? '(' expr,+ ')'),+`
-#[tactic(auto, unfolding(v_parts::specs::Reading::list_at))]
-fn gate_list(alloc: Global, tokens: &[Token], at: usize, depth: u32) -> Read<Vec<GateInstance>>
-    requires short { length tokens.now < 2 ^ 32 }
-    requires inside { at ≤ length tokens.now }
-    ensures gives { Gives seen_gates result (list_at tokens.now (gate_at tokens.now depth) at) }
-    ensures inside { IfOk result (Inside tokens.now) }
-{
-    let mut list = Vec::new(alloc);
-    let (first, mut end) = gate(alloc, tokens, at, depth)?;
-    list.push(first)?;
-    for _ in 0..tokens.len() {
-        if !stands(tokens, end, Terminal::Comma) {
-            return Ok((list, end));
-        }
-        let (part, next) = gate(alloc, tokens, end + 1, depth)?;
-        list.push(part)?;
-        end = next;
+/// What reads a part of `(NAME? '(' expr,+ ')'),+`.
+#[derive(Drop)]
+struct GateReader {
+    depth: u32,
+}
+
+impl PartReader for GateReader {
+    type Part = GateInstance;
+
+    ghost Plain = { PlainGate };
+
+    ghost plain = { gate_of };
+
+    ghost part_at = { λ reader tokens. gate_at tokens reader.depth };
+
+    fn read(&self, alloc: Global, tokens: &[Token], at: usize) -> Read<GateInstance> {
+        gate(alloc, tokens, at, self.depth)
     }
-    Ok((list, end))
 }
 
 /// `gate delay? (NAME? '(' expr,+ ')'),+ ';'`
@@ -124,7 +123,7 @@ pub fn gates(alloc: Global, tokens: &[Token], at: usize, depth: u32) -> Read<Ite
 {
     let (kind, next) = gate_word(tokens, at)?;
     let (delay, next) = delay_if(alloc, tokens, next, depth)?;
-    let (list, semicolon) = gate_list(alloc, tokens, next, depth)?;
+    let (list, semicolon) = listed(alloc, tokens, next, &GateReader { depth })?;
     let end = expect(tokens, Terminal::Semicolon, semicolon)?;
     let site = site_of(tokens, at, end);
     Ok((nodes::gates(site, kind, delay, list), end))

@@ -1,12 +1,11 @@
 //! The header of a module (IEEE 1364-2005, 12.2, 12.3 and A.1.2 to A.1.3).
-ghost use Rattle.std.specs.Prelude.{◌≡◌, ◌+◌, ◌<◌, ◌≤◌, ◌^◌, length, option_map, IfOk};
+ghost use Rattle.std.specs.Prelude.{◌+◌, ◌<◌, ◌≤◌, ◌^◌, length, option_map, IfOk};
 ghost use Rattle.v_tree.specs.Faults.{Gives};
 ghost use Rattle.v_tree.specs.PartTree.{range_of};
 ghost use Rattle.v_parts.specs.Seen.{as_is, seen_value_if, Inside};
 ghost use Rattle.v_parts.specs.ItemSeen.{seen_header_parameters, seen_ports};
-ghost use Rattle.v_tree.specs.ModuleTree.{port_of};
+ghost use Rattle.v_tree.specs.ModuleTree.{PlainHeaderParameter, header_parameter_of, port_of};
 ghost use Rattle.v_declarations.specs.HeaderSeen.{seen_header_parameter, seen_port, seen_port_list};
-ghost use Rattle.v_parts.specs.Reading.{list_at};
 ghost use Rattle.v_declarations.specs.HeaderReading.{parameter_word_at, header_parameter_at, closed_parameters_at, parameters_behind_at, parameters_at, header_parameters_at, value_of_at, port_value_at, port_name_at, declared_port_at, same_port_at, port_at, next_port_at, ports_at, port_list_at, name_list_at, some_ports_at, ports_behind_at, ports_in_parens_at, header_ports_at};
 
 use crate::header_nodes as nodes;
@@ -15,7 +14,7 @@ use crate::types::{
 };
 use std::alloc::Global;
 use v_lexer::types::Token;
-use v_parts::{Read, identifiers, name, range_if, value, value_if};
+use v_parts::{PartReader, Read, identifiers, listed, name, range_if, value, value_if};
 use v_tree::{
     Expr, Fault, HeaderParameter, Port, Ports, Stop, Terminal, expect, mark_at, no_place, site_of,
     stands,
@@ -58,31 +57,24 @@ fn header_parameter(alloc: Global, tokens: &[Token], at: usize, depth: u32) -> R
     Ok((parameter, end))
 }
 
-/// `hparam,+`
-#[tactic(auto, unfolding(v_parts::specs::Reading::list_at))]
-fn listed_parameters(
-    alloc: Global,
-    tokens: &[Token],
-    at: usize,
+/// What reads a part of `hparam,+`.
+#[derive(Drop)]
+struct HeaderParameterReader {
     depth: u32,
-) -> Read<Vec<HeaderParameter>>
-    requires short { length tokens.now < 2 ^ 32 }
-    requires inside { at ≤ length tokens.now }
-    ensures gives { Gives seen_header_parameters result (list_at tokens.now (header_parameter_at tokens.now depth) at) }
-    ensures inside { IfOk result (Inside tokens.now) }
-{
-    let mut list = Vec::new(alloc);
-    let (first, mut end) = header_parameter(alloc, tokens, at, depth)?;
-    list.push(first)?;
-    for _ in 0..tokens.len() {
-        if !stands(tokens, end, Terminal::Comma) {
-            return Ok((list, end));
-        }
-        let (part, next) = header_parameter(alloc, tokens, end + 1, depth)?;
-        list.push(part)?;
-        end = next;
+}
+
+impl PartReader for HeaderParameterReader {
+    type Part = HeaderParameter;
+
+    ghost Plain = { PlainHeaderParameter };
+
+    ghost plain = { header_parameter_of };
+
+    ghost part_at = { λ reader tokens. header_parameter_at tokens reader.depth };
+
+    fn read(&self, alloc: Global, tokens: &[Token], at: usize) -> Read<HeaderParameter> {
+        header_parameter(alloc, tokens, at, self.depth)
     }
-    Ok((list, end))
 }
 
 /// `hparam,+ ')'`, the first of which begins with the word `parameter`.
@@ -101,7 +93,7 @@ fn parameters_behind(
     if !stands(tokens, at, Terminal::Parameter) {
         return Err(Stop::Fault(no_place(tokens, at)));
     }
-    let (list, close) = listed_parameters(alloc, tokens, at, depth)?;
+    let (list, close) = listed(alloc, tokens, at, &HeaderParameterReader { depth })?;
     let end = expect(tokens, Terminal::Close, close)?;
     Ok((list, end))
 }

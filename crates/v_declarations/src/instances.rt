@@ -1,19 +1,20 @@
 //! Module instances (IEEE 1364-2005, 12.1.2, 12.2, 12.3 and A.4.1).
-ghost use Rattle.std.specs.Prelude.{◌≡◌, ◌<◌, ◌≤◌, ◌^◌, [], length, IfOk};
+ghost use Rattle.std.specs.Prelude.{◌≡◌, ◌<◌, ◌≤◌, ◌^◌, [], length, Option, option_map, IfOk};
 ghost use Rattle.v_tree.specs.Faults.{Gives};
 ghost use Rattle.v_lexer.specs.declared.types.terminal.Terminal.TheVariants as marks;
 ghost use Rattle.v_parts.specs.Seen.{seen_value_if, Inside};
 ghost use Rattle.v_parts.specs.ItemSeen.{seen_item};
-ghost use Rattle.v_parts.specs.Reading.{optional_at, list_at};
-ghost use Rattle.v_tree.specs.ItemTree.{connections_of, ordered};
+ghost use Rattle.v_parts.specs.Reading.{optional_at};
+ghost use Rattle.v_tree.specs.ItemTree.{PlainConnection, PlainInstance, connection_of, connections_of, instance_of, ordered};
+ghost use Rattle.v_tree.specs.Tree.{Tree, tree_of};
 ghost use Rattle.v_declarations.specs.Structures.{ends_connection};
 ghost use Rattle.v_declarations.specs.StructureReading.{connection_at, named_connection_at, by_name_at, by_order_at, connections_at, connected_at, overrides_at, instance_at, instances_at};
-ghost use Rattle.v_declarations.specs.StructureSeen.{seen_values_if, seen_connection, seen_named_connections, seen_connections, seen_connections_if, seen_instance, seen_instances};
+ghost use Rattle.v_declarations.specs.StructureSeen.{seen_connection, seen_connections, seen_connections_if, seen_instance};
 
 use crate::structure_nodes as nodes;
 use std::alloc::Global;
 use v_lexer::types::Token;
-use v_parts::{Read, name, value};
+use v_parts::{PartReader, Read, listed, name, value};
 use v_tree::{
     Connections, Expr, Instance, Item, NamedConnection, Terminal, expect, mark_at, site_of, stands,
 };
@@ -40,26 +41,24 @@ fn connection(alloc: Global, tokens: &[Token], at: usize, depth: u32) -> Read<Op
     Ok((Some(value), end))
 }
 
-/// `expr?,+`
-#[tactic(auto, unfolding(v_parts::specs::Reading::list_at))]
-fn ordered_list(alloc: Global, tokens: &[Token], at: usize, depth: u32) -> Read<Vec<Option<Expr>>>
-    requires short { length tokens.now < 2 ^ 32 }
-    requires inside { at ≤ length tokens.now }
-    ensures gives { Gives seen_values_if result (list_at tokens.now (connection_at tokens.now depth) at) }
-    ensures inside { IfOk result (Inside tokens.now) }
-{
-    let mut list = Vec::new(alloc);
-    let (first, mut end) = connection(alloc, tokens, at, depth)?;
-    list.push(first)?;
-    for _ in 0..tokens.len() {
-        if !stands(tokens, end, Terminal::Comma) {
-            return Ok((list, end));
-        }
-        let (part, next) = connection(alloc, tokens, end + 1, depth)?;
-        list.push(part)?;
-        end = next;
+/// What reads a part of `expr?,+`.
+#[derive(Drop)]
+struct ConnectionReader {
+    depth: u32,
+}
+
+impl PartReader for ConnectionReader {
+    type Part = Option<Expr>;
+
+    ghost Plain = { Option Tree };
+
+    ghost plain = { option_map tree_of };
+
+    ghost part_at = { λ reader tokens. connection_at tokens reader.depth };
+
+    fn read(&self, alloc: Global, tokens: &[Token], at: usize) -> Read<Option<Expr>> {
+        connection(alloc, tokens, at, self.depth)
     }
-    Ok((list, end))
 }
 
 /// `expr?,+` as the connections of an instance.
@@ -70,7 +69,7 @@ fn by_order(alloc: Global, tokens: &[Token], at: usize, depth: u32) -> Read<Conn
     ensures gives { Gives seen_connections result (by_order_at tokens.now depth at) }
     ensures inside { IfOk result (Inside tokens.now) }
 {
-    let (values, end) = ordered_list(alloc, tokens, at, depth)?;
+    let (values, end) = listed(alloc, tokens, at, &ConnectionReader { depth })?;
     Ok((Connections::Ordered { values }, end))
 }
 
@@ -91,26 +90,24 @@ fn named_connection(alloc: Global, tokens: &[Token], at: usize, depth: u32) -> R
     Ok((NamedConnection { site, name, value }, end))
 }
 
-/// `('.' NAME '(' expr? ')'),+`
-#[tactic(auto, unfolding(v_parts::specs::Reading::list_at))]
-fn named_list(alloc: Global, tokens: &[Token], at: usize, depth: u32) -> Read<Vec<NamedConnection>>
-    requires short { length tokens.now < 2 ^ 32 }
-    requires inside { at ≤ length tokens.now }
-    ensures gives { Gives seen_named_connections result (list_at tokens.now (named_connection_at tokens.now depth) at) }
-    ensures inside { IfOk result (Inside tokens.now) }
-{
-    let mut list = Vec::new(alloc);
-    let (first, mut end) = named_connection(alloc, tokens, at, depth)?;
-    list.push(first)?;
-    for _ in 0..tokens.len() {
-        if !stands(tokens, end, Terminal::Comma) {
-            return Ok((list, end));
-        }
-        let (part, next) = named_connection(alloc, tokens, end + 1, depth)?;
-        list.push(part)?;
-        end = next;
+/// What reads a part of `('.' NAME '(' expr? ')'),+`.
+#[derive(Drop)]
+struct NamedConnectionReader {
+    depth: u32,
+}
+
+impl PartReader for NamedConnectionReader {
+    type Part = NamedConnection;
+
+    ghost Plain = { PlainConnection };
+
+    ghost plain = { connection_of };
+
+    ghost part_at = { λ reader tokens. named_connection_at tokens reader.depth };
+
+    fn read(&self, alloc: Global, tokens: &[Token], at: usize) -> Read<NamedConnection> {
+        named_connection(alloc, tokens, at, self.depth)
     }
-    Ok((list, end))
 }
 
 /// `('.' NAME '(' expr? ')'),+` as the connections of an instance.
@@ -121,7 +118,7 @@ fn by_name(alloc: Global, tokens: &[Token], at: usize, depth: u32) -> Read<Conne
     ensures gives { Gives seen_connections result (by_name_at tokens.now depth at) }
     ensures inside { IfOk result (Inside tokens.now) }
 {
-    let (values, end) = named_list(alloc, tokens, at, depth)?;
+    let (values, end) = listed(alloc, tokens, at, &NamedConnectionReader { depth })?;
     Ok((Connections::Named { values }, end))
 }
 
@@ -201,26 +198,24 @@ fn instance(alloc: Global, tokens: &[Token], at: usize, depth: u32) -> Read<Inst
     ))
 }
 
-/// `(NAME '(' conns? ')'),+`
-#[tactic(auto, unfolding(v_parts::specs::Reading::list_at))]
-fn instance_list(alloc: Global, tokens: &[Token], at: usize, depth: u32) -> Read<Vec<Instance>>
-    requires short { length tokens.now < 2 ^ 32 }
-    requires inside { at ≤ length tokens.now }
-    ensures gives { Gives seen_instances result (list_at tokens.now (instance_at tokens.now depth) at) }
-    ensures inside { IfOk result (Inside tokens.now) }
-{
-    let mut list = Vec::new(alloc);
-    let (first, mut end) = instance(alloc, tokens, at, depth)?;
-    list.push(first)?;
-    for _ in 0..tokens.len() {
-        if !stands(tokens, end, Terminal::Comma) {
-            return Ok((list, end));
-        }
-        let (part, next) = instance(alloc, tokens, end + 1, depth)?;
-        list.push(part)?;
-        end = next;
+/// What reads a part of `(NAME '(' conns? ')'),+`.
+#[derive(Drop)]
+struct InstanceReader {
+    depth: u32,
+}
+
+impl PartReader for InstanceReader {
+    type Part = Instance;
+
+    ghost Plain = { PlainInstance };
+
+    ghost plain = { instance_of };
+
+    ghost part_at = { λ reader tokens. instance_at tokens reader.depth };
+
+    fn read(&self, alloc: Global, tokens: &[Token], at: usize) -> Read<Instance> {
+        instance(alloc, tokens, at, self.depth)
     }
-    Ok((list, end))
 }
 
 /// `NAME ('#' '(' conns? ')')? (NAME '(' conns? ')'),+ ';'`
@@ -233,7 +228,7 @@ pub fn instances(alloc: Global, tokens: &[Token], at: usize, depth: u32) -> Read
 {
     let (module, next) = name(alloc, tokens, at)?;
     let (parameters, next) = overrides_if(alloc, tokens, next, depth)?;
-    let (list, semicolon) = instance_list(alloc, tokens, next, depth)?;
+    let (list, semicolon) = listed(alloc, tokens, next, &InstanceReader { depth })?;
     let end = expect(tokens, Terminal::Semicolon, semicolon)?;
     let site = site_of(tokens, at, end);
     Ok((nodes::instances(site, module, parameters, list), end))

@@ -12,7 +12,6 @@ use v_parts::{Read, range_if};
 use v_tree::{Direction, NetKind, ParameterType, Range, Stop, Terminal, no_place, stands};
 
 /// The words and the range of a port, or of ports, that begin at `from`.
-#[derive(Drop)]
 pub struct PortWords {
     pub from: usize,
     pub direction: Direction,

@@ -5,7 +5,6 @@ ghost use Rattle.v_parser.specs.ItemKinds.{item_kind};
 use v_tree::Terminal;
 
 /// The chapters of items.
-#[derive(Clone, Copy, Debug, PartialEq, Eq)]
 pub enum ItemKind {
     /// Ports, nets, registers, integers, genvars and parameters.
     Declaration,

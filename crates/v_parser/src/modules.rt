@@ -1,5 +1,5 @@
 //! Modules (IEEE 1364-2005, 12.1 and A.1.2).
-ghost use Rattle.std.specs.Prelude.{◌≡◌, ◌+◌, ◌<◌, ◌≤◌, ◌^◌, length, map, IfOk};
+ghost use Rattle.std.specs.Prelude.{◌<◌, ◌≤◌, ◌^◌, length, map, IfOk};
 ghost use Rattle.v_tree.specs.Faults.{Gives};
 ghost use Rattle.v_tree.specs.ModuleTree.{header_parameter_of, ports_of};
 ghost use Rattle.v_parts.specs.Seen.{Inside};
@@ -18,7 +18,6 @@ use v_tree::{HeaderParameter, Module, Ports, Terminal, expect, site_of};
 const MOST_NESTING: u32 = 256;
 
 /// `'module' NAME ('#' '(' hparam,+ ')')? ('(' ports? ')')? ';'` from `from` on.
-#[derive(Drop)]
 struct Header {
     from: usize,
     name: Name,

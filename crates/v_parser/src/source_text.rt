@@ -1,5 +1,5 @@
 //! The tree of a whole text (IEEE 1364-2005, A.1).
-ghost use Rattle.std.specs.Prelude.{◌≡◌, ◌≢◌, ◌<◌, ◌^◌, List, length, IfOk, IfErr};
+ghost use Rattle.std.specs.Prelude.{◌≢◌, ◌<◌, ◌^◌, List, length, IfOk, IfErr};
 ghost use Rattle.v_tree.specs.declared.fault.ParseErr.TheVariants as error;
 ghost use Rattle.v_tree.specs.ModuleTree.{PlainModule, source_of};
 ghost use Rattle.v_parser.specs.Modules.{IsSource, IsSourceAnswer, ShowsNoSource};

@@ -1,5 +1,5 @@
 -- What readers that take a token at least read, and choices among them.
-use Rattle.std.proofs.Common.{◌≡◌, ◌≢◌, ℕ, ◌+◌, ◌-◌, ◌<◌, ◌≤◌, ◌⊎◌, inl, inr, Bool, true, false, if◌then◌else◌, List, [], ◌∷◌, length, sym, ap, ◌∙◌, refl, arith}
+use Rattle.std.proofs.Common.{◌≡◌, ◌≢◌, ℕ, ◌+◌, ◌<◌, ◌≤◌, ◌⊎◌, inl, inr, Bool, true, false, if◌then◌else◌, List, [], ◌∷◌, length, sym, ap, ◌∙◌, refl, arith}
 use Rattle.v_lexer.specs.Lexeme.{Lexeme}
 use Rattle.v_lexer.specs.declared.types.terminal.Terminal.{Terminal}
 use Rattle.v_lexer.specs.declared.types.terminal.Terminal.TheVariants as marks

@@ -1,20 +1,17 @@
 -- The readers of initial blocks read what their productions have.
-use Rattle.std.proofs.Common.{◌≡◌, ◌≢◌, ℕ, zero, suc, ◌+◌, ◌≤◌, inl, inr, Bool, true, if◌then◌else◌, List, [], ◌∷◌, length, None, Err, sym, ap, ◌∙◌, subst, refl, arith}
+use Rattle.std.proofs.Common.{◌≡◌, ℕ, zero, suc, ◌+◌, ◌≤◌, inl, inr, Bool, true, if◌then◌else◌, List, [], ◌∷◌, length, None, Err, ap, ◌∙◌, subst, refl, arith}
 use Rattle.v_lexer.specs.Lexeme.{Lexeme}
-use Rattle.v_lexer.specs.declared.types.terminal.Terminal.{Terminal}
 use Rattle.v_lexer.specs.declared.types.terminal.Terminal.TheVariants as marks
 use Rattle.v_tree.specs.declared.fault.Fault.TheVariants.{Unsupported, Deep}
 use Rattle.v_tree.specs.declared.statement.AssignKind.TheVariants.{Blocking}
-use Rattle.v_tree.specs.Marks.{mark_at, same}
+use Rattle.v_tree.specs.Marks.{mark_at}
 use Rattle.v_tree.specs.Sites.{site}
 use Rattle.v_tree.specs.Tree.{no_select}
-use Rattle.v_tree.specs.Reading.{Read}
-use Rattle.v_tree.proofs.BindLemmas.{bad, bad_good, if-inv, true_false}
-use Rattle.v_tree.proofs.SoundLemmas.{not_mark}
-use Rattle.v_tree.proofs.CompleteLemmas.{else_of, apart_of}
-use Rattle.v_tree.proofs.SteadyLemmas.{Steady, st_look, st_if, site_kept}
+use Rattle.v_tree.proofs.BindLemmas.{bad, bad_good, if-inv}
+use Rattle.v_tree.proofs.CompleteLemmas.{else_of}
+use Rattle.v_tree.proofs.SteadyLemmas.{st_look, st_if, site_kept}
 use Rattle.v_tree.specs.PartTree.{name_left}
-use Rattle.v_parts.specs.Reading.{optional_at, run_at, name_at, value_at, unless_at}
+use Rattle.v_parts.specs.Reading.{optional_at, run_at, name_at, value_at}
 use Rattle.v_parts.specs.Productions.{IsOptional, AreRun, IsName, IsValue}
 use Rattle.v_tree.specs.StatementTree.{block, assignment, statements_of}
 use Rattle.v_statements.specs.Statements.{Nested, IsLabel}

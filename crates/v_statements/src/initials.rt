@@ -1,5 +1,5 @@
 //! What stands in initial blocks (IEEE 1364-2005, 9.9.1 and A.6.2).
-ghost use Rattle.std.specs.Prelude.{◌≡◌, ℕ, ◌+◌, ◌<◌, ◌≤◌, ◌^◌, length, IfOk};
+ghost use Rattle.std.specs.Prelude.{◌≡◌, ◌+◌, ◌<◌, ◌≤◌, ◌^◌, length, IfOk};
 ghost use Rattle.v_tree.specs.Faults.{Gives};
 ghost use Rattle.v_tree.specs.Marks.{mark_at};
 ghost use Rattle.v_parts.specs.Seen.{Inside};

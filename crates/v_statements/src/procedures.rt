@@ -1,5 +1,5 @@
 //! Always and initial blocks (IEEE 1364-2005, 9.9 and A.6.2).
-ghost use Rattle.std.specs.Prelude.{◌≡◌, ◌<◌, ◌≤◌, ◌^◌, length, IfOk};
+ghost use Rattle.std.specs.Prelude.{◌<◌, ◌≤◌, ◌^◌, length, IfOk};
 ghost use Rattle.v_tree.specs.Faults.{Gives};
 ghost use Rattle.v_parts.specs.Seen.{Inside};
 ghost use Rattle.v_parts.specs.ItemSeen.{seen_item};

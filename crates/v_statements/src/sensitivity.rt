@@ -1,7 +1,6 @@
 //! What an always block waits for (IEEE 1364-2005, 9.7.2, 9.7.5 and A.6.5).
-ghost use Rattle.std.specs.Prelude.{◌≡◌, ℕ, ◌+◌, ◌<◌, ◌≤◌, ◌^◌, length, map, List, [], ◌∷◌, IfOk};
+ghost use Rattle.std.specs.Prelude.{◌≡◌, ◌+◌, ◌<◌, ◌≤◌, ◌^◌, length, map, [], ◌∷◌, IfOk};
 ghost use Rattle.v_tree.specs.Faults.{Gives};
-ghost use Rattle.v_tree.specs.Marks.{mark_at};
 ghost use Rattle.v_lexer.specs.declared.types.terminal.Terminal.TheVariants as marks;
 ghost use Rattle.v_parts.specs.Seen.{as_is, Inside};
 ghost use Rattle.v_parts.specs.Reading.{optional_at};

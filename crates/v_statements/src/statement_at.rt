@@ -1,5 +1,5 @@
 //! The statement, and the statement of an initial block, that begins at a place (IEEE 1364-2005, 9.9.1 and A.6).
-ghost use Rattle.std.specs.Prelude.{◌≡◌, ◌≢◌, ℕ, ◌<◌, ◌≤◌, ◌^◌, length, IfOk, IfErr};
+ghost use Rattle.std.specs.Prelude.{◌≢◌, ℕ, ◌<◌, ◌≤◌, ◌^◌, length, IfOk, IfErr};
 ghost use Rattle.v_tree.specs.declared.fault.ParseErr.TheVariants as error;
 ghost use Rattle.v_tree.specs.StatementTree.{PlainStatement, statement_of};
 ghost use Rattle.v_statements.specs.Statements.{IsStatement};

@@ -1,8 +1,8 @@
 //! What stands in statements beside expressions and left sides (IEEE 1364-2005, A.6).
-ghost use Rattle.std.specs.Prelude.{◌≡◌, ◌≢◌, ◌+◌, ◌<◌, ◌≤◌, ◌^◌, length, IfOk};
+ghost use Rattle.std.specs.Prelude.{◌≡◌, ◌+◌, ◌<◌, ◌≤◌, ◌^◌, length, IfOk};
 ghost use Rattle.v_tree.specs.Faults.{Gives};
 ghost use Rattle.v_lexer.specs.declared.types.terminal.Terminal.TheVariants as marks;
-ghost use Rattle.v_tree.specs.Tree.{tree_of};
+ghost use Rattle.v_tree.specs.Tree.{Tree, tree_of};
 ghost use Rattle.v_tree.specs.PartTree.{left_of};
 ghost use Rattle.v_parts.specs.Seen.{as_is, seen_value, seen_values, Inside};
 ghost use Rattle.v_tree.specs.Marks.{mark_at};
@@ -14,7 +14,7 @@ ghost use Rattle.v_statements.specs.StatementReading.{label_at, in_parens_at, ca
 use crate::statement_nodes::assignment;
 use std::alloc::Global;
 use v_lexer::types::Token;
-use v_parts::{Read, delay_if, identifier, left, value};
+use v_parts::{PartReader, Read, delay_if, identifier, left, listed, value};
 use v_tree::{
     AssignKind, CaseKind, Expr, Fault, Identifier, Left, LoopHead, Statement, Stop, Terminal,
     expect, mark_at, no_place, read_expression, site_of, stands,
@@ -89,8 +89,27 @@ fn label(alloc: Global, tokens: &[Token], at: usize, depth: u32, kind: CaseKind)
     }
 }
 
+#[derive(Drop)]
+struct LabelReader {
+    depth: u32,
+    kind: CaseKind,
+}
+
+impl PartReader for LabelReader {
+    type Part = Expr;
+
+    ghost Plain = { Tree };
+
+    ghost plain = { tree_of };
+
+    ghost part_at = { λ reader tokens. case_label_at tokens reader.depth reader.kind };
+
+    fn read(&self, alloc: Global, tokens: &[Token], at: usize) -> Read<Expr> {
+        label(alloc, tokens, at, self.depth, self.kind)
+    }
+}
+
 /// `label,+`
-#[tactic(auto, unfolding(v_parts::specs::Reading::list_at))]
 pub fn labels(
     alloc: Global,
     tokens: &[Token],
@@ -103,18 +122,7 @@ pub fn labels(
     ensures gives { Gives seen_values result (list_at tokens.now (case_label_at tokens.now depth kind) at) }
     ensures inside { IfOk result (Inside tokens.now) }
 {
-    let mut list = Vec::new(alloc);
-    let (first, mut end) = label(alloc, tokens, at, depth, kind)?;
-    list.push(first)?;
-    for _ in 0..tokens.len() {
-        if !stands(tokens, end, Terminal::Comma) {
-            return Ok((list, end));
-        }
-        let (part, next) = label(alloc, tokens, end + 1, depth, kind)?;
-        list.push(part)?;
-        end = next;
-    }
-    Ok((list, end))
+    listed(alloc, tokens, at, &LabelReader { depth, kind })
 }
 
 /// Whether a colon stands there, and the place behind it.
@@ -232,7 +240,6 @@ fn assign_kind(tokens: &[Token], at: usize) -> Read<AssignKind>
 }
 
 /// `left ('=' | '<=')` of an assignment that begins at `from`.
-#[derive(Drop)]
 struct Target {
     from: usize,
     left: Left,

@@ -1,9 +1,8 @@
 //! Statements (IEEE 1364-2005, clause 9 and A.6).
-ghost use Rattle.std.specs.Prelude.{◌≡◌, ◌+◌, ◌<◌, ◌≤◌, ◌^◌, length, IfOk};
+ghost use Rattle.std.specs.Prelude.{◌+◌, ◌<◌, ◌≤◌, ◌^◌, length, IfOk};
 ghost use Rattle.v_tree.specs.Faults.{Gives};
-ghost use Rattle.v_tree.specs.Tree.{tree_of};
 ghost use Rattle.v_parts.specs.Seen.{Inside};
-ghost use Rattle.v_tree.specs.StatementTree.{statement_of, case_item_of, is_default};
+ghost use Rattle.v_tree.specs.StatementTree.{case_item_of, is_default};
 ghost use Rattle.v_statements.specs.StatementSeen.{seen_statement, seen_statements, seen_case_item, seen_case_items};
 ghost use Rattle.v_statements.specs.StatementReading.{statement_at, statement_below, block_at, body_at, delayed_at, if_at, case_at, case_items_at, case_item_at, labelled_at, default_at, loop_at};
 

@@ -1,6 +1,7 @@
 -- Words of bytes that are the same.
-use Rattle.std.proofs.Common.{◌≡◌, ◌≢◌, ℕ, ◌==◌, true, false, List, [], ◌∷◌, refl, inl, inr}
-use Rattle.std.proofs.lemmas.Bool.{cases_Bool, and_parts, false≢true}
+use Rattle.std.proofs.Common.{◌≡◌, ◌≢◌, ℕ, ◌==◌, true, false, List, [], ◌∷◌, refl, inl, inr, arith}
+use Rattle.std.proofs.lemmas.Bool.{cases_Bool, and_parts, and_from, false≢true}
+use Rattle.std.proofs.lemmas.Grind.{common_steps}
 use Rattle.loc_base.proofs.ShelfBools.{equal-true}
 use Rattle.vcd_reading.specs.Commands.{same_bytes}
 
@@ -19,3 +20,10 @@ differ one other apart =
       | inl same ↦ absurd (apart (same_means one other same))
       | inr away ↦ away
     ]
+
+pub same_self : (bytes : List ℕ) → same_bytes bytes bytes ≡ true
+same_self [] = refl
+same_self (byte ∷ bytes) = and_from (byte == byte) (same_bytes bytes bytes) (same_number byte) (same_self bytes)
+  where
+    same_number : (n : ℕ) → (n == n) ≡ true
+    same_number n = grind (arith, common_steps)

@@ -1,12 +1,11 @@
 -- A value change is taken in by what is kept of the variables.
-use Rattle.std.proofs.Common.{◌≡◌, ◌≢◌, ℕ, ◌<◌, ◌==◌, Bool, true, false, not, ◌&&◌, ◌||◌, List, [], ◌∷◌, ◌++◌, length, refl, sym, ◌∙◌, ap, subst, inl, inr, arith, Option, Some, None, is_some, nat_lt, Result, Ok, Err}
+use Rattle.std.proofs.Common.{◌≡◌, ◌≢◌, ℕ, ◌<◌, Bool, true, false, not, ◌&&◌, ◌||◌, List, [], ◌∷◌, ◌++◌, length, refl, sym, ◌∙◌, ap, subst, inl, inr, arith, Option, Some, None, is_some, nat_lt, Result, Ok, Err}
 use Rattle.std.specs.Prelude.{slice_get, slice_set}
 use Rattle.std.specs.List.{list_any}
 use Rattle.std.specs.Option.{option_and_then}
-use Rattle.std.proofs.lemmas.Bool.{cases_Bool, cond-true, cond-false, and_parts, false≢true, true≢false}
+use Rattle.std.proofs.lemmas.Bool.{cases_Bool, cond-true, cond-false, true≢false}
 use Rattle.std.proofs.lemmas.Bool.Decides.{eqb_tells}
 use Rattle.std.proofs.lemmas.Option.{slice_get_within}
-use Rattle.loc_base.proofs.ShelfBools.{equal-true}
 use Rattle.loc_base.proofs.ShelfLists.{slice_get-some}
 use Rattle.vcd_reading.proofs.ListSteps.{get_set_same, get_set_other}
 use Rattle.std.proofs.lemmas.List.{length-set}
@@ -18,8 +17,7 @@ use Rattle.vcd_traces.specs.declared.changes.Levels.{Levels}
 use Rattle.vcd_traces.specs.declared.table.Table.{Table}
 use Rattle.vcd_traces.specs.declared.codes.Role.{Role}
 use Rattle.vcd_traces.specs.declared.codes.Role.TheVariants.{Other, Port as OfPort}
-use Rattle.vcd_reading.specs.Commands.{same_bytes}
-use Rattle.vcd_reading.proofs.ByteLaws.{same_means, differ}
+use Rattle.vcd_reading.proofs.ByteLaws.{differ}
 use Rattle.vcd_reading.specs.Header.{Header}
 use Rattle.vcd_reading.specs.Scopes.{Port, has_code, is_declared}
 use Rattle.vcd_reading.specs.Changes.{Past, changed, passed_over, with_event}
@@ -43,7 +41,7 @@ declared_without : (h : Header) (ports : List Port) (table : Table) (code : List
     → role_of table.codes code ≡ None → not (is_declared h code) ≡ true
 declared_without h ports table code t has = ap not (sym (t.declared code) ∙ ap is_some has)
 
-any_less : (one other : Port → Bool) (ports : List Port) → list_any one ports ≡ false → list_any (λ port. one port && other port) ports ≡ false
+pub any_less : (one other : Port → Bool) (ports : List Port) → list_any one ports ≡ false → list_any (λ port. one port && other port) ports ≡ false
 any_less one other [] none = refl
 any_less one other (port ∷ ports) none =
     elim (cases_Bool (one port)) [

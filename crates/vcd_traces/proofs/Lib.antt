@@ -1,5 +1,9 @@
 pub mod RunningLaws
 pub mod ChangeLaws
+pub mod TableLaws
+pub mod SiteLaws
+pub mod SizeLaws
+pub mod WatchLaws
 pub mod RowLaws
 pub mod KeptLaws
 pub mod MomentLaws
@@ -12,4 +16,7 @@ pub mod GoingLaws
 pub mod TraceLaws
 pub mod BeginLaws
 pub mod FinishLaws
+pub mod PortLaws
+pub mod AnswerLaws
+pub mod DumpLaws
 mod Examples

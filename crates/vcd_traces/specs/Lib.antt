@@ -2,6 +2,8 @@ pub mod Running
 pub mod Table
 pub mod Levels
 pub mod Samples
+pub mod Ports
+pub mod Sites
 pub mod Moment
 pub mod Rows
 pub mod Kept
@@ -9,3 +11,5 @@ pub mod Closing
 pub mod Plan
 pub mod Going
 pub mod Finish
+pub mod Dump
+pub mod Answers

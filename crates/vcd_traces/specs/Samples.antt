@@ -1,6 +1,6 @@
 -- The trace that a dump holds of a design's ports (IEEE 1364-2005, clause 18): with a clock the values before each of
 -- its rising edges, without one those after each stamp.
-use Rattle.std.specs.Prelude.{ℕ, ◌≡◌, ◌+◌, ◌-◌, ◌^◌, Bool, not, ◌==◌, nat_lt, if◌then◌else◌, List, [], ◌∷◌, length, map, Option, Some, None, Ok, Err, bit_and}
+use Rattle.std.specs.Prelude.{ℕ, ◌≡◌, ◌+◌, ◌-◌, ◌^◌, Bool, not, ◌==◌, nat_lt, if◌then◌else◌, List, [], ◌∷◌, length, map, fold, Option, Some, None, Ok, Err, bit_and}
 use Rattle.std.specs.List.{filter, find, flat_map}
 use Rattle.std.specs.Option.{option_or, option_map}
 use Rattle.loc_base.specs.Bits.{width_of, value_of}
@@ -99,9 +99,11 @@ abbrev pub lesser : ℕ → Option ℕ → ℕ
 lesser number None = number
 lesser number (Some other) = if nat_lt other number then other else number
 
+abbrev pub with_lesser : (Port → Bool) → Option ℕ → Port → Option ℕ
+with_lesser test least port = if test port then Some (lesser port.signal least) else least
+
 abbrev pub least_port : (Port → Bool) → List Port → Option ℕ
-least_port test [] = None
-least_port test (port ∷ ports) = if test port then Some (lesser port.signal (least_port test ports)) else least_port test ports
+least_port test ports = fold (with_lesser test) None ports
 
 -- no scope declares every port
 abbrev pub scope_refusal : Option ℕ → Option VcdErr

@@ -1,5 +1,6 @@
 -- The table of a dump's codes: what each declared code is to the ports.
-use Rattle.std.specs.Prelude.{ℕ, ◌≡◌, true, false, nat_eq, nat_lt, if◌then◌else◌, List, map, Option, Some, None, is_some, slice_get}
+use Rattle.std.specs.Prelude.{ℕ, ◌≡◌, true, false, ◌&&◌, min, nat_eq, nat_lt, if◌then◌else◌, List, [], ◌∷◌, ◌++◌, map, Option, Some, None, is_some, slice_get}
+use Rattle.std.specs.List.{list_any}
 use Rattle.std.specs.Borrow.{Bor}
 use Rattle.std.specs.HashMap as hash
 use Rattle.std.specs.Cmp.Lexicographic.{pointwise}
@@ -9,7 +10,7 @@ use Rattle.vcd_traces.specs.declared.codes.Role.{Role}
 use Rattle.vcd_traces.specs.declared.codes.Role.TheVariants.{Other, Port as OfPort}
 use Rattle.vcd_traces.specs.declared.table.Table.{Table}
 use Rattle.vcd_reading.specs.Header.{Header}
-use Rattle.vcd_reading.specs.Scopes.{Port, is_declared, is_of_port, is_too_long}
+use Rattle.vcd_reading.specs.Scopes.{Port, has_code, is_declared}
 
 -- the role of a code, where it is declared
 abbrev pub role_of : Codes → List ℕ → Option Role
@@ -28,14 +29,31 @@ cell_of (OfPort cell limit) = Some cell
 abbrev pub cell_codes : Table → List (List ℕ)
 cell_codes table = map (λ (code : Bor (List ℕ)). code.now) table.cells.items
 
--- a code of no port, or one of ports that all have at least some bits, of which one has no more
-abbrev pub IsRole : Header → List Port → List (List ℕ) → List ℕ → Role → Type 0
-IsRole h ports cells code Other = is_of_port h ports code ≡ false
-IsRole h ports cells code (OfPort cell limit) =
-    (is_of_port h ports code ≡ true) × ((digits : ℕ) → is_too_long h ports code digits ≡ nat_lt limit digits) × (slice_get cells cell ≡ Some code)
+-- a code that none of some ports has, or one of those that all have at least some bits, of which one has no more
+abbrev pub IsRole : Header → List Port → List Port → List (List ℕ) → List ℕ → Role → Type 0
+IsRole h ports seen cells code Other = list_any (has_code h ports code) seen ≡ false
+IsRole h ports seen cells code (OfPort cell limit) =
+    (list_any (has_code h ports code) seen ≡ true)
+    × ((digits : ℕ) → list_any (λ port. has_code h ports code port && nat_lt port.width digits) seen ≡ nat_lt limit digits)
+    × (slice_get cells cell ≡ Some code)
 
--- a table has the declared codes and their roles, and a cell for each code of a port
-pub record IsTable (h : Header) (ports : List Port) (table : Table) : Type 0 where
+-- a table has the declared codes and their roles, and a cell for each code of some of the ports
+pub record IsTableOf (h : Header) (ports seen : List Port) (table : Table) : Type 0 where
   pub declared : (code : List ℕ) → is_some (role_of table.codes code) ≡ is_declared h code
-  pub role : (code : List ℕ) (role : Role) → role_of table.codes code ≡ Some role → IsRole h ports (cell_codes table) code role
+  pub role : (code : List ℕ) (role : Role) → role_of table.codes code ≡ Some role → IsRole h ports seen (cell_codes table) code role
   pub cell : (code : List ℕ) (k : ℕ) → slice_get (cell_codes table) k ≡ Some code → option_and_then cell_of (role_of table.codes code) ≡ Some k
+
+-- or of all of them
+abbrev pub IsTable : Header → List Port → Table → Type 0
+IsTable h ports table = IsTableOf h ports ports table
+
+-- the role of a code of one more port, of so many bits: it keeps its cell, or gets the next one
+abbrev pub given_role : Option Role → ℕ → ℕ → Role
+given_role None next width = OfPort next width
+given_role (Some Other) next width = OfPort next width
+given_role (Some (OfPort cell limit)) next width = OfPort cell (min limit width)
+
+abbrev pub with_cell : Option Role → List (List ℕ) → List ℕ → List (List ℕ)
+with_cell None cells code = cells ++ code ∷ []
+with_cell (Some Other) cells code = cells ++ code ∷ []
+with_cell (Some (OfPort cell limit)) cells code = cells

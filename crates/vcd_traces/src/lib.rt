@@ -3,9 +3,18 @@
 
 mod changes;
 mod codes;
+mod condition;
+mod dump;
 mod moment;
 mod pieces;
 mod reader;
 mod rows;
 mod running;
+mod sampling;
+mod sites;
 mod table;
+mod watches;
+
+pub use condition::{formed_has_ports, has_ports};
+pub use sampling::samples;
+pub use vcd_reading::VcdErr;

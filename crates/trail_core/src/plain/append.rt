@@ -23,6 +23,7 @@ impl PlainTrail {
             reason: None,
         };
         self.assigned[l.var as usize - 1] = Some(entry);
+        self.values[l.var as usize - 1] = Some(!l.negated);
         self.entries.push(entry).unwrap();
     }
 
@@ -39,6 +40,7 @@ impl PlainTrail {
             reason: Some(number),
         };
         self.assigned[l.var as usize - 1] = Some(entry);
+        self.values[l.var as usize - 1] = Some(!l.negated);
         self.entries.push(entry).unwrap();
     }
 }

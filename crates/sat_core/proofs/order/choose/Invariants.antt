@@ -1,9 +1,7 @@
-use Rattle.std.proofs.Common.{◌≡◌, ◌+◌, length}
 use Rattle.sat_core.specs.Choices.{PassedTo}
 use Rattle.sat_core.proofs.order.choose.Given as goal
 
 abbrev pub invariant-loop-place : goal.invariant-loop-place
 invariant-loop-place l = record {
-  end : l.end ≡ length l.assume + length l.preferred + l.trail.vars;
   passed : PassedTo l.trail l.assume l.preferred l.place;
 }

@@ -1,5 +1,5 @@
 use Rattle.std.proofs.Common.{◌∙◌, ap, rules, sym, arith, List, refl, length, get_or}
-use Rattle.std.specs.Prelude.{Bool, if◌then◌else◌}
+use Rattle.std.specs.Prelude.{if◌then◌else◌}
 use Rattle.std.proofs.lemmas.Option.{slice_get_read}
 use Rattle.design_core.specs.declared.signal.Signal.{Signal}
 use Rattle.design_core.specs.declared.place.Place.{Place}

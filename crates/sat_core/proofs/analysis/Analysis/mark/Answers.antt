@@ -3,7 +3,7 @@ use Rattle.sat_core.specs.declared.analysis.Analysis.{Analysis}
 use Rattle.sat_core.specs.Derivation.{Tracks}
 use Rattle.sat_core.proofs.Tracking.{Tracks-present, Tracks-pushed, present_fits, is_present-false, level_yes, level_no}
 use Rattle.sat_core.proofs.analysis.Analysis.mark.Goals as goal
-use Rattle.sat_core.proofs.analysis.Analysis.mark.Goals.{then-eq, else-eq+in_ok-push}
+use Rattle.sat_core.proofs.analysis.Analysis.mark.Goals.{then-eq, else-eq+in_ok-push-2}
 
 pub overflow_add-self : goal.overflow_add-self
 overflow_add-self c =
@@ -18,7 +18,7 @@ returns-clause-tracks c =
       | then-eq w ↦ subst goal_at (sym w.self-is)
           (Tracks-present c.args.trail.now c.args.self.now.marked.items c.args.self.now.literals.items c.args.self.now.present c.args.l c.requires.trail c.requires.tracks c.requires.variable c.requires.falsified c.requires.unmarked
           (level_yes _ c.level_of.result c.level.result c.args.trail.now.level c.level_of.ensures c.level.ensures (sym c.eq.ensures ∙ w.if-eq.true)))
-      | else-eq+in_ok-push w ↦ subst goal_at (sym w.self-is)
-          (Tracks-pushed c.args.trail.now c.args.self.now.marked.items c.args.self.now.literals.items w.push.new.self.items c.args.self.now.present c.args.l c.requires.trail c.requires.tracks c.requires.variable c.requires.falsified c.requires.unmarked
-          (is_present-false c.args.trail.now c.args.l.var (level_no _ c.level_of.result c.level.result c.args.trail.now.level c.level_of.ensures c.level.ensures (sym c.eq.ensures ∙ w.if-eq.false))) w.in_ok-push.ensures.items)
+      | else-eq+in_ok-push-2 w ↦ subst goal_at (sym w.self-is)
+          (Tracks-pushed c.args.trail.now c.args.self.now.marked.items c.args.self.now.literals.items w.push-else-eq.new.self.items c.args.self.now.present c.args.l c.requires.trail c.requires.tracks c.requires.variable c.requires.falsified c.requires.unmarked
+          (is_present-false c.args.trail.now c.args.l.var (level_no _ c.level_of.result c.level.result c.args.trail.now.level c.level_of.ensures c.level.ensures (sym c.eq.ensures ∙ w.if-eq.false))) w.in_ok-push-2.ensures.items)
     ]

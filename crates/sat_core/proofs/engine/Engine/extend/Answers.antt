@@ -33,7 +33,3 @@ returns-in_ok-contradict-in-Refuted-clause-grows c =
 pub returns-in_ok-contradict-in-Refuted-clause-gives : goal.returns-in_ok-contradict-in-Refuted-clause-gives
 returns-in_ok-contradict-in-Refuted-clause-gives c =
     refuted_contrary c.args.self.now.trail c.args.log.now c.contradict.new.log c.args.assume.now c.args.self.now.preferred.items c.args.self.now.chosen.items c.in-Refuted.l c.len.result c.requires.under_way.ready.fit.trail c.requires.under_way.chosen c.in-Refuted.ensures c.in_ok-contradict-in-Refuted.ensures.ok c.len.ensures.value
-
-pub returns-in-Complete-clause-gives : goal.returns-in-Complete-clause-gives
-returns-in-Complete-clause-gives c =
-    complete_model c.args.self.now c.keep.new.model.items c.args.log.now c.args.assume.now c.requires.under_way c.requires.assume c.requires.rest c.in-Complete.ensures c.keep.ensures

@@ -16,5 +16,6 @@ choose-requires-clause-passed c =
       | else-count-eq0 w ↦
           let at : c.len-count.result - 1 ≡ length c.args.self.now.chosen.items - 1 = omega (arith, size) in
           let within : c.len-count.result - 1 < length c.args.self.now.chosen.items = omega (arith, size, b) in
-          w.from-is ∙ ap (λ n. n + 1) (w.index.ensures ∙ (get_or_default c.args.self.now.chosen.items (c.len-count.result - 1) w.index.result.now 0 within ∙ ap (λ n. get_or c.args.self.now.chosen.items n 0) at))
+          let last : w.index.result.now ≡ get_or c.args.self.now.chosen.items (length c.args.self.now.chosen.items - 1) 0 = w.index.ensures ∙ (get_or_default c.args.self.now.chosen.items (c.len-count.result - 1) w.index.result.now 0 within ∙ ap (λ n. get_or c.args.self.now.chosen.items n 0) at) in
+          (omega (arith, w.from-is, w.min-from.ensures, last), omega (arith, w.from-is, w.min-from.ensures, w.len.ensures))
     ]))

@@ -7,7 +7,7 @@ use Rattle.suspect_map.specs.declared.group.Group.{Group}
 use Rattle.suspect_map.specs.Groups.{numbers_at}
 use Rattle.suspect_map.specs.Grouping.{is_number, group_of, led_from}
 use Rattle.suspect_map.proofs.GroupLaws.{led-next}
-use Rattle.suspect_map.proofs.grouping.Grain.groups.Goals.{then-is_own+in_ok-group+in_ok-push, else-is_own}
+use Rattle.suspect_map.proofs.grouping.Grain.groups.Goals.{then-is_own+in_ok-places+in_ok-group+in_ok-push, else-is_own}
 use Rattle.suspect_map.proofs.grouping.Grain.groups.Goals as goal
 
 pub loop-at-preserved : goal.loop-at-preserved
@@ -22,14 +22,13 @@ loop-at-preserved c =
     let in_places : at < length places = omega (arith, in_firsts, c.requires.long) in
     let first_is : first ≡ get_or firsts at first = get_or_default firsts at None first in_firsts in
     elim c.if-is_own.branch [
-      | then-is_own+in_ok-group+in_ok-push w ↦
+      | then-is_own+in_ok-places+in_ok-group+in_ok-push w ↦
           let place = w.index-self-at.result in
           let own : is_number at first ≡ true = sym c.is_own.ensures ∙ w.if-is_own.true in
-          let row : w.row_at.result.now ≡ get_or c.in_ok-rows.rows.items at [] = w.row_at.ensures ∙ ap (λ rows. get_or rows at []) w.deref.ensures.value in
-          let members : w.row_at.result.now ≡ numbers_at (is_number at) 0 firsts = row ∙ c.in_ok-rows.ensures.rows at in_firsts in
-          let there : w.in_ok-group.group ≡ group_of label kind (get_or places at place) w.row_at.result.now = w.in_ok-group.ensures in
-          let made : w.in_ok-group.group ≡ group_of label kind place w.row_at.result.now = there ∙ ap (λ p. group_of label kind p w.row_at.result.now) (sym w.index-self-at.is) in
-          let group : w.in_ok-group.group ≡ group_of label kind place (numbers_at (is_number at) 0 firsts) = made ∙ ap (group_of label kind place) members in
+          let places_are : w.in_ok-places.places ≡ numbers_at (is_number at) 0 firsts = w.in_ok-places.ensures (numbers_at (is_number at) 0 firsts) (c.in_ok-chains.ensures.runs at in_firsts) in
+          let there : w.in_ok-group.group ≡ group_of label kind (get_or places at place) w.in_ok-places.places = w.in_ok-group.ensures in
+          let made : w.in_ok-group.group ≡ group_of label kind place w.in_ok-places.places = there ∙ ap (λ p. group_of label kind p w.in_ok-places.places) (sym w.index-self-at.is) in
+          let group : w.in_ok-group.group ≡ group_of label kind place (numbers_at (is_number at) 0 firsts) = made ∙ ap (group_of label kind place) places_are in
           led-next label kind firsts places c.loop-at.groups c.if-is_own.groups (led_from label kind firsts 0 places firsts) at place first in_places in_firsts w.index-self-at.is first_is
           (w.groups-is ∙ w.in_ok-push.ensures.ok ∙ ap (λ (x : Group). c.loop-at.groups ++ x ∷ []) group ∙ ap (λ (xs : List Group). c.loop-at.groups ++ xs) (sym (cond-true _ _ _ own)))
           c.loop-at.invariant

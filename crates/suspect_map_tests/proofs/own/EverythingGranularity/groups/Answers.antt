@@ -1,15 +1,11 @@
-use Rattle.std.proofs.Common.{◌≡◌, ◌<◌, ◌++◌, ◌∷◌, [], ◌∙◌, sym, ap, subst, arith, rules, length, true, List, ℕ}
-use Rattle.std.specs.Prelude.{All, codes}
-use Rattle.std.proofs.lemmas.List.Elements.{All-nil, All-cons}
+use Rattle.std.proofs.Common.{◌≡◌, ◌++◌, ◌∷◌, [], ◌∙◌, sym, ap, subst, length, true, List, ℕ}
+use Rattle.std.specs.Prelude.{codes}
 use Rattle.std.proofs.lemmas.List.{take_all}
 use Rattle.std.proofs.lemmas.Option.{get_or_from_slice_get}
 use Rattle.loc_base.proofs.ShelfLists.{slice_get-some}
-use Rattle.design_core.specs.declared.place.Place.{Place}
 use Rattle.suspect_map.specs.declared.group.Group.{Group}
-use Rattle.suspect_map.specs.Groups.{AreWithin, numbers_at}
-use Rattle.suspect_map.proofs.GroupLaws.{numbers_at-within}
-use Rattle.suspect_map_tests.specs.Own.{everything}
-use Rattle.suspect_map.proofs.Steps.{numbers_at-next}
+use Rattle.suspect_map.specs.Groups.{AreAscending, AreWithin, numbers_at}
+use Rattle.suspect_map_tests.proofs.Everything.{every-next, everything-within, everything-ascends}
 use Rattle.suspect_map_tests.proofs.own.EverythingGranularity.groups.Goals as goal
 
 pub loop-place-preserved : goal.loop-place-preserved
@@ -18,13 +14,7 @@ loop-place-preserved c =
     let i = c.loop-place.place in
     let found = slice_get-some places i c.loop-place-test.true in
     c.in_ok-push.ensures.ok ∙ ap (λ (numbers : List ℕ). numbers ++ i ∷ []) c.loop-place.invariant
-    ∙ numbers_at-next (λ _. true) places i found.0 c.loop-place-test.true (sym (get_or_from_slice_get places i found.0 found.0 found.1))
-
--- each place of the one suspect is one of the places
-everything-within : (places : List Place) → AreWithin (length places) (everything places)
-everything-within places =
-    All-cons (λ group. All (λ number. number < length places) group.places) (record { kind = codes "all"; label = codes "all"; places = numbers_at (λ _. true) 0 places }) []
-    (numbers_at-within (λ _. true) 0 places (length places) (omega arith)) (All-nil _)
+    ∙ every-next places i found.0 c.loop-place-test.true (sym (get_or_from_slice_get places i found.0 found.0 found.1))
 
 suspect : List ℕ → List ℕ → List ℕ → List Group
 suspect kind label places = record { kind = kind; label = label; places = places } ∷ []
@@ -40,3 +30,6 @@ returns-clause-lists c =
 
 pub returns-clause-within : goal.returns-clause-within
 returns-clause-within c = subst (AreWithin (length c.args.places.now)) (sym (returns-clause-lists c)) (everything-within c.args.places.now)
+
+pub returns-clause-ascending : goal.returns-clause-ascending
+returns-clause-ascending c = subst AreAscending (sym (returns-clause-lists c)) (everything-ascends c.args.places.now)

@@ -17,6 +17,8 @@ pub invariant_of-self-2 : goal.invariant_of-self-2
 invariant_of-self-2 c = record {
   trail = added c;
   index = c.self.invariant.index;
+  values = c.self.invariant.values;
+  value_size = c.self.invariant.value_size;
   counted = c.self.invariant.counted;
   starts = c.self.invariant.starts;
   small = c.self.invariant.small;

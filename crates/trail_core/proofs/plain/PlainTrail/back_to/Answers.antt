@@ -7,7 +7,7 @@ use Rattle.trail_core.proofs.BackFields.{GoesBack, state_back, trail_back, laid_
 use Rattle.trail_core.proofs.plain.PlainTrail.back_to.Goals as goal
 
 abbrev after : (c : goal.After-truncate) → Inside
-after c = record { clauses = c.self.inside.clauses; assigned = c.shorten.new.assigned; entries = c.shorten.new.entries; starts = c.truncate.new.self }
+after c = record { clauses = c.self.inside.clauses; assigned = c.shorten.new.assigned; values = c.shorten.new.values; entries = c.shorten.new.entries; starts = c.truncate.new.self }
 
 goes_back : (c : goal.After-truncate) → GoesBack c.self.inside (after c) c.args.level c.index.result.now
 goes_back c =
@@ -21,6 +21,8 @@ goes_back c =
       size = c.shorten.ensures.size;
       index = c.shorten.ensures.index;
       counted = c.shorten.ensures.counted;
+      values = c.shorten.ensures.values;
+      value_size = c.shorten.ensures.value_size;
       entry_room = c.shorten.ensures.room;
       start_room = c.truncate.ensures.capacity;
     }

@@ -1,4 +1,4 @@
-use Rattle.std.proofs.Common.{◌≡◌, ◌<◌, ◌∙◌, Some, None, ◌+◌, ◌-◌, length, arith, refl, sym}
+use Rattle.std.proofs.Common.{◌≡◌, ◌<◌, ◌∙◌, Some, None, ◌+◌, ◌-◌, length, arith, refl, sym, not}
 use Rattle.std.specs.Vec.{with_item, vec_len}
 use Rattle.trail_core.specs.declared.entry.Entry.{Entry}
 use Rattle.trail_core.specs.declared.plain.PlainTrail.TheInside.{Inside}
@@ -36,6 +36,7 @@ abbrev after : (c : goal.After-unwrap-2) → Inside
 after c = record {
   clauses = c.self.inside.clauses;
   assigned = with_item c.self.inside.assigned (c.args.l.var - 1) (Some record { lit = c.args.l; decision_level = c.len.result; reason = None });
+  values = with_item c.self.inside.values (c.args.l.var - 1) (Some (not c.args.l.negated));
   entries = c.push-2.new.self;
   starts = c.push.new.self;
 }
@@ -44,6 +45,7 @@ appends : (c : goal.After-unwrap-2) → Appends c.self.inside (after c) record {
 appends c = record {
   clauses = refl;
   table = refl;
+  values = refl;
   entries = rw c.unwrap-2.ensures at c.push-2.ensures.items;
   entry_room = c.push-2.ensures.capacity;
   start_room = c.push.ensures.capacity;

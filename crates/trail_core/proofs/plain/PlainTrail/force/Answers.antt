@@ -1,4 +1,4 @@
-use Rattle.std.proofs.Common.{◌<◌, ◌∙◌, Some, ◌-◌, length, arith, refl, sym}
+use Rattle.std.proofs.Common.{◌<◌, ◌∙◌, Some, ◌-◌, length, arith, refl, sym, not}
 use Rattle.std.specs.Vec.{with_item}
 use Rattle.trail_core.specs.declared.entry.Entry.{Entry}
 use Rattle.trail_core.specs.declared.plain.PlainTrail.TheInside.{Inside}
@@ -23,6 +23,7 @@ abbrev after : (c : goal.After-unwrap) → Inside
 after c = record {
   clauses = c.self.inside.clauses;
   assigned = with_item c.self.inside.assigned (c.args.l.var - 1) (Some record { lit = c.args.l; decision_level = c.len.result; reason = Some c.args.number });
+  values = with_item c.self.inside.values (c.args.l.var - 1) (Some (not c.args.l.negated));
   entries = c.push.new.self;
   starts = c.self.inside.starts;
 }
@@ -31,6 +32,7 @@ appends : (c : goal.After-unwrap) → Appends c.self.inside (after c) record { l
 appends c = record {
   clauses = refl;
   table = refl;
+  values = refl;
   entries = rw c.unwrap.ensures at c.push.ensures.items;
   entry_room = c.push.ensures.capacity;
   start_room = omega arith;

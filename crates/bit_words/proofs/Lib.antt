@@ -1,0 +1,16 @@
+pub mod Steps
+pub mod BitwiseSteps
+pub mod ChooseSteps
+pub mod EqualSteps
+pub mod AddSteps
+pub mod LessSteps
+pub mod Meaning
+pub mod Numbers
+pub mod WordLaws
+pub mod MultiplySteps
+pub mod ShiftSteps
+pub mod PartNumbers
+pub mod ProductLaws
+pub mod ShiftLaws
+pub mod IndexSteps
+pub mod IndexLaws

@@ -1,0 +1,10 @@
+pub mod Bits
+pub mod Bitwise
+pub mod Choose
+pub mod Equal
+pub mod Add
+pub mod Less
+pub mod Multiply
+pub mod Shift
+pub mod Index
+pub mod Laws

@@ -1,0 +1,5 @@
+pub mod AtMost
+pub mod Counting
+pub mod InForms
+pub mod Said
+pub mod Steps

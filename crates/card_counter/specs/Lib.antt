@@ -1,0 +1,4 @@
+pub mod Places
+pub mod Counter
+pub mod Means
+pub mod InForm
