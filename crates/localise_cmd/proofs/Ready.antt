@@ -34,7 +34,7 @@ whole-each number signals [] [] are = refl
 whole-each number signals [] (driver ∷ drivers) are = absurd are
 whole-each number signals (a ∷ assigns) [] are = absurd are
 whole-each number signals ((i, a) ∷ assigns) (Cont target e place span ∷ drivers) are =
-    let first = some-whole target.parts.items (number a.target) are.0.0 in
+    let first = some-whole target.parts (number a.target) are.0.0 in
     let others = whole-each number signals assigns drivers are.1 in
     rw first (others)
 whole-each number signals ((i, a) ∷ assigns) (Comb body span ∷ drivers) are = absurd are.0
