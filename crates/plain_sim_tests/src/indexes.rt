@@ -22,20 +22,35 @@ fn selected(alloc: Global) -> Result<Typed, Fail> {
     })
 }
 
-/// `begin w = 8'h00; w[i] = 1'b1; end`
-fn one_hot(alloc: Global) -> Result<Stmt, Fail> {
-    let clear = set(alloc, 1, Part::Whole(3), constant(8, 0)?, false)?;
+/// `w[i]`, of the signals 3 and 1.
+fn one_bit(alloc: Global) -> Result<Part, Fail> {
     let mut offsets = Items::new(alloc);
     offsets.push(0)?;
-    let part = Part::Pick {
+    Ok(Part::Pick {
         signal: 3,
         index: whole(4, 1),
         offsets,
-    };
-    let raise = set(alloc, 2, part, constant(1, 1)?, false)?;
+    })
+}
+
+/// `w = 8'h00;`
+fn clear(alloc: Global) -> Result<Stmt, Fail> {
+    let zeros = constant(8, 0)?;
+    set(alloc, 1, Part::Whole(3), zeros, false)
+}
+
+/// `w[i] = 1'b1;`
+fn raise(alloc: Global) -> Result<Stmt, Fail> {
+    let one = constant(1, 1)?;
+    let part = one_bit(alloc)?;
+    set(alloc, 2, part, one, false)
+}
+
+/// `begin w = 8'h00; w[i] = 1'b1; end`
+fn one_hot(alloc: Global) -> Result<Stmt, Fail> {
     let mut statements = Items::new(alloc);
-    statements.push(clear)?;
-    statements.push(raise)?;
+    statements.push(clear(alloc)?)?;
+    statements.push(raise(alloc)?)?;
     Ok(Stmt::Block(statements))
 }
 
