@@ -1,6 +1,7 @@
 -- What reads and stores by a variable index mean.
 use Rattle.std.proofs.Common.{◌≡◌, ℕ, suc, ◌+◌, ◌*◌, ◌/◌, ◌%◌, ◌^◌, ◌<◌, ◌==◌, Bool, true, false, not, ◌&&◌, List, [], ◌∷◌, length, Option, Some, None, refl, ◌∙◌, ap, arith}
 use Rattle.std.proofs.lemmas.Grind.{common_steps}
+use Rattle.loc_base.proofs.ShelfBools.{and-assoc}
 use Rattle.gate_base.specs.declared.literal.Literal.{Literal}
 use Rattle.gate_base.specs.declared.node.Node.{Node}
 use Rattle.gate_base.specs.Meaning.{Source, Means, Gives, MeansAll, none, more, differ}
@@ -11,10 +12,6 @@ use Rattle.bit_words.proofs.Meaning.{means-as, turned-means}
 use Rattle.bit_words.proofs.Numbers.{double}
 use Rattle.bit_words.proofs.WordLaws.{MeansAll-length}
 use Rattle.bit_words.proofs.ProductLaws.{keep_word}
-
-and-assoc : (a b c : Bool) → ((a && b) && c) ≡ (a && (b && c))
-and-assoc true b c = refl
-and-assoc false b c = refl
 
 none-left : (a : Bool) (n : ℕ) → n < 1 → a ≡ (a && (0 == n))
 none-left true n low = grind (arith, common_steps)

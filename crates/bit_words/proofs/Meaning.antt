@@ -1,5 +1,6 @@
 -- What the operators mean, bit by bit: words that mean bits give the operator's bits.
 use Rattle.std.proofs.Common.{◌≡◌, ℕ, zero, suc, Bool, true, false, not, ◌&&◌, ◌||◌, if◌then◌else◌, List, [], ◌∷◌, ◌++◌, map, replicate, refl, sym, ◌∙◌, ap, subst, append_assoc, append-nil}
+use Rattle.loc_base.proofs.ShelfBools.{and-assoc}
 use Rattle.gate_base.specs.declared.literal.Literal.{Literal}
 use Rattle.gate_base.specs.declared.node.Node.{Node}
 use Rattle.gate_base.specs.Literals.{opposite}
@@ -82,10 +83,6 @@ choice-means (x ∷ xs) [] so_far mc (more mx mxs) none = ends so_far
 choice-means (x ∷ xs) (y ∷ ys) {c = c} {done = done} so_far mc (more {b = a} {bs = ks} mx mxs) (more {b = b} {bs = bs} my mys) =
     let m = mux-means mc mx my in
     one_more done (if c then a else b) (chosen_bits c ks bs) m.grown (choice-means xs ys (MeansAll-push (keep_all m.grown so_far) m.means) (keep m.grown mc) (keep_all m.grown mxs) (keep_all m.grown mys))
-
-and-assoc : (a b c : Bool) → ((a && b) && c) ≡ (a && (b && c))
-and-assoc true b c = refl
-and-assoc false b c = refl
 
 and-true : (a : Bool) → a ≡ (a && true)
 and-true true = refl

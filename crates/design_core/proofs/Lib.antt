@@ -20,7 +20,6 @@ pub mod RunLaws
 pub mod Examples
 pub mod CycleExamples
 pub mod CycleFound
-pub mod EvaluateWrite
 pub mod ExpressionSteps
 pub mod StatementSteps
 pub mod WellFormedExamples

@@ -2,7 +2,7 @@
 use Rattle.std.proofs.Common.{◌≡◌, ℕ, suc, ◌+◌, ◌<◌, ◌≤◌, Bool, true, false, not, ◌&&◌, ◌||◌, ◌==◌, if◌then◌else◌, List, [], ◌∷◌, ◌++◌, length, get_or, Option, Some, None, refl, sym, ◌∙◌, ap, ap₂, subst, arith, append_assoc, append-nil, length-append}
 use Rattle.std.proofs.lemmas.List.{get_or_append_left}
 use Rattle.std.proofs.Math.Seq.{get_or-append_seam}
-use Rattle.loc_base.proofs.ShelfBools.{not-not, and-true, and-false, or-false, or-assoc, equal-true}
+use Rattle.loc_base.proofs.ShelfBools.{not-not, and-assoc, and-true, and-false, or-false, or-assoc, equal-true}
 use Rattle.std.proofs.lemmas.Grind.{common_steps}
 use Rattle.gate_base.specs.declared.literal.Literal.{Literal}
 use Rattle.gate_base.specs.declared.literal.Literal.TheVariants.{Known, Of}
@@ -279,10 +279,6 @@ mux-means {e} {nodes} {condition} {x} {y} {c} {a} {b} mc mx my =
     (λ other. record { grown = grown-then p.grown (grown-then q.grown r.grown); means = means-as (or-arms c a b) r.means })
 
 -- ---- chains
-
-and-assoc : (a b c : Bool) → ((a && b) && c) ≡ (a && (b && c))
-and-assoc true b c = refl
-and-assoc false b c = refl
 
 differ-assoc : (a b c : Bool) → differ (differ a b) c ≡ differ a (differ b c)
 differ-assoc true true c = sym (not-not c)

@@ -30,6 +30,11 @@ pub and-false : (b : Bool) → (b && false) ≡ false
 and-false true = refl
 and-false false = refl
 
+-- either grouping
+pub and-assoc : (a b c : Bool) → ((a && b) && c) ≡ (a && (b && c))
+and-assoc true b c = refl
+and-assoc false b c = refl
+
 -- nothing is lost by what is true
 pub and-true : (b : Bool) → (b && true) ≡ b
 and-true true = refl

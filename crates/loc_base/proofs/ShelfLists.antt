@@ -1,9 +1,10 @@
 -- Laws of lists: their places, their members, what each or some of them is, and pairs of them.
-use Rattle.std.proofs.Common.{◌≡◌, ℕ, zero, suc, ◌+◌, ◌<◌, ◌≤◌, Bool, true, false, ◌&&◌, ◌||◌, List, [], ◌∷◌, ◌++◌, length, get_or, take, drop, map, Option, Some, None, refl, sym, ◌∙◌, ap, ap₂, subst, arith, add-one, drop-cons, ◌⊎◌, inl, inr}
-use Rattle.std.specs.Prelude.{All, AllPairs, Contains, slice_get}
+use Rattle.std.proofs.Common.{◌≡◌, ◌≢◌, ℕ, zero, suc, ◌+◌, ◌<◌, Bool, true, false, List, [], ◌∷◌, ◌++◌, length, get_or, take, drop, map, Some, refl, sym, ◌∙◌, ap, ap₂, subst, arith, add-one, drop-cons, ◌⊎◌, inl, inr}
+use Rattle.std.proofs.Math.ListN.{set}
+use Rattle.std.specs.Prelude.{All, Contains, slice_get}
 use Rattle.std.specs.List.{list_all, list_any, AllZip}
-use Rattle.std.proofs.lemmas.Bool.{both_ways, and_parts, or_cases, or_parts, or_left, or_right}
-use Rattle.std.proofs.lemmas.List.{take_more, take_all, map_more}
+use Rattle.std.proofs.lemmas.Bool.{both_ways, and_parts, or_cases, or_left, or_right}
+use Rattle.std.proofs.lemmas.List.{take_more, map_more}
 use Rattle.std.proofs.lemmas.Option.{slice_get_read, slice_get_within, slice_get-get_or, get_or_from_slice_get}
 
 -- ---- places
@@ -17,6 +18,20 @@ slice_get-some (x ∷ xs) (suc i) within = slice_get-some xs i (omega (arith, wi
 -- the element at a place, read by its index
 pub slice_get-at : {X : Type 0} (xs : List X) (i : ℕ) (x : X) → i < length xs → x ≡ get_or xs i x → slice_get xs i ≡ Some x
 slice_get-at xs i x within is = slice_get_read xs (length xs) i x refl within is
+
+-- the place that was set holds what was put there
+pub slice_get-set_same : {X : Type 0} (xs : List X) (i : ℕ) (y : X) → i < length xs → slice_get (set xs i y) i ≡ Some y
+slice_get-set_same [] i y within = absurd (omega (arith, within))
+slice_get-set_same (x ∷ xs) zero y within = refl
+slice_get-set_same (x ∷ xs) (suc i) y within = slice_get-set_same xs i y (omega (arith, within))
+
+-- and each other place what it held
+pub slice_get-set_other : {X : Type 0} (xs : List X) (i j : ℕ) (y : X) → j ≢ i → slice_get (set xs i y) j ≡ slice_get xs j
+slice_get-set_other [] i j y apart = refl
+slice_get-set_other (x ∷ xs) zero zero y apart = absurd (apart refl)
+slice_get-set_other (x ∷ xs) zero (suc j) y apart = refl
+slice_get-set_other (x ∷ xs) (suc i) zero y apart = refl
+slice_get-set_other (x ∷ xs) (suc i) (suc j) y apart = slice_get-set_other xs i j y (λ e. apart (ap suc e))
 
 -- the list from a place on
 pub drop-at : {X : Type 0} (xs : List X) (i : ℕ) (x : X) → i < length xs → x ≡ get_or xs i x → drop i xs ≡ x ∷ drop (i + 1) xs

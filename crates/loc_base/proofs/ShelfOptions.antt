@@ -1,5 +1,5 @@
 -- Laws of options.
-use Rattle.std.proofs.Common.{◌≡◌, ◌≢◌, Bool, true, false, Option, Some, None, is_some, option_map, refl, sym}
+use Rattle.std.proofs.Common.{◌≡◌, true, false, Option, Some, None, is_some, option_map, refl, sym}
 use Rattle.std.proofs.lemmas.Bool.{false≢true}
 
 -- the value where there is one

@@ -16,7 +16,7 @@ use Rattle.design_core.specs.Constant.{zeros}
 use Rattle.design_core.specs.TraceFits.{samples_fit}
 use Rattle.design_core.specs.Cycle.{sampled}
 use Rattle.plain_sim.proofs.EvaluateWords.{word-width, words-length}
-use Rattle.plain_sim.proofs.EvaluateWrite.{slice_get-set_same, slice_get-set_other}
+use Rattle.loc_base.proofs.ShelfLists.{slice_get-set_same, slice_get-set_other}
 
 -- an element that is there is the same whatever stands for one that is not
 pub get_or-default : {X : Type 0} (xs : List X) (i : ℕ) (a b : X) → i < length xs → get_or xs i a ≡ get_or xs i b

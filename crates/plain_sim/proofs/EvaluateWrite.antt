@@ -9,6 +9,7 @@ use Rattle.std.proofs.lemmas.Bool.{cases_lt, le-leb, lt-leb, lt-ltb, le-ltb, eqb
 use Rattle.std.proofs.lemmas.Bool.Decides.{nat_tests}
 use Rattle.loc_base.specs.declared.bits.Bits.{Bits}
 use Rattle.loc_base.specs.Bits.{bit_of, value_of}
+use Rattle.loc_base.proofs.ShelfLists.{slice_get-set_same, slice_get-set_other}
 use Rattle.loc_base.proofs.BitLaws.{bit_at-shr, bit_at-mod_low, bit_at-mod_high, bit_at-shl_low, bit_at-shl_high}
 use Rattle.design_core.specs.Operator.{resized}
 use Rattle.design_core.specs.Valuation.{bit}
@@ -94,18 +95,6 @@ chosen_bit f s p old new = elim (cases_lt p f) [
     bare_twice false = refl
 
 -- ---- valuations
-pub slice_get-set_same : {X : Type 0} (xs : List X) (i : ℕ) (y : X) → i < length xs → slice_get (set xs i y) i ≡ Some y
-slice_get-set_same [] i y h = absurd (omega arith)
-slice_get-set_same (x ∷ xs) zero y h = refl
-slice_get-set_same (x ∷ xs) (suc i) y h = slice_get-set_same xs i y (omega arith)
-
-pub slice_get-set_other : {X : Type 0} (xs : List X) (i j : ℕ) (y : X) → j ≢ i → slice_get (set xs i y) j ≡ slice_get xs j
-slice_get-set_other [] i j y h = refl
-slice_get-set_other (x ∷ xs) zero zero y h = absurd (h refl)
-slice_get-set_other (x ∷ xs) zero (suc j) y h = refl
-slice_get-set_other (x ∷ xs) (suc i) zero y h = refl
-slice_get-set_other (x ∷ xs) (suc i) (suc j) y h = slice_get-set_other xs i j y (λ e. h (ap suc e))
-
 pub written : (words : List Bits) (signal : ℕ) (old new : Bits) (from width : ℕ) (bits : ℕ → Bool) → signal < length words → slice_get words signal ≡ Some old
     → ((p : ℕ) → bit (value_of new) p ≡ (if nat_le from p && nat_lt p (from + width) then bits (p - from) else bit (value_of old) p))
     → valuation_of (set words signal new) ≡ with_bits (valuation_of words) signal from width bits

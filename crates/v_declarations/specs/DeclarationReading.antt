@@ -35,8 +35,8 @@ port_names_at tokens from direction net signed range a =
     names_at tokens (not (is_output_reg direction net)) a >>= λ xs. Ok (port_item (site tokens from xs.1) direction net signed range xs.0, xs.1)
 
 unfoldable pub ports_at : List Lexeme → ℕ → ℕ → Read PlainItem
-ports_at tokens depth a =
-    direction_at tokens a >>= λ d. net_if_at tokens d.1 >>= λ n. signed_if_at tokens n.1 >>= λ s. range_if_at tokens depth s.1 >>= λ r.
+ports_at tokens nesting_left a =
+    direction_at tokens a >>= λ d. net_if_at tokens d.1 >>= λ n. signed_if_at tokens n.1 >>= λ s. range_if_at tokens nesting_left s.1 >>= λ r.
     port_names_at tokens a d.0 n.0 s.0 r.0 r.1
 
 unfoldable pub integers_at : List Lexeme → ℕ → Read PlainItem
@@ -52,35 +52,35 @@ net_at tokens a =
 
 -- the range of a name that begins at `from`
 unfoldable pub array_at : List Lexeme → ℕ → ℕ → List ℕ → ℕ → Read PlainDeclarator
-array_at tokens depth from name a =
-    range_at tokens depth a >>= λ r. unless_at tokens mark.Equals r.1 (Ok (record { site = site tokens from r.1; name = name; range = Some r.0; value = None }, r.1))
+array_at tokens nesting_left from name a =
+    range_at tokens nesting_left a >>= λ r. unless_at tokens mark.Equals r.1 (Ok (record { site = site tokens from r.1; name = name; range = Some r.0; value = None }, r.1))
 
 -- the range of a name, which only that of a reg may have
 abbrev pub array_of : List Lexeme → ℕ → NetKind → ℕ → List ℕ → ℕ → Read PlainDeclarator
-array_of tokens depth nets.Wire from name a = Err (Unsupported a)
-array_of tokens depth nets.Reg from name a = array_at tokens depth from name a
+array_of tokens nesting_left nets.Wire from name a = Err (Unsupported a)
+array_of tokens nesting_left nets.Reg from name a = array_at tokens nesting_left from name a
 
 -- the value of a name that begins at `from`
 unfoldable pub scalar_at : List Lexeme → ℕ → ℕ → List ℕ → ℕ → Read PlainDeclarator
-scalar_at tokens depth from name a =
-    optional_at tokens mark.Equals (equals_at tokens depth) a >>= λ v. Ok (record { site = site tokens from v.1; name = name; range = None; value = v.0 }, v.1)
+scalar_at tokens nesting_left from name a =
+    optional_at tokens mark.Equals (equals_at tokens nesting_left) a >>= λ v. Ok (record { site = site tokens from v.1; name = name; range = None; value = v.0 }, v.1)
 
 unfoldable pub behind_name_at : List Lexeme → ℕ → NetKind → ℕ → List ℕ → ℕ → Read PlainDeclarator
-behind_name_at tokens depth net from name a =
-    if same (mark_at tokens a) mark.OpenBracket then array_of tokens depth net from name a else scalar_at tokens depth from name a
+behind_name_at tokens nesting_left net from name a =
+    if same (mark_at tokens a) mark.OpenBracket then array_of tokens nesting_left net from name a else scalar_at tokens nesting_left from name a
 
 unfoldable pub declarator_at : List Lexeme → ℕ → NetKind → ℕ → Read PlainDeclarator
-declarator_at tokens depth net a = name_at tokens a >>= λ x. behind_name_at tokens depth net a x.0 x.1
+declarator_at tokens nesting_left net a = name_at tokens a >>= λ x. behind_name_at tokens nesting_left net a x.0 x.1
 
 -- the delay and the names of a net item that begins at `from`
 unfoldable pub net_names_at : List Lexeme → ℕ → ℕ → NetKind → Bool → Option PlainRange → ℕ → Read PlainItem
-net_names_at tokens depth from net signed range a =
-    optional_at tokens mark.Hash (delay_at tokens depth) a >>= λ d. list_at tokens (declarator_at tokens depth net) d.1 >>= λ xs. expect tokens mark.Semicolon xs.1 >>= λ b.
+net_names_at tokens nesting_left from net signed range a =
+    optional_at tokens mark.Hash (delay_at tokens nesting_left) a >>= λ d. list_at tokens (declarator_at tokens nesting_left net) d.1 >>= λ xs. expect tokens mark.Semicolon xs.1 >>= λ b.
     Ok (net_item (site tokens from b) net signed range d.0 xs.0, b)
 
 unfoldable pub nets_at : List Lexeme → ℕ → ℕ → Read PlainItem
-nets_at tokens depth a =
-    net_at tokens a >>= λ n. signed_if_at tokens n.1 >>= λ s. range_if_at tokens depth s.1 >>= λ r. net_names_at tokens depth a n.0 s.0 r.0 r.1
+nets_at tokens nesting_left a =
+    net_at tokens a >>= λ n. signed_if_at tokens n.1 >>= λ s. range_if_at tokens nesting_left s.1 >>= λ r. net_names_at tokens nesting_left a n.0 s.0 r.0 r.1
 
 unfoldable pub parameter_kind_at : List Lexeme → ℕ → Read ParameterKind
 parameter_kind_at tokens a =
@@ -88,8 +88,8 @@ parameter_kind_at tokens a =
     else Err (no_place tokens a)
 
 unfoldable pub parameters_at : List Lexeme → ℕ → ℕ → Read PlainItem
-parameters_at tokens depth a =
-    parameter_kind_at tokens a >>= λ k. parameter_type_at tokens depth k.1 >>= λ t. list_at tokens (named_value_at tokens depth) t.1 >>= λ xs.
+parameters_at tokens nesting_left a =
+    parameter_kind_at tokens a >>= λ k. parameter_type_at tokens nesting_left k.1 >>= λ t. list_at tokens (named_value_at tokens nesting_left) t.1 >>= λ xs.
     expect tokens mark.Semicolon xs.1 >>= λ b. Ok (parameter_item (site tokens a b) k.0 t.0 xs.0, b)
 
 -- the marks that nets begin with
@@ -100,9 +100,9 @@ is_net _ = false
 
 -- an item that declares
 unfoldable pub declaration_at : List Lexeme → ℕ → ℕ → Read PlainItem
-declaration_at tokens depth a =
-    if is_direction (mark_at tokens a) then ports_at tokens depth a
-    else if is_net (mark_at tokens a) then nets_at tokens depth a
+declaration_at tokens nesting_left a =
+    if is_direction (mark_at tokens a) then ports_at tokens nesting_left a
+    else if is_net (mark_at tokens a) then nets_at tokens nesting_left a
     else if same (mark_at tokens a) mark.Integer then integers_at tokens a
     else if same (mark_at tokens a) mark.Genvar then genvars_at tokens a
-    else parameters_at tokens depth a
+    else parameters_at tokens nesting_left a

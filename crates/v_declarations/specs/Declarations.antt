@@ -1,5 +1,5 @@
 -- Declarations of ports, nets, registers and parameters (IEEE 1364-2005, clause 4 and A.2): which item the tokens from a place up
--- to another one spell, where nesting of `depth` is left. Each production stands as its comment, as in Productions.
+-- to another one spell, where `nesting_left` levels of nesting are left. Each production stands as its comment, as in Productions.
 use Rattle.std.specs.Prelude.{◌≡◌, ◌≢◌, ℕ, ◌+◌, ◌⊎◌, Bool, List, Option, Some, None}
 use Rattle.v_lexer.specs.Lexeme.{Lexeme}
 use Rattle.v_tree.specs.declared.declaration.Identifier.{Identifier}
@@ -26,11 +26,11 @@ AreNames tokens names a b =
 
 -- ('input' | 'output') ('wire' | 'reg')? 'signed'? range? NAME,+ ';'
 abbrev pub IsPorts : List Lexeme → ℕ → PlainItem → ℕ → ℕ → Type 0
-IsPorts tokens depth x a b =
+IsPorts tokens nesting_left x a b =
     (direction : Direction) × (m : ℕ) × IsDirection tokens direction a m
     × ((net : Option NetKind) × (n : ℕ) × IsNetIf tokens net m n
     × ((signed : Bool) × (k : ℕ) × IsSignedIf tokens signed n k
-    × ((range : Option PlainRange) × (l : ℕ) × IsRangeIf tokens depth range k l
+    × ((range : Option PlainRange) × (l : ℕ) × IsRangeIf tokens nesting_left range k l
     × ((names : List Identifier) × (o : ℕ) × AreNames tokens names l o
     × ((x ≡ port_item (site tokens a o) direction net signed range names) × (b ≡ o))))))
 
@@ -55,33 +55,33 @@ IsNet tokens net a b =
 
 -- range behind the name of a reg from `from` on, where no = stands behind it
 abbrev pub IsArray : List Lexeme → ℕ → NetKind → ℕ → List ℕ → PlainDeclarator → ℕ → ℕ → Type 0
-IsArray tokens depth net from name x a b =
+IsArray tokens nesting_left net from name x a b =
     (mark_at tokens a ≡ OpenBracket) × (net ≡ nets.Reg)
-    × ((range : PlainRange) × (m : ℕ) × IsRange tokens depth range a m
+    × ((range : PlainRange) × (m : ℕ) × IsRange tokens nesting_left range a m
     × ((mark_at tokens m ≢ Equals)
     × ((x ≡ record { site = site tokens from m; name = name; range = Some range; value = None }) × (b ≡ m))))
 
 -- ('=' expr)? behind a name from `from` on, where no [ stands
 abbrev pub IsScalar : List Lexeme → ℕ → ℕ → List ℕ → PlainDeclarator → ℕ → ℕ → Type 0
-IsScalar tokens depth from name x a b =
+IsScalar tokens nesting_left from name x a b =
     (mark_at tokens a ≢ OpenBracket)
-    × ((value : Option Tree) × (m : ℕ) × IsOptional tokens Equals (IsEquals tokens depth) value a m
+    × ((value : Option Tree) × (m : ℕ) × IsOptional tokens Equals (IsEquals tokens nesting_left) value a m
     × ((x ≡ record { site = site tokens from m; name = name; range = None; value = value }) × (b ≡ m)))
 
 -- NAME range of a reg, or NAME ('=' expr)?
 abbrev pub IsDeclarator : List Lexeme → ℕ → NetKind → PlainDeclarator → ℕ → ℕ → Type 0
-IsDeclarator tokens depth net x a b =
+IsDeclarator tokens nesting_left net x a b =
     (name : List ℕ) × (m : ℕ) × IsName tokens name a m
-    × (IsArray tokens depth net a name x m b ⊎ IsScalar tokens depth a name x m b)
+    × (IsArray tokens nesting_left net a name x m b ⊎ IsScalar tokens nesting_left a name x m b)
 
 -- ('wire' | 'reg') 'signed'? range? delay? decl,+ ';'
 abbrev pub IsNets : List Lexeme → ℕ → PlainItem → ℕ → ℕ → Type 0
-IsNets tokens depth x a b =
+IsNets tokens nesting_left x a b =
     (net : NetKind) × (m : ℕ) × IsNet tokens net a m
     × ((signed : Bool) × (n : ℕ) × IsSignedIf tokens signed m n
-    × ((range : Option PlainRange) × (k : ℕ) × IsRangeIf tokens depth range n k
-    × ((delay : Option PlainDelay) × (l : ℕ) × IsOptional tokens Hash (IsDelay tokens depth) delay k l
-    × ((names : List PlainDeclarator) × (o : ℕ) × AreListed tokens (IsDeclarator tokens depth net) names l o
+    × ((range : Option PlainRange) × (k : ℕ) × IsRangeIf tokens nesting_left range n k
+    × ((delay : Option PlainDelay) × (l : ℕ) × IsOptional tokens Hash (IsDelay tokens nesting_left) delay k l
+    × ((names : List PlainDeclarator) × (o : ℕ) × AreListed tokens (IsDeclarator tokens nesting_left net) names l o
     × ((mark_at tokens o ≡ Semicolon)
     × ((x ≡ net_item (site tokens a (o + 1)) net signed range delay names) × (b ≡ o + 1)))))))
 
@@ -92,18 +92,18 @@ IsParameterKind tokens kind a b =
 
 -- ('parameter' | 'localparam') ptype (NAME '=' expr),+ ';'
 abbrev pub IsParameters : List Lexeme → ℕ → PlainItem → ℕ → ℕ → Type 0
-IsParameters tokens depth x a b =
+IsParameters tokens nesting_left x a b =
     (kind : ParameterKind) × (m : ℕ) × IsParameterKind tokens kind a m
-    × ((type : PlainParameterType) × (n : ℕ) × IsParameterType tokens depth type m n
-    × ((values : List PlainNamed) × (k : ℕ) × AreListed tokens (IsNamedValue tokens depth) values n k
+    × ((type : PlainParameterType) × (n : ℕ) × IsParameterType tokens nesting_left type m n
+    × ((values : List PlainNamed) × (k : ℕ) × AreListed tokens (IsNamedValue tokens nesting_left) values n k
     × ((mark_at tokens k ≡ Semicolon)
     × ((x ≡ parameter_item (site tokens a (k + 1)) kind type values) × (b ≡ k + 1)))))
 
 -- an item that declares
 abbrev pub IsDeclaration : List Lexeme → ℕ → PlainItem → ℕ → ℕ → Type 0
-IsDeclaration tokens depth x a b =
-    IsPorts tokens depth x a b
-    ⊎ (IsNets tokens depth x a b
+IsDeclaration tokens nesting_left x a b =
+    IsPorts tokens nesting_left x a b
+    ⊎ (IsNets tokens nesting_left x a b
     ⊎ (IsIntegers tokens x a b
     ⊎ (IsGenvars tokens x a b
-    ⊎ IsParameters tokens depth x a b)))
+    ⊎ IsParameters tokens nesting_left x a b)))

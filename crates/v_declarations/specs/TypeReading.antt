@@ -28,10 +28,10 @@ unfoldable pub signed_if_at : List Lexeme → ℕ → Read Bool
 signed_if_at tokens a = if same (mark_at tokens a) mark.Signed then Ok (true, a + 1) else Ok (false, a)
 
 abbrev pub range_if_at : List Lexeme → ℕ → ℕ → Read (Option PlainRange)
-range_if_at tokens depth a = optional_at tokens mark.OpenBracket (range_at tokens depth) a
+range_if_at tokens nesting_left a = optional_at tokens mark.OpenBracket (range_at tokens nesting_left) a
 
 unfoldable pub vector_type_at : List Lexeme → ℕ → ℕ → Read PlainParameterType
-vector_type_at tokens depth a = signed_if_at tokens a >>= λ s. range_if_at tokens depth s.1 >>= λ r. Ok (vector_type s.0 r.0, r.1)
+vector_type_at tokens nesting_left a = signed_if_at tokens a >>= λ s. range_if_at tokens nesting_left s.1 >>= λ r. Ok (vector_type s.0 r.0, r.1)
 
 unfoldable pub parameter_type_at : List Lexeme → ℕ → ℕ → Read PlainParameterType
-parameter_type_at tokens depth a = if same (mark_at tokens a) mark.Integer then Ok (integer_type, a + 1) else vector_type_at tokens depth a
+parameter_type_at tokens nesting_left a = if same (mark_at tokens a) mark.Integer then Ok (integer_type, a + 1) else vector_type_at tokens nesting_left a

@@ -1,5 +1,5 @@
 -- The words and the types of declarations (IEEE 1364-2005, 4.2, 4.3, 4.10 and A.2): which part of the tree the tokens from a place
--- up to another one spell, where nesting of `depth` is left. Each production stands as its comment, as in Productions.
+-- up to another one spell, where `nesting_left` levels of nesting are left. Each production stands as its comment, as in Productions.
 use Rattle.std.specs.Prelude.{◌≡◌, ◌≢◌, ℕ, ◌+◌, ◌⊎◌, Bool, true, false, List, Option, Some, None}
 use Rattle.v_lexer.specs.Lexeme.{Lexeme}
 use Rattle.v_tree.specs.declared.item.Direction.{Direction}
@@ -42,16 +42,16 @@ IsSignedIf tokens x a b = ((mark_at tokens a ≡ Signed) × ((x ≡ true) × (b 
 
 -- range?
 abbrev pub IsRangeIf : List Lexeme → ℕ → Option PlainRange → ℕ → ℕ → Type 0
-IsRangeIf tokens depth = IsOptional tokens OpenBracket (IsRange tokens depth)
+IsRangeIf tokens nesting_left = IsOptional tokens OpenBracket (IsRange tokens nesting_left)
 
 -- 'signed'? range?
 abbrev pub IsVectorType : List Lexeme → ℕ → PlainParameterType → ℕ → ℕ → Type 0
-IsVectorType tokens depth x a b =
+IsVectorType tokens nesting_left x a b =
     (signed : Bool) × (m : ℕ) × IsSignedIf tokens signed a m
-    × ((range : Option PlainRange) × (n : ℕ) × IsRangeIf tokens depth range m n
+    × ((range : Option PlainRange) × (n : ℕ) × IsRangeIf tokens nesting_left range m n
     × ((x ≡ vector_type signed range) × (b ≡ n)))
 
 -- 'integer' | 'signed'? range?
 abbrev pub IsParameterType : List Lexeme → ℕ → PlainParameterType → ℕ → ℕ → Type 0
-IsParameterType tokens depth x a b =
-    ((mark_at tokens a ≡ Integer) × ((x ≡ integer_type) × (b ≡ a + 1))) ⊎ ((mark_at tokens a ≢ Integer) × IsVectorType tokens depth x a b)
+IsParameterType tokens nesting_left x a b =
+    ((mark_at tokens a ≡ Integer) × ((x ≡ integer_type) × (b ≡ a + 1))) ⊎ ((mark_at tokens a ≢ Integer) × IsVectorType tokens nesting_left x a b)

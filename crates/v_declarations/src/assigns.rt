@@ -15,15 +15,15 @@ use v_tree::{Item, NetAssignment, Terminal, expect, site_of, stands};
 
 /// `left '=' expr`
 #[tactic(auto, unfolding(crate::specs::StructureReading::assignment_at))]
-fn assignment(alloc: Global, tokens: &[Token], at: usize, depth: u32) -> Read<NetAssignment>
+fn assignment(alloc: Global, tokens: &[Token], at: usize, nesting_left: u32) -> Read<NetAssignment>
     requires short { length tokens.now < 2 ^ 32 }
     requires inside { at ≤ length tokens.now }
-    ensures gives { Gives seen_assignment result (assignment_at tokens.now depth at) }
+    ensures gives { Gives seen_assignment result (assignment_at tokens.now nesting_left at) }
     ensures inside { IfOk result (Inside tokens.now) }
 {
-    let (target, equals) = left(alloc, tokens, at, depth)?;
+    let (target, equals) = left(alloc, tokens, at, nesting_left)?;
     let next = expect(tokens, Terminal::Equals, equals)?;
-    let (value, end) = value(alloc, tokens, next, depth)?;
+    let (value, end) = value(alloc, tokens, next, nesting_left)?;
     let site = site_of(tokens, at, end);
     Ok((
         NetAssignment {
@@ -38,7 +38,7 @@ fn assignment(alloc: Global, tokens: &[Token], at: usize, depth: u32) -> Read<Ne
 /// What reads a part of `(left '=' expr),+`.
 #[derive(Drop)]
 struct AssignmentReader {
-    depth: u32,
+    nesting_left: u32,
 }
 
 impl PartReader for AssignmentReader {
@@ -48,24 +48,24 @@ impl PartReader for AssignmentReader {
 
     ghost plain = { assignment_of };
 
-    ghost part_at = { λ reader tokens. assignment_at tokens reader.depth };
+    ghost part_at = { λ reader tokens. assignment_at tokens reader.nesting_left };
 
     fn read(&self, alloc: Global, tokens: &[Token], at: usize) -> Read<NetAssignment> {
-        assignment(alloc, tokens, at, self.depth)
+        assignment(alloc, tokens, at, self.nesting_left)
     }
 }
 
 /// `'assign' delay? (left '=' expr),+ ';'`
 #[tactic(auto, unfolding(crate::specs::StructureReading::assigns_at))]
-pub fn assigns(alloc: Global, tokens: &[Token], at: usize, depth: u32) -> Read<Item>
+pub fn assigns(alloc: Global, tokens: &[Token], at: usize, nesting_left: u32) -> Read<Item>
     requires short { length tokens.now < 2 ^ 32 }
     requires inside { at ≤ length tokens.now }
-    ensures gives { Gives seen_item result (assigns_at tokens.now depth at) }
+    ensures gives { Gives seen_item result (assigns_at tokens.now nesting_left at) }
     ensures inside { IfOk result (Inside tokens.now) }
 {
     let next = expect(tokens, Terminal::Assign, at)?;
-    let (delay, next) = delay_if(alloc, tokens, next, depth)?;
-    let (list, semicolon) = listed(alloc, tokens, next, &AssignmentReader { depth })?;
+    let (delay, next) = delay_if(alloc, tokens, next, nesting_left)?;
+    let (list, semicolon) = listed(alloc, tokens, next, &AssignmentReader { nesting_left })?;
     let end = expect(tokens, Terminal::Semicolon, semicolon)?;
     let site = site_of(tokens, at, end);
     Ok((nodes::assigns(site, delay, list), end))

@@ -80,16 +80,16 @@ fn port_names(alloc: Global, tokens: &[Token], words: PortWords, at: usize) -> R
 
 /// `('input'|'output') ('wire'|'reg')? 'signed'? range? NAME,+ ';'`
 #[tactic(auto, unfolding(crate::specs::DeclarationReading::ports_at))]
-fn ports(alloc: Global, tokens: &[Token], from: usize, depth: u32) -> Read<Item>
+fn ports(alloc: Global, tokens: &[Token], from: usize, nesting_left: u32) -> Read<Item>
     requires short { length tokens.now < 2 ^ 32 }
     requires inside { from ≤ length tokens.now }
-    ensures gives { Gives seen_item result (ports_at tokens.now depth from) }
+    ensures gives { Gives seen_item result (ports_at tokens.now nesting_left from) }
     ensures inside { IfOk result (Inside tokens.now) }
 {
     let (direction, next) = direction(tokens, from)?;
     let (net, next) = net_if(tokens, next)?;
     let (signed, next) = signed_if(tokens, next)?;
-    let (range, at) = range_if(alloc, tokens, next, depth)?;
+    let (range, at) = range_if(alloc, tokens, next, nesting_left)?;
     let words = PortWords {
         from,
         direction,
@@ -149,15 +149,15 @@ fn array(
     from: usize,
     name: Name,
     at: usize,
-    depth: u32,
+    nesting_left: u32,
 ) -> Read<Declarator>
     requires short { length tokens.now < 2 ^ 32 }
     requires before { from < 2 ^ 32 }
     requires inside { at < length tokens.now }
-    ensures gives { Gives seen_declarator result (array_at tokens.now depth from name at) }
+    ensures gives { Gives seen_declarator result (array_at tokens.now nesting_left from name at) }
     ensures inside { IfOk result (Inside tokens.now) }
 {
-    let (range, end) = range(alloc, tokens, at, depth)?;
+    let (range, end) = range(alloc, tokens, at, nesting_left)?;
     if stands(tokens, end, Terminal::Equals) {
         return Err(Stop::Fault(Fault::Unsupported(end)));
     }
@@ -179,15 +179,15 @@ fn scalar(
     from: usize,
     name: Name,
     at: usize,
-    depth: u32,
+    nesting_left: u32,
 ) -> Read<Declarator>
     requires short { length tokens.now < 2 ^ 32 }
     requires before { from < 2 ^ 32 }
     requires inside { at ≤ length tokens.now }
-    ensures gives { Gives seen_declarator result (scalar_at tokens.now depth from name at) }
+    ensures gives { Gives seen_declarator result (scalar_at tokens.now nesting_left from name at) }
     ensures inside { IfOk result (Inside tokens.now) }
 {
-    let (value, end) = value_if(alloc, tokens, at, depth)?;
+    let (value, end) = value_if(alloc, tokens, at, nesting_left)?;
     let site = site_of(tokens, from, end);
     let declarator = Declarator {
         site,
@@ -206,21 +206,21 @@ fn behind_name(
     from: usize,
     name: Name,
     at: usize,
-    depth: u32,
+    nesting_left: u32,
     net: NetKind,
 ) -> Read<Declarator>
     requires short { length tokens.now < 2 ^ 32 }
     requires before { from < 2 ^ 32 }
     requires inside { at ≤ length tokens.now }
-    ensures gives { Gives seen_declarator result (behind_name_at tokens.now depth net from name at) }
+    ensures gives { Gives seen_declarator result (behind_name_at tokens.now nesting_left net from name at) }
     ensures inside { IfOk result (Inside tokens.now) }
 {
     if !stands(tokens, at, Terminal::OpenBracket) {
-        return scalar(alloc, tokens, from, name, at, depth);
+        return scalar(alloc, tokens, from, name, at, nesting_left);
     }
     match net {
         NetKind::Wire => Err(Stop::Fault(Fault::Unsupported(at))),
-        NetKind::Reg => array(alloc, tokens, from, name, at, depth),
+        NetKind::Reg => array(alloc, tokens, from, name, at, nesting_left),
     }
 }
 
@@ -230,22 +230,22 @@ fn declarator(
     alloc: Global,
     tokens: &[Token],
     at: usize,
-    depth: u32,
+    nesting_left: u32,
     net: NetKind,
 ) -> Read<Declarator>
     requires short { length tokens.now < 2 ^ 32 }
     requires inside { at ≤ length tokens.now }
-    ensures gives { Gives seen_declarator result (declarator_at tokens.now depth net at) }
+    ensures gives { Gives seen_declarator result (declarator_at tokens.now nesting_left net at) }
     ensures inside { IfOk result (Inside tokens.now) }
 {
     let (name, next) = name(alloc, tokens, at)?;
-    behind_name(alloc, tokens, at, name, next, depth, net)
+    behind_name(alloc, tokens, at, name, next, nesting_left, net)
 }
 
 /// What reads a part of `decl,+`.
 #[derive(Drop)]
 struct DeclaratorReader {
-    depth: u32,
+    nesting_left: u32,
     net: NetKind,
 }
 
@@ -256,10 +256,10 @@ impl PartReader for DeclaratorReader {
 
     ghost plain = { declarator_of };
 
-    ghost part_at = { λ reader tokens. declarator_at tokens reader.depth reader.net };
+    ghost part_at = { λ reader tokens. declarator_at tokens reader.nesting_left reader.net };
 
     fn read(&self, alloc: Global, tokens: &[Token], at: usize) -> Read<Declarator> {
-        declarator(alloc, tokens, at, self.depth, self.net)
+        declarator(alloc, tokens, at, self.nesting_left, self.net)
     }
 }
 
@@ -273,11 +273,17 @@ struct NetWords {
 
 /// `delay? decl,+ ';'` behind that.
 #[tactic(auto, unfolding(crate::specs::DeclarationReading::net_names_at))]
-fn net_names(alloc: Global, tokens: &[Token], words: NetWords, at: usize, depth: u32) -> Read<Item>
+fn net_names(
+    alloc: Global,
+    tokens: &[Token],
+    words: NetWords,
+    at: usize,
+    nesting_left: u32,
+) -> Read<Item>
     requires short { length tokens.now < 2 ^ 32 }
     requires before { words.from < 2 ^ 32 }
     requires inside { at ≤ length tokens.now }
-    ensures gives { Gives seen_item result (net_names_at tokens.now depth words.from words.net words.signed (option_map range_of words.range) at) }
+    ensures gives { Gives seen_item result (net_names_at tokens.now nesting_left words.from words.net words.signed (option_map range_of words.range) at) }
     ensures inside { IfOk result (Inside tokens.now) }
 {
     let NetWords {
@@ -286,8 +292,8 @@ fn net_names(alloc: Global, tokens: &[Token], words: NetWords, at: usize, depth:
         signed,
         range,
     } = words;
-    let (delay, next) = delay_if(alloc, tokens, at, depth)?;
-    let (names, semicolon) = listed(alloc, tokens, next, &DeclaratorReader { depth, net })?;
+    let (delay, next) = delay_if(alloc, tokens, at, nesting_left)?;
+    let (names, semicolon) = listed(alloc, tokens, next, &DeclaratorReader { nesting_left, net })?;
     let end = expect(tokens, Terminal::Semicolon, semicolon)?;
     let site = site_of(tokens, from, end);
     Ok((
@@ -298,22 +304,22 @@ fn net_names(alloc: Global, tokens: &[Token], words: NetWords, at: usize, depth:
 
 /// `('wire'|'reg') 'signed'? range? delay? decl,+ ';'`
 #[tactic(auto, unfolding(crate::specs::DeclarationReading::nets_at))]
-fn nets(alloc: Global, tokens: &[Token], from: usize, depth: u32) -> Read<Item>
+fn nets(alloc: Global, tokens: &[Token], from: usize, nesting_left: u32) -> Read<Item>
     requires short { length tokens.now < 2 ^ 32 }
     requires inside { from ≤ length tokens.now }
-    ensures gives { Gives seen_item result (nets_at tokens.now depth from) }
+    ensures gives { Gives seen_item result (nets_at tokens.now nesting_left from) }
     ensures inside { IfOk result (Inside tokens.now) }
 {
     let (net, next) = net(tokens, from)?;
     let (signed, next) = signed_if(tokens, next)?;
-    let (range, at) = range_if(alloc, tokens, next, depth)?;
+    let (range, at) = range_if(alloc, tokens, next, nesting_left)?;
     let words = NetWords {
         from,
         net,
         signed,
         range,
     };
-    net_names(alloc, tokens, words, at, depth)
+    net_names(alloc, tokens, words, at, nesting_left)
 }
 
 /// `'parameter' | 'localparam'`
@@ -333,15 +339,15 @@ fn parameter_kind(tokens: &[Token], at: usize) -> Read<ParameterKind>
 
 /// `('parameter'|'localparam') ptype (NAME '=' expr),+ ';'`
 #[tactic(auto, unfolding(crate::specs::DeclarationReading::parameters_at))]
-fn parameters(alloc: Global, tokens: &[Token], at: usize, depth: u32) -> Read<Item>
+fn parameters(alloc: Global, tokens: &[Token], at: usize, nesting_left: u32) -> Read<Item>
     requires short { length tokens.now < 2 ^ 32 }
     requires inside { at ≤ length tokens.now }
-    ensures gives { Gives seen_item result (parameters_at tokens.now depth at) }
+    ensures gives { Gives seen_item result (parameters_at tokens.now nesting_left at) }
     ensures inside { IfOk result (Inside tokens.now) }
 {
     let (kind, next) = parameter_kind(tokens, at)?;
-    let (type_of, next) = parameter_type(alloc, tokens, next, depth)?;
-    let (values, semicolon) = named_values(alloc, tokens, next, depth)?;
+    let (type_of, next) = parameter_type(alloc, tokens, next, nesting_left)?;
+    let (values, semicolon) = named_values(alloc, tokens, next, nesting_left)?;
     let end = expect(tokens, Terminal::Semicolon, semicolon)?;
     let site = site_of(tokens, at, end);
     Ok((nodes::parameters(site, kind, type_of, values), end))
@@ -356,17 +362,17 @@ fn is_net(mark: Terminal) -> bool
 
 /// An item that declares ports, nets, registers, integers, genvars or parameters.
 #[tactic(auto, unfolding(crate::specs::DeclarationReading::declaration_at))]
-pub fn declaration(alloc: Global, tokens: &[Token], at: usize, depth: u32) -> Read<Item>
+pub fn declaration(alloc: Global, tokens: &[Token], at: usize, nesting_left: u32) -> Read<Item>
     requires short { length tokens.now < 2 ^ 32 }
     requires inside { at ≤ length tokens.now }
-    ensures gives { Gives seen_item result (declaration_at tokens.now depth at) }
+    ensures gives { Gives seen_item result (declaration_at tokens.now nesting_left at) }
     ensures inside { IfOk result (Inside tokens.now) }
 {
     if is_direction(mark_at(tokens, at)) {
-        return ports(alloc, tokens, at, depth);
+        return ports(alloc, tokens, at, nesting_left);
     }
     if is_net(mark_at(tokens, at)) {
-        return nets(alloc, tokens, at, depth);
+        return nets(alloc, tokens, at, nesting_left);
     }
     if stands(tokens, at, Terminal::Integer) {
         return integers(alloc, tokens, at);
@@ -374,5 +380,5 @@ pub fn declaration(alloc: Global, tokens: &[Token], at: usize, depth: u32) -> Re
     if stands(tokens, at, Terminal::Genvar) {
         return genvars(alloc, tokens, at);
     }
-    parameters(alloc, tokens, at, depth)
+    parameters(alloc, tokens, at, nesting_left)
 }

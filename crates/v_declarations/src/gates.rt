@@ -72,15 +72,15 @@ fn name_if(alloc: Global, tokens: &[Token], at: usize) -> Read<Option<Name>>
 
 /// `NAME? '(' expr,+ ')'`
 #[tactic(auto, unfolding(crate::specs::StructureReading::gate_at))]
-fn gate(alloc: Global, tokens: &[Token], at: usize, depth: u32) -> Read<GateInstance>
+fn gate(alloc: Global, tokens: &[Token], at: usize, nesting_left: u32) -> Read<GateInstance>
     requires short { length tokens.now < 2 ^ 32 }
     requires inside { at ≤ length tokens.now }
-    ensures gives { Gives seen_gate result (gate_at tokens.now depth at) }
+    ensures gives { Gives seen_gate result (gate_at tokens.now nesting_left at) }
     ensures inside { IfOk result (Inside tokens.now) }
 {
     let (name, open) = name_if(alloc, tokens, at)?;
     let next = expect(tokens, Terminal::Open, open)?;
-    let (terminals, close) = values(alloc, tokens, next, depth)?;
+    let (terminals, close) = values(alloc, tokens, next, nesting_left)?;
     let end = expect(tokens, Terminal::Close, close)?;
     let site = site_of(tokens, at, end);
     Ok((
@@ -96,7 +96,7 @@ fn gate(alloc: Global, tokens: &[Token], at: usize, depth: u32) -> Read<GateInst
 /// What reads a part of `(NAME? '(' expr,+ ')'),+`.
 #[derive(Drop)]
 struct GateReader {
-    depth: u32,
+    nesting_left: u32,
 }
 
 impl PartReader for GateReader {
@@ -106,24 +106,24 @@ impl PartReader for GateReader {
 
     ghost plain = { gate_of };
 
-    ghost part_at = { λ reader tokens. gate_at tokens reader.depth };
+    ghost part_at = { λ reader tokens. gate_at tokens reader.nesting_left };
 
     fn read(&self, alloc: Global, tokens: &[Token], at: usize) -> Read<GateInstance> {
-        gate(alloc, tokens, at, self.depth)
+        gate(alloc, tokens, at, self.nesting_left)
     }
 }
 
 /// `gate delay? (NAME? '(' expr,+ ')'),+ ';'`
 #[tactic(auto, unfolding(crate::specs::StructureReading::gates_at))]
-pub fn gates(alloc: Global, tokens: &[Token], at: usize, depth: u32) -> Read<Item>
+pub fn gates(alloc: Global, tokens: &[Token], at: usize, nesting_left: u32) -> Read<Item>
     requires short { length tokens.now < 2 ^ 32 }
     requires inside { at ≤ length tokens.now }
-    ensures gives { Gives seen_item result (gates_at tokens.now depth at) }
+    ensures gives { Gives seen_item result (gates_at tokens.now nesting_left at) }
     ensures inside { IfOk result (Inside tokens.now) }
 {
     let (kind, next) = gate_word(tokens, at)?;
-    let (delay, next) = delay_if(alloc, tokens, next, depth)?;
-    let (list, semicolon) = listed(alloc, tokens, next, &GateReader { depth })?;
+    let (delay, next) = delay_if(alloc, tokens, next, nesting_left)?;
+    let (list, semicolon) = listed(alloc, tokens, next, &GateReader { nesting_left })?;
     let end = expect(tokens, Terminal::Semicolon, semicolon)?;
     let site = site_of(tokens, at, end);
     Ok((nodes::gates(site, kind, delay, list), end))

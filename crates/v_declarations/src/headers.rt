@@ -35,17 +35,22 @@ fn parameter_word(tokens: &[Token], at: usize) -> Read<bool>
 
 /// `'parameter'? ptype NAME '=' expr`
 #[tactic(auto, unfolding(crate::specs::HeaderReading::header_parameter_at))]
-fn header_parameter(alloc: Global, tokens: &[Token], at: usize, depth: u32) -> Read<HeaderParameter>
+fn header_parameter(
+    alloc: Global,
+    tokens: &[Token],
+    at: usize,
+    nesting_left: u32,
+) -> Read<HeaderParameter>
     requires short { length tokens.now < 2 ^ 32 }
     requires inside { at ≤ length tokens.now }
-    ensures gives { Gives seen_header_parameter result (header_parameter_at tokens.now depth at) }
+    ensures gives { Gives seen_header_parameter result (header_parameter_at tokens.now nesting_left at) }
     ensures inside { IfOk result (Inside tokens.now) }
 {
     let (opens, next) = parameter_word(tokens, at)?;
-    let (type_of, next) = parameter_type(alloc, tokens, next, depth)?;
+    let (type_of, next) = parameter_type(alloc, tokens, next, nesting_left)?;
     let (name, equals) = name(alloc, tokens, next)?;
     let next = expect(tokens, Terminal::Equals, equals)?;
-    let (value, end) = value(alloc, tokens, next, depth)?;
+    let (value, end) = value(alloc, tokens, next, nesting_left)?;
     let site = site_of(tokens, at, end);
     let parameter = HeaderParameter {
         site,
@@ -60,7 +65,7 @@ fn header_parameter(alloc: Global, tokens: &[Token], at: usize, depth: u32) -> R
 /// What reads a part of `hparam,+`.
 #[derive(Drop)]
 struct HeaderParameterReader {
-    depth: u32,
+    nesting_left: u32,
 }
 
 impl PartReader for HeaderParameterReader {
@@ -70,10 +75,10 @@ impl PartReader for HeaderParameterReader {
 
     ghost plain = { header_parameter_of };
 
-    ghost part_at = { λ reader tokens. header_parameter_at tokens reader.depth };
+    ghost part_at = { λ reader tokens. header_parameter_at tokens reader.nesting_left };
 
     fn read(&self, alloc: Global, tokens: &[Token], at: usize) -> Read<HeaderParameter> {
-        header_parameter(alloc, tokens, at, self.depth)
+        header_parameter(alloc, tokens, at, self.nesting_left)
     }
 }
 
@@ -83,17 +88,17 @@ fn parameters_behind(
     alloc: Global,
     tokens: &[Token],
     at: usize,
-    depth: u32,
+    nesting_left: u32,
 ) -> Read<Vec<HeaderParameter>>
     requires short { length tokens.now < 2 ^ 32 }
     requires inside { at ≤ length tokens.now }
-    ensures gives { Gives seen_header_parameters result (parameters_behind_at tokens.now depth at) }
+    ensures gives { Gives seen_header_parameters result (parameters_behind_at tokens.now nesting_left at) }
     ensures inside { IfOk result (Inside tokens.now) }
 {
     if !stands(tokens, at, Terminal::Parameter) {
         return Err(Stop::Fault(no_place(tokens, at)));
     }
-    let (list, close) = listed(alloc, tokens, at, &HeaderParameterReader { depth })?;
+    let (list, close) = listed(alloc, tokens, at, &HeaderParameterReader { nesting_left })?;
     let end = expect(tokens, Terminal::Close, close)?;
     Ok((list, end))
 }
@@ -104,11 +109,11 @@ pub fn header_parameters(
     alloc: Global,
     tokens: &[Token],
     at: usize,
-    depth: u32,
+    nesting_left: u32,
 ) -> Read<Vec<HeaderParameter>>
     requires short { length tokens.now < 2 ^ 32 }
     requires inside { at ≤ length tokens.now }
-    ensures gives { Gives seen_header_parameters result (header_parameters_at tokens.now depth at) }
+    ensures gives { Gives seen_header_parameters result (header_parameters_at tokens.now nesting_left at) }
     ensures inside { IfOk result (Inside tokens.now) }
 {
     if !stands(tokens, at, Terminal::Hash) {
@@ -116,19 +121,25 @@ pub fn header_parameters(
     }
     let next = expect(tokens, Terminal::Hash, at)?;
     let first = expect(tokens, Terminal::Open, next)?;
-    parameters_behind(alloc, tokens, first, depth)
+    parameters_behind(alloc, tokens, first, nesting_left)
 }
 
 /// `('=' expr)?` of an `output reg`; another port has no value.
 #[tactic(auto, unfolding(crate::specs::HeaderReading::value_of_at))]
-fn value_of(alloc: Global, tokens: &[Token], at: usize, depth: u32, reg: bool) -> Read<Option<Expr>>
+fn value_of(
+    alloc: Global,
+    tokens: &[Token],
+    at: usize,
+    nesting_left: u32,
+    reg: bool,
+) -> Read<Option<Expr>>
     requires short { length tokens.now < 2 ^ 32 }
     requires inside { at ≤ length tokens.now }
-    ensures gives { Gives seen_value_if result (value_of_at tokens.now depth reg at) }
+    ensures gives { Gives seen_value_if result (value_of_at tokens.now nesting_left reg at) }
     ensures inside { IfOk result (Inside tokens.now) }
 {
     if reg {
-        return value_if(alloc, tokens, at, depth);
+        return value_if(alloc, tokens, at, nesting_left);
     }
     if stands(tokens, at, Terminal::Equals) {
         return Err(Stop::Fault(Fault::Unsupported(at)));
@@ -142,27 +153,33 @@ fn port_value(
     alloc: Global,
     tokens: &[Token],
     at: usize,
-    depth: u32,
+    nesting_left: u32,
     reg: bool,
 ) -> Read<Option<Expr>>
     requires short { length tokens.now < 2 ^ 32 }
     requires inside { at ≤ length tokens.now }
-    ensures gives { Gives seen_value_if result (port_value_at tokens.now depth reg at) }
+    ensures gives { Gives seen_value_if result (port_value_at tokens.now nesting_left reg at) }
     ensures inside { IfOk result (Inside tokens.now) }
 {
     if stands(tokens, at, Terminal::OpenBracket) {
         return Err(Stop::Fault(Fault::Unsupported(at)));
     }
-    value_of(alloc, tokens, at, depth, reg)
+    value_of(alloc, tokens, at, nesting_left, reg)
 }
 
 /// `NAME ('=' expr)?` behind the words of a port.
 #[tactic(auto, unfolding(crate::specs::HeaderReading::port_name_at))]
-fn port_name(alloc: Global, tokens: &[Token], words: PortWords, at: usize, depth: u32) -> Read<Port>
+fn port_name(
+    alloc: Global,
+    tokens: &[Token],
+    words: PortWords,
+    at: usize,
+    nesting_left: u32,
+) -> Read<Port>
     requires short { length tokens.now < 2 ^ 32 }
     requires before { words.from < 2 ^ 32 }
     requires inside { at ≤ length tokens.now }
-    ensures gives { Gives seen_port result (port_name_at tokens.now depth words.from words.direction words.net words.signed (option_map range_of words.range) at) }
+    ensures gives { Gives seen_port result (port_name_at tokens.now nesting_left words.from words.direction words.net words.signed (option_map range_of words.range) at) }
     ensures inside { IfOk result (Inside tokens.now) }
 {
     let PortWords {
@@ -174,7 +191,7 @@ fn port_name(alloc: Global, tokens: &[Token], words: PortWords, at: usize, depth
     } = words;
     let (name, next) = name(alloc, tokens, at)?;
     let reg = is_output_reg(direction, net);
-    let (value, end) = port_value(alloc, tokens, next, depth, reg)?;
+    let (value, end) = port_value(alloc, tokens, next, nesting_left, reg)?;
     let site = site_of(tokens, from, end);
     Ok((
         nodes::declared_port(site, direction, net, signed, range, name, value),
@@ -184,16 +201,16 @@ fn port_name(alloc: Global, tokens: &[Token], words: PortWords, at: usize, depth
 
 /// `dir ('wire' | 'reg')? 'signed'? range? NAME ('=' expr)?`
 #[tactic(auto, unfolding(crate::specs::HeaderReading::declared_port_at))]
-fn declared_port(alloc: Global, tokens: &[Token], from: usize, depth: u32) -> Read<Port>
+fn declared_port(alloc: Global, tokens: &[Token], from: usize, nesting_left: u32) -> Read<Port>
     requires short { length tokens.now < 2 ^ 32 }
     requires inside { from ≤ length tokens.now }
-    ensures gives { Gives seen_port result (declared_port_at tokens.now depth from) }
+    ensures gives { Gives seen_port result (declared_port_at tokens.now nesting_left from) }
     ensures inside { IfOk result (Inside tokens.now) }
 {
     let (direction, next) = direction(tokens, from)?;
     let (net, next) = net_if(tokens, next)?;
     let (signed, next) = signed_if(tokens, next)?;
-    let (range, at) = range_if(alloc, tokens, next, depth)?;
+    let (range, at) = range_if(alloc, tokens, next, nesting_left)?;
     let words = PortWords {
         from,
         direction,
@@ -201,43 +218,49 @@ fn declared_port(alloc: Global, tokens: &[Token], from: usize, depth: u32) -> Re
         signed,
         range,
     };
-    port_name(alloc, tokens, words, at, depth)
+    port_name(alloc, tokens, words, at, nesting_left)
 }
 
 /// `NAME ('=' expr)?`, where the port before is an `output reg` or isn't.
 #[tactic(auto, unfolding(crate::specs::HeaderReading::same_port_at))]
-fn same_port(alloc: Global, tokens: &[Token], at: usize, depth: u32, reg: bool) -> Read<Port>
+fn same_port(alloc: Global, tokens: &[Token], at: usize, nesting_left: u32, reg: bool) -> Read<Port>
     requires short { length tokens.now < 2 ^ 32 }
     requires inside { at ≤ length tokens.now }
-    ensures gives { Gives seen_port result (same_port_at tokens.now depth reg at) }
+    ensures gives { Gives seen_port result (same_port_at tokens.now nesting_left reg at) }
     ensures inside { IfOk result (Inside tokens.now) }
 {
     let (name, next) = name(alloc, tokens, at)?;
-    let (value, end) = port_value(alloc, tokens, next, depth, reg)?;
+    let (value, end) = port_value(alloc, tokens, next, nesting_left, reg)?;
     Ok((nodes::same_port(site_of(tokens, at, end), name, value), end))
 }
 
 /// `',' aport`
 #[tactic(auto, unfolding(crate::specs::HeaderReading::next_port_at, crate::specs::HeaderReading::port_at))]
-fn next_port(alloc: Global, tokens: &[Token], at: usize, depth: u32, reg: bool) -> Read<Port>
+fn next_port(alloc: Global, tokens: &[Token], at: usize, nesting_left: u32, reg: bool) -> Read<Port>
     requires short { length tokens.now < 2 ^ 32 }
     requires inside { at ≤ length tokens.now }
-    ensures gives { Gives seen_port result (next_port_at tokens.now depth reg at) }
+    ensures gives { Gives seen_port result (next_port_at tokens.now nesting_left reg at) }
     ensures inside { IfOk result (Inside tokens.now) }
 {
     let next = expect(tokens, Terminal::Comma, at)?;
     if is_direction(mark_at(tokens, next)) {
-        return declared_port(alloc, tokens, next, depth);
+        return declared_port(alloc, tokens, next, nesting_left);
     }
-    same_port(alloc, tokens, next, depth, reg)
+    same_port(alloc, tokens, next, nesting_left, reg)
 }
 
 /// `(',' aport)* ')'` behind the first port.
 #[tactic(auto, unfolding(crate::specs::HeaderReading::ports_at))]
-fn ports(alloc: Global, tokens: &[Token], at: usize, depth: u32, first: Port) -> Read<Vec<Port>>
+fn ports(
+    alloc: Global,
+    tokens: &[Token],
+    at: usize,
+    nesting_left: u32,
+    first: Port,
+) -> Read<Vec<Port>>
     requires short { length tokens.now < 2 ^ 32 }
     requires inside { at ≤ length tokens.now }
-    ensures gives { Gives seen_port_list result (ports_at tokens.now depth (port_of first) at) }
+    ensures gives { Gives seen_port_list result (ports_at tokens.now nesting_left (port_of first) at) }
     ensures inside { IfOk result (Inside tokens.now) }
 {
     let mut list = Vec::new(alloc);
@@ -248,7 +271,7 @@ fn ports(alloc: Global, tokens: &[Token], at: usize, depth: u32, first: Port) ->
         if stands(tokens, end, Terminal::Close) {
             return Ok((list, end + 1));
         }
-        let (part, next) = next_port(alloc, tokens, end, depth, reg)?;
+        let (part, next) = next_port(alloc, tokens, end, nesting_left, reg)?;
         reg = nodes::is_reg(reg, &part);
         list.push(part)?;
         end = next;
@@ -258,14 +281,14 @@ fn ports(alloc: Global, tokens: &[Token], at: usize, depth: u32, first: Port) ->
 
 /// `aport,+ ')'`, the first of which has a direction.
 #[tactic(auto, unfolding(crate::specs::HeaderReading::port_list_at))]
-fn port_list(alloc: Global, tokens: &[Token], at: usize, depth: u32) -> Read<Ports>
+fn port_list(alloc: Global, tokens: &[Token], at: usize, nesting_left: u32) -> Read<Ports>
     requires short { length tokens.now < 2 ^ 32 }
     requires inside { at ≤ length tokens.now }
-    ensures gives { Gives seen_ports result (port_list_at tokens.now depth at) }
+    ensures gives { Gives seen_ports result (port_list_at tokens.now nesting_left at) }
     ensures inside { IfOk result (Inside tokens.now) }
 {
-    let (first, next) = declared_port(alloc, tokens, at, depth)?;
-    let (list, end) = ports(alloc, tokens, next, depth, first)?;
+    let (first, next) = declared_port(alloc, tokens, at, nesting_left)?;
+    let (list, end) = ports(alloc, tokens, next, nesting_left, first)?;
     Ok((nodes::declared_ports(list), end))
 }
 
@@ -287,32 +310,32 @@ fn name_list(alloc: Global, tokens: &[Token], at: usize) -> Read<Ports>
 
 /// `ports? ')'`
 #[tactic(auto, unfolding(crate::specs::HeaderReading::ports_behind_at, crate::specs::HeaderReading::some_ports_at))]
-fn ports_behind(alloc: Global, tokens: &[Token], at: usize, depth: u32) -> Read<Ports>
+fn ports_behind(alloc: Global, tokens: &[Token], at: usize, nesting_left: u32) -> Read<Ports>
     requires short { length tokens.now < 2 ^ 32 }
     requires inside { at ≤ length tokens.now }
-    ensures gives { Gives seen_ports result (ports_behind_at tokens.now depth at) }
+    ensures gives { Gives seen_ports result (ports_behind_at tokens.now nesting_left at) }
     ensures inside { IfOk result (Inside tokens.now) }
 {
     if stands(tokens, at, Terminal::Close) {
         return Ok((Ports::None, at + 1));
     }
     if is_direction(mark_at(tokens, at)) {
-        return port_list(alloc, tokens, at, depth);
+        return port_list(alloc, tokens, at, nesting_left);
     }
     name_list(alloc, tokens, at)
 }
 
 /// `('(' ports? ')')?`
 #[tactic(auto, unfolding(crate::specs::HeaderReading::header_ports_at, crate::specs::HeaderReading::ports_in_parens_at))]
-pub fn header_ports(alloc: Global, tokens: &[Token], at: usize, depth: u32) -> Read<Ports>
+pub fn header_ports(alloc: Global, tokens: &[Token], at: usize, nesting_left: u32) -> Read<Ports>
     requires short { length tokens.now < 2 ^ 32 }
     requires inside { at ≤ length tokens.now }
-    ensures gives { Gives seen_ports result (header_ports_at tokens.now depth at) }
+    ensures gives { Gives seen_ports result (header_ports_at tokens.now nesting_left at) }
     ensures inside { IfOk result (Inside tokens.now) }
 {
     if !stands(tokens, at, Terminal::Open) {
         return Ok((Ports::None, at));
     }
     let next = expect(tokens, Terminal::Open, at)?;
-    ports_behind(alloc, tokens, next, depth)
+    ports_behind(alloc, tokens, next, nesting_left)
 }

@@ -28,23 +28,23 @@ fn ends_connection(mark: Terminal) -> bool
 
 /// `expr?`, nothing where a comma or a `)` stands.
 #[tactic(auto, unfolding(crate::specs::StructureReading::connection_at))]
-fn connection(alloc: Global, tokens: &[Token], at: usize, depth: u32) -> Read<Option<Expr>>
+fn connection(alloc: Global, tokens: &[Token], at: usize, nesting_left: u32) -> Read<Option<Expr>>
     requires short { length tokens.now < 2 ^ 32 }
     requires inside { at ≤ length tokens.now }
-    ensures gives { Gives seen_value_if result (connection_at tokens.now depth at) }
+    ensures gives { Gives seen_value_if result (connection_at tokens.now nesting_left at) }
     ensures inside { IfOk result (Inside tokens.now) }
 {
     if ends_connection(mark_at(tokens, at)) {
         return Ok((None, at));
     }
-    let (value, end) = value(alloc, tokens, at, depth)?;
+    let (value, end) = value(alloc, tokens, at, nesting_left)?;
     Ok((Some(value), end))
 }
 
 /// What reads a part of `expr?,+`.
 #[derive(Drop)]
 struct ConnectionReader {
-    depth: u32,
+    nesting_left: u32,
 }
 
 impl PartReader for ConnectionReader {
@@ -54,37 +54,42 @@ impl PartReader for ConnectionReader {
 
     ghost plain = { option_map tree_of };
 
-    ghost part_at = { λ reader tokens. connection_at tokens reader.depth };
+    ghost part_at = { λ reader tokens. connection_at tokens reader.nesting_left };
 
     fn read(&self, alloc: Global, tokens: &[Token], at: usize) -> Read<Option<Expr>> {
-        connection(alloc, tokens, at, self.depth)
+        connection(alloc, tokens, at, self.nesting_left)
     }
 }
 
 /// `expr?,+` as the connections of an instance.
 #[tactic(auto, unfolding(crate::specs::StructureReading::by_order_at))]
-fn by_order(alloc: Global, tokens: &[Token], at: usize, depth: u32) -> Read<Connections>
+fn by_order(alloc: Global, tokens: &[Token], at: usize, nesting_left: u32) -> Read<Connections>
     requires short { length tokens.now < 2 ^ 32 }
     requires inside { at ≤ length tokens.now }
-    ensures gives { Gives seen_connections result (by_order_at tokens.now depth at) }
+    ensures gives { Gives seen_connections result (by_order_at tokens.now nesting_left at) }
     ensures inside { IfOk result (Inside tokens.now) }
 {
-    let (values, end) = listed(alloc, tokens, at, &ConnectionReader { depth })?;
+    let (values, end) = listed(alloc, tokens, at, &ConnectionReader { nesting_left })?;
     Ok((Connections::Ordered { values }, end))
 }
 
 /// `'.' NAME '(' expr? ')'`
 #[tactic(auto, unfolding(crate::specs::StructureReading::named_connection_at))]
-fn named_connection(alloc: Global, tokens: &[Token], at: usize, depth: u32) -> Read<NamedConnection>
+fn named_connection(
+    alloc: Global,
+    tokens: &[Token],
+    at: usize,
+    nesting_left: u32,
+) -> Read<NamedConnection>
     requires short { length tokens.now < 2 ^ 32 }
     requires inside { at ≤ length tokens.now }
-    ensures gives { Gives seen_connection result (named_connection_at tokens.now depth at) }
+    ensures gives { Gives seen_connection result (named_connection_at tokens.now nesting_left at) }
     ensures inside { IfOk result (Inside tokens.now) }
 {
     let dot = expect(tokens, Terminal::Dot, at)?;
     let (name, open) = name(alloc, tokens, dot)?;
     let next = expect(tokens, Terminal::Open, open)?;
-    let (value, close) = connection(alloc, tokens, next, depth)?;
+    let (value, close) = connection(alloc, tokens, next, nesting_left)?;
     let end = expect(tokens, Terminal::Close, close)?;
     let site = site_of(tokens, at, end);
     Ok((NamedConnection { site, name, value }, end))
@@ -93,7 +98,7 @@ fn named_connection(alloc: Global, tokens: &[Token], at: usize, depth: u32) -> R
 /// What reads a part of `('.' NAME '(' expr? ')'),+`.
 #[derive(Drop)]
 struct NamedConnectionReader {
-    depth: u32,
+    nesting_left: u32,
 }
 
 impl PartReader for NamedConnectionReader {
@@ -103,22 +108,22 @@ impl PartReader for NamedConnectionReader {
 
     ghost plain = { connection_of };
 
-    ghost part_at = { λ reader tokens. named_connection_at tokens reader.depth };
+    ghost part_at = { λ reader tokens. named_connection_at tokens reader.nesting_left };
 
     fn read(&self, alloc: Global, tokens: &[Token], at: usize) -> Read<NamedConnection> {
-        named_connection(alloc, tokens, at, self.depth)
+        named_connection(alloc, tokens, at, self.nesting_left)
     }
 }
 
 /// `('.' NAME '(' expr? ')'),+` as the connections of an instance.
 #[tactic(auto, unfolding(crate::specs::StructureReading::by_name_at))]
-fn by_name(alloc: Global, tokens: &[Token], at: usize, depth: u32) -> Read<Connections>
+fn by_name(alloc: Global, tokens: &[Token], at: usize, nesting_left: u32) -> Read<Connections>
     requires short { length tokens.now < 2 ^ 32 }
     requires inside { at ≤ length tokens.now }
-    ensures gives { Gives seen_connections result (by_name_at tokens.now depth at) }
+    ensures gives { Gives seen_connections result (by_name_at tokens.now nesting_left at) }
     ensures inside { IfOk result (Inside tokens.now) }
 {
-    let (values, end) = listed(alloc, tokens, at, &NamedConnectionReader { depth })?;
+    let (values, end) = listed(alloc, tokens, at, &NamedConnectionReader { nesting_left })?;
     Ok((Connections::Named { values }, end))
 }
 
@@ -132,61 +137,66 @@ fn unconnected(alloc: Global) -> Connections
 
 /// `conns?` in front of a `)`.
 #[tactic(auto, unfolding(crate::specs::StructureReading::connections_at))]
-fn connections(alloc: Global, tokens: &[Token], at: usize, depth: u32) -> Read<Connections>
+fn connections(alloc: Global, tokens: &[Token], at: usize, nesting_left: u32) -> Read<Connections>
     requires short { length tokens.now < 2 ^ 32 }
     requires inside { at ≤ length tokens.now }
-    ensures gives { Gives seen_connections result (connections_at tokens.now depth at) }
+    ensures gives { Gives seen_connections result (connections_at tokens.now nesting_left at) }
     ensures inside { IfOk result (Inside tokens.now) }
 {
     if stands(tokens, at, Terminal::Close) {
         return Ok((unconnected(alloc), at));
     }
     if stands(tokens, at, Terminal::Dot) {
-        return by_name(alloc, tokens, at, depth);
+        return by_name(alloc, tokens, at, nesting_left);
     }
-    by_order(alloc, tokens, at, depth)
+    by_order(alloc, tokens, at, nesting_left)
 }
 
 /// `'(' conns? ')'`
 #[tactic(auto, unfolding(crate::specs::StructureReading::connected_at))]
-fn connected(alloc: Global, tokens: &[Token], at: usize, depth: u32) -> Read<Connections>
+fn connected(alloc: Global, tokens: &[Token], at: usize, nesting_left: u32) -> Read<Connections>
     requires short { length tokens.now < 2 ^ 32 }
     requires inside { at ≤ length tokens.now }
-    ensures gives { Gives seen_connections result (connected_at tokens.now depth at) }
+    ensures gives { Gives seen_connections result (connected_at tokens.now nesting_left at) }
     ensures inside { IfOk result (Inside tokens.now) }
 {
     let next = expect(tokens, Terminal::Open, at)?;
-    let (list, close) = connections(alloc, tokens, next, depth)?;
+    let (list, close) = connections(alloc, tokens, next, nesting_left)?;
     let end = expect(tokens, Terminal::Close, close)?;
     Ok((list, end))
 }
 
 /// `('#' '(' conns? ')')?`
 #[tactic(auto, unfolding(v_parts::specs::Reading::optional_at, crate::specs::StructureReading::overrides_at))]
-fn overrides_if(alloc: Global, tokens: &[Token], at: usize, depth: u32) -> Read<Option<Connections>>
+fn overrides_if(
+    alloc: Global,
+    tokens: &[Token],
+    at: usize,
+    nesting_left: u32,
+) -> Read<Option<Connections>>
     requires short { length tokens.now < 2 ^ 32 }
     requires inside { at ≤ length tokens.now }
-    ensures gives { Gives seen_connections_if result (optional_at tokens.now marks.Hash (overrides_at tokens.now depth) at) }
+    ensures gives { Gives seen_connections_if result (optional_at tokens.now marks.Hash (overrides_at tokens.now nesting_left) at) }
     ensures inside { IfOk result (Inside tokens.now) }
 {
     if !stands(tokens, at, Terminal::Hash) {
         return Ok((None, at));
     }
     let next = expect(tokens, Terminal::Hash, at)?;
-    let (list, end) = connected(alloc, tokens, next, depth)?;
+    let (list, end) = connected(alloc, tokens, next, nesting_left)?;
     Ok((Some(list), end))
 }
 
 /// `NAME '(' conns? ')'`
 #[tactic(auto, unfolding(crate::specs::StructureReading::instance_at))]
-fn instance(alloc: Global, tokens: &[Token], at: usize, depth: u32) -> Read<Instance>
+fn instance(alloc: Global, tokens: &[Token], at: usize, nesting_left: u32) -> Read<Instance>
     requires short { length tokens.now < 2 ^ 32 }
     requires inside { at ≤ length tokens.now }
-    ensures gives { Gives seen_instance result (instance_at tokens.now depth at) }
+    ensures gives { Gives seen_instance result (instance_at tokens.now nesting_left at) }
     ensures inside { IfOk result (Inside tokens.now) }
 {
     let (name, open) = name(alloc, tokens, at)?;
-    let (connections, end) = connected(alloc, tokens, open, depth)?;
+    let (connections, end) = connected(alloc, tokens, open, nesting_left)?;
     let site = site_of(tokens, at, end);
     Ok((
         Instance {
@@ -201,7 +211,7 @@ fn instance(alloc: Global, tokens: &[Token], at: usize, depth: u32) -> Read<Inst
 /// What reads a part of `(NAME '(' conns? ')'),+`.
 #[derive(Drop)]
 struct InstanceReader {
-    depth: u32,
+    nesting_left: u32,
 }
 
 impl PartReader for InstanceReader {
@@ -211,24 +221,24 @@ impl PartReader for InstanceReader {
 
     ghost plain = { instance_of };
 
-    ghost part_at = { λ reader tokens. instance_at tokens reader.depth };
+    ghost part_at = { λ reader tokens. instance_at tokens reader.nesting_left };
 
     fn read(&self, alloc: Global, tokens: &[Token], at: usize) -> Read<Instance> {
-        instance(alloc, tokens, at, self.depth)
+        instance(alloc, tokens, at, self.nesting_left)
     }
 }
 
 /// `NAME ('#' '(' conns? ')')? (NAME '(' conns? ')'),+ ';'`
 #[tactic(auto, unfolding(crate::specs::StructureReading::instances_at))]
-pub fn instances(alloc: Global, tokens: &[Token], at: usize, depth: u32) -> Read<Item>
+pub fn instances(alloc: Global, tokens: &[Token], at: usize, nesting_left: u32) -> Read<Item>
     requires short { length tokens.now < 2 ^ 32 }
     requires inside { at ≤ length tokens.now }
-    ensures gives { Gives seen_item result (instances_at tokens.now depth at) }
+    ensures gives { Gives seen_item result (instances_at tokens.now nesting_left at) }
     ensures inside { IfOk result (Inside tokens.now) }
 {
     let (module, next) = name(alloc, tokens, at)?;
-    let (parameters, next) = overrides_if(alloc, tokens, next, depth)?;
-    let (list, semicolon) = listed(alloc, tokens, next, &InstanceReader { depth })?;
+    let (parameters, next) = overrides_if(alloc, tokens, next, nesting_left)?;
+    let (list, semicolon) = listed(alloc, tokens, next, &InstanceReader { nesting_left })?;
     let end = expect(tokens, Terminal::Semicolon, semicolon)?;
     let site = site_of(tokens, at, end);
     Ok((nodes::instances(site, module, parameters, list), end))

@@ -15,17 +15,17 @@ use v_tree::{Item, Terminal, mark_at, stands};
 
 /// A continuous assignment, gates or module instances. Another token has no place.
 #[tactic(auto, unfolding(crate::specs::StructureReading::structure_at))]
-pub fn structure(alloc: Global, tokens: &[Token], at: usize, depth: u32) -> Read<Item>
+pub fn structure(alloc: Global, tokens: &[Token], at: usize, nesting_left: u32) -> Read<Item>
     requires short { length tokens.now < 2 ^ 32 }
     requires inside { at ≤ length tokens.now }
-    ensures gives { Gives seen_item result (structure_at tokens.now depth at) }
+    ensures gives { Gives seen_item result (structure_at tokens.now nesting_left at) }
     ensures inside { IfOk result (Inside tokens.now) }
 {
     if stands(tokens, at, Terminal::Assign) {
-        return assigns(alloc, tokens, at, depth);
+        return assigns(alloc, tokens, at, nesting_left);
     }
     if is_gate(mark_at(tokens, at)) {
-        return gates(alloc, tokens, at, depth);
+        return gates(alloc, tokens, at, nesting_left);
     }
-    instances(alloc, tokens, at, depth)
+    instances(alloc, tokens, at, nesting_left)
 }

@@ -83,27 +83,32 @@ pub fn signed_if(tokens: &[Token], at: usize) -> Read<bool>
 
 /// `'signed'? range?`
 #[tactic(auto, unfolding(crate::specs::TypeReading::vector_type_at))]
-fn vector_type(alloc: Global, tokens: &[Token], at: usize, depth: u32) -> Read<ParameterType>
+fn vector_type(alloc: Global, tokens: &[Token], at: usize, nesting_left: u32) -> Read<ParameterType>
     requires short { length tokens.now < 2 ^ 32 }
     requires inside { at ≤ length tokens.now }
-    ensures gives { Gives seen_parameter_type result (vector_type_at tokens.now depth at) }
+    ensures gives { Gives seen_parameter_type result (vector_type_at tokens.now nesting_left at) }
     ensures inside { IfOk result (Inside tokens.now) }
 {
     let (signed, next) = signed_if(tokens, at)?;
-    let (range, end) = range_if(alloc, tokens, next, depth)?;
+    let (range, end) = range_if(alloc, tokens, next, nesting_left)?;
     Ok((ParameterType::Vector { signed, range }, end))
 }
 
 /// `'integer' | 'signed'? range?`
 #[tactic(auto, unfolding(crate::specs::TypeReading::parameter_type_at))]
-pub fn parameter_type(alloc: Global, tokens: &[Token], at: usize, depth: u32) -> Read<ParameterType>
+pub fn parameter_type(
+    alloc: Global,
+    tokens: &[Token],
+    at: usize,
+    nesting_left: u32,
+) -> Read<ParameterType>
     requires short { length tokens.now < 2 ^ 32 }
     requires inside { at ≤ length tokens.now }
-    ensures gives { Gives seen_parameter_type result (parameter_type_at tokens.now depth at) }
+    ensures gives { Gives seen_parameter_type result (parameter_type_at tokens.now nesting_left at) }
     ensures inside { IfOk result (Inside tokens.now) }
 {
     if stands(tokens, at, Terminal::Integer) {
         return Ok((ParameterType::Integer, at + 1));
     }
-    vector_type(alloc, tokens, at, depth)
+    vector_type(alloc, tokens, at, nesting_left)
 }

@@ -27,8 +27,8 @@ unfoldable pub items_at : List Lexeme → Terminal → ItemReader → ℕ → Re
 items_at tokens last inner a = run_at tokens last (λ (s : Bool). inner) (λ s x. s) (length tokens) true a
 
 unfoldable pub generate_at : List Lexeme → ℕ → ItemReader → ℕ → Read PlainItem
-generate_at tokens depth inner a =
-    lower depth a >>= λ less. items_at tokens mark.Endgenerate inner (a + 1) >>= λ xs. Ok (generate_item (site tokens a xs.1) (items_of xs.0), xs.1)
+generate_at tokens nesting_left inner a =
+    lower nesting_left a >>= λ less. items_at tokens mark.Endgenerate inner (a + 1) >>= λ xs. Ok (generate_item (site tokens a xs.1) (items_of xs.0), xs.1)
 
 unfoldable pub several_at : List Lexeme → ItemReader → ℕ → Read PlainBlock
 several_at tokens inner a =
@@ -43,8 +43,8 @@ unfoldable pub block_item_at : List Lexeme → ItemReader → ℕ → Read Plain
 block_item_at tokens inner a = if same (mark_at tokens a) mark.Begin then several_at tokens inner a else single_at tokens inner a
 
 unfoldable pub loop_item_at : List Lexeme → ℕ → ItemReader → ℕ → Read PlainItem
-loop_item_at tokens depth inner a =
-    lower depth a >>= λ less. head_at tokens less (a + 1) >>= λ h. block_item_at tokens inner h.1 >>= λ y. Ok (loop_item (site tokens a y.1) h.0 y.0, y.1)
+loop_item_at tokens nesting_left inner a =
+    lower nesting_left a >>= λ less. head_at tokens less (a + 1) >>= λ h. block_item_at tokens inner h.1 >>= λ y. Ok (loop_item (site tokens a y.1) h.0 y.0, y.1)
 
 -- what stands behind the block that a condition has
 unfoldable pub else_item_at : List Lexeme → ItemReader → ℕ → Tree → PlainBlock → ℕ → Read PlainItem
@@ -53,33 +53,33 @@ else_item_at tokens inner from condition taken a =
     else Ok (if_item (site tokens from a) condition taken, a)
 
 unfoldable pub if_item_at : List Lexeme → ℕ → ItemReader → ℕ → Read PlainItem
-if_item_at tokens depth inner a =
-    lower depth a >>= λ less. in_parens_at tokens less (a + 1) >>= λ c. block_item_at tokens inner c.1 >>= λ x. else_item_at tokens inner a c.0 x.0 x.1
+if_item_at tokens nesting_left inner a =
+    lower nesting_left a >>= λ less. in_parens_at tokens less (a + 1) >>= λ c. block_item_at tokens inner c.1 >>= λ x. else_item_at tokens inner a c.0 x.0 x.1
 
 -- a generate region, loop or condition
 unfoldable pub generated_at : List Lexeme → ℕ → ItemReader → ℕ → Read PlainItem
-generated_at tokens depth inner a =
-    if same (mark_at tokens a) mark.Generate then generate_at tokens depth inner a
-    else if same (mark_at tokens a) mark.For then loop_item_at tokens depth inner a
-    else if same (mark_at tokens a) mark.If then if_item_at tokens depth inner a
+generated_at tokens nesting_left inner a =
+    if same (mark_at tokens a) mark.Generate then generate_at tokens nesting_left inner a
+    else if same (mark_at tokens a) mark.For then loop_item_at tokens nesting_left inner a
+    else if same (mark_at tokens a) mark.If then if_item_at tokens nesting_left inner a
     else Err (no_place tokens a)
 
 -- an item of that chapter, with the reader of what nests in it
 abbrev pub item_of_kind : List Lexeme → ℕ → ItemReader → ℕ → ItemKind → Read PlainItem
-item_of_kind tokens depth inner a kind.Declaration = declaration_at tokens depth a
-item_of_kind tokens depth inner a kind.Structure = structure_at tokens depth a
-item_of_kind tokens depth inner a kind.Procedure = procedure_at tokens depth a
-item_of_kind tokens depth inner a kind.Generated = generated_at tokens depth inner a
-item_of_kind tokens depth inner a kind.Nothing = Err (no_place tokens a)
+item_of_kind tokens nesting_left inner a kind.Declaration = declaration_at tokens nesting_left a
+item_of_kind tokens nesting_left inner a kind.Structure = structure_at tokens nesting_left a
+item_of_kind tokens nesting_left inner a kind.Procedure = procedure_at tokens nesting_left a
+item_of_kind tokens nesting_left inner a kind.Generated = generated_at tokens nesting_left inner a
+item_of_kind tokens nesting_left inner a kind.Nothing = Err (no_place tokens a)
 
 unfoldable pub item_with : List Lexeme → ℕ → ItemReader → ItemReader
-item_with tokens depth inner a = item_of_kind tokens depth inner a (item_kind (mark_at tokens a))
+item_with tokens nesting_left inner a = item_of_kind tokens nesting_left inner a (item_kind (mark_at tokens a))
 
 unfoldable pub item_at : List Lexeme → ℕ → ItemReader
 item_at tokens zero = item_with tokens zero (λ a. Err (Deep a))
-item_at tokens (suc depth) = item_with tokens (suc depth) (item_at tokens depth)
+item_at tokens (suc nesting_left) = item_with tokens (suc nesting_left) (item_at tokens nesting_left)
 
 -- the items within, where so much nesting is left
 abbrev pub item_below : List Lexeme → ℕ → ItemReader
 item_below tokens zero = λ a. Err (Deep a)
-item_below tokens (suc depth) = item_at tokens depth
+item_below tokens (suc nesting_left) = item_at tokens nesting_left

@@ -1,5 +1,5 @@
 -- The items of a module (IEEE 1364-2005, 12.4, A.1.4 and A.4.2): which tree the tokens from a place up to another one spell,
--- where nesting of `depth` is left. Each production stands as its comment, as in Productions.
+-- where `nesting_left` levels of nesting are left. Each production stands as its comment, as in Productions.
 use Rattle.std.specs.Prelude.{◌≡◌, ◌≢◌, ℕ, zero, suc, ◌+◌, ◌⊎◌, Bool, true, List, Option}
 use Rattle.v_lexer.specs.Lexeme.{Lexeme}
 use Rattle.v_tree.specs.declared.declaration.Identifier.{Identifier}
@@ -26,8 +26,8 @@ AreItemsUpTo tokens last part items a b = AreRun tokens last (λ (s : Bool). par
 
 -- 'generate' item* 'endgenerate'
 abbrev pub IsGenerate : List Lexeme → ℕ → NestedItem → PlainItem → ℕ → ℕ → Type 0
-IsGenerate tokens depth part x a b =
-    (less : ℕ) × (less + 1 ≡ depth) × (mark_at tokens a ≡ Generate)
+IsGenerate tokens nesting_left part x a b =
+    (less : ℕ) × (less + 1 ≡ nesting_left) × (mark_at tokens a ≡ Generate)
     × ((items : List PlainItem) × (m : ℕ) × AreItemsUpTo tokens Endgenerate part items (a + 1) m
     × ((x ≡ generate_item (site tokens a m) (items_of items)) × (b ≡ m)))
 
@@ -49,8 +49,8 @@ IsBlockItem tokens part x a b = IsSeveral tokens part x a b ⊎ ((mark_at tokens
 
 -- 'for' head gblock
 abbrev pub IsLoopItem : List Lexeme → ℕ → NestedItem → PlainItem → ℕ → ℕ → Type 0
-IsLoopItem tokens depth part x a b =
-    (less : ℕ) × (less + 1 ≡ depth) × (mark_at tokens a ≡ For)
+IsLoopItem tokens nesting_left part x a b =
+    (less : ℕ) × (less + 1 ≡ nesting_left) × (mark_at tokens a ≡ For)
     × ((head : PlainHead) × (m : ℕ) × IsHead tokens less head (a + 1) m
     × ((body : PlainBlock) × (n : ℕ) × IsBlockItem tokens part body m n
     × ((x ≡ loop_item (site tokens a n) head body) × (b ≡ n))))
@@ -63,25 +63,25 @@ IsElseItem tokens part from condition then x a b =
 
 -- 'if' '(' expr ')' gblock ('else' gblock)?, where an else belongs to the nearest if
 abbrev pub IsIfItem : List Lexeme → ℕ → NestedItem → PlainItem → ℕ → ℕ → Type 0
-IsIfItem tokens depth part x a b =
-    (less : ℕ) × (less + 1 ≡ depth) × (mark_at tokens a ≡ If)
+IsIfItem tokens nesting_left part x a b =
+    (less : ℕ) × (less + 1 ≡ nesting_left) × (mark_at tokens a ≡ If)
     × ((condition : Tree) × (m : ℕ) × IsInParens tokens less condition (a + 1) m
     × ((then : PlainBlock) × (n : ℕ) × IsBlockItem tokens part then m n
     × IsElseItem tokens part a condition then x n b))
 
 -- a generate region, loop or condition
 abbrev pub IsGenerated : List Lexeme → ℕ → NestedItem → PlainItem → ℕ → ℕ → Type 0
-IsGenerated tokens depth part x a b = IsGenerate tokens depth part x a b ⊎ (IsLoopItem tokens depth part x a b ⊎ IsIfItem tokens depth part x a b)
+IsGenerated tokens nesting_left part x a b = IsGenerate tokens nesting_left part x a b ⊎ (IsLoopItem tokens nesting_left part x a b ⊎ IsIfItem tokens nesting_left part x a b)
 
 -- an item, with those that nest in it
 abbrev pub IsItemWith : List Lexeme → ℕ → NestedItem → PlainItem → ℕ → ℕ → Type 0
-IsItemWith tokens depth part x a b =
-    IsDeclaration tokens depth x a b
-    ⊎ (IsStructure tokens depth x a b
-    ⊎ (IsProcedure tokens depth x a b
-    ⊎ IsGenerated tokens depth part x a b))
+IsItemWith tokens nesting_left part x a b =
+    IsDeclaration tokens nesting_left x a b
+    ⊎ (IsStructure tokens nesting_left x a b
+    ⊎ (IsProcedure tokens nesting_left x a b
+    ⊎ IsGenerated tokens nesting_left part x a b))
 
 -- an item: what nests in it has one less of nesting left
 abbrev pub IsItem : List Lexeme → ℕ → PlainItem → ℕ → ℕ → Type 0
 IsItem tokens zero = IsItemWith tokens zero (λ x a b. ⊥)
-IsItem tokens (suc depth) = IsItemWith tokens (suc depth) (IsItem tokens depth)
+IsItem tokens (suc nesting_left) = IsItemWith tokens (suc nesting_left) (IsItem tokens nesting_left)

@@ -11,14 +11,14 @@ use Rattle.v_parser.specs.ItemReading.{items_at, item_at}
 
 -- the items of a module that begins at `from`
 unfoldable pub module_items_at : List Lexeme → ℕ → ℕ → List ℕ → List PlainHeaderParameter → PlainPorts → ℕ → Read PlainModule
-module_items_at tokens depth from name parameters ports a =
-    items_at tokens mark.Endmodule (item_at tokens depth) a >>= λ xs.
+module_items_at tokens nesting_left from name parameters ports a =
+    items_at tokens mark.Endmodule (item_at tokens nesting_left) a >>= λ xs.
     Ok (record { site = site tokens from xs.1; name = name; parameters = parameters; ports = ports; items = xs.0 }, xs.1)
 
 unfoldable pub module_at : List Lexeme → ℕ → ℕ → Read PlainModule
-module_at tokens depth a =
-    expect tokens mark.Module a >>= λ b. name_at tokens b >>= λ x. header_parameters_at tokens depth x.1 >>= λ ps. header_ports_at tokens depth ps.1 >>= λ qs.
-    expect tokens mark.Semicolon qs.1 >>= λ c. module_items_at tokens depth a x.0 ps.0 qs.0 c
+module_at tokens nesting_left a =
+    expect tokens mark.Module a >>= λ b. name_at tokens b >>= λ x. header_parameters_at tokens nesting_left x.1 >>= λ ps. header_ports_at tokens nesting_left ps.1 >>= λ qs.
+    expect tokens mark.Semicolon qs.1 >>= λ c. module_items_at tokens nesting_left a x.0 ps.0 qs.0 c
 
 -- modules up to the end of the tokens, at most so many
 unfoldable pub modules_at : List Lexeme → ℕ → ℕ → Read (List PlainModule)

@@ -15,15 +15,15 @@ use Rattle.v_declarations.specs.Headers.{AreHeaderParameters, IsHeaderPorts}
 use Rattle.v_parser.specs.Items.{AreItemsUpTo, IsItem}
 use Rattle.v_parts.specs.Answers.{ShowsFault}
 
--- 'module' NAME ('#' '(' hparam,+ ')')? ('(' ports? ')')? ';' item* 'endmodule', where nesting of `depth` is left to each part
+-- 'module' NAME ('#' '(' hparam,+ ')')? ('(' ports? ')')? ';' item* 'endmodule', where `nesting_left` levels of nesting are left to each part
 abbrev pub IsModule : List Lexeme → ℕ → PlainModule → ℕ → ℕ → Type 0
-IsModule tokens depth x a b =
+IsModule tokens nesting_left x a b =
     (mark_at tokens a ≡ Module)
     × ((name : List ℕ) × (m : ℕ) × IsName tokens name (a + 1) m
-    × ((parameters : List PlainHeaderParameter) × (n : ℕ) × AreHeaderParameters tokens depth parameters m n
-    × ((ports : PlainPorts) × (k : ℕ) × IsHeaderPorts tokens depth ports n k
+    × ((parameters : List PlainHeaderParameter) × (n : ℕ) × AreHeaderParameters tokens nesting_left parameters m n
+    × ((ports : PlainPorts) × (k : ℕ) × IsHeaderPorts tokens nesting_left ports n k
     × ((mark_at tokens k ≡ Semicolon)
-    × ((items : List PlainItem) × (l : ℕ) × AreItemsUpTo tokens Endmodule (IsItem tokens depth) items (k + 1) l
+    × ((items : List PlainItem) × (l : ℕ) × AreItemsUpTo tokens Endmodule (IsItem tokens nesting_left) items (k + 1) l
     × ((x ≡ record { site = site tokens a l; name = name; parameters = parameters; ports = ports; items = items }) × (b ≡ l)))))))
 
 -- module*, up to the end of the tokens

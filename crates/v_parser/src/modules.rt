@@ -32,12 +32,12 @@ fn module_items(
     tokens: &[Token],
     header: Header,
     at: usize,
-    depth: u32,
+    nesting_left: u32,
 ) -> Read<Module>
     requires short { length tokens.now < 2 ^ 32 }
     requires before { header.from < 2 ^ 32 }
     requires inside { at ≤ length tokens.now }
-    ensures gives { Gives seen_module result (module_items_at tokens.now depth header.from header.name (map header_parameter_of header.parameters.items) (ports_of header.ports) at) }
+    ensures gives { Gives seen_module result (module_items_at tokens.now nesting_left header.from header.name (map header_parameter_of header.parameters.items) (ports_of header.ports) at) }
     ensures inside { IfOk result (Inside tokens.now) }
 {
     let Header {
@@ -46,7 +46,7 @@ fn module_items(
         parameters,
         ports,
     } = header;
-    let (items, end) = items(alloc, tokens, at, depth, Terminal::Endmodule)?;
+    let (items, end) = items(alloc, tokens, at, nesting_left, Terminal::Endmodule)?;
     let site = site_of(tokens, from, end);
     let module = Module {
         site,
@@ -60,16 +60,16 @@ fn module_items(
 
 /// `'module' NAME ('#' '(' hparam,+ ')')? ('(' ports? ')')? ';' item* 'endmodule'`
 #[tactic(auto, unfolding(crate::specs::ModuleReading::module_at))]
-fn module(alloc: Global, tokens: &[Token], from: usize, depth: u32) -> Read<Module>
+fn module(alloc: Global, tokens: &[Token], from: usize, nesting_left: u32) -> Read<Module>
     requires short { length tokens.now < 2 ^ 32 }
     requires inside { from ≤ length tokens.now }
-    ensures gives { Gives seen_module result (module_at tokens.now depth from) }
+    ensures gives { Gives seen_module result (module_at tokens.now nesting_left from) }
     ensures inside { IfOk result (Inside tokens.now) }
 {
     let next = expect(tokens, Terminal::Module, from)?;
     let (name, next) = name(alloc, tokens, next)?;
-    let (parameters, next) = header_parameters(alloc, tokens, next, depth)?;
-    let (ports, semicolon) = header_ports(alloc, tokens, next, depth)?;
+    let (parameters, next) = header_parameters(alloc, tokens, next, nesting_left)?;
+    let (ports, semicolon) = header_ports(alloc, tokens, next, nesting_left)?;
     let next = expect(tokens, Terminal::Semicolon, semicolon)?;
     let header = Header {
         from,
@@ -77,7 +77,7 @@ fn module(alloc: Global, tokens: &[Token], from: usize, depth: u32) -> Read<Modu
         parameters,
         ports,
     };
-    module_items(alloc, tokens, header, next, depth)
+    module_items(alloc, tokens, header, next, nesting_left)
 }
 
 /// `module*`, up to the end of the tokens.

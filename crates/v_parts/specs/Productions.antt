@@ -1,5 +1,5 @@
 -- Names, ranges, delays and left sides (IEEE 1364-2005, A.2, A.6, A.8.5 and A.9.3): which tree the tokens from a place up to
--- another one spell, where nesting of `depth` is left. The places are numbers of tokens. Each production stands as its comment:
+-- another one spell, where `nesting_left` levels of nesting are left. The places are numbers of tokens. Each production stands as its comment:
 -- x? is x where its first token stands and nothing elsewhere, x,+ is one or more with commas between, as far as commas go.
 use Rattle.std.specs.Prelude.{◌≡◌, ◌≢◌, ℕ, zero, suc, ◌+◌, ◌<◌, ◌≤◌, ◌⊎◌, List, [], ◌∷◌, Option, Some, None}
 use Rattle.v_lexer.specs.Lexeme.{Lexeme}
@@ -42,19 +42,19 @@ abbrev pub IsIdentifier : List Lexeme → Identifier → ℕ → ℕ → Type 0
 IsIdentifier tokens x a b = (name : List ℕ) × (m : ℕ) × IsName tokens name a m × ((x ≡ record { site = site tokens a m; name = name }) × (b ≡ m))
 
 -- expr, without a number with wildcard digits, as far as it goes and within the limits
-pub record IsValue (tokens : List Lexeme) (depth : ℕ) (e : Tree) (a b : ℕ) : Type 0 where
+pub record IsValue (tokens : List Lexeme) (nesting_left : ℕ) (e : Tree) (a b : ℕ) : Type 0 where
   pub spelled : IsExpr tokens e a b
   pub ends : Ends tokens e b
-  pub within : Within depth e
+  pub within : Within nesting_left e
 
 -- '=' expr
 abbrev pub IsEquals : List Lexeme → ℕ → Tree → ℕ → ℕ → Type 0
-IsEquals tokens depth e a b = (mark_at tokens a ≡ Equals) × IsValue tokens depth e (a + 1) b
+IsEquals tokens nesting_left e a b = (mark_at tokens a ≡ Equals) × IsValue tokens nesting_left e (a + 1) b
 
 -- '[' expr ':' expr ']'
 abbrev pub IsRange : List Lexeme → ℕ → PlainRange → ℕ → ℕ → Type 0
-IsRange tokens depth range a b =
-    (less : ℕ) × (less + 1 ≡ depth) × (mark_at tokens a ≡ OpenBracket)
+IsRange tokens nesting_left range a b =
+    (less : ℕ) × (less + 1 ≡ nesting_left) × (mark_at tokens a ≡ OpenBracket)
     × ((left : Tree) × (m : ℕ) × IsValue tokens less left (a + 1) m
     × ((mark_at tokens m ≡ Colon)
     × ((right : Tree) × (n : ℕ) × IsValue tokens less right (m + 1) n
@@ -67,8 +67,8 @@ IsNumberDelay tokens from delay a b = (mark_at tokens a ≡ Number) × ((delay �
 
 -- '(' expr ')'
 abbrev pub IsParensDelay : List Lexeme → ℕ → ℕ → PlainDelay → ℕ → ℕ → Type 0
-IsParensDelay tokens depth from delay a b =
-    (less : ℕ) × (less + 1 ≡ depth) × (mark_at tokens a ≡ Open)
+IsParensDelay tokens nesting_left from delay a b =
+    (less : ℕ) × (less + 1 ≡ nesting_left) × (mark_at tokens a ≡ Open)
     × ((value : Tree) × (m : ℕ) × IsValue tokens less value (a + 1) m
     × ((mark_at tokens m ≡ Close)
     × ((delay ≡ parens_delay (site tokens from (m + 1)) value) × (b ≡ m + 1))))
@@ -79,45 +79,45 @@ IsNameDelay tokens from delay a b = (name : List ℕ) × (m : ℕ) × IsName tok
 
 -- '#' (NUMBER | '(' expr ')' | NAME)
 abbrev pub IsDelay : List Lexeme → ℕ → PlainDelay → ℕ → ℕ → Type 0
-IsDelay tokens depth delay a b =
+IsDelay tokens nesting_left delay a b =
     (mark_at tokens a ≡ Hash)
-    × (IsNumberDelay tokens a delay (a + 1) b ⊎ (IsParensDelay tokens depth a delay (a + 1) b ⊎ IsNameDelay tokens a delay (a + 1) b))
+    × (IsNumberDelay tokens a delay (a + 1) b ⊎ (IsParensDelay tokens nesting_left a delay (a + 1) b ⊎ IsNameDelay tokens a delay (a + 1) b))
 
 -- select? select?, where each index is an expression of its own
-pub record AreIndexes (tokens : List Lexeme) (depth : ℕ) (selects : Selections) (a b : ℕ) : Type 0 where
+pub record AreIndexes (tokens : List Lexeme) (nesting_left : ℕ) (selects : Selections) (a b : ℕ) : Type 0 where
   pub spelled : AreSelects tokens selects a b
   pub two : how_many selects ≤ 2
   pub ends : how_many selects < 2 → mark_at tokens b ≢ OpenBracket
-  pub nests : nesting_of_selects selects ≤ depth
+  pub nests : nesting_of_selects selects ≤ nesting_left
   pub rises : levels_of_selects selects ≤ 4097
 
 -- NAME select? select?
 abbrev pub IsNameLeft : List Lexeme → ℕ → PlainLeft → ℕ → ℕ → Type 0
-IsNameLeft tokens depth left a b =
+IsNameLeft tokens nesting_left left a b =
     (name : List ℕ) × (m : ℕ) × IsName tokens name a m
-    × ((selects : Selections) × (n : ℕ) × AreIndexes tokens depth selects m n
+    × ((selects : Selections) × (n : ℕ) × AreIndexes tokens nesting_left selects m n
     × ((left ≡ name_left (site tokens a n) name selects) × (b ≡ n)))
 
 -- '{' left,+ '}', whose parts are left sides where less nesting is left
 abbrev pub IsConcatLeft : List Lexeme → ℕ → (PlainLeft → ℕ → ℕ → Type 0) → PlainLeft → ℕ → ℕ → Type 0
-IsConcatLeft tokens depth part left a b =
-    (less : ℕ) × (less + 1 ≡ depth) × (mark_at tokens a ≡ OpenBrace)
+IsConcatLeft tokens nesting_left part left a b =
+    (less : ℕ) × (less + 1 ≡ nesting_left) × (mark_at tokens a ≡ OpenBrace)
     × ((parts : List PlainLeft) × (m : ℕ) × AreListed tokens part parts (a + 1) m
     × ((mark_at tokens m ≡ CloseBrace)
     × ((left ≡ concat_left (site tokens a (m + 1)) (lefts_of parts)) × (b ≡ m + 1))))
 
 -- '{' left,+ '}' | NAME select? select?
 abbrev pub IsLeftWith : List Lexeme → ℕ → (PlainLeft → ℕ → ℕ → Type 0) → PlainLeft → ℕ → ℕ → Type 0
-IsLeftWith tokens depth part left a b = IsConcatLeft tokens depth part left a b ⊎ IsNameLeft tokens depth left a b
+IsLeftWith tokens nesting_left part left a b = IsConcatLeft tokens nesting_left part left a b ⊎ IsNameLeft tokens nesting_left left a b
 
 abbrev pub IsLeft : List Lexeme → ℕ → PlainLeft → ℕ → ℕ → Type 0
 IsLeft tokens zero = IsLeftWith tokens zero (λ left a b. ⊥)
-IsLeft tokens (suc depth) = IsLeftWith tokens (suc depth) (IsLeft tokens depth)
+IsLeft tokens (suc nesting_left) = IsLeftWith tokens (suc nesting_left) (IsLeft tokens nesting_left)
 
 -- NAME '=' expr
 abbrev pub IsNamedValue : List Lexeme → ℕ → PlainNamed → ℕ → ℕ → Type 0
-IsNamedValue tokens depth named a b =
+IsNamedValue tokens nesting_left named a b =
     (name : List ℕ) × (m : ℕ) × IsName tokens name a m
     × ((mark_at tokens m ≡ Equals)
-    × ((value : Tree) × (n : ℕ) × IsValue tokens depth value (m + 1) n
+    × ((value : Tree) × (n : ℕ) × IsValue tokens nesting_left value (m + 1) n
     × ((named ≡ record { site = site tokens a n; name = name; value = value }) × (b ≡ n))))

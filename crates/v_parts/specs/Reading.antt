@@ -43,19 +43,19 @@ unfoldable pub identifier_at : List Lexeme → ℕ → Read Identifier
 identifier_at tokens a = name_at tokens a >>= λ x. Ok (record { site = site tokens a x.1; name = x.0 }, x.1)
 
 unfoldable pub value_at : List Lexeme → ℕ → ℕ → Read Tree
-value_at tokens depth a = if same (mark_at tokens a) mark.Wild then Err (Unsupported a) else whole_expression tokens depth a
+value_at tokens nesting_left a = if same (mark_at tokens a) mark.Wild then Err (Unsupported a) else whole_expression tokens nesting_left a
 
 unfoldable pub equals_at : List Lexeme → ℕ → ℕ → Read Tree
-equals_at tokens depth a = expect tokens mark.Equals a >>= λ m. value_at tokens depth m
+equals_at tokens nesting_left a = expect tokens mark.Equals a >>= λ m. value_at tokens nesting_left m
 
 unfoldable pub range_at : List Lexeme → ℕ → ℕ → Read PlainRange
-range_at tokens depth a =
-    lower depth a >>= λ less. value_at tokens less (a + 1) >>= λ x. expect tokens mark.Colon x.1 >>= λ m. value_at tokens less m >>= λ y.
+range_at tokens nesting_left a =
+    lower nesting_left a >>= λ less. value_at tokens less (a + 1) >>= λ x. expect tokens mark.Colon x.1 >>= λ m. value_at tokens less m >>= λ y.
     expect tokens mark.CloseBracket y.1 >>= λ b. Ok (record { site = site tokens a b; left = x.0; right = y.0 }, b)
 
 unfoldable pub parens_delay_at : List Lexeme → ℕ → ℕ → ℕ → Read PlainDelay
-parens_delay_at tokens depth a m =
-    lower depth m >>= λ less. value_at tokens less (m + 1) >>= λ x. expect tokens mark.Close x.1 >>= λ b. Ok (parens_delay (site tokens a b) x.0, b)
+parens_delay_at tokens nesting_left a m =
+    lower nesting_left m >>= λ less. value_at tokens less (m + 1) >>= λ x. expect tokens mark.Close x.1 >>= λ b. Ok (parens_delay (site tokens a b) x.0, b)
 
 unfoldable pub name_delay_at : List Lexeme → ℕ → ℕ → Read PlainDelay
 name_delay_at tokens a m = name_at tokens m >>= λ x. Ok (name_delay (site tokens a x.1) x.0, x.1)
@@ -65,39 +65,39 @@ number_delay_at tokens a m = Ok (number_delay (site tokens a (m + 1)) (text_at t
 
 -- what stands behind the # at a
 unfoldable pub behind_hash_at : List Lexeme → ℕ → ℕ → ℕ → Read PlainDelay
-behind_hash_at tokens depth a m =
+behind_hash_at tokens nesting_left a m =
     if same (mark_at tokens m) mark.Number then number_delay_at tokens a m
-    else if same (mark_at tokens m) mark.Open then parens_delay_at tokens depth a m
+    else if same (mark_at tokens m) mark.Open then parens_delay_at tokens nesting_left a m
     else name_delay_at tokens a m
 
 unfoldable pub delay_at : List Lexeme → ℕ → ℕ → Read PlainDelay
-delay_at tokens depth a = expect tokens mark.Hash a >>= λ m. behind_hash_at tokens depth a m
+delay_at tokens nesting_left a = expect tokens mark.Hash a >>= λ m. behind_hash_at tokens nesting_left a m
 
 unfoldable pub name_left_at : List Lexeme → ℕ → ℕ → Read PlainLeft
-name_left_at tokens depth a =
-    name_at tokens a >>= λ x. selects_at tokens depth (below tokens depth).whole 4097 2 x.1 >>= λ xs. Ok (name_left (site tokens a xs.1) x.0 xs.0, xs.1)
+name_left_at tokens nesting_left a =
+    name_at tokens a >>= λ x. selects_at tokens nesting_left (below tokens nesting_left).whole 4097 2 x.1 >>= λ xs. Ok (name_left (site tokens a xs.1) x.0 xs.0, xs.1)
 
 unfoldable pub close_left_at : List Lexeme → ℕ → List PlainLeft → ℕ → Read PlainLeft
 close_left_at tokens a parts m = expect tokens mark.CloseBrace m >>= λ b. Ok (concat_left (site tokens a b) (lefts_of parts), b)
 
 unfoldable pub concat_left_at : List Lexeme → ℕ → (ℕ → Read PlainLeft) → ℕ → Read PlainLeft
-concat_left_at tokens depth inner a =
-    lower depth a >>= λ less. list_at tokens inner (a + 1) >>= λ xs. close_left_at tokens a xs.0 xs.1
+concat_left_at tokens nesting_left inner a =
+    lower nesting_left a >>= λ less. list_at tokens inner (a + 1) >>= λ xs. close_left_at tokens a xs.0 xs.1
 
 -- a left side, with the reader of what nests in it
 unfoldable pub left_with : List Lexeme → ℕ → (ℕ → Read PlainLeft) → ℕ → Read PlainLeft
-left_with tokens depth inner a = if same (mark_at tokens a) mark.OpenBrace then concat_left_at tokens depth inner a else name_left_at tokens depth a
+left_with tokens nesting_left inner a = if same (mark_at tokens a) mark.OpenBrace then concat_left_at tokens nesting_left inner a else name_left_at tokens nesting_left a
 
 unfoldable pub left_at : List Lexeme → ℕ → ℕ → Read PlainLeft
 left_at tokens zero = left_with tokens zero (λ a. Err (Deep a))
-left_at tokens (suc depth) = left_with tokens (suc depth) (left_at tokens depth)
+left_at tokens (suc nesting_left) = left_with tokens (suc nesting_left) (left_at tokens nesting_left)
 
 -- the left sides within, where so much nesting is left
 abbrev pub left_below : List Lexeme → ℕ → ℕ → Read PlainLeft
 left_below tokens zero = λ a. Err (Deep a)
-left_below tokens (suc depth) = left_at tokens depth
+left_below tokens (suc nesting_left) = left_at tokens nesting_left
 
 unfoldable pub named_value_at : List Lexeme → ℕ → ℕ → Read PlainNamed
-named_value_at tokens depth a =
-    name_at tokens a >>= λ x. expect tokens mark.Equals x.1 >>= λ m. value_at tokens depth m >>= λ y.
+named_value_at tokens nesting_left a =
+    name_at tokens a >>= λ x. expect tokens mark.Equals x.1 >>= λ m. value_at tokens nesting_left m >>= λ y.
     Ok (record { site = site tokens a y.1; name = x.0; value = y.0 }, y.1)

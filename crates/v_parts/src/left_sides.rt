@@ -46,14 +46,14 @@ fn concat(site: Site, parts: Vec<Left>) -> Left
 
 /// `NAME select? select?`
 #[tactic(auto, unfolding(crate::specs::Reading::name_left_at))]
-fn name_left(alloc: Global, tokens: &[Token], at: usize, depth: u32) -> Read<Left>
+fn name_left(alloc: Global, tokens: &[Token], at: usize, nesting_left: u32) -> Read<Left>
     requires short { length tokens.now < 2 ^ 32 }
     requires inside { at ≤ length tokens.now }
-    ensures gives { Gives seen_left result (name_left_at tokens.now depth at) }
+    ensures gives { Gives seen_left result (name_left_at tokens.now nesting_left at) }
     ensures inside { IfOk result (Inside tokens.now) }
 {
     let (name, next) = name(alloc, tokens, at)?;
-    let found = selects(alloc, tokens, next, depth, INDEX_LEVELS)?;
+    let found = selects(alloc, tokens, next, nesting_left, INDEX_LEVELS)?;
     let site = site_of(tokens, at, found.end);
     Ok((named(site, name, found.tree), found.end))
 }
@@ -73,49 +73,49 @@ fn close_left(tokens: &[Token], from: usize, parts: Vec<Left>, at: usize) -> Rea
 /// `'{' left,+ '}' | NAME select? select?`
 #[tactic(auto, using(crate::proofs::LeftSteps::left_over), unfolding(crate::specs::Reading::left_with))]
 #[cycle(left)]
-pub fn left(alloc: Global, tokens: &[Token], at: usize, depth: u32) -> Read<Left>
+pub fn left(alloc: Global, tokens: &[Token], at: usize, nesting_left: u32) -> Read<Left>
     requires short { length tokens.now < 2 ^ 32 }
     requires inside { at ≤ length tokens.now }
-    ensures gives { Gives seen_left result (left_at tokens.now depth at) }
+    ensures gives { Gives seen_left result (left_at tokens.now nesting_left at) }
     ensures inside { IfOk result (Inside tokens.now) }
 {
     if stands(tokens, at, Terminal::OpenBrace) {
-        return left_concat(alloc, tokens, at, depth);
+        return left_concat(alloc, tokens, at, nesting_left);
     }
-    name_left(alloc, tokens, at, depth)
+    name_left(alloc, tokens, at, nesting_left)
 }
 
 /// `'{' left,+ '}'`
 #[tactic(auto, using(crate::proofs::LeftSteps::left_below_less), unfolding(crate::specs::Reading::concat_left_at))]
 #[cycle(left)]
-fn left_concat(alloc: Global, tokens: &[Token], at: usize, depth: u32) -> Read<Left>
+fn left_concat(alloc: Global, tokens: &[Token], at: usize, nesting_left: u32) -> Read<Left>
     requires short { length tokens.now < 2 ^ 32 }
     requires inside { at < length tokens.now }
-    ensures gives { Gives seen_left result (concat_left_at tokens.now depth (left_below tokens.now depth) at) }
+    ensures gives { Gives seen_left result (concat_left_at tokens.now nesting_left (left_below tokens.now nesting_left) at) }
     ensures inside { IfOk result (Inside tokens.now) }
 {
-    let depth = lower(depth, at)?;
-    let (parts, end) = lefts(alloc, tokens, at + 1, depth)?;
+    let nesting_left = lower(nesting_left, at)?;
+    let (parts, end) = lefts(alloc, tokens, at + 1, nesting_left)?;
     close_left(tokens, at, parts, end)
 }
 
 /// `left,+`
 #[tactic(auto, unfolding(crate::specs::Reading::list_at))]
 #[cycle(left)]
-fn lefts(alloc: Global, tokens: &[Token], at: usize, depth: u32) -> Read<Vec<Left>>
+fn lefts(alloc: Global, tokens: &[Token], at: usize, nesting_left: u32) -> Read<Vec<Left>>
     requires short { length tokens.now < 2 ^ 32 }
     requires inside { at ≤ length tokens.now }
-    ensures gives { Gives seen_lefts result (list_at tokens.now (left_at tokens.now depth) at) }
+    ensures gives { Gives seen_lefts result (list_at tokens.now (left_at tokens.now nesting_left) at) }
     ensures inside { IfOk result (Inside tokens.now) }
 {
     let mut parts = Vec::new(alloc);
-    let (first, mut end) = left(alloc, tokens, at, depth)?;
+    let (first, mut end) = left(alloc, tokens, at, nesting_left)?;
     parts.push(first)?;
     for _ in 0..tokens.len() {
         if !stands(tokens, end, Terminal::Comma) {
             return Ok((parts, end));
         }
-        let (part, next) = left(alloc, tokens, end + 1, depth)?;
+        let (part, next) = left(alloc, tokens, end + 1, nesting_left)?;
         parts.push(part)?;
         end = next;
     }

@@ -87,7 +87,7 @@ pub fn identifiers(alloc: Global, tokens: &[Token], at: usize) -> Read<Vec<Ident
 
 #[derive(Drop)]
 struct ValueReader {
-    depth: u32,
+    nesting_left: u32,
 }
 
 impl PartReader for ValueReader {
@@ -97,26 +97,26 @@ impl PartReader for ValueReader {
 
     ghost plain = { tree_of };
 
-    ghost part_at = { λ reader tokens. value_at tokens reader.depth };
+    ghost part_at = { λ reader tokens. value_at tokens reader.nesting_left };
 
     fn read(&self, alloc: Global, tokens: &[Token], at: usize) -> Read<Expr> {
-        value(alloc, tokens, at, self.depth)
+        value(alloc, tokens, at, self.nesting_left)
     }
 }
 
 /// `expr,+`
-pub fn values(alloc: Global, tokens: &[Token], at: usize, depth: u32) -> Read<Vec<Expr>>
+pub fn values(alloc: Global, tokens: &[Token], at: usize, nesting_left: u32) -> Read<Vec<Expr>>
     requires short { length tokens.now < 2 ^ 32 }
     requires inside { at ≤ length tokens.now }
-    ensures gives { Gives seen_values result (list_at tokens.now (value_at tokens.now depth) at) }
+    ensures gives { Gives seen_values result (list_at tokens.now (value_at tokens.now nesting_left) at) }
     ensures inside { IfOk result (Inside tokens.now) }
 {
-    listed(alloc, tokens, at, &ValueReader { depth })
+    listed(alloc, tokens, at, &ValueReader { nesting_left })
 }
 
 #[derive(Drop)]
 struct NamedValueReader {
-    depth: u32,
+    nesting_left: u32,
 }
 
 impl PartReader for NamedValueReader {
@@ -126,34 +126,44 @@ impl PartReader for NamedValueReader {
 
     ghost plain = { named_of };
 
-    ghost part_at = { λ reader tokens. named_value_at tokens reader.depth };
+    ghost part_at = { λ reader tokens. named_value_at tokens reader.nesting_left };
 
     fn read(&self, alloc: Global, tokens: &[Token], at: usize) -> Read<NamedValue> {
-        named_value(alloc, tokens, at, self.depth)
+        named_value(alloc, tokens, at, self.nesting_left)
     }
 }
 
 /// `NAME '=' expr`
 #[tactic(auto, unfolding(crate::specs::Reading::named_value_at))]
-pub fn named_value(alloc: Global, tokens: &[Token], at: usize, depth: u32) -> Read<NamedValue>
+pub fn named_value(
+    alloc: Global,
+    tokens: &[Token],
+    at: usize,
+    nesting_left: u32,
+) -> Read<NamedValue>
     requires short { length tokens.now < 2 ^ 32 }
     requires inside { at ≤ length tokens.now }
-    ensures gives { Gives seen_named result (named_value_at tokens.now depth at) }
+    ensures gives { Gives seen_named result (named_value_at tokens.now nesting_left at) }
     ensures inside { IfOk result (Inside tokens.now) }
 {
     let (name, equals) = name(alloc, tokens, at)?;
     let next = expect(tokens, Terminal::Equals, equals)?;
-    let (value, end) = value(alloc, tokens, next, depth)?;
+    let (value, end) = value(alloc, tokens, next, nesting_left)?;
     let site = site_of(tokens, at, end);
     Ok((NamedValue { site, name, value }, end))
 }
 
 /// `(NAME '=' expr),+`
-pub fn named_values(alloc: Global, tokens: &[Token], at: usize, depth: u32) -> Read<Vec<NamedValue>>
+pub fn named_values(
+    alloc: Global,
+    tokens: &[Token],
+    at: usize,
+    nesting_left: u32,
+) -> Read<Vec<NamedValue>>
     requires short { length tokens.now < 2 ^ 32 }
     requires inside { at ≤ length tokens.now }
-    ensures gives { Gives seen_nameds result (list_at tokens.now (named_value_at tokens.now depth) at) }
+    ensures gives { Gives seen_nameds result (list_at tokens.now (named_value_at tokens.now nesting_left) at) }
     ensures inside { IfOk result (Inside tokens.now) }
 {
-    listed(alloc, tokens, at, &NamedValueReader { depth })
+    listed(alloc, tokens, at, &NamedValueReader { nesting_left })
 }

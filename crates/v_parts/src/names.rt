@@ -43,47 +43,47 @@ pub fn identifier(alloc: Global, tokens: &[Token], at: usize) -> Read<Identifier
 
 /// An expression without wildcard digits.
 #[tactic(auto, using(crate::proofs::Marks::is_mark), unfolding(crate::specs::Reading::value_at))]
-pub fn value(alloc: Global, tokens: &[Token], at: usize, depth: u32) -> Read<Expr>
+pub fn value(alloc: Global, tokens: &[Token], at: usize, nesting_left: u32) -> Read<Expr>
     requires short { length tokens.now < 2 ^ 32 }
     requires inside { at ≤ length tokens.now }
-    ensures gives { Gives seen_value result (value_at tokens.now depth at) }
+    ensures gives { Gives seen_value result (value_at tokens.now nesting_left at) }
     ensures inside { IfOk result (Inside tokens.now) }
 {
     if stands(tokens, at, Terminal::Wild) {
         return Err(Stop::Fault(Fault::Unsupported(at)));
     }
-    let found = read_expression(alloc, tokens, at, depth)?;
+    let found = read_expression(alloc, tokens, at, nesting_left)?;
     Ok((found.tree, found.end))
 }
 
 /// `'=' expr`, where an equals sign stands.
 #[tactic(auto, unfolding(crate::specs::Reading::optional_at, crate::specs::Reading::equals_at))]
-pub fn value_if(alloc: Global, tokens: &[Token], at: usize, depth: u32) -> Read<Option<Expr>>
+pub fn value_if(alloc: Global, tokens: &[Token], at: usize, nesting_left: u32) -> Read<Option<Expr>>
     requires short { length tokens.now < 2 ^ 32 }
     requires inside { at ≤ length tokens.now }
-    ensures gives { Gives seen_value_if result (optional_at tokens.now marks.Equals (equals_at tokens.now depth) at) }
+    ensures gives { Gives seen_value_if result (optional_at tokens.now marks.Equals (equals_at tokens.now nesting_left) at) }
     ensures inside { IfOk result (Inside tokens.now) }
 {
     if !stands(tokens, at, Terminal::Equals) {
         return Ok((None, at));
     }
     let next = expect(tokens, Terminal::Equals, at)?;
-    let (value, end) = value(alloc, tokens, next, depth)?;
+    let (value, end) = value(alloc, tokens, next, nesting_left)?;
     Ok((Some(value), end))
 }
 
 /// `'[' expr ':' expr ']'`
 #[tactic(auto, unfolding(crate::specs::Reading::range_at))]
-pub fn range(alloc: Global, tokens: &[Token], at: usize, depth: u32) -> Read<Range>
+pub fn range(alloc: Global, tokens: &[Token], at: usize, nesting_left: u32) -> Read<Range>
     requires short { length tokens.now < 2 ^ 32 }
     requires inside { at < length tokens.now }
-    ensures gives { Gives seen_range result (range_at tokens.now depth at) }
+    ensures gives { Gives seen_range result (range_at tokens.now nesting_left at) }
     ensures inside { IfOk result (Inside tokens.now) }
 {
-    let depth = lower(depth, at)?;
-    let (left, colon) = value(alloc, tokens, at + 1, depth)?;
+    let nesting_left = lower(nesting_left, at)?;
+    let (left, colon) = value(alloc, tokens, at + 1, nesting_left)?;
     let next = expect(tokens, Terminal::Colon, colon)?;
-    let (right, close) = value(alloc, tokens, next, depth)?;
+    let (right, close) = value(alloc, tokens, next, nesting_left)?;
     let end = expect(tokens, Terminal::CloseBracket, close)?;
     let site = site_of(tokens, at, end);
     Ok((Range { site, left, right }, end))
@@ -91,30 +91,41 @@ pub fn range(alloc: Global, tokens: &[Token], at: usize, depth: u32) -> Read<Ran
 
 /// `'[' expr ':' expr ']'`, where a bracket stands.
 #[tactic(auto, unfolding(crate::specs::Reading::optional_at))]
-pub fn range_if(alloc: Global, tokens: &[Token], at: usize, depth: u32) -> Read<Option<Range>>
+pub fn range_if(
+    alloc: Global,
+    tokens: &[Token],
+    at: usize,
+    nesting_left: u32,
+) -> Read<Option<Range>>
     requires short { length tokens.now < 2 ^ 32 }
     requires inside { at ≤ length tokens.now }
-    ensures gives { Gives seen_range_if result (optional_at tokens.now marks.OpenBracket (range_at tokens.now depth) at) }
+    ensures gives { Gives seen_range_if result (optional_at tokens.now marks.OpenBracket (range_at tokens.now nesting_left) at) }
     ensures inside { IfOk result (Inside tokens.now) }
 {
     if !stands(tokens, at, Terminal::OpenBracket) {
         return Ok((None, at));
     }
-    let (range, end) = range(alloc, tokens, at, depth)?;
+    let (range, end) = range(alloc, tokens, at, nesting_left)?;
     Ok((Some(range), end))
 }
 
 /// `'(' expr ')'` behind the `#` at `from`.
 #[tactic(auto, unfolding(crate::specs::Reading::parens_delay_at))]
-fn parens_delay(alloc: Global, tokens: &[Token], from: usize, at: usize, depth: u32) -> Read<Delay>
+fn parens_delay(
+    alloc: Global,
+    tokens: &[Token],
+    from: usize,
+    at: usize,
+    nesting_left: u32,
+) -> Read<Delay>
     requires short { length tokens.now < 2 ^ 32 }
     requires before { from < 2 ^ 32 }
     requires inside { at < length tokens.now }
-    ensures gives { Gives seen_delay result (parens_delay_at tokens.now depth from at) }
+    ensures gives { Gives seen_delay result (parens_delay_at tokens.now nesting_left from at) }
     ensures inside { IfOk result (Inside tokens.now) }
 {
-    let depth = lower(depth, at)?;
-    let (value, close) = value(alloc, tokens, at + 1, depth)?;
+    let nesting_left = lower(nesting_left, at)?;
+    let (value, close) = value(alloc, tokens, at + 1, nesting_left)?;
     let end = expect(tokens, Terminal::Close, close)?;
     let site = site_of(tokens, from, end);
     Ok((Delay::Parens { site, value }, end))
@@ -150,10 +161,10 @@ fn name_delay(alloc: Global, tokens: &[Token], from: usize, at: usize) -> Read<D
 
 /// `'#' (NUMBER | NAME | '(' expr ')')`
 #[tactic(auto, using(crate::proofs::Marks::is_mark), unfolding(crate::specs::Reading::delay_at, crate::specs::Reading::behind_hash_at))]
-pub fn delay(alloc: Global, tokens: &[Token], at: usize, depth: u32) -> Read<Delay>
+pub fn delay(alloc: Global, tokens: &[Token], at: usize, nesting_left: u32) -> Read<Delay>
     requires short { length tokens.now < 2 ^ 32 }
     requires inside { at ≤ length tokens.now }
-    ensures gives { Gives seen_delay result (delay_at tokens.now depth at) }
+    ensures gives { Gives seen_delay result (delay_at tokens.now nesting_left at) }
     ensures inside { IfOk result (Inside tokens.now) }
 {
     let first = expect(tokens, Terminal::Hash, at)?;
@@ -161,21 +172,26 @@ pub fn delay(alloc: Global, tokens: &[Token], at: usize, depth: u32) -> Read<Del
         return number_delay(alloc, tokens, at, first);
     }
     if stands(tokens, first, Terminal::Open) {
-        return parens_delay(alloc, tokens, at, first, depth);
+        return parens_delay(alloc, tokens, at, first, nesting_left);
     }
     name_delay(alloc, tokens, at, first)
 }
 
 #[tactic(auto, unfolding(crate::specs::Reading::optional_at))]
-pub fn delay_if(alloc: Global, tokens: &[Token], at: usize, depth: u32) -> Read<Option<Delay>>
+pub fn delay_if(
+    alloc: Global,
+    tokens: &[Token],
+    at: usize,
+    nesting_left: u32,
+) -> Read<Option<Delay>>
     requires short { length tokens.now < 2 ^ 32 }
     requires inside { at ≤ length tokens.now }
-    ensures gives { Gives seen_delay_if result (optional_at tokens.now marks.Hash (delay_at tokens.now depth) at) }
+    ensures gives { Gives seen_delay_if result (optional_at tokens.now marks.Hash (delay_at tokens.now nesting_left) at) }
     ensures inside { IfOk result (Inside tokens.now) }
 {
     if !stands(tokens, at, Terminal::Hash) {
         return Ok((None, at));
     }
-    let (delay, end) = delay(alloc, tokens, at, depth)?;
+    let (delay, end) = delay(alloc, tokens, at, nesting_left)?;
     Ok((Some(delay), end))
 }

@@ -15,21 +15,21 @@ use Rattle.v_statements.specs.Statements.{Nested, IsLabel}
 
 -- 'begin' (':' NAME)? initial* 'end'
 abbrev pub IsInitialBlock : List Lexeme → ℕ → Nested → PlainStatement → ℕ → ℕ → Type 0
-IsInitialBlock tokens depth part x a b =
-    (less : ℕ) × (less + 1 ≡ depth) × (mark_at tokens a ≡ Begin)
+IsInitialBlock tokens nesting_left part x a b =
+    (less : ℕ) × (less + 1 ≡ nesting_left) × (mark_at tokens a ≡ Begin)
     × ((label : Option Identifier) × (m : ℕ) × IsOptional tokens Colon (IsLabel tokens) label (a + 1) m
     × ((body : List PlainStatement) × (n : ℕ) × AreRun tokens End (λ (s : Bool). part) (λ s x. s) true body m n
     × ((x ≡ block (site tokens a n) label (statements_of body)) × (b ≡ n))))
 
 -- NAME '=' expr ';', where no select, no <= and no delay stands
 abbrev pub IsInitialAssign : List Lexeme → ℕ → PlainStatement → ℕ → ℕ → Type 0
-IsInitialAssign tokens depth x a b =
+IsInitialAssign tokens nesting_left x a b =
     (name : List ℕ) × (m : ℕ) × IsName tokens name a m
     × ((mark_at tokens m ≢ OpenBracket)
     × ((mark_at tokens m ≢ LessEqual)
     × ((mark_at tokens m ≡ Equals)
     × ((mark_at tokens (m + 1) ≢ Hash)
-    × ((value : Tree) × (n : ℕ) × IsValue tokens depth value (m + 1) n
+    × ((value : Tree) × (n : ℕ) × IsValue tokens nesting_left value (m + 1) n
     × ((mark_at tokens n ≡ Semicolon)
     × ((x ≡ assignment (site tokens a (n + 1)) (name_left (site tokens a m) name no_select) Blocking None value) × (b ≡ n + 1))))))))
 
@@ -45,9 +45,9 @@ is_left_out OpenBrace = true
 is_left_out _ = false
 
 abbrev pub IsInitialWith : List Lexeme → ℕ → Nested → PlainStatement → ℕ → ℕ → Type 0
-IsInitialWith tokens depth part x a b = IsInitialBlock tokens depth part x a b ⊎ IsInitialAssign tokens depth x a b
+IsInitialWith tokens nesting_left part x a b = IsInitialBlock tokens nesting_left part x a b ⊎ IsInitialAssign tokens nesting_left x a b
 
 -- what nests in it has one less of nesting left
 abbrev pub IsInitial : List Lexeme → ℕ → PlainStatement → ℕ → ℕ → Type 0
 IsInitial tokens zero = IsInitialWith tokens zero (λ x a b. ⊥)
-IsInitial tokens (suc depth) = IsInitialWith tokens (suc depth) (IsInitial tokens depth)
+IsInitial tokens (suc nesting_left) = IsInitialWith tokens (suc nesting_left) (IsInitial tokens nesting_left)

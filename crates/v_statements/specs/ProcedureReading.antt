@@ -11,14 +11,14 @@ use Rattle.v_tree.specs.ItemTree.{PlainItem, always_item, initial_item}
 use Rattle.v_statements.specs.SensitivityReading.{sensitivity_at}
 
 unfoldable pub always_at : List Lexeme → ℕ → ℕ → Read PlainItem
-always_at tokens depth a =
-    expect tokens mark.Always a >>= λ m. expect tokens mark.At m >>= λ n. sensitivity_at tokens depth n >>= λ e. statement_at tokens depth e.1 >>= λ y.
+always_at tokens nesting_left a =
+    expect tokens mark.Always a >>= λ m. expect tokens mark.At m >>= λ n. sensitivity_at tokens nesting_left n >>= λ e. statement_at tokens nesting_left e.1 >>= λ y.
     Ok (always_item (site tokens a y.1) e.0 y.0, y.1)
 
 unfoldable pub initial_item_at : List Lexeme → ℕ → ℕ → Read PlainItem
-initial_item_at tokens depth a =
-    expect tokens mark.Initial a >>= λ m. initial_at tokens depth m >>= λ y. Ok (initial_item (site tokens a y.1) y.0, y.1)
+initial_item_at tokens nesting_left a =
+    expect tokens mark.Initial a >>= λ m. initial_at tokens nesting_left m >>= λ y. Ok (initial_item (site tokens a y.1) y.0, y.1)
 
 -- any other token has no place
 unfoldable pub procedure_at : List Lexeme → ℕ → ℕ → Read PlainItem
-procedure_at tokens depth a = if same (mark_at tokens a) mark.Always then always_at tokens depth a else initial_item_at tokens depth a
+procedure_at tokens nesting_left a = if same (mark_at tokens a) mark.Always then always_at tokens nesting_left a else initial_item_at tokens nesting_left a

@@ -1,5 +1,5 @@
 -- What an always block waits for (IEEE 1364-2005, 9.7.2, 9.7.5 and A.6.5): which tree the tokens from a place up to another one
--- spell, where nesting of `depth` is left. Each production stands as its comment, as in Productions.
+-- spell, where `nesting_left` levels of nesting are left. Each production stands as its comment, as in Productions.
 use Rattle.std.specs.Prelude.{◌≡◌, ◌≢◌, ℕ, ◌+◌, ◌≤◌, ◌⊎◌, Bool, true, false, List, [], ◌∷◌, Option}
 use Rattle.v_lexer.specs.Lexeme.{Lexeme}
 use Rattle.v_tree.specs.declared.statement.Edge.{Edge}
@@ -31,29 +31,29 @@ IsEdgeEvent tokens event a b =
     × ((event ≡ edge_event (site tokens a n) edge name) × (b ≡ n)))
 
 -- select, whose index is an expression of its own
-pub record IsIndex (tokens : List Lexeme) (depth : ℕ) (select : Selection) (a b : ℕ) : Type 0 where
+pub record IsIndex (tokens : List Lexeme) (nesting_left : ℕ) (select : Selection) (a b : ℕ) : Type 0 where
   pub spelled : IsSelect tokens select a b
-  pub nests : nesting_of_select select ≤ depth
+  pub nests : nesting_of_select select ≤ nesting_left
   pub rises : levels_of_select select ≤ 4097
 
 -- NAME select?
 abbrev pub IsChange : List Lexeme → ℕ → PlainEvent → ℕ → ℕ → Type 0
-IsChange tokens depth event a b =
+IsChange tokens nesting_left event a b =
     (name : List ℕ) × (m : ℕ) × IsName tokens name a m
-    × ((select : Option Selection) × (n : ℕ) × IsOptional tokens OpenBracket (IsIndex tokens depth) select m n
+    × ((select : Option Selection) × (n : ℕ) × IsOptional tokens OpenBracket (IsIndex tokens nesting_left) select m n
     × ((event ≡ change_event (site tokens a n) name select) × (b ≡ n)))
 
 -- ('or' | ',') NAME select?, where no edge stands
 abbrev pub IsNextChange : List Lexeme → ℕ → PlainEvent → ℕ → ℕ → Type 0
-IsNextChange tokens depth event a b =
+IsNextChange tokens nesting_left event a b =
     (is_or : Bool) × (m : ℕ) × IsSeparator tokens is_or a m
-    × ((mark_at tokens m ≢ Posedge) × ((mark_at tokens m ≢ Negedge) × IsChange tokens depth event m b))
+    × ((mark_at tokens m ≢ Posedge) × ((mark_at tokens m ≢ Negedge) × IsChange tokens nesting_left event m b))
 
 -- change (('or' | ',') change)* ')'
 abbrev pub AreChanges : List Lexeme → ℕ → List PlainEvent → ℕ → ℕ → Type 0
-AreChanges tokens depth events a b =
-    (first : PlainEvent) × (m : ℕ) × IsChange tokens depth first a m
-    × ((others : List PlainEvent) × (n : ℕ) × AreRun tokens Close (λ (s : Bool). IsNextChange tokens depth) (λ s x. s) true others m n
+AreChanges tokens nesting_left events a b =
+    (first : PlainEvent) × (m : ℕ) × IsChange tokens nesting_left first a m
+    × ((others : List PlainEvent) × (n : ℕ) × AreRun tokens Close (λ (s : Bool). IsNextChange tokens nesting_left) (λ s x. s) true others m n
     × ((events ≡ first ∷ others) × (b ≡ n)))
 
 abbrev pub is_posedge : PlainEvent → Bool
@@ -82,21 +82,21 @@ AreEdges tokens events a b =
 
 -- an edge begins a list of edges, and anything else one of changes
 abbrev pub AreEvents : List Lexeme → ℕ → List PlainEvent → ℕ → ℕ → Type 0
-AreEvents tokens depth events a b =
+AreEvents tokens nesting_left events a b =
     ((mark_at tokens a ≡ Posedge) × AreEdges tokens events a b)
     ⊎ ((mark_at tokens a ≢ Posedge)
-    × (((mark_at tokens a ≡ Negedge) × AreEdges tokens events a b) ⊎ ((mark_at tokens a ≢ Negedge) × AreChanges tokens depth events a b)))
+    × (((mark_at tokens a ≡ Negedge) × AreEdges tokens events a b) ⊎ ((mark_at tokens a ≢ Negedge) × AreChanges tokens nesting_left events a b)))
 
 -- '*' ')' behind the '(' at `from`
 abbrev pub IsStarClose : List Lexeme → ℕ → PlainSensitivity → ℕ → ℕ → Type 0
 IsStarClose tokens from x a b = (mark_at tokens a ≡ Star) × ((mark_at tokens (a + 1) ≡ Close) × ((x ≡ all_events (site tokens from (a + 1 + 1))) × (b ≡ a + 1 + 1)))
 
 abbrev pub IsListed : List Lexeme → ℕ → ℕ → PlainSensitivity → ℕ → ℕ → Type 0
-IsListed tokens depth from x a b =
-    (mark_at tokens a ≢ Star) × ((events : List PlainEvent) × (n : ℕ) × AreEvents tokens depth events a n × ((x ≡ listed (site tokens from n) events) × (b ≡ n)))
+IsListed tokens nesting_left from x a b =
+    (mark_at tokens a ≢ Star) × ((events : List PlainEvent) × (n : ℕ) × AreEvents tokens nesting_left events a n × ((x ≡ listed (site tokens from n) events) × (b ≡ n)))
 
 -- '*' | '(' '*' ')' | '(' events ')'
 abbrev pub IsSensitivity : List Lexeme → ℕ → PlainSensitivity → ℕ → ℕ → Type 0
-IsSensitivity tokens depth x a b =
+IsSensitivity tokens nesting_left x a b =
     ((mark_at tokens a ≡ Star) × ((x ≡ all_events (site tokens a (a + 1))) × (b ≡ a + 1)))
-    ⊎ ((mark_at tokens a ≡ Open) × (IsStarClose tokens a x (a + 1) b ⊎ IsListed tokens depth a x (a + 1) b))
+    ⊎ ((mark_at tokens a ≡ Open) × (IsStarClose tokens a x (a + 1) b ⊎ IsListed tokens nesting_left a x (a + 1) b))

@@ -28,23 +28,23 @@ unfoldable pub edge_event_at : List Lexeme → ℕ → Read PlainEvent
 edge_event_at tokens a = edge_at tokens a >>= λ e. name_at tokens e.1 >>= λ x. Ok (edge_event (site tokens a x.1) e.0 x.0, x.1)
 
 abbrev pub index_at : List Lexeme → ℕ → ℕ → Read Selection
-index_at tokens depth a = select_at tokens depth (below tokens depth).whole 4097 a
+index_at tokens nesting_left a = select_at tokens nesting_left (below tokens nesting_left).whole 4097 a
 
 unfoldable pub change_at : List Lexeme → ℕ → ℕ → Read PlainEvent
-change_at tokens depth a =
-    name_at tokens a >>= λ x. optional_at tokens mark.OpenBracket (index_at tokens depth) x.1 >>= λ y. Ok (change_event (site tokens a y.1) x.0 y.0, y.1)
+change_at tokens nesting_left a =
+    name_at tokens a >>= λ x. optional_at tokens mark.OpenBracket (index_at tokens nesting_left) x.1 >>= λ y. Ok (change_event (site tokens a y.1) x.0 y.0, y.1)
 
 unfoldable pub next_change_at : List Lexeme → ℕ → ℕ → Read PlainEvent
-next_change_at tokens depth a =
-    separator_at tokens a >>= λ s. unless_at tokens mark.Posedge s.1 (unless_at tokens mark.Negedge s.1 (change_at tokens depth s.1))
+next_change_at tokens nesting_left a =
+    separator_at tokens a >>= λ s. unless_at tokens mark.Posedge s.1 (unless_at tokens mark.Negedge s.1 (change_at tokens nesting_left s.1))
 
 -- the changes behind the first
 unfoldable pub more_changes_at : List Lexeme → ℕ → PlainEvent → ℕ → Read (List PlainEvent)
-more_changes_at tokens depth first a =
-    run_at tokens mark.Close (λ (s : Bool). next_change_at tokens depth) (λ s x. s) (length tokens) true a >>= λ xs. Ok (first ∷ xs.0, xs.1)
+more_changes_at tokens nesting_left first a =
+    run_at tokens mark.Close (λ (s : Bool). next_change_at tokens nesting_left) (λ s x. s) (length tokens) true a >>= λ xs. Ok (first ∷ xs.0, xs.1)
 
 unfoldable pub changes_at : List Lexeme → ℕ → ℕ → Read (List PlainEvent)
-changes_at tokens depth a = change_at tokens depth a >>= λ x. more_changes_at tokens depth x.0 x.1
+changes_at tokens nesting_left a = change_at tokens nesting_left a >>= λ x. more_changes_at tokens nesting_left x.0 x.1
 
 unfoldable pub lone_edge_at : List Lexeme → PlainEvent → ℕ → Read (List PlainEvent)
 lone_edge_at tokens first a = if is_posedge first then Ok (first ∷ [], a + 1) else Err (Unsupported a)
@@ -67,17 +67,17 @@ edges_at tokens a =
     edge_event_at tokens a >>= λ x. (if same (mark_at tokens x.1) mark.Close then lone_edge_at tokens x.0 x.1 else second_edge_at tokens x.0 x.1)
 
 unfoldable pub events_at : List Lexeme → ℕ → ℕ → Read (List PlainEvent)
-events_at tokens depth a =
+events_at tokens nesting_left a =
     if same (mark_at tokens a) mark.Posedge then edges_at tokens a else if same (mark_at tokens a) mark.Negedge then edges_at tokens a
-    else changes_at tokens depth a
+    else changes_at tokens nesting_left a
 
 unfoldable pub listed_at : List Lexeme → ℕ → ℕ → ℕ → Read PlainSensitivity
-listed_at tokens depth from a = events_at tokens depth a >>= λ xs. Ok (listed (site tokens from xs.1) xs.0, xs.1)
+listed_at tokens nesting_left from a = events_at tokens nesting_left a >>= λ xs. Ok (listed (site tokens from xs.1) xs.0, xs.1)
 
 unfoldable pub star_close_at : List Lexeme → ℕ → ℕ → Read PlainSensitivity
 star_close_at tokens from a = expect tokens mark.Close (a + 1) >>= λ b. Ok (all_events (site tokens from b), b)
 
 unfoldable pub sensitivity_at : List Lexeme → ℕ → ℕ → Read PlainSensitivity
-sensitivity_at tokens depth a =
+sensitivity_at tokens nesting_left a =
     if same (mark_at tokens a) mark.Star then Ok (all_events (site tokens a (a + 1)), a + 1)
-    else (expect tokens mark.Open a >>= λ m. (if same (mark_at tokens m) mark.Star then star_close_at tokens a m else listed_at tokens depth a m))
+    else (expect tokens mark.Open a >>= λ m. (if same (mark_at tokens m) mark.Star then star_close_at tokens a m else listed_at tokens nesting_left a m))

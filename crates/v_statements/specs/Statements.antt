@@ -1,5 +1,5 @@
--- Statements (IEEE 1364-2005, clause 9 and A.6): which tree the tokens from a place up to another one spell, where nesting of
--- `depth` is left. Each production stands as its comment, as in Productions.
+-- Statements (IEEE 1364-2005, clause 9 and A.6): which tree the tokens from a place up to another one spell, where `nesting_left`
+-- levels of nesting are left. Each production stands as its comment, as in Productions.
 use Rattle.std.specs.Prelude.{◌≡◌, ◌≢◌, ℕ, zero, suc, ◌+◌, ◌⊎◌, Bool, true, false, ◌||◌, List, ◌∷◌, Option}
 use Rattle.v_lexer.specs.Lexeme.{Lexeme}
 use Rattle.v_tree.specs.declared.declaration.Identifier.{Identifier}
@@ -27,9 +27,9 @@ IsLabel tokens label a b = (mark_at tokens a ≡ Colon) × IsIdentifier tokens l
 
 -- '(' expr ')'
 abbrev pub IsInParens : List Lexeme → ℕ → Tree → ℕ → ℕ → Type 0
-IsInParens tokens depth e a b =
+IsInParens tokens nesting_left e a b =
     (mark_at tokens a ≡ Open)
-    × ((value : Tree) × (m : ℕ) × IsValue tokens depth value (a + 1) m
+    × ((value : Tree) × (m : ℕ) × IsValue tokens nesting_left value (a + 1) m
     × ((mark_at tokens m ≡ Close)
     × ((e ≡ value) × (b ≡ m + 1))))
 
@@ -39,16 +39,16 @@ IsEmpty tokens x a b = (mark_at tokens a ≡ Semicolon) × ((x ≡ empty (site t
 
 -- 'begin' (':' NAME)? stmt* 'end'
 abbrev pub IsBlock : List Lexeme → ℕ → Nested → PlainStatement → ℕ → ℕ → Type 0
-IsBlock tokens depth part x a b =
-    (less : ℕ) × (less + 1 ≡ depth) × (mark_at tokens a ≡ Begin)
+IsBlock tokens nesting_left part x a b =
+    (less : ℕ) × (less + 1 ≡ nesting_left) × (mark_at tokens a ≡ Begin)
     × ((label : Option Identifier) × (m : ℕ) × IsOptional tokens Colon (IsLabel tokens) label (a + 1) m
     × ((body : List PlainStatement) × (n : ℕ) × AreRun tokens End (λ (s : Bool). part) (λ s x. s) true body m n
     × ((x ≡ block (site tokens a n) label (statements_of body)) × (b ≡ n))))
 
 -- delay stmt
 abbrev pub IsDelayed : List Lexeme → ℕ → Nested → PlainStatement → ℕ → ℕ → Type 0
-IsDelayed tokens depth part x a b =
-    (less : ℕ) × (less + 1 ≡ depth) × (mark_at tokens a ≡ Hash)
+IsDelayed tokens nesting_left part x a b =
+    (less : ℕ) × (less + 1 ≡ nesting_left) × (mark_at tokens a ≡ Hash)
     × ((delay : PlainDelay) × (m : ℕ) × IsDelay tokens less delay a m
     × ((body : PlainStatement) × (n : ℕ) × part body m n
     × ((x ≡ delayed (site tokens a n) delay body) × (b ≡ n))))
@@ -61,8 +61,8 @@ IsElse tokens part from condition then x a b =
 
 -- 'if' '(' expr ')' stmt ('else' stmt)?, where an else belongs to the nearest if
 abbrev pub IsIf : List Lexeme → ℕ → Nested → PlainStatement → ℕ → ℕ → Type 0
-IsIf tokens depth part x a b =
-    (less : ℕ) × (less + 1 ≡ depth) × (mark_at tokens a ≡ If)
+IsIf tokens nesting_left part x a b =
+    (less : ℕ) × (less + 1 ≡ nesting_left) × (mark_at tokens a ≡ If)
     × ((condition : Tree) × (m : ℕ) × IsInParens tokens less condition (a + 1) m
     × ((then : PlainStatement) × (n : ℕ) × part then m n
     × IsElse tokens part a condition then x n b))
@@ -75,18 +75,18 @@ may_follow_label Nothing = true
 may_follow_label _ = false
 
 -- a label of a casez: an expression, or a number with wildcard digits that is the whole label
-pub record IsCasezLabel (tokens : List Lexeme) (depth : ℕ) (label : Tree) (a b : ℕ) : Type 0 where
-  pub whole : IsWhole tokens depth label a b
+pub record IsCasezLabel (tokens : List Lexeme) (nesting_left : ℕ) (label : Tree) (a b : ℕ) : Type 0 where
+  pub whole : IsWhole tokens nesting_left label a b
   pub alone : mark_at tokens a ≡ Wild → may_follow_label (mark_at tokens b) ≡ true
 
 abbrev pub IsCaseLabel : List Lexeme → ℕ → CaseKind → Tree → ℕ → ℕ → Type 0
-IsCaseLabel tokens depth kinds.Case = IsValue tokens depth
-IsCaseLabel tokens depth kinds.Casez = IsCasezLabel tokens depth
+IsCaseLabel tokens nesting_left kinds.Case = IsValue tokens nesting_left
+IsCaseLabel tokens nesting_left kinds.Casez = IsCasezLabel tokens nesting_left
 
 -- label,+ ':' stmt
 abbrev pub IsLabelled : List Lexeme → ℕ → CaseKind → Nested → PlainCaseItem → ℕ → ℕ → Type 0
-IsLabelled tokens depth kind part x a b =
-    (labels : List Tree) × (m : ℕ) × AreListed tokens (IsCaseLabel tokens depth kind) labels a m
+IsLabelled tokens nesting_left kind part x a b =
+    (labels : List Tree) × (m : ℕ) × AreListed tokens (IsCaseLabel tokens nesting_left kind) labels a m
     × ((mark_at tokens m ≡ Colon)
     × ((body : PlainStatement) × (n : ℕ) × part body (m + 1) n
     × ((x ≡ labelled (site tokens a n) labels body) × (b ≡ n))))
@@ -104,14 +104,14 @@ IsOtherwise tokens part x a b =
 
 -- 'default' ':'? stmt, where none stood before, or label,+ ':' stmt
 abbrev pub IsCaseItem : List Lexeme → ℕ → CaseKind → Nested → Bool → PlainCaseItem → ℕ → ℕ → Type 0
-IsCaseItem tokens depth kind part had x a b =
-    ((mark_at tokens a ≡ Default) × (had ≡ false) × IsOtherwise tokens part x a b) ⊎ ((mark_at tokens a ≢ Default) × IsLabelled tokens depth kind part x a b)
+IsCaseItem tokens nesting_left kind part had x a b =
+    ((mark_at tokens a ≡ Default) × (had ≡ false) × IsOtherwise tokens part x a b) ⊎ ((mark_at tokens a ≢ Default) × IsLabelled tokens nesting_left kind part x a b)
 
 -- citem* 'endcase' behind the first item
 abbrev pub AreItems : List Lexeme → ℕ → CaseKind → Nested → PlainCaseItem → List PlainCaseItem → ℕ → ℕ → Type 0
-AreItems tokens depth kind part first items a b =
+AreItems tokens nesting_left kind part first items a b =
     (others : List PlainCaseItem) × (n : ℕ)
-    × AreRun tokens Endcase (IsCaseItem tokens depth kind part) (λ had y. had || is_default y) (false || is_default first) others a n
+    × AreRun tokens Endcase (IsCaseItem tokens nesting_left kind part) (λ had y. had || is_default y) (false || is_default first) others a n
     × ((items ≡ first ∷ others) × (b ≡ n))
 
 -- 'case' or 'casez'
@@ -121,8 +121,8 @@ case_word kinds.Casez = Casez
 
 -- ('case' | 'casez') '(' expr ')' citem* 'endcase', at least one item and one default at most
 abbrev pub IsCase : List Lexeme → ℕ → CaseKind → Nested → PlainStatement → ℕ → ℕ → Type 0
-IsCase tokens depth kind part x a b =
-    (less : ℕ) × (less + 1 ≡ depth) × (mark_at tokens a ≡ case_word kind)
+IsCase tokens nesting_left kind part x a b =
+    (less : ℕ) × (less + 1 ≡ nesting_left) × (mark_at tokens a ≡ case_word kind)
     × ((subject : Tree) × (m : ℕ) × IsInParens tokens less subject (a + 1) m
     × ((first : PlainCaseItem) × (n : ℕ) × IsCaseItem tokens less kind part false first m n
     × ((items : List PlainCaseItem) × (k : ℕ) × AreItems tokens less kind part first items n k
@@ -130,24 +130,24 @@ IsCase tokens depth kind part x a b =
 
 -- '(' NAME '=' expr ';' expr ';' NAME '=' expr ')'
 abbrev pub IsHead : List Lexeme → ℕ → PlainHead → ℕ → ℕ → Type 0
-IsHead tokens depth head a b =
+IsHead tokens nesting_left head a b =
     (mark_at tokens a ≡ Open)
     × ((variable : Identifier) × (c : ℕ) × IsIdentifier tokens variable (a + 1) c
     × ((mark_at tokens c ≡ Equals)
-    × ((start : Tree) × (d : ℕ) × IsValue tokens depth start (c + 1) d
+    × ((start : Tree) × (d : ℕ) × IsValue tokens nesting_left start (c + 1) d
     × ((mark_at tokens d ≡ Semicolon)
-    × ((condition : Tree) × (e : ℕ) × IsValue tokens depth condition (d + 1) e
+    × ((condition : Tree) × (e : ℕ) × IsValue tokens nesting_left condition (d + 1) e
     × ((mark_at tokens e ≡ Semicolon)
     × ((next : Identifier) × (f : ℕ) × IsIdentifier tokens next (e + 1) f
     × ((mark_at tokens f ≡ Equals)
-    × ((step : Tree) × (g : ℕ) × IsValue tokens depth step (f + 1) g
+    × ((step : Tree) × (g : ℕ) × IsValue tokens nesting_left step (f + 1) g
     × ((mark_at tokens g ≡ Close)
     × ((head ≡ record { site = site tokens a (g + 1); variable = variable; start = start; condition = condition; next = next; step = step }) × (b ≡ g + 1))))))))))))
 
 -- 'for' head stmt
 abbrev pub IsLoop : List Lexeme → ℕ → Nested → PlainStatement → ℕ → ℕ → Type 0
-IsLoop tokens depth part x a b =
-    (less : ℕ) × (less + 1 ≡ depth) × (mark_at tokens a ≡ For)
+IsLoop tokens nesting_left part x a b =
+    (less : ℕ) × (less + 1 ≡ nesting_left) × (mark_at tokens a ≡ For)
     × ((head : PlainHead) × (m : ℕ) × IsHead tokens less head (a + 1) m
     × ((body : PlainStatement) × (n : ℕ) × part body m n
     × ((x ≡ loop (site tokens a n) head body) × (b ≡ n))))
@@ -159,27 +159,27 @@ IsAssignKind tokens kind a b =
 
 -- left ('=' | '<=') delay? expr ';'
 abbrev pub IsAssign : List Lexeme → ℕ → PlainStatement → ℕ → ℕ → Type 0
-IsAssign tokens depth x a b =
-    (target : PlainLeft) × (m : ℕ) × IsLeft tokens depth target a m
+IsAssign tokens nesting_left x a b =
+    (target : PlainLeft) × (m : ℕ) × IsLeft tokens nesting_left target a m
     × ((kind : AssignKind) × (n : ℕ) × IsAssignKind tokens kind m n
-    × ((delay : Option PlainDelay) × (k : ℕ) × IsOptional tokens Hash (IsDelay tokens depth) delay n k
-    × ((value : Tree) × (l : ℕ) × IsValue tokens depth value k l
+    × ((delay : Option PlainDelay) × (k : ℕ) × IsOptional tokens Hash (IsDelay tokens nesting_left) delay n k
+    × ((value : Tree) × (l : ℕ) × IsValue tokens nesting_left value k l
     × ((mark_at tokens l ≡ Semicolon)
     × ((x ≡ assignment (site tokens a (l + 1)) target kind delay value) × (b ≡ l + 1))))))
 
 -- a statement, with those that nest in it
 abbrev pub IsStatementWith : List Lexeme → ℕ → Nested → PlainStatement → ℕ → ℕ → Type 0
-IsStatementWith tokens depth part x a b =
+IsStatementWith tokens nesting_left part x a b =
     IsEmpty tokens x a b
-    ⊎ (IsBlock tokens depth part x a b
-    ⊎ (IsDelayed tokens depth part x a b
-    ⊎ (IsIf tokens depth part x a b
-    ⊎ (IsCase tokens depth kinds.Case part x a b
-    ⊎ (IsCase tokens depth kinds.Casez part x a b
-    ⊎ (IsLoop tokens depth part x a b
-    ⊎ IsAssign tokens depth x a b))))))
+    ⊎ (IsBlock tokens nesting_left part x a b
+    ⊎ (IsDelayed tokens nesting_left part x a b
+    ⊎ (IsIf tokens nesting_left part x a b
+    ⊎ (IsCase tokens nesting_left kinds.Case part x a b
+    ⊎ (IsCase tokens nesting_left kinds.Casez part x a b
+    ⊎ (IsLoop tokens nesting_left part x a b
+    ⊎ IsAssign tokens nesting_left x a b))))))
 
 -- a statement: what nests in it has one less of nesting left
 abbrev pub IsStatement : List Lexeme → ℕ → PlainStatement → ℕ → ℕ → Type 0
 IsStatement tokens zero = IsStatementWith tokens zero (λ x a b. ⊥)
-IsStatement tokens (suc depth) = IsStatementWith tokens (suc depth) (IsStatement tokens depth)
+IsStatement tokens (suc nesting_left) = IsStatementWith tokens (suc nesting_left) (IsStatement tokens nesting_left)

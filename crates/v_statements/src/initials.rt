@@ -43,15 +43,15 @@ fn initial_value(
     name: Name,
     behind: usize,
     at: usize,
-    depth: u32,
+    nesting_left: u32,
 ) -> Read<Statement>
     requires short { length tokens.now < 2 ^ 32 }
     requires before { from < 2 ^ 32 }
     requires inside { at ≤ length tokens.now }
-    ensures gives { Gives seen_statement result (initial_value_at tokens.now depth from name behind at) }
+    ensures gives { Gives seen_statement result (initial_value_at tokens.now nesting_left from name behind at) }
     ensures inside { IfOk result (Inside tokens.now) }
 {
-    let (value, semicolon) = value(alloc, tokens, at, depth)?;
+    let (value, semicolon) = value(alloc, tokens, at, nesting_left)?;
     let end = expect(tokens, Terminal::Semicolon, semicolon)?;
     let target = bare(alloc, site_of(tokens, from, behind), name);
     let site = site_of(tokens, from, end);
@@ -69,12 +69,12 @@ fn initial_equals(
     from: usize,
     name: Name,
     at: usize,
-    depth: u32,
+    nesting_left: u32,
 ) -> Read<Statement>
     requires short { length tokens.now < 2 ^ 32 }
     requires before { from < 2 ^ 32 }
     requires inside { at ≤ length tokens.now }
-    ensures gives { Gives seen_statement result (initial_equals_at tokens.now depth from name at) }
+    ensures gives { Gives seen_statement result (initial_equals_at tokens.now nesting_left from name at) }
     ensures inside { IfOk result (Inside tokens.now) }
 {
     if stands(tokens, at, Terminal::OpenBracket) {
@@ -87,61 +87,61 @@ fn initial_equals(
     if stands(tokens, next, Terminal::Hash) {
         return Err(Stop::Fault(Fault::Unsupported(next)));
     }
-    initial_value(alloc, tokens, from, name, at, next, depth)
+    initial_value(alloc, tokens, from, name, at, next, nesting_left)
 }
 
 /// `NAME '=' expr ';'`
 #[tactic(auto, unfolding(crate::specs::InitialReading::initial_assign_at))]
-fn initial_assign(alloc: Global, tokens: &[Token], at: usize, depth: u32) -> Read<Statement>
+fn initial_assign(alloc: Global, tokens: &[Token], at: usize, nesting_left: u32) -> Read<Statement>
     requires short { length tokens.now < 2 ^ 32 }
     requires inside { at ≤ length tokens.now }
-    ensures gives { Gives seen_statement result (initial_assign_at tokens.now depth at) }
+    ensures gives { Gives seen_statement result (initial_assign_at tokens.now nesting_left at) }
     ensures inside { IfOk result (Inside tokens.now) }
 {
     let (name, equals) = name(alloc, tokens, at)?;
-    initial_equals(alloc, tokens, at, name, equals, depth)
+    initial_equals(alloc, tokens, at, name, equals, nesting_left)
 }
 
 /// `'begin' (':' NAME)? initial* 'end' | NAME '=' expr ';'`
 #[tactic(auto, using(crate::proofs::InitialSteps::initial_over), unfolding(crate::specs::InitialReading::initial_with))]
 #[cycle(initial)]
-pub fn initial(alloc: Global, tokens: &[Token], at: usize, depth: u32) -> Read<Statement>
+pub fn initial(alloc: Global, tokens: &[Token], at: usize, nesting_left: u32) -> Read<Statement>
     requires short { length tokens.now < 2 ^ 32 }
     requires inside { at ≤ length tokens.now }
-    ensures gives { Gives seen_statement result (initial_at tokens.now depth at) }
+    ensures gives { Gives seen_statement result (initial_at tokens.now nesting_left at) }
     ensures inside { IfOk result (Inside tokens.now) }
 {
     if stands(tokens, at, Terminal::Begin) {
-        return initial_block(alloc, tokens, at, depth);
+        return initial_block(alloc, tokens, at, nesting_left);
     }
     if is_left_out(mark_at(tokens, at)) {
         return Err(Stop::Fault(Fault::Unsupported(at)));
     }
-    initial_assign(alloc, tokens, at, depth)
+    initial_assign(alloc, tokens, at, nesting_left)
 }
 
 /// `'begin' (':' NAME)? initial* 'end'`
 #[tactic(auto, using(crate::proofs::InitialSteps::initial_below_less), unfolding(crate::specs::InitialReading::initial_block_at, crate::specs::StatementReading::close_block_at))]
 #[cycle(initial)]
-fn initial_block(alloc: Global, tokens: &[Token], at: usize, depth: u32) -> Read<Statement>
+fn initial_block(alloc: Global, tokens: &[Token], at: usize, nesting_left: u32) -> Read<Statement>
     requires short { length tokens.now < 2 ^ 32 }
     requires inside { at < length tokens.now }
-    ensures gives { Gives seen_statement result (initial_block_at tokens.now depth (initial_below tokens.now depth) at) }
+    ensures gives { Gives seen_statement result (initial_block_at tokens.now nesting_left (initial_below tokens.now nesting_left) at) }
     ensures inside { IfOk result (Inside tokens.now) }
 {
-    let depth = lower(depth, at)?;
+    let nesting_left = lower(nesting_left, at)?;
     let (label, next) = label_if(alloc, tokens, at + 1)?;
-    let (body, end) = initials(alloc, tokens, next, depth)?;
+    let (body, end) = initials(alloc, tokens, next, nesting_left)?;
     Ok((nodes::block(site_of(tokens, at, end), label, body), end))
 }
 
 /// `initial* 'end'`
 #[tactic(auto, unfolding(crate::specs::StatementReading::body_at))]
 #[cycle(initial)]
-fn initials(alloc: Global, tokens: &[Token], at: usize, depth: u32) -> Read<Vec<Statement>>
+fn initials(alloc: Global, tokens: &[Token], at: usize, nesting_left: u32) -> Read<Vec<Statement>>
     requires short { length tokens.now < 2 ^ 32 }
     requires inside { at ≤ length tokens.now }
-    ensures gives { Gives seen_statements result (body_at tokens.now (initial_at tokens.now depth) at) }
+    ensures gives { Gives seen_statements result (body_at tokens.now (initial_at tokens.now nesting_left) at) }
     ensures inside { IfOk result (Inside tokens.now) }
 {
     let mut list = Vec::new(alloc);
@@ -150,7 +150,7 @@ fn initials(alloc: Global, tokens: &[Token], at: usize, depth: u32) -> Read<Vec<
         if stands(tokens, end, Terminal::End) {
             return Ok((list, end + 1));
         }
-        let (part, next) = initial(alloc, tokens, end, depth)?;
+        let (part, next) = initial(alloc, tokens, end, nesting_left)?;
         list.push(part)?;
         end = next;
     }

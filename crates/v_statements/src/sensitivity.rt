@@ -64,39 +64,39 @@ fn edge_event(alloc: Global, tokens: &[Token], at: usize) -> Read<Event>
 
 /// `select?`
 #[tactic(auto, unfolding(v_parts::specs::Reading::optional_at))]
-fn index_if(alloc: Global, tokens: &[Token], at: usize, depth: u32) -> Read<Option<Select>>
+fn index_if(alloc: Global, tokens: &[Token], at: usize, nesting_left: u32) -> Read<Option<Select>>
     requires short { length tokens.now < 2 ^ 32 }
     requires inside { at ≤ length tokens.now }
-    ensures gives { Gives seen_index_if result (optional_at tokens.now marks.OpenBracket (index_at tokens.now depth) at) }
+    ensures gives { Gives seen_index_if result (optional_at tokens.now marks.OpenBracket (index_at tokens.now nesting_left) at) }
     ensures inside { IfOk result (Inside tokens.now) }
 {
     if !stands(tokens, at, Terminal::OpenBracket) {
         return Ok((None, at));
     }
-    let found = select(alloc, tokens, at, depth, INDEX_LEVELS)?;
+    let found = select(alloc, tokens, at, nesting_left, INDEX_LEVELS)?;
     Ok((Some(found.tree), found.end))
 }
 
 /// `NAME select?`
 #[tactic(auto, unfolding(crate::specs::SensitivityReading::change_at))]
-fn change(alloc: Global, tokens: &[Token], at: usize, depth: u32) -> Read<Event>
+fn change(alloc: Global, tokens: &[Token], at: usize, nesting_left: u32) -> Read<Event>
     requires short { length tokens.now < 2 ^ 32 }
     requires inside { at ≤ length tokens.now }
-    ensures gives { Gives seen_event result (change_at tokens.now depth at) }
+    ensures gives { Gives seen_event result (change_at tokens.now nesting_left at) }
     ensures inside { IfOk result (Inside tokens.now) }
 {
     let (name, next) = name(alloc, tokens, at)?;
-    let (select, end) = index_if(alloc, tokens, next, depth)?;
+    let (select, end) = index_if(alloc, tokens, next, nesting_left)?;
     let site = site_of(tokens, at, end);
     Ok((Event::Change { site, name, select }, end))
 }
 
 /// `('or' | ',') NAME select?`, where an edge is left out.
 #[tactic(auto, unfolding(crate::specs::SensitivityReading::next_change_at))]
-fn next_change(alloc: Global, tokens: &[Token], at: usize, depth: u32) -> Read<Event>
+fn next_change(alloc: Global, tokens: &[Token], at: usize, nesting_left: u32) -> Read<Event>
     requires short { length tokens.now < 2 ^ 32 }
     requires inside { at ≤ length tokens.now }
-    ensures gives { Gives seen_event result (next_change_at tokens.now depth at) }
+    ensures gives { Gives seen_event result (next_change_at tokens.now nesting_left at) }
     ensures inside { IfOk result (Inside tokens.now) }
 {
     let (_is_or, next) = separator(tokens, at)?;
@@ -106,7 +106,7 @@ fn next_change(alloc: Global, tokens: &[Token], at: usize, depth: u32) -> Read<E
     if stands(tokens, next, Terminal::Negedge) {
         return Err(Stop::Fault(Fault::Unsupported(next)));
     }
-    change(alloc, tokens, next, depth)
+    change(alloc, tokens, next, nesting_left)
 }
 
 /// `(('or' | ',') change)* ')'` behind the first.
@@ -115,12 +115,12 @@ fn more_changes(
     alloc: Global,
     tokens: &[Token],
     at: usize,
-    depth: u32,
+    nesting_left: u32,
     first: Event,
 ) -> Read<Vec<Event>>
     requires short { length tokens.now < 2 ^ 32 }
     requires inside { at ≤ length tokens.now }
-    ensures gives { Gives seen_events result (more_changes_at tokens.now depth (event_of first) at) }
+    ensures gives { Gives seen_events result (more_changes_at tokens.now nesting_left (event_of first) at) }
     ensures inside { IfOk result (Inside tokens.now) }
 {
     let mut list = Vec::new(alloc);
@@ -130,7 +130,7 @@ fn more_changes(
         if stands(tokens, end, Terminal::Close) {
             return Ok((list, end + 1));
         }
-        let (part, next) = next_change(alloc, tokens, end, depth)?;
+        let (part, next) = next_change(alloc, tokens, end, nesting_left)?;
         list.push(part)?;
         end = next;
     }
@@ -139,14 +139,14 @@ fn more_changes(
 
 /// `change (('or' | ',') change)* ')'`
 #[tactic(auto, unfolding(crate::specs::SensitivityReading::changes_at))]
-fn changes(alloc: Global, tokens: &[Token], at: usize, depth: u32) -> Read<Vec<Event>>
+fn changes(alloc: Global, tokens: &[Token], at: usize, nesting_left: u32) -> Read<Vec<Event>>
     requires short { length tokens.now < 2 ^ 32 }
     requires inside { at ≤ length tokens.now }
-    ensures gives { Gives seen_events result (changes_at tokens.now depth at) }
+    ensures gives { Gives seen_events result (changes_at tokens.now nesting_left at) }
     ensures inside { IfOk result (Inside tokens.now) }
 {
-    let (first, next) = change(alloc, tokens, at, depth)?;
-    more_changes(alloc, tokens, next, depth, first)
+    let (first, next) = change(alloc, tokens, at, nesting_left)?;
+    more_changes(alloc, tokens, next, nesting_left, first)
 }
 
 fn is_posedge(event: &Event) -> bool
@@ -250,10 +250,10 @@ fn edges(alloc: Global, tokens: &[Token], at: usize) -> Read<Vec<Event>>
 
 /// The events of a list, and `')'`.
 #[tactic(auto, unfolding(crate::specs::SensitivityReading::events_at))]
-fn events(alloc: Global, tokens: &[Token], at: usize, depth: u32) -> Read<Vec<Event>>
+fn events(alloc: Global, tokens: &[Token], at: usize, nesting_left: u32) -> Read<Vec<Event>>
     requires short { length tokens.now < 2 ^ 32 }
     requires inside { at ≤ length tokens.now }
-    ensures gives { Gives seen_events result (events_at tokens.now depth at) }
+    ensures gives { Gives seen_events result (events_at tokens.now nesting_left at) }
     ensures inside { IfOk result (Inside tokens.now) }
 {
     if stands(tokens, at, Terminal::Posedge) {
@@ -262,19 +262,25 @@ fn events(alloc: Global, tokens: &[Token], at: usize, depth: u32) -> Read<Vec<Ev
     if stands(tokens, at, Terminal::Negedge) {
         return edges(alloc, tokens, at);
     }
-    changes(alloc, tokens, at, depth)
+    changes(alloc, tokens, at, nesting_left)
 }
 
 /// The events behind the `(` at `from`.
 #[tactic(auto, unfolding(crate::specs::SensitivityReading::listed_at))]
-fn listed(alloc: Global, tokens: &[Token], from: usize, at: usize, depth: u32) -> Read<Sensitivity>
+fn listed(
+    alloc: Global,
+    tokens: &[Token],
+    from: usize,
+    at: usize,
+    nesting_left: u32,
+) -> Read<Sensitivity>
     requires short { length tokens.now < 2 ^ 32 }
     requires before { from < 2 ^ 32 }
     requires inside { at ≤ length tokens.now }
-    ensures gives { Gives seen_sensitivity result (listed_at tokens.now depth from at) }
+    ensures gives { Gives seen_sensitivity result (listed_at tokens.now nesting_left from at) }
     ensures inside { IfOk result (Inside tokens.now) }
 {
-    let (events, end) = events(alloc, tokens, at, depth)?;
+    let (events, end) = events(alloc, tokens, at, nesting_left)?;
     let site = site_of(tokens, from, end);
     Ok((Sensitivity::Events { site, events }, end))
 }
@@ -294,10 +300,15 @@ fn star_close(tokens: &[Token], from: usize, at: usize) -> Read<Sensitivity>
 
 /// `'*' | '(' '*' ')' | '(' events ')'`
 #[tactic(auto, unfolding(crate::specs::SensitivityReading::sensitivity_at))]
-pub fn sensitivity(alloc: Global, tokens: &[Token], at: usize, depth: u32) -> Read<Sensitivity>
+pub fn sensitivity(
+    alloc: Global,
+    tokens: &[Token],
+    at: usize,
+    nesting_left: u32,
+) -> Read<Sensitivity>
     requires short { length tokens.now < 2 ^ 32 }
     requires inside { at ≤ length tokens.now }
-    ensures gives { Gives seen_sensitivity result (sensitivity_at tokens.now depth at) }
+    ensures gives { Gives seen_sensitivity result (sensitivity_at tokens.now nesting_left at) }
     ensures inside { IfOk result (Inside tokens.now) }
 {
     if stands(tokens, at, Terminal::Star) {
@@ -308,5 +319,5 @@ pub fn sensitivity(alloc: Global, tokens: &[Token], at: usize, depth: u32) -> Re
     if stands(tokens, open, Terminal::Star) {
         return star_close(tokens, at, open);
     }
-    listed(alloc, tokens, at, open, depth)
+    listed(alloc, tokens, at, open, nesting_left)
 }

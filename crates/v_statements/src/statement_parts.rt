@@ -38,13 +38,13 @@ pub fn label_if(alloc: Global, tokens: &[Token], at: usize) -> Read<Option<Ident
 
 /// `'(' expr ')'`, whose parentheses belong to the statement around.
 #[tactic(auto, unfolding(crate::specs::StatementReading::in_parens_at))]
-pub fn in_parens(alloc: Global, tokens: &[Token], at: usize, depth: u32) -> Read<Expr>
+pub fn in_parens(alloc: Global, tokens: &[Token], at: usize, nesting_left: u32) -> Read<Expr>
     requires short { length tokens.now < 2 ^ 32 }
-    ensures gives { Gives seen_value result (in_parens_at tokens.now depth at) }
+    ensures gives { Gives seen_value result (in_parens_at tokens.now nesting_left at) }
     ensures inside { IfOk result (Inside tokens.now) }
 {
     let open = expect(tokens, Terminal::Open, at)?;
-    let (value, close) = value(alloc, tokens, open, depth)?;
+    let (value, close) = value(alloc, tokens, open, nesting_left)?;
     let end = expect(tokens, Terminal::Close, close)?;
     Ok((value, end))
 }
@@ -61,13 +61,13 @@ fn follows_label(tokens: &[Token], at: usize) -> bool
 
 /// A number with wildcard digits is a whole label, so a comma or a colon follows it.
 #[tactic(auto, unfolding(crate::specs::StatementReading::casez_label_at))]
-fn casez_label(alloc: Global, tokens: &[Token], at: usize, depth: u32) -> Read<Expr>
+fn casez_label(alloc: Global, tokens: &[Token], at: usize, nesting_left: u32) -> Read<Expr>
     requires short { length tokens.now < 2 ^ 32 }
     requires inside { at ≤ length tokens.now }
-    ensures gives { Gives seen_value result (casez_label_at tokens.now depth at) }
+    ensures gives { Gives seen_value result (casez_label_at tokens.now nesting_left at) }
     ensures inside { IfOk result (Inside tokens.now) }
 {
-    let found = read_expression(alloc, tokens, at, depth)?;
+    let found = read_expression(alloc, tokens, at, nesting_left)?;
     if stands(tokens, at, Terminal::Wild) {
         if !follows_label(tokens, found.end) {
             return Err(Stop::Fault(Fault::Unsupported(at)));
@@ -77,21 +77,27 @@ fn casez_label(alloc: Global, tokens: &[Token], at: usize, depth: u32) -> Read<E
 }
 
 /// A label, which in a `casez` may be a number with wildcard digits.
-fn label(alloc: Global, tokens: &[Token], at: usize, depth: u32, kind: CaseKind) -> Read<Expr>
+fn label(
+    alloc: Global,
+    tokens: &[Token],
+    at: usize,
+    nesting_left: u32,
+    kind: CaseKind,
+) -> Read<Expr>
     requires short { length tokens.now < 2 ^ 32 }
     requires inside { at ≤ length tokens.now }
-    ensures gives { Gives seen_value result (case_label_at tokens.now depth kind at) }
+    ensures gives { Gives seen_value result (case_label_at tokens.now nesting_left kind at) }
     ensures inside { IfOk result (Inside tokens.now) }
 {
     match kind {
-        CaseKind::Case => value(alloc, tokens, at, depth),
-        CaseKind::Casez => casez_label(alloc, tokens, at, depth),
+        CaseKind::Case => value(alloc, tokens, at, nesting_left),
+        CaseKind::Casez => casez_label(alloc, tokens, at, nesting_left),
     }
 }
 
 #[derive(Drop)]
 struct LabelReader {
-    depth: u32,
+    nesting_left: u32,
     kind: CaseKind,
 }
 
@@ -102,10 +108,10 @@ impl PartReader for LabelReader {
 
     ghost plain = { tree_of };
 
-    ghost part_at = { λ reader tokens. case_label_at tokens reader.depth reader.kind };
+    ghost part_at = { λ reader tokens. case_label_at tokens reader.nesting_left reader.kind };
 
     fn read(&self, alloc: Global, tokens: &[Token], at: usize) -> Read<Expr> {
-        label(alloc, tokens, at, self.depth, self.kind)
+        label(alloc, tokens, at, self.nesting_left, self.kind)
     }
 }
 
@@ -114,15 +120,15 @@ pub fn labels(
     alloc: Global,
     tokens: &[Token],
     at: usize,
-    depth: u32,
+    nesting_left: u32,
     kind: CaseKind,
 ) -> Read<Vec<Expr>>
     requires short { length tokens.now < 2 ^ 32 }
     requires inside { at ≤ length tokens.now }
-    ensures gives { Gives seen_values result (list_at tokens.now (case_label_at tokens.now depth kind) at) }
+    ensures gives { Gives seen_values result (list_at tokens.now (case_label_at tokens.now nesting_left kind) at) }
     ensures inside { IfOk result (Inside tokens.now) }
 {
-    listed(alloc, tokens, at, &LabelReader { depth, kind })
+    listed(alloc, tokens, at, &LabelReader { nesting_left, kind })
 }
 
 /// Whether a colon stands there, and the place behind it.
@@ -154,12 +160,12 @@ fn loop_step(
     first: LoopStart,
     condition: Expr,
     at: usize,
-    depth: u32,
+    nesting_left: u32,
 ) -> Read<LoopHead>
     requires short { length tokens.now < 2 ^ 32 }
     requires before { first.from < 2 ^ 32 }
     requires inside { at ≤ length tokens.now }
-    ensures gives { Gives seen_head result (loop_step_at tokens.now depth first.from first.variable (tree_of first.start) (tree_of condition) at) }
+    ensures gives { Gives seen_head result (loop_step_at tokens.now nesting_left first.from first.variable (tree_of first.start) (tree_of condition) at) }
     ensures inside { IfOk result (Inside tokens.now) }
 {
     let LoopStart {
@@ -169,7 +175,7 @@ fn loop_step(
     } = first;
     let (next, equals) = identifier(alloc, tokens, at)?;
     let step_at = expect(tokens, Terminal::Equals, equals)?;
-    let (step, close) = value(alloc, tokens, step_at, depth)?;
+    let (step, close) = value(alloc, tokens, step_at, nesting_left)?;
     let end = expect(tokens, Terminal::Close, close)?;
     let site = site_of(tokens, from, end);
     let head = LoopHead {
@@ -190,38 +196,38 @@ fn loop_condition(
     tokens: &[Token],
     first: LoopStart,
     at: usize,
-    depth: u32,
+    nesting_left: u32,
 ) -> Read<LoopHead>
     requires short { length tokens.now < 2 ^ 32 }
     requires before { first.from < 2 ^ 32 }
     requires inside { at ≤ length tokens.now }
-    ensures gives { Gives seen_head result (loop_condition_at tokens.now depth first.from first.variable (tree_of first.start) at) }
+    ensures gives { Gives seen_head result (loop_condition_at tokens.now nesting_left first.from first.variable (tree_of first.start) at) }
     ensures inside { IfOk result (Inside tokens.now) }
 {
-    let (condition, semicolon) = value(alloc, tokens, at, depth)?;
+    let (condition, semicolon) = value(alloc, tokens, at, nesting_left)?;
     let next = expect(tokens, Terminal::Semicolon, semicolon)?;
-    loop_step(alloc, tokens, first, condition, next, depth)
+    loop_step(alloc, tokens, first, condition, next, nesting_left)
 }
 
 /// `'(' NAME '=' expr ';' expr ';' NAME '=' expr ')'`
 #[tactic(auto, unfolding(crate::specs::StatementReading::head_at))]
-pub fn loop_head(alloc: Global, tokens: &[Token], from: usize, depth: u32) -> Read<LoopHead>
+pub fn loop_head(alloc: Global, tokens: &[Token], from: usize, nesting_left: u32) -> Read<LoopHead>
     requires short { length tokens.now < 2 ^ 32 }
     requires inside { from ≤ length tokens.now }
-    ensures gives { Gives seen_head result (head_at tokens.now depth from) }
+    ensures gives { Gives seen_head result (head_at tokens.now nesting_left from) }
     ensures inside { IfOk result (Inside tokens.now) }
 {
     let open = expect(tokens, Terminal::Open, from)?;
     let (variable, equals) = identifier(alloc, tokens, open)?;
     let next = expect(tokens, Terminal::Equals, equals)?;
-    let (start, semicolon) = value(alloc, tokens, next, depth)?;
+    let (start, semicolon) = value(alloc, tokens, next, nesting_left)?;
     let next = expect(tokens, Terminal::Semicolon, semicolon)?;
     let first = LoopStart {
         from,
         variable,
         start,
     };
-    loop_condition(alloc, tokens, first, next, depth)
+    loop_condition(alloc, tokens, first, next, nesting_left)
 }
 
 /// `'=' | '<='`
@@ -253,17 +259,17 @@ fn assigned(
     tokens: &[Token],
     target: Target,
     at: usize,
-    depth: u32,
+    nesting_left: u32,
 ) -> Read<Statement>
     requires short { length tokens.now < 2 ^ 32 }
     requires before { target.from < 2 ^ 32 }
     requires inside { at ≤ length tokens.now }
-    ensures gives { Gives seen_statement result (assigned_at tokens.now depth target.from (left_of target.left) target.kind at) }
+    ensures gives { Gives seen_statement result (assigned_at tokens.now nesting_left target.from (left_of target.left) target.kind at) }
     ensures inside { IfOk result (Inside tokens.now) }
 {
     let Target { from, left, kind } = target;
-    let (delay, next) = delay_if(alloc, tokens, at, depth)?;
-    let (value, semicolon) = value(alloc, tokens, next, depth)?;
+    let (delay, next) = delay_if(alloc, tokens, at, nesting_left)?;
+    let (value, semicolon) = value(alloc, tokens, next, nesting_left)?;
     let end = expect(tokens, Terminal::Semicolon, semicolon)?;
     let site = site_of(tokens, from, end);
     Ok((assignment(site, left, kind, delay, value), end))
@@ -271,13 +277,13 @@ fn assigned(
 
 /// `left ('=' | '<=') delay? expr ';'`
 #[tactic(auto, unfolding(crate::specs::StatementReading::assign_at))]
-pub fn assign(alloc: Global, tokens: &[Token], from: usize, depth: u32) -> Read<Statement>
+pub fn assign(alloc: Global, tokens: &[Token], from: usize, nesting_left: u32) -> Read<Statement>
     requires short { length tokens.now < 2 ^ 32 }
     requires inside { from ≤ length tokens.now }
-    ensures gives { Gives seen_statement result (assign_at tokens.now depth from) }
+    ensures gives { Gives seen_statement result (assign_at tokens.now nesting_left from) }
     ensures inside { IfOk result (Inside tokens.now) }
 {
-    let (left, next) = left(alloc, tokens, from, depth)?;
+    let (left, next) = left(alloc, tokens, from, nesting_left)?;
     let (kind, at) = assign_kind(tokens, next)?;
-    assigned(alloc, tokens, Target { from, left, kind }, at, depth)
+    assigned(alloc, tokens, Target { from, left, kind }, at, nesting_left)
 }

@@ -46,10 +46,10 @@ lower-inv d a n e =
           omega (arith, h, some)
     ]
 
-pub above-inv : (room used a n : ℕ) → above room used a ≡ Ok n → (n + 1 ≡ room) × (used ≤ n)
-above-inv room used a n e =
-    elim (if-inv (nat_lt used room) _ _ _ e) [
-      | inl p ↦ let less : used < room = ltb-true _ _ p.0 in let h : room - 1 ≡ n = ok-one _ _ p.1 in (omega (arith, less, h), omega (arith, less, h))
+pub above-inv : (levels_left used a n : ℕ) → above levels_left used a ≡ Ok n → (n + 1 ≡ levels_left) × (used ≤ n)
+above-inv levels_left used a n e =
+    elim (if-inv (nat_lt used levels_left) _ _ _ e) [
+      | inl p ↦ let less : used < levels_left = ltb-true _ _ p.0 in let h : levels_left - 1 ≡ n = ok-one _ _ p.1 in (omega (arith, less, h), omega (arith, less, h))
       | inr p ↦ bad_good (Deep a) n p.1
     ]
 

@@ -10,15 +10,15 @@ use Rattle.v_tree.proofs.SoundLemmas.{SoundReader, SoundSelect, SoundSelects, so
 use Rattle.v_tree.proofs.SteadyLemmas.{SteadyReader, SteadyUnder, SelectsClaim, Steady, steady_readers, st_select, st_selects, below_moves}
 
 sound_within : (t : List Lexeme) (d n : ℕ) → n + 1 ≡ d → SoundReader t n (below t d).whole
-sound_within t d n e room a x b is =
-    let read : (readers t n).whole room a ≡ Ok (x, b) = sym (ap (λ (r : Readers). r.whole room a) (below_less t d n e)) ∙ is in
-    ((sound_readers t n).wholes room a x b read).sound
+sound_within t d n e levels_left a x b is =
+    let read : (readers t n).whole levels_left a ≡ Ok (x, b) = sym (ap (λ (r : Readers). r.whole levels_left a) (below_less t d n e)) ∙ is in
+    ((sound_readers t n).wholes levels_left a x b read).sound
 
-pub selects_found : (t : List Lexeme) (d room n a : ℕ) (xs : Selections) (b : ℕ) → selects_at t d (below t d).whole room n a ≡ Ok (xs, b) → SoundSelects t d room n xs a b
-selects_found t d room n a xs b e = selects-sound t d (below t d).whole (sound_within t d) room n a xs b e
+pub selects_found : (t : List Lexeme) (d levels_left n a : ℕ) (xs : Selections) (b : ℕ) → selects_at t d (below t d).whole levels_left n a ≡ Ok (xs, b) → SoundSelects t d levels_left n xs a b
+selects_found t d levels_left n a xs b e = selects-sound t d (below t d).whole (sound_within t d) levels_left n a xs b e
 
-pub select_found : (t : List Lexeme) (d room a : ℕ) (x : Selection) (b : ℕ) → mark_at t a ≡ marks.OpenBracket → select_at t d (below t d).whole room a ≡ Ok (x, b) → SoundSelect t d room x a b
-select_found t d room a x b m e = select-sound t d (below t d).whole (sound_within t d) room a x b m e
+pub select_found : (t : List Lexeme) (d levels_left a : ℕ) (x : Selection) (b : ℕ) → mark_at t a ≡ marks.OpenBracket → select_at t d (below t d).whole levels_left a ≡ Ok (x, b) → SoundSelect t d levels_left x a b
+select_found t d levels_left a x b m e = select-sound t d (below t d).whole (sound_within t d) levels_left a x b m e
 
 steady_within : (base : ℕ) (t u : List Lexeme) (d : ℕ) → SteadyUnder base t u d (below t d).whole (below u d).whole
 steady_within base t u d n e =
@@ -26,9 +26,9 @@ steady_within base t u d n e =
     subst (λ (r : Readers). SteadyReader base t u n r.whole (below u d).whole) (sym (below_less t d n e))
     (subst (λ (r : Readers). SteadyReader base t u n (readers t n).whole r.whole) (sym (below_less u d n e)) here)
 
-pub steady_selects : (base : ℕ) (t u : List Lexeme) (d room n : ℕ) → SelectsClaim base t u d (below t d).whole (below u d).whole room n
-steady_selects base t u d room n = st_selects base t u d (below t d).whole (below u d).whole (steady_within base t u d) (below_moves t d) room n
+pub steady_selects : (base : ℕ) (t u : List Lexeme) (d levels_left n : ℕ) → SelectsClaim base t u d (below t d).whole (below u d).whole levels_left n
+steady_selects base t u d levels_left n = st_selects base t u d (below t d).whole (below u d).whole (steady_within base t u d) (below_moves t d) levels_left n
 
-pub steady_select : (base : ℕ) (t u : List Lexeme) (d room a : ℕ) → a < length t → mark_at t a ≡ marks.OpenBracket → base + 256 ≤ a + d → base + 4096 ≤ a + room
-    → Steady base t u a (select_at t d (below t d).whole room a) (select_at u d (below u d).whole room a)
-steady_select base t u d room a h m deep far = st_select base t u d (below t d).whole (below u d).whole (steady_within base t u d) (below_moves t d) room a h m deep far
+pub steady_select : (base : ℕ) (t u : List Lexeme) (d levels_left a : ℕ) → a < length t → mark_at t a ≡ marks.OpenBracket → base + 256 ≤ a + d → base + 4096 ≤ a + levels_left
+    → Steady base t u a (select_at t d (below t d).whole levels_left a) (select_at u d (below u d).whole levels_left a)
+steady_select base t u d levels_left a h m deep far = st_select base t u d (below t d).whole (below u d).whole (steady_within base t u d) (below_moves t d) levels_left a h m deep far

@@ -98,12 +98,12 @@ pub record Ends (tokens : List Lexeme) (e : Tree) (b : ℕ) : Type 0 where
   pub no_select : takes_select e ≡ true → mark_at tokens b ≢ OpenBracket
 
 -- within the limits: at most so deep, and at most 4096 levels
-pub record Within (depth : ℕ) (e : Tree) : Type 0 where
-  pub nests : nesting e ≤ depth
+pub record Within (nesting_left : ℕ) (e : Tree) : Type 0 where
+  pub nests : nesting e ≤ nesting_left
   pub rises : levels e ≤ 4096
 
 -- the expression that begins at a and goes on as far as it can, up to b: a number with wildcard digits may be the whole of it
-pub record IsWhole (tokens : List Lexeme) (depth : ℕ) (e : Tree) (a b : ℕ) : Type 0 where
+pub record IsWhole (tokens : List Lexeme) (nesting_left : ℕ) (e : Tree) (a b : ℕ) : Type 0 where
   pub spelled : IsExpr tokens e a b ⊎ IsWild tokens e a b
   pub ends : Ends tokens e b
-  pub within : Within depth e
+  pub within : Within nesting_left e

@@ -22,20 +22,20 @@ seen_select found = (selection_of found.tree, found.end)
 abbrev pub seen_selects : Found (Vec Select Global) → Selections × ℕ
 seen_selects found = (selections_of (map selection_of found.tree.items), found.end)
 
--- it counts the levels of the tree, there is room for them, and the end is within the tokens
-pub record IsSized (tokens : List Lexeme) (room true_levels counted end : ℕ) : Type 0 where
+-- it counts the levels of the tree, they are within those that were left, and the end is within the tokens
+pub record IsSized (tokens : List Lexeme) (levels_left true_levels counted end : ℕ) : Type 0 where
   pub counts : counted ≡ true_levels
-  pub rises : counted ≤ room
+  pub rises : counted ≤ levels_left
   pub within : end ≤ length tokens
 
 abbrev pub Sized : List Lexeme → ℕ → Found Expr → Type 0
-Sized tokens room found = IsSized tokens room (levels (tree_of found.tree)) found.levels found.end
+Sized tokens levels_left found = IsSized tokens levels_left (levels (tree_of found.tree)) found.levels found.end
 
 abbrev pub SizedParts : List Lexeme → ℕ → Found (Vec Expr Global) → Type 0
-SizedParts tokens room found = IsSized tokens room (levels_of_parts (trees_of (map tree_of found.tree.items))) found.levels found.end
+SizedParts tokens levels_left found = IsSized tokens levels_left (levels_of_parts (trees_of (map tree_of found.tree.items))) found.levels found.end
 
 abbrev pub SizedSelect : List Lexeme → ℕ → Found Select → Type 0
-SizedSelect tokens room found = IsSized tokens room (levels_of_select (selection_of found.tree)) found.levels found.end
+SizedSelect tokens levels_left found = IsSized tokens levels_left (levels_of_select (selection_of found.tree)) found.levels found.end
 
 abbrev pub SizedSelects : List Lexeme → ℕ → Found (Vec Select Global) → Type 0
-SizedSelects tokens room found = IsSized tokens room (levels_of_selects (selections_of (map selection_of found.tree.items))) found.levels found.end
+SizedSelects tokens levels_left found = IsSized tokens levels_left (levels_of_selects (selections_of (map selection_of found.tree.items))) found.levels found.end

@@ -20,13 +20,13 @@ use std::alloc::Global;
 use v_lexer::types::{Terminal, Token};
 
 /// One level less, where one more still stands above a tree of so many levels.
-pub fn above(room: u32, used: u32, at: usize) -> Result<u32, Stop>
-    ensures gives { Gives (λ n. n) result (above room used at) }
-    ensures less { IfOk result (λ n. n + 1 ≡ room) }
+pub fn above(levels_left: u32, used: u32, at: usize) -> Result<u32, Stop>
+    ensures gives { Gives (λ n. n) result (above levels_left used at) }
+    ensures less { IfOk result (λ n. n + 1 ≡ levels_left) }
     ensures rises { IfOk result (λ n. used ≤ n) }
 {
-    if used < room {
-        return Ok(room - 1);
+    if used < levels_left {
+        return Ok(levels_left - 1);
     }
     Err(Stop::Fault(Fault::Deep(at)))
 }

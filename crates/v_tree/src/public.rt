@@ -50,23 +50,23 @@ fn wild(alloc: Global, tokens: &[Token], at: usize) -> Result<Found<Expr>, Stop>
     })
 }
 
-/// An expression of its own, where nesting of `depth` is left to it, or a number with wildcard digits.
+/// An expression of its own, where `nesting_left` levels of nesting are left to it, or a number with wildcard digits.
 #[tactic(auto, using(crate::proofs::PlaceLemmas::is_mark), unfolding(crate::specs::Reading::whole_expression))]
 pub fn read_expression(
     alloc: Global,
     tokens: &[Token],
     at: usize,
-    depth: u32,
+    nesting_left: u32,
 ) -> Result<Found<Expr>, Stop>
     requires short { length tokens.now < 2 ^ 32 }
     requires inside { at ≤ length tokens.now }
-    ensures gives { Gives seen result (whole_expression tokens.now depth at) }
+    ensures gives { Gives seen result (whole_expression tokens.now nesting_left at) }
     ensures sized { IfOk result (Sized tokens.now 4096) }
 {
     if stands(tokens, at, Terminal::Wild) {
         return wild(alloc, tokens, at);
     }
-    whole(alloc, tokens, at, depth, MOST_LEVELS)
+    whole(alloc, tokens, at, nesting_left, MOST_LEVELS)
 }
 
 /// The expression that begins at a place and goes on as far as it can, and the place behind it (IEEE 1364-2005, clause 5). A

@@ -20,30 +20,30 @@ use crate::operator_of::{binary_of, part_of, strength, system_of, unary_of};
 use std::alloc::Global;
 use v_lexer::types::{Terminal, Token};
 
-/// An expression, where nesting of `depth` and `room` levels are left to it.
+/// An expression, where `nesting_left` levels of nesting and `levels_left` levels of operators are left to it.
 #[tactic(auto, using(crate::proofs::StepLemmas::whole_over, crate::proofs::StepLemmas::below_less), unfolding(crate::specs::Reading::whole_with, crate::specs::Reading::question_at))]
 #[cycle(read)]
 pub fn whole(
     alloc: Global,
     tokens: &[Token],
     at: usize,
-    depth: u32,
-    room: u32,
+    nesting_left: u32,
+    levels_left: u32,
 ) -> Result<Found<Expr>, Stop>
     requires short { length tokens.now < 2 ^ 32 }
     requires inside { at ≤ length tokens.now }
-    ensures gives { Gives seen result ((readers tokens.now depth).whole room at) }
-    ensures sized { IfOk result (Sized tokens.now room) }
+    ensures gives { Gives seen result ((readers tokens.now nesting_left).whole levels_left at) }
+    ensures sized { IfOk result (Sized tokens.now levels_left) }
 {
-    let condition = climb(alloc, tokens, at, depth, room, 1)?;
+    let condition = climb(alloc, tokens, at, nesting_left, levels_left, 1)?;
     if !stands(tokens, condition.end, Terminal::Question) {
         return Ok(condition);
     }
-    let depth = lower(depth, condition.end)?;
-    let room = above(room, condition.levels, condition.end)?;
-    let then = whole(alloc, tokens, condition.end + 1, depth, room)?;
+    let nesting_left = lower(nesting_left, condition.end)?;
+    let levels_left = above(levels_left, condition.levels, condition.end)?;
+    let then = whole(alloc, tokens, condition.end + 1, nesting_left, levels_left)?;
     let colon = expect(tokens, Terminal::Colon, then.end)?;
-    let other = whole(alloc, tokens, colon, depth, room)?;
+    let other = whole(alloc, tokens, colon, nesting_left, levels_left)?;
     conditional(alloc, tokens, at, condition, then, other)
 }
 
@@ -54,18 +54,18 @@ fn climb(
     alloc: Global,
     tokens: &[Token],
     at: usize,
-    depth: u32,
-    room: u32,
+    nesting_left: u32,
+    levels_left: u32,
     least: u8,
 ) -> Result<Found<Expr>, Stop>
     requires short { length tokens.now < 2 ^ 32 }
     requires inside { at ≤ length tokens.now }
     requires some { 1 ≤ least }
     requires levels { least ≤ 12 }
-    ensures gives { Gives seen result (climb tokens.now (readers tokens.now depth).operand 12 least room at) }
-    ensures sized { IfOk result (Sized tokens.now room) }
+    ensures gives { Gives seen result (climb tokens.now (readers tokens.now nesting_left).operand 12 least levels_left at) }
+    ensures sized { IfOk result (Sized tokens.now levels_left) }
 {
-    let mut left = operand(alloc, tokens, at, depth, room)?;
+    let mut left = operand(alloc, tokens, at, nesting_left, levels_left)?;
     for _ in 0..tokens.len() {
         let operator = match binary_of(mark_at(tokens, left.end)) {
             Some(operator) => operator,
@@ -75,8 +75,8 @@ fn climb(
         if level < least {
             return Ok(left);
         }
-        let less = above(room, left.levels, left.end)?;
-        let right = climb(alloc, tokens, left.end + 1, depth, less, level + 1)?;
+        let less = above(levels_left, left.levels, left.end)?;
+        let right = climb(alloc, tokens, left.end + 1, nesting_left, less, level + 1)?;
         left = joined(alloc, tokens, at, operator, left, right)?;
     }
     Ok(left)
@@ -88,33 +88,33 @@ fn operand(
     alloc: Global,
     tokens: &[Token],
     at: usize,
-    depth: u32,
-    room: u32,
+    nesting_left: u32,
+    levels_left: u32,
 ) -> Result<Found<Expr>, Stop>
     requires short { length tokens.now < 2 ^ 32 }
     requires inside { at ≤ length tokens.now }
-    ensures gives { Gives seen result ((readers tokens.now depth).operand room at) }
-    ensures sized { IfOk result (Sized tokens.now room) }
+    ensures gives { Gives seen result ((readers tokens.now nesting_left).operand levels_left at) }
+    ensures sized { IfOk result (Sized tokens.now levels_left) }
 {
     let mark = mark_at(tokens, at);
     if let Some(operator) = unary_of(mark) {
-        return unary(alloc, tokens, at, depth, room, operator);
+        return unary(alloc, tokens, at, nesting_left, levels_left, operator);
     }
     if let Some(function) = system_of(mark) {
-        return system(alloc, tokens, at, depth, room, function);
+        return system(alloc, tokens, at, nesting_left, levels_left, function);
     }
     if stands(tokens, at, Terminal::Number) {
         return number(alloc, tokens, at);
     }
     if stands(tokens, at, Terminal::Name) {
-        let selects = selects(alloc, tokens, at + 1, depth, room)?;
+        let selects = selects(alloc, tokens, at + 1, nesting_left, levels_left)?;
         return name(alloc, tokens, at, selects);
     }
     if stands(tokens, at, Terminal::Open) {
-        return parens(alloc, tokens, at, depth, room);
+        return parens(alloc, tokens, at, nesting_left, levels_left);
     }
     if stands(tokens, at, Terminal::OpenBrace) {
-        return braces(alloc, tokens, at, depth, room);
+        return braces(alloc, tokens, at, nesting_left, levels_left);
     }
     Err(Stop::Fault(no_place(tokens, at)))
 }
@@ -125,18 +125,18 @@ fn unary(
     alloc: Global,
     tokens: &[Token],
     at: usize,
-    depth: u32,
-    room: u32,
+    nesting_left: u32,
+    levels_left: u32,
     operator: Unary,
 ) -> Result<Found<Expr>, Stop>
     requires short { length tokens.now < 2 ^ 32 }
     requires inside { at < length tokens.now }
-    ensures gives { Gives seen result (unary_at tokens.now depth (below tokens.now depth).operand operator room at) }
-    ensures sized { IfOk result (Sized tokens.now room) }
+    ensures gives { Gives seen result (unary_at tokens.now nesting_left (below tokens.now nesting_left).operand operator levels_left at) }
+    ensures sized { IfOk result (Sized tokens.now levels_left) }
 {
-    let depth = lower(depth, at)?;
-    let room = lower(room, at)?;
-    let inner = operand(alloc, tokens, at + 1, depth, room)?;
+    let nesting_left = lower(nesting_left, at)?;
+    let levels_left = lower(levels_left, at)?;
+    let inner = operand(alloc, tokens, at + 1, nesting_left, levels_left)?;
     negated(alloc, tokens, at, operator, inner)
 }
 
@@ -146,19 +146,19 @@ fn system(
     alloc: Global,
     tokens: &[Token],
     at: usize,
-    depth: u32,
-    room: u32,
+    nesting_left: u32,
+    levels_left: u32,
     function: SystemFunction,
 ) -> Result<Found<Expr>, Stop>
     requires short { length tokens.now < 2 ^ 32 }
     requires inside { at < length tokens.now }
-    ensures gives { Gives seen result (system_at tokens.now depth (below tokens.now depth).whole function room at) }
-    ensures sized { IfOk result (Sized tokens.now room) }
+    ensures gives { Gives seen result (system_at tokens.now nesting_left (below tokens.now nesting_left).whole function levels_left at) }
+    ensures sized { IfOk result (Sized tokens.now levels_left) }
 {
-    let depth = lower(depth, at)?;
-    let room = lower(room, at)?;
+    let nesting_left = lower(nesting_left, at)?;
+    let levels_left = lower(levels_left, at)?;
     let open = expect(tokens, Terminal::Open, at + 1)?;
-    let inner = whole(alloc, tokens, open, depth, room)?;
+    let inner = whole(alloc, tokens, open, nesting_left, levels_left)?;
     close_system(alloc, tokens, at, function, inner)
 }
 
@@ -168,16 +168,16 @@ fn parens(
     alloc: Global,
     tokens: &[Token],
     at: usize,
-    depth: u32,
-    room: u32,
+    nesting_left: u32,
+    levels_left: u32,
 ) -> Result<Found<Expr>, Stop>
     requires short { length tokens.now < 2 ^ 32 }
     requires inside { at < length tokens.now }
-    ensures gives { Gives seen result (parens_at tokens.now depth (below tokens.now depth).whole room at) }
-    ensures sized { IfOk result (Sized tokens.now room) }
+    ensures gives { Gives seen result (parens_at tokens.now nesting_left (below tokens.now nesting_left).whole levels_left at) }
+    ensures sized { IfOk result (Sized tokens.now levels_left) }
 {
-    let depth = lower(depth, at)?;
-    let inner = whole(alloc, tokens, at + 1, depth, room)?;
+    let nesting_left = lower(nesting_left, at)?;
+    let inner = whole(alloc, tokens, at + 1, nesting_left, levels_left)?;
     close_parens(alloc, tokens, at, inner)
 }
 
@@ -187,23 +187,23 @@ fn braces(
     alloc: Global,
     tokens: &[Token],
     at: usize,
-    depth: u32,
-    room: u32,
+    nesting_left: u32,
+    levels_left: u32,
 ) -> Result<Found<Expr>, Stop>
     requires short { length tokens.now < 2 ^ 32 }
     requires inside { at < length tokens.now }
-    ensures gives { Gives seen result (braces_at tokens.now depth (below tokens.now depth).whole room at) }
-    ensures sized { IfOk result (Sized tokens.now room) }
+    ensures gives { Gives seen result (braces_at tokens.now nesting_left (below tokens.now nesting_left).whole levels_left at) }
+    ensures sized { IfOk result (Sized tokens.now levels_left) }
 {
-    let depth = lower(depth, at)?;
-    let room = lower(room, at)?;
-    let first = whole(alloc, tokens, at + 1, depth, room)?;
+    let nesting_left = lower(nesting_left, at)?;
+    let levels_left = lower(levels_left, at)?;
+    let first = whole(alloc, tokens, at + 1, nesting_left, levels_left)?;
     if stands(tokens, first.end, Terminal::OpenBrace) {
-        let part = whole(alloc, tokens, first.end + 1, depth, room)?;
-        let parts = parts_from(alloc, tokens, depth, room, part)?;
+        let part = whole(alloc, tokens, first.end + 1, nesting_left, levels_left)?;
+        let parts = parts_from(alloc, tokens, nesting_left, levels_left, part)?;
         close_repeat(alloc, tokens, at, first, parts)
     } else {
-        let parts = parts_from(alloc, tokens, depth, room, first)?;
+        let parts = parts_from(alloc, tokens, nesting_left, levels_left, first)?;
         close_concat(tokens, at, parts)
     }
 }
@@ -214,14 +214,14 @@ fn braces(
 fn parts_from(
     alloc: Global,
     tokens: &[Token],
-    depth: u32,
-    room: u32,
+    nesting_left: u32,
+    levels_left: u32,
     first: Found<Expr>,
 ) -> Result<Found<Vec<Expr>>, Stop>
     requires short { length tokens.now < 2 ^ 32 }
-    requires sized { Sized tokens.now room first }
-    ensures gives { Gives seen_parts result (parts_from tokens.now (readers tokens.now depth).whole room (tree_of first.tree) first.end) }
-    ensures sized { IfOk result (SizedParts tokens.now room) }
+    requires sized { Sized tokens.now levels_left first }
+    ensures gives { Gives seen_parts result (parts_from tokens.now (readers tokens.now nesting_left).whole levels_left (tree_of first.tree) first.end) }
+    ensures sized { IfOk result (SizedParts tokens.now levels_left) }
 {
     let mut parts = Vec::new(alloc);
     let mut levels = first.levels;
@@ -235,7 +235,7 @@ fn parts_from(
                 end,
             });
         }
-        let next = whole(alloc, tokens, end + 1, depth, room)?;
+        let next = whole(alloc, tokens, end + 1, nesting_left, levels_left)?;
         levels = levels.max(next.levels);
         end = next.end;
         parts.push(next.tree)?;
@@ -254,13 +254,13 @@ pub fn selects(
     alloc: Global,
     tokens: &[Token],
     at: usize,
-    depth: u32,
-    room: u32,
+    nesting_left: u32,
+    levels_left: u32,
 ) -> Result<Found<Vec<Select>>, Stop>
     requires short { length tokens.now < 2 ^ 32 }
     requires inside { at ≤ length tokens.now }
-    ensures gives { Gives seen_selects result (selects_at tokens.now depth (below tokens.now depth).whole room 2 at) }
-    ensures sized { IfOk result (SizedSelects tokens.now room) }
+    ensures gives { Gives seen_selects result (selects_at tokens.now nesting_left (below tokens.now nesting_left).whole levels_left 2 at) }
+    ensures sized { IfOk result (SizedSelects tokens.now levels_left) }
 {
     let mut found = Vec::new(alloc);
     let mut levels = 0;
@@ -273,7 +273,7 @@ pub fn selects(
                 end,
             });
         }
-        let next = select(alloc, tokens, end, depth, room)?;
+        let next = select(alloc, tokens, end, nesting_left, levels_left)?;
         levels = levels.max(next.levels);
         end = next.end;
         found.push(next.tree)?;
@@ -291,20 +291,20 @@ pub fn select(
     alloc: Global,
     tokens: &[Token],
     at: usize,
-    depth: u32,
-    room: u32,
+    nesting_left: u32,
+    levels_left: u32,
 ) -> Result<Found<Select>, Stop>
     requires short { length tokens.now < 2 ^ 32 }
     requires inside { at < length tokens.now }
-    ensures gives { Gives seen_select result (select_at tokens.now depth (below tokens.now depth).whole room at) }
-    ensures sized { IfOk result (SizedSelect tokens.now room) }
+    ensures gives { Gives seen_select result (select_at tokens.now nesting_left (below tokens.now nesting_left).whole levels_left at) }
+    ensures sized { IfOk result (SizedSelect tokens.now levels_left) }
 {
-    let depth = lower(depth, at)?;
-    let room = lower(room, at)?;
-    let left = whole(alloc, tokens, at + 1, depth, room)?;
+    let nesting_left = lower(nesting_left, at)?;
+    let levels_left = lower(levels_left, at)?;
+    let left = whole(alloc, tokens, at + 1, nesting_left, levels_left)?;
     match part_of(mark_at(tokens, left.end)) {
         Some(kind) => {
-            let right = whole(alloc, tokens, left.end + 1, depth, room)?;
+            let right = whole(alloc, tokens, left.end + 1, nesting_left, levels_left)?;
             close_part(tokens, at, kind, left, right)
         }
         None => close_bit(tokens, at, left),

@@ -19,16 +19,16 @@ returns-then-stands-clause-gives c =
     let n = length ts - c.loop.counter in
     let some : n ≢ 0 = omega (arith, c.loop-test.true) in
     let last : same (mark_at ts c.loop.end) marks.Close ≡ true = grind arith in
-    c.loop.invariant.goes_on ∙ run_ends ts marks.Close (next_port_at ts c.args.depth) is_reg port_of n c.loop.reg c.loop.end c.loop.list.items some last
+    c.loop.invariant.goes_on ∙ run_ends ts marks.Close (next_port_at ts c.args.nesting_left) is_reg port_of n c.loop.reg c.loop.end c.loop.list.items some last
 
 pub returns-in_err-part-clause-gives : goal.returns-in_err-part-clause-gives
 returns-in_err-part-clause-gives c =
     let ts = c.args.tokens.now in
-    let part = next_port_at ts c.args.depth in
+    let part = next_port_at ts c.args.nesting_left in
     let n = length ts - c.loop.counter in
     let some : n ≢ 0 = omega (arith, c.loop-test.true) in
     let other : same (mark_at ts c.loop.end) marks.Close ≡ false = grind arith in
-    let fact : (g : Fault) → part c.loop.reg c.loop.end ≡ Err g → ports_at ts c.args.depth (port_of c.args.first) c.args.at ≡ Err g =
+    let fact : (g : Fault) → part c.loop.reg c.loop.end ≡ Err g → ports_at ts c.args.nesting_left (port_of c.args.first) c.args.at ≡ Err g =
     λ g h. c.loop.invariant.goes_on ∙ run_fails ts marks.Close part is_reg port_of n c.loop.reg c.loop.end c.loop.list.items g some other h in
     let p = err_from_is_err_and c.from_residual-in_err-part.result c.from_residual-in_err-part.ensures.1 in
     rw (p.1, p.2) (fails_along c.in_err-part.field-0.0 _ _ fact c.in_err-part.ensures.gives)
@@ -36,7 +36,7 @@ returns-in_err-part-clause-gives c =
 pub loop-preserved : goal.loop-preserved
 loop-preserved c =
     let ts = c.args.tokens.now in
-    let part = next_port_at ts c.args.depth in
+    let part = next_port_at ts c.args.nesting_left in
     let front = c.loop.list.items in
     let y = c.in_ok-part.part in
     let m = c.in_ok-part.next in
@@ -60,5 +60,5 @@ pub returns-clause-gives : goal.returns-clause-gives
 returns-clause-gives c =
     let ts = c.args.tokens.now in
     let shown : c.no_place.result ≡ no_place ts c.loop.end = search rules in
-    c.loop.invariant.goes_on ∙ run_done ts marks.Close (next_port_at ts c.args.depth) is_reg port_of (length ts - c.loop.counter) c.loop.reg c.loop.end c.loop.list.items (omega (arith, c.loop-test.false))
+    c.loop.invariant.goes_on ∙ run_done ts marks.Close (next_port_at ts c.args.nesting_left) is_reg port_of (length ts - c.loop.counter) c.loop.reg c.loop.end c.loop.list.items (omega (arith, c.loop-test.false))
     ∙ ap (λ f. bad f) (sym shown)

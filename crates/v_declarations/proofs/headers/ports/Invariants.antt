@@ -10,6 +10,6 @@ use Rattle.v_declarations.proofs.headers.ports.Given as goal
 abbrev pub invariant-loop : goal.invariant-loop
 invariant-loop l = record {
   inside : l.end-2 ≤ length l.tokens;
-  goes_on : ports_at l.tokens l.depth (port_of l.fn.first) l.at
-      ≡ with_front port_of l.list.items (run_at l.tokens marks.Close (next_port_at l.tokens l.depth) is_reg (l.end - l.counter) l.reg l.end-2);
+  goes_on : ports_at l.tokens l.nesting_left (port_of l.fn.first) l.at
+      ≡ with_front port_of l.list.items (run_at l.tokens marks.Close (next_port_at l.tokens l.nesting_left) is_reg (l.end - l.counter) l.reg l.end-2);
 }

@@ -14,7 +14,7 @@ use Rattle.v_parser.proofs.items.+item.Goals as goal
 pub items-returns-then-stands-clause-gives : goal.items-returns-then-stands-clause-gives
 items-returns-then-stands-clause-gives t c =
     let ts = c.args.tokens.now in
-    let inner = item_at ts c.args.depth in
+    let inner = item_at ts c.args.nesting_left in
     let n = length ts - c.loop.counter in
     let some : n ≢ 0 = omega (arith, c.loop-test.true) in
     let last : same (mark_at ts c.loop.end) c.args.last ≡ true = grind arith in
@@ -23,7 +23,7 @@ items-returns-then-stands-clause-gives t c =
 pub items-returns-in_err-part-clause-gives : goal.items-returns-in_err-part-clause-gives
 items-returns-in_err-part-clause-gives t c =
     let ts = c.args.tokens.now in
-    let inner = item_at ts c.args.depth in
+    let inner = item_at ts c.args.nesting_left in
     let n = length ts - c.loop.counter in
     let some : n ≢ 0 = omega (arith, c.loop-test.true) in
     let other : same (mark_at ts c.loop.end) c.args.last ≡ false = grind arith in
@@ -35,7 +35,7 @@ items-returns-in_err-part-clause-gives t c =
 pub items-loop-preserved : goal.items-loop-preserved
 items-loop-preserved t c =
     let ts = c.args.tokens.now in
-    let inner = item_at ts c.args.depth in
+    let inner = item_at ts c.args.nesting_left in
     let last = c.args.last in
     let front = c.loop.list.items in
     let y = c.in_ok-part.part in
@@ -55,7 +55,7 @@ items-loop-preserved t c =
 pub items-returns-clause-gives : goal.items-returns-clause-gives
 items-returns-clause-gives t c =
     let ts = c.args.tokens.now in
-    let inner = item_at ts c.args.depth in
+    let inner = item_at ts c.args.nesting_left in
     let shown : c.no_place.result ≡ no_place ts c.loop.end = search rules in
     c.loop.invariant.goes_on ∙ run_done ts c.args.last (λ (s : Bool). inner) (λ s x. s) item_of (length ts - c.loop.counter) true c.loop.end c.loop.list.items (omega (arith, c.loop-test.false))
     ∙ ap (λ f. bad f) (sym shown)

@@ -5,14 +5,14 @@ use Rattle.v_parts.proofs.ListSteps.{Listing}
 use Rattle.v_parts.proofs.left_sides.+left.Given as goal
 
 abbrev pub decreases-left : goal.decreases-left
-decreases-left l = 3 * l.depth + 1
+decreases-left l = 3 * l.nesting_left + 1
 
 abbrev pub decreases-left_concat : goal.decreases-left_concat
-decreases-left_concat l = 3 * l.depth
+decreases-left_concat l = 3 * l.nesting_left
 
 abbrev pub decreases-lefts : goal.decreases-lefts
-decreases-lefts l = 3 * l.depth + 2
+decreases-lefts l = 3 * l.nesting_left + 2
 
 abbrev pub invariant-lefts-loop : goal.invariant-lefts-loop
 invariant-lefts-loop l =
-    Listing l.tokens (left_at l.tokens l.depth) left_of l.at l.parts.items (l.end - l.counter) l.end-2
+    Listing l.tokens (left_at l.tokens l.nesting_left) left_of l.at l.parts.items (l.end - l.counter) l.end-2

@@ -16,7 +16,7 @@ use Rattle.v_statements.proofs.initials.+initial.Goals as goal
 pub initials-returns-then-stands-clause-gives : goal.initials-returns-then-stands-clause-gives
 initials-returns-then-stands-clause-gives t c =
     let ts = c.args.tokens.now in
-    let inner = initial_at ts c.args.depth in
+    let inner = initial_at ts c.args.nesting_left in
     let n = length ts - c.loop.counter in
     let some : n ≢ 0 = omega (arith, c.loop-test.true) in
     let last : same (mark_at ts c.loop.end) marks.End ≡ true = grind arith in
@@ -25,7 +25,7 @@ initials-returns-then-stands-clause-gives t c =
 pub initials-returns-in_err-part-clause-gives : goal.initials-returns-in_err-part-clause-gives
 initials-returns-in_err-part-clause-gives t c =
     let ts = c.args.tokens.now in
-    let inner = initial_at ts c.args.depth in
+    let inner = initial_at ts c.args.nesting_left in
     let n = length ts - c.loop.counter in
     let some : n ≢ 0 = omega (arith, c.loop-test.true) in
     let other : same (mark_at ts c.loop.end) marks.End ≡ false = grind arith in
@@ -37,7 +37,7 @@ initials-returns-in_err-part-clause-gives t c =
 pub initials-loop-preserved : goal.initials-loop-preserved
 initials-loop-preserved t c =
     let ts = c.args.tokens.now in
-    let inner = initial_at ts c.args.depth in
+    let inner = initial_at ts c.args.nesting_left in
     let front = c.loop.list.items in
     let y = c.in_ok-part.part in
     let m = c.in_ok-part.next in
@@ -56,7 +56,7 @@ initials-loop-preserved t c =
 pub initials-returns-clause-gives : goal.initials-returns-clause-gives
 initials-returns-clause-gives t c =
     let ts = c.args.tokens.now in
-    let inner = initial_at ts c.args.depth in
+    let inner = initial_at ts c.args.nesting_left in
     let shown : c.no_place.result ≡ no_place ts c.loop.end = search rules in
     c.loop.invariant.goes_on ∙ run_done ts marks.End (λ (s : Bool). inner) (λ s x. s) statement_of (length ts - c.loop.counter) true c.loop.end c.loop.list.items (omega (arith, c.loop-test.false))
     ∙ ap (λ f. bad f) (sym shown)

@@ -10,6 +10,6 @@ abbrev pub invariant-loop : goal.invariant-loop
 invariant-loop l =
     record {
       inside : l.end-2 ≤ length l.tokens;
-      goes_on : more_changes_at l.tokens l.depth (event_of l.fn.first) l.at
-          ≡ with_front event_of l.list.items (run_at l.tokens marks.Close (λ (s : Bool). next_change_at l.tokens l.depth) (λ s x. s) (l.end - l.counter) true l.end-2);
+      goes_on : more_changes_at l.tokens l.nesting_left (event_of l.fn.first) l.at
+          ≡ with_front event_of l.list.items (run_at l.tokens marks.Close (λ (s : Bool). next_change_at l.tokens l.nesting_left) (λ s x. s) (l.end - l.counter) true l.end-2);
     }

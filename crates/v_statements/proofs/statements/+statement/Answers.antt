@@ -15,7 +15,7 @@ use Rattle.v_statements.proofs.statements.+statement.Goals as goal
 pub statements-returns-then-stands-clause-gives : goal.statements-returns-then-stands-clause-gives
 statements-returns-then-stands-clause-gives t c =
     let ts = c.args.tokens.now in
-    let inner = statement_at ts c.args.depth in
+    let inner = statement_at ts c.args.nesting_left in
     let n = length ts - c.loop.counter in
     let some : n ≢ 0 = omega (arith, c.loop-test.true) in
     let last : same (mark_at ts c.loop.end) marks.End ≡ true = grind arith in
@@ -24,7 +24,7 @@ statements-returns-then-stands-clause-gives t c =
 pub statements-returns-in_err-part-clause-gives : goal.statements-returns-in_err-part-clause-gives
 statements-returns-in_err-part-clause-gives t c =
     let ts = c.args.tokens.now in
-    let inner = statement_at ts c.args.depth in
+    let inner = statement_at ts c.args.nesting_left in
     let n = length ts - c.loop.counter in
     let some : n ≢ 0 = omega (arith, c.loop-test.true) in
     let other : same (mark_at ts c.loop.end) marks.End ≡ false = grind arith in
@@ -36,7 +36,7 @@ statements-returns-in_err-part-clause-gives t c =
 pub statements-loop-preserved : goal.statements-loop-preserved
 statements-loop-preserved t c =
     let ts = c.args.tokens.now in
-    let inner = statement_at ts c.args.depth in
+    let inner = statement_at ts c.args.nesting_left in
     let front = c.loop.list.items in
     let y = c.in_ok-part.part in
     let m = c.in_ok-part.next in
@@ -55,7 +55,7 @@ statements-loop-preserved t c =
 pub statements-returns-clause-gives : goal.statements-returns-clause-gives
 statements-returns-clause-gives t c =
     let ts = c.args.tokens.now in
-    let inner = statement_at ts c.args.depth in
+    let inner = statement_at ts c.args.nesting_left in
     let shown : c.no_place.result ≡ no_place ts c.loop.end = search rules in
     c.loop.invariant.goes_on ∙ run_done ts marks.End (λ (s : Bool). inner) (λ s x. s) statement_of (length ts - c.loop.counter) true c.loop.end c.loop.list.items (omega (arith, c.loop-test.false))
     ∙ ap (λ f. bad f) (sym shown)
@@ -63,7 +63,7 @@ statements-returns-clause-gives t c =
 pub case_items-returns-then-stands-clause-gives : goal.case_items-returns-then-stands-clause-gives
 case_items-returns-then-stands-clause-gives t c =
     let ts = c.args.tokens.now in
-    let part = case_item_at ts c.args.depth c.args.kind (statement_at ts c.args.depth) in
+    let part = case_item_at ts c.args.nesting_left c.args.kind (statement_at ts c.args.nesting_left) in
     let n = length ts - c.loop.counter in
     let some : n ≢ 0 = omega (arith, c.loop-test.true) in
     let last : same (mark_at ts c.loop.end) marks.Endcase ≡ true = grind arith in
@@ -72,12 +72,12 @@ case_items-returns-then-stands-clause-gives t c =
 pub case_items-returns-in_err-part-clause-gives : goal.case_items-returns-in_err-part-clause-gives
 case_items-returns-in_err-part-clause-gives t c =
     let ts = c.args.tokens.now in
-    let inner = statement_at ts c.args.depth in
-    let part = case_item_at ts c.args.depth c.args.kind inner in
+    let inner = statement_at ts c.args.nesting_left in
+    let part = case_item_at ts c.args.nesting_left c.args.kind inner in
     let n = length ts - c.loop.counter in
     let some : n ≢ 0 = omega (arith, c.loop-test.true) in
     let other : same (mark_at ts c.loop.end) marks.Endcase ≡ false = grind arith in
-    let fact : (g : Fault) → part c.loop.had c.loop.end ≡ Err g → case_items_at ts c.args.depth c.args.kind inner (case_item_of c.args.first) c.args.at ≡ Err g =
+    let fact : (g : Fault) → part c.loop.had c.loop.end ≡ Err g → case_items_at ts c.args.nesting_left c.args.kind inner (case_item_of c.args.first) c.args.at ≡ Err g =
     λ g h. c.loop.invariant.goes_on ∙ run_fails ts marks.Endcase part has_default case_item_of n c.loop.had c.loop.end c.loop.list.items g some other h in
     let p = err_from_is_err_and c.from_residual-in_err-part.result c.from_residual-in_err-part.ensures.1 in
     rw (p.1, p.2) (fails_along c.in_err-part.field-0.0 _ _ fact c.in_err-part.ensures.gives)
@@ -85,7 +85,7 @@ case_items-returns-in_err-part-clause-gives t c =
 pub case_items-loop-preserved : goal.case_items-loop-preserved
 case_items-loop-preserved t c =
     let ts = c.args.tokens.now in
-    let part = case_item_at ts c.args.depth c.args.kind (statement_at ts c.args.depth) in
+    let part = case_item_at ts c.args.nesting_left c.args.kind (statement_at ts c.args.nesting_left) in
     let front = c.loop.list.items in
     let y = c.in_ok-part.part in
     let m = c.in_ok-part.next in
@@ -108,7 +108,7 @@ case_items-loop-preserved t c =
 pub case_items-returns-clause-gives : goal.case_items-returns-clause-gives
 case_items-returns-clause-gives t c =
     let ts = c.args.tokens.now in
-    let part = case_item_at ts c.args.depth c.args.kind (statement_at ts c.args.depth) in
+    let part = case_item_at ts c.args.nesting_left c.args.kind (statement_at ts c.args.nesting_left) in
     let shown : c.no_place.result ≡ no_place ts c.loop.end = search rules in
     c.loop.invariant.goes_on ∙ run_done ts marks.Endcase part has_default case_item_of (length ts - c.loop.counter) c.loop.had c.loop.end c.loop.list.items (omega (arith, c.loop-test.false))
     ∙ ap (λ f. bad f) (sym shown)

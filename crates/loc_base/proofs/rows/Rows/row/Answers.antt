@@ -1,4 +1,4 @@
-use Rattle.std.proofs.Common.{◌≡◌, ◌<◌, ◌≤◌, length, get_or, ◌∷◌, arith}
+use Rattle.std.proofs.Common.{◌≡◌, ◌<◌, length, get_or, ◌∷◌}
 use Rattle.std.proofs.lemmas.List.{get_or_read}
 use Rattle.loc_base.proofs.Cut.{length-cut, start-le}
 use Rattle.loc_base.proofs.rows.Rows.row.Goals as goal
