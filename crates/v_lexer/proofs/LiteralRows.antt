@@ -1,8 +1,8 @@
 -- The values and the faults of numbers.
-use Rattle.std.proofs.Common.{◌≡◌, ◌≢◌, ℕ, suc, ◌+◌, ◌*◌, ◌^◌, ◌<◌, ◌≤◌, Bool, true, false, cond, not, ◌&&◌, ◌||◌, List, [], ◌∷◌, length, get_or, add-one, drop-cons, drop, refl, sym, ◌∙◌, ap, subst, arith, Option, Some, None, Result, Ok, Err, take}
+use Rattle.std.proofs.Common.{◌≡◌, ℕ, ◌+◌, ◌*◌, ◌^◌, ◌<◌, ◌≤◌, Bool, true, false, cond, ◌||◌, List, [], ◌∷◌, length, get_or, drop, refl, sym, ◌∙◌, ap, subst, arith, Option, Some, None, Result, Err, take}
 use Rattle.std.specs.Prelude.{nat_eq, position}
 use Rattle.std.proofs.Math.Nat.{mul-le-mul_left}
-use Rattle.std.proofs.lemmas.Bool.{lt-ltb, le-ltb}
+use Rattle.std.proofs.lemmas.Bool.{le-ltb}
 use Rattle.v_lexer.specs.declared.types.token.TokenKind.{TokenKind}
 use Rattle.v_lexer.specs.declared.literals.NumberFault.{NumberFault}
 use Rattle.v_lexer.specs.declared.literals.NumberFault.TheVariants.{Wide}

@@ -1,5 +1,5 @@
 //! What a number's digits say (IEEE 1364-2005, 3.5.1).
-ghost use Rattle.std.specs.Prelude.{◌≡◌, ◌+◌, ◌*◌, ◌^◌, ◌<◌, ◌≤◌, ◌||◌, if◌then◌else◌, nat_eq, length, position, IfOk, IfSome, MatchOption};
+ghost use Rattle.std.specs.Prelude.{◌≡◌, ◌+◌, ◌*◌, ◌^◌, ◌<◌, ◌≤◌, ◌||◌, nat_eq, length, position, IfOk, IfSome, MatchOption};
 ghost use Rattle.v_lexer.specs.Outcomes.{IsNumberKind};
 ghost use Rattle.std.specs.List.{list_any};
 ghost use Rattle.v_lexer.specs.Numbers as shape;

@@ -1,5 +1,5 @@
 //! The macros that are defined (IEEE 1364-2005, 19.3).
-ghost use Rattle.std.specs.Prelude.{◌≡◌, IfOk, IfSome, IfNone, OnOk, Some, None};
+ghost use Rattle.std.specs.Prelude.{◌≡◌, IfSome, IfNone, OnOk, Some, None};
 ghost use Rattle.std.specs.FinMap as map;
 
 use loc_base::NoMemory;

@@ -1,5 +1,5 @@
 //! What the pieces read so far have left, and the tokens that pieces add to it.
-ghost use Rattle.std.specs.Prelude.{◌≡◌, ◌+◌, ◌≤◌, false, drop, length, Some, if◌then◌else◌};
+ghost use Rattle.std.specs.Prelude.{◌≡◌, ◌≤◌, false, length, Some, if◌then◌else◌};
 ghost use Rattle.v_lexer.specs.declared.pieces.Piece.TheVariants as piece_kind;
 ghost use Rattle.v_lexer.specs.declared.types.token.TokenKind.TheVariants as word;
 ghost use Rattle.std.specs.List.{list_all};

@@ -1,6 +1,6 @@
 //! What readers take from the tokens.
 ghost use Rattle.std.specs.Prelude.{◌≡◌, ◌≢◌, ◌+◌, ◌<◌, ◌≤◌, ◌^◌, length, IfOk, IsTrue, Ok};
-ghost use Rattle.v_tree.specs.Sites.{span_at, line_at, text_at, site, end_span, place_span};
+ghost use Rattle.v_tree.specs.Sites.{span_at, line_at, site, end_span, place_span};
 ghost use Rattle.v_tree.specs.Marks.{mark_at, same};
 ghost use Rattle.v_tree.specs.Faults.{Gives};
 ghost use Rattle.v_tree.specs.Reading.{expect, lower};

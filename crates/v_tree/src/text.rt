@@ -1,5 +1,5 @@
 //! The names and the literals that tokens have.
-ghost use Rattle.std.specs.Prelude.{◌≡◌, IfOk, OnErr};
+ghost use Rattle.std.specs.Prelude.{◌≡◌, IfOk};
 ghost use Rattle.v_tree.specs.Sites.{text_at};
 ghost use Rattle.v_tree.specs.Marks.{mark_at};
 ghost use Rattle.v_lexer.specs.declared.types.terminal.Terminal.TheVariants as marks;
@@ -7,7 +7,7 @@ ghost use Rattle.v_lexer.specs.declared.types.terminal.Terminal.TheVariants as m
 use crate::literal::{Number, WildNumber};
 use loc_base::{Bytes, Name, NoMemory};
 use std::alloc::Global;
-use v_lexer::types::{Token, TokenKind};
+use v_lexer::types::Token;
 
 #[tactic(auto, using(crate::proofs::ClassLemmas::name_bytes, crate::proofs::ClassLemmas::name_inside, crate::proofs::ClassLemmas::text_read))]
 /// The name at that place.
