@@ -23,3 +23,4 @@ pub mod CycleFound
 pub mod ExpressionSteps
 pub mod StatementSteps
 pub mod WellFormedExamples
+pub mod ReadExamples
