@@ -1,0 +1,9 @@
+pub mod First
+pub mod Entries
+pub mod Size
+pub mod OneDriver
+pub mod DrivenReads
+pub mod Latches
+pub mod Assignments
+pub mod Races
+pub mod Sound

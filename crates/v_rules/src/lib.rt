@@ -1,0 +1,5 @@
+//! The rules of a finished design: one driver a bit, no read of a bit that has none, no latch, assignments of one kind, no
+//! race (IEEE 1364-2005, 4.6, 6.1, 9.2 and 11.5; IEEE 1364.1-2002, 5).
+#![tactic(auto)]
+
+pub mod laws;
