@@ -1,14 +1,7 @@
 -- Bits of words at fixed and at variable positions (IEEE 1364-2005, 4.2.1 and 5.2.1), read and replaced.
-use Rattle.std.specs.Prelude.{ℕ, ◌+◌, ◌-◌, ◌==◌, Bool, false, ◌&&◌, if◌then◌else◌, nat_le, nat_lt, ℤ, pos, negsuc, ◌+ℤ◌, List, [], ◌∷◌, slice_get, Option, Some, None}
+use Rattle.std.specs.Prelude.{ℕ, ◌+◌, ◌-◌, Bool, ◌&&◌, if◌then◌else◌, nat_le, nat_lt, ℤ, ◌+ℤ◌, List, [], ◌∷◌, slice_get, Option, Some, None}
 use Rattle.std.specs.Option.{option_and_then}
 use Rattle.design_core.specs.Valuation.{place_within, distance_of, bit_or_zero}
-
--- whether two integers are the same
-abbrev pub same_integer : ℤ → ℤ → Bool
-same_integer (pos a) (pos b) = a == b
-same_integer (pos a) (negsuc b) = false
-same_integer (negsuc a) (pos b) = false
-same_integer (negsuc a) (negsuc b) = a == b
 
 -- the range with which a word is declared, and how many bits it has
 pub record Range : Type 0 where

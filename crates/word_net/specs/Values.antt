@@ -1,6 +1,7 @@
 -- The value of each node of a net, as a whole number below 2 ^ width, where inputs, states, freed places and chosen values
 -- are given. The operators are those of expressions (IEEE 1364-2005, clause 5).
 use Rattle.std.specs.Prelude.{ℕ, ◌+◌, ◌*◌, ◌^◌, if◌then◌else◌, ℤ, List, [], ◌∷◌, ◌++◌, get_or}
+use Rattle.std.specs.Ordering.{int_eq}
 use Rattle.design_core.specs.Valuation.{bit, number}
 use Rattle.design_core.specs.Operator.{is_true, one_if, integer_of, unary, binary, repeated, resized}
 use Rattle.design_core.specs.After.{Choice, assigned}
@@ -9,7 +10,7 @@ use Rattle.word_net.specs.declared.node.Select.{Select}
 use Rattle.word_net.specs.declared.node.Operation.{Operation}
 use Rattle.word_net.specs.declared.node.Operation.TheVariants.{Const, Input, State, Free, Unary, Binary, Choose, Join, Repeat, Resize, Slice, Pick, Is, Put, PutPick, Blend}
 use Rattle.word_net.specs.declared.node.WordNode.{WordNode}
-use Rattle.word_net.specs.Selects.{Range, same_integer, picked_bit, put_bits, put_picked}
+use Rattle.word_net.specs.Selects.{Range, picked_bit, put_bits, put_picked}
 
 -- where values come from: the numbers of the inputs and of the states, and the freed places with their values
 pub record Source : Type 0 where
@@ -44,7 +45,7 @@ operation_value e known width (Resize arg) = resized width arg.signed arg.width 
 operation_value e known width (Slice word from) = number width (λ b. bit (read known word) (from + b))
 operation_value e known width (Pick word select) =
     number width (picked_bit (range_of word select) (bit (read known word)) (index_read known select.index) select.offsets)
-operation_value e known width (Is index value) = one_if (same_integer (index_read known index) value)
+operation_value e known width (Is index value) = one_if (int_eq (index_read known index) value)
 operation_value e known width (Put old from size word offset) =
     number width (put_bits (bit (read known old)) from size (λ b. bit (read known word) (offset + b)))
 operation_value e known width (PutPick old select word offset) =

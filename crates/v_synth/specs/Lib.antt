@@ -1,0 +1,6 @@
+pub mod Expression
+pub mod Store
+pub mod Statement
+pub mod Driver
+pub mod Clocked
+pub mod Net

@@ -1,0 +1,7 @@
+//! From a design to a net of words: statements become selections (IEEE 1364.1-2002, clause 5), and a cycle becomes nodes that
+//! are each computed once.
+#![tactic(auto)]
+
+mod clocked;
+
+pub use clocked::Turn;
