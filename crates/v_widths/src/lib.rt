@@ -2,18 +2,10 @@
 //! (IEEE 1364-2005, clause 5).
 #![tactic(auto)]
 
-mod divide;
-mod error;
-mod fold;
-pub mod laws;
-mod literal;
-mod meaning;
+mod apply;
+mod close;
+mod measured;
 mod node;
-mod numbers;
-mod power;
-mod scope;
-mod table;
+mod operators;
 
-pub use error::WidthErr;
-pub use meaning::{Const, Meaning};
-pub use scope::Scope;
+pub use v_sizes::{Const, Meaning, Scope, WidthErr};

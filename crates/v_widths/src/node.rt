@@ -2,13 +2,13 @@
 ghost use Rattle.std.specs.Prelude.{◌≡◌, ◌%◌, ◌^◌, ◌≤◌, IfOk};
 ghost use Rattle.loc_base.specs.Bits.{width_of, value_of};
 ghost use Rattle.design_core.specs.declared.expression.Node.TheVariants as node;
-ghost use Rattle.v_widths.specs.Sized.{sized, constant, with_sign, with_width, carried};
-ghost use Rattle.v_widths.specs.Folding.{number_in};
+ghost use Rattle.v_sizes.specs.Sized.{sized, constant, with_sign, with_width};
+ghost use Rattle.v_widths.specs.Folding.{number_in, const_number, const_width};
 
-use crate::numbers::low_bits;
 use design_core::{BinaryOp, Node, Typed, UnaryOp};
 use loc_base::{Bits, Boxed, NoMemory};
 use std::alloc::Global;
+use v_sizes::numbers::low_bits;
 
 pub(crate) fn sized(width: u8, signed: bool, node: Node) -> Typed
     ensures { result ≡ sized width signed node }
@@ -21,7 +21,7 @@ pub(crate) fn sized(width: u8, signed: bool, node: Node) -> Typed
 }
 
 /// The constant that a word is.
-#[tactic(auto, using(crate::proofs::SameWord::words))]
+#[tactic(auto, using(v_sizes::proofs::SameWord::words))]
 pub(crate) fn constant(signed: bool, word: Bits) -> Typed
     ensures { result ≡ constant (width_of word) signed (value_of word) }
 {
@@ -29,14 +29,23 @@ pub(crate) fn constant(signed: bool, word: Bits) -> Typed
     sized(width, signed, Node::Const(word))
 }
 
-/// The word of a constant, and some word of an expression that is none.
-pub(crate) fn word_in(e: &Typed) -> Bits
-    ensures { value_of result ≡ number_in e.now }
+/// The word of a constant's node, and some word of a node that is none.
+pub(crate) fn word_of_node(node: &Node) -> Bits
+    ensures width { width_of result ≡ const_width node.now }
+    ensures value { value_of result ≡ const_number node.now }
 {
-    match &e.node {
+    match node {
         Node::Const(word) => *word,
         _ => Bits::zero(1),
     }
+}
+
+/// The word of a constant, and some word of an expression that is none.
+pub(crate) fn word_in(e: &Typed) -> Bits
+    ensures width { width_of result ≡ const_width e.now.node }
+    ensures value { value_of result ≡ number_in e.now }
+{
+    word_of_node(&e.node)
 }
 
 /// The low bits of a constant.

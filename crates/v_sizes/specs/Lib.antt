@@ -1,0 +1,14 @@
+pub mod Literal
+pub mod Look
+pub mod Selected
+pub mod Operations
+pub mod Sizing
+pub mod Word
+pub mod Refusals
+pub mod Sized
+pub mod Context
+pub mod Laws
+pub mod Table
+pub mod Scopes
+pub mod Written
+pub mod Standing

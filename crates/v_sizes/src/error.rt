@@ -1,0 +1,27 @@
+ghost use Rattle.std.specs.Prelude.{◌≡◌};
+ghost use Rattle.v_sizes.specs.declared.error.WidthErr.TheVariants.{NoMemory as OutOfMemory};
+
+use loc_base::{NoMemory, Span};
+
+/// Why an expression has no width, or no value as a constant, and where: the leftmost part that is wrong by itself.
+#[derive(Clone, Copy, Debug, PartialEq, Eq)]
+pub enum WidthErr {
+    /// The scope lacks the name, or the name stands with selects that it can't have.
+    UnknownName(Span),
+    /// A constant is wanted here.
+    NotConstant(Span),
+    /// A division by 0.
+    ZeroDivisor(Span),
+    /// A width that isn't 1 to 128, or a part-select against the direction of its range.
+    Range(Span),
+    /// Want of memory.
+    NoMemory,
+}
+
+impl From<NoMemory> for WidthErr {
+    ghost from_gives = { λ _ e. e ≡ OutOfMemory };
+
+    fn from(_error: NoMemory) -> WidthErr {
+        WidthErr::NoMemory
+    }
+}

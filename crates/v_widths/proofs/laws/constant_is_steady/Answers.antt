@@ -1,5 +1,0 @@
-use Rattle.v_widths.proofs.Steady.{sizing-steady}
-use Rattle.v_widths.proofs.laws.constant_is_steady.Goals as goal
-
-pub returns : goal.returns
-returns g c V = sizing-steady g.of.look g.of.e c.requires V g.of.width g.of.signed

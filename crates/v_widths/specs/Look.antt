@@ -1,6 +1,0 @@
--- A scope as contracts see it: what each name stands for.
-use Rattle.std.specs.Prelude.{ℕ, List, Option}
-use Rattle.v_widths.specs.declared.meaning.Meaning.{Meaning}
-
-abbrev pub Look : Type 0
-Look = List ℕ → Option Meaning

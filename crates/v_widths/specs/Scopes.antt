@@ -1,7 +1,0 @@
--- A scope as contracts see it.
-use Rattle.v_widths.specs.declared.scope.Scope.{Scope}
-use Rattle.v_widths.specs.Look.{Look}
-use Rattle.v_widths.specs.Table.{meaning_in}
-
-abbrev pub look_of : Scope → Look
-look_of scope = meaning_in scope.table

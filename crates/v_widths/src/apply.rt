@@ -1,0 +1,257 @@
+//! What stands in a context, from its operands in theirs.
+ghost use Rattle.std.specs.Prelude.{◌≡◌, ◌*◌, ◌/◌, ◌%◌, ◌^◌, ◌≤◌, ◌<◌, IfOk, if◌then◌else◌};
+ghost use Rattle.loc_base.specs.Bits.{width_of, value_of};
+ghost use Rattle.design_core.specs.Operator.{resized, binary, is_true};
+ghost use Rattle.v_sizes.specs.Sized.{constant};
+ghost use Rattle.v_widths.specs.Folding.{number_in};
+ghost use Rattle.v_widths.specs.Closing.{closed_with, own_typed, called_closed, low, chosen_typed, unary_closed, both_closed, divided_number, divided_closed, shifted_number, shifted_closed, raised_closed, chosen_closed, division_fault};
+
+use crate::measured::{Closed, Division};
+use crate::node::{
+    binary_node, choose_node, constant, low_in, sized, unary_node, with_sign, with_width, word_in,
+    word_of_node,
+};
+use design_core::{BinaryOp, Node, Typed, UnaryOp};
+use loc_base::{Bits, NoMemory, Span};
+use std::alloc::Global;
+use v_sizes::divide::{quotient, remainder};
+use v_sizes::fold::Operand;
+use v_sizes::numbers::{is_true, low_bits};
+use v_sizes::power::power;
+use v_sizes::{WidthErr, fold};
+
+/// The context of an expression, and whether the expression reads no signal.
+#[derive(Clone, Copy)]
+pub(crate) struct Frame {
+    pub size: u8,
+    pub signed: bool,
+    pub constant: bool,
+    pub ghost least: { 1 ≤ size },
+    pub ghost most: { size ≤ 128 },
+}
+
+/// A constant of the context's width and sign.
+#[tactic(auto, using(v_sizes::proofs::SameWord::words))]
+fn constant_of(frame: Frame, value: u128) -> Typed
+    ensures { result ≡ constant frame.size frame.signed value }
+{
+    constant(frame.signed, low_bits(frame.size, value))
+}
+
+fn resized(word: Bits, signed: bool, size: u8) -> Bits
+    requires least { 1 ≤ size }
+    requires most { size ≤ 128 }
+    ensures width { width_of result ≡ size }
+    ensures value { value_of result ≡ resized size signed (width_of word) (value_of word) }
+{
+    if word.width() <= size {
+        word.extend(size, signed)
+    } else {
+        word.cut(size)
+    }
+}
+
+/// A constant carried to the context.
+fn carried_constant(frame: Frame, word: Bits) -> Typed
+    ensures { result ≡ constant frame.size frame.signed (resized frame.size frame.signed (width_of word) (value_of word)) }
+{
+    constant_of(frame, resized(word, frame.signed, frame.size).value())
+}
+
+/// What has its width by itself.
+pub(crate) fn own(alloc: Global, frame: Frame, width: u8, node: Node) -> Result<Typed, NoMemory>
+    ensures { IfOk result (λ t. t ≡ own_typed frame.constant width frame.size frame.signed node) }
+{
+    if frame.constant {
+        return Ok(carried_constant(frame, word_of_node(&node)));
+    }
+    with_width(alloc, frame.size, sized(width, frame.signed, node))
+}
+
+/// The argument of a function that changes the sign.
+pub(crate) fn called(alloc: Global, frame: Frame, e: Closed) -> Result<Closed, NoMemory>
+    ensures { IfOk result (λ c. c ≡ called_closed frame.constant frame.size frame.signed e) }
+{
+    let fault = e.fault;
+    let typed = if frame.constant {
+        carried_constant(frame, word_in(&e.typed))
+    } else {
+        let typed = with_sign(alloc, frame.signed, e.typed)?;
+        with_width(alloc, frame.size, typed)?
+    };
+    Ok(closed_with(frame, typed, fault))
+}
+
+/// An expression that is finished in its context.
+fn closed_with(frame: Frame, typed: Typed, fault: Option<WidthErr>) -> Closed
+    ensures { result ≡ closed_with typed frame.constant fault }
+{
+    Closed {
+        typed,
+        constant: frame.constant,
+        fault,
+    }
+}
+
+pub(crate) fn unary(alloc: Global, frame: Frame, op: UnaryOp, e: Closed) -> Result<Closed, NoMemory>
+    ensures { IfOk result (λ c. c ≡ unary_closed op frame.constant frame.size frame.signed e) }
+{
+    let fault = e.fault;
+    let typed = if frame.constant {
+        let word = fold::unary(op, low_in(frame.size, &e.typed));
+        constant_of(frame, word.value())
+    } else {
+        sized(frame.size, frame.signed, unary_node(alloc, op, e.typed)?)
+    };
+    Ok(closed_with(frame, typed, fault))
+}
+
+/// The words of two operands in the context.
+fn folded(frame: Frame, op: BinaryOp, left: &Typed, right: &Typed) -> Bits
+    ensures { value_of result ≡ binary op frame.size frame.signed frame.signed (low frame.size left.now) (low frame.size right.now) }
+{
+    let one = Operand {
+        word: low_in(frame.size, left),
+        signed: frame.signed,
+    };
+    let other = Operand {
+        word: low_in(frame.size, right),
+        signed: frame.signed,
+    };
+    fold::binary(op, one, other)
+}
+
+pub(crate) fn both(
+    alloc: Global,
+    frame: Frame,
+    op: BinaryOp,
+    left: Closed,
+    right: Closed,
+) -> Result<Closed, NoMemory>
+    ensures { IfOk result (λ c. c ≡ both_closed op frame.constant frame.size frame.signed left right) }
+{
+    let fault = left.fault.or(right.fault);
+    let typed = if frame.constant {
+        let word = folded(frame, op, &left.typed, &right.typed);
+        constant_of(frame, word.value())
+    } else {
+        let node = binary_node(alloc, op, left.typed, right.typed)?;
+        sized(frame.size, frame.signed, node)
+    };
+    Ok(closed_with(frame, typed, fault))
+}
+
+fn division_fault(frame: Frame, span: Span, divisor: Bits) -> Option<WidthErr>
+    ensures { result ≡ division_fault span frame.constant (value_of divisor) }
+{
+    if !frame.constant {
+        Some(WidthErr::NotConstant(span))
+    } else if !is_true(divisor) {
+        Some(WidthErr::ZeroDivisor(span))
+    } else {
+        None
+    }
+}
+
+pub(crate) fn divided(frame: Frame, division: Division, left: Closed, right: Closed) -> Closed
+    ensures { result ≡ divided_closed division.span division.remainder frame.constant frame.size frame.signed left right }
+{
+    let one = low_in(frame.size, &left.typed);
+    let other = low_in(frame.size, &right.typed);
+    let word = if division.remainder {
+        remainder(one, other, frame.signed)
+    } else {
+        quotient(one, other, frame.signed)
+    };
+    let own = division_fault(frame, division.span, other);
+    let fault = left.fault.or(right.fault.or(own));
+    closed_with(frame, constant_of(frame, word.value()), fault)
+}
+
+/// A shift of a constant.
+fn shifted_word(op: BinaryOp, word: Bits, signed: bool, by: u128) -> Bits
+    ensures { value_of result ≡ shifted_number op (width_of word) signed (value_of word) by }
+{
+    match op {
+        BinaryOp::ShiftRight => word.shift_right(by),
+        BinaryOp::ArithmeticShiftRight => {
+            if signed {
+                word.shift_right_signed(by)
+            } else {
+                word.shift_right(by)
+            }
+        }
+        _ => word.shift_left(by),
+    }
+}
+
+pub(crate) fn shifted(
+    alloc: Global,
+    frame: Frame,
+    op: BinaryOp,
+    left: Closed,
+    right: Closed,
+) -> Result<Closed, NoMemory>
+    ensures { IfOk result (λ c. c ≡ shifted_closed op frame.constant frame.size frame.signed left right) }
+{
+    let fault = left.fault.or(right.fault);
+    let typed = if frame.constant {
+        let word = low_in(frame.size, &left.typed);
+        let word = shifted_word(op, word, frame.signed, word_in(&right.typed).value());
+        constant_of(frame, word.value())
+    } else {
+        let node = binary_node(alloc, op, left.typed, right.typed)?;
+        sized(frame.size, frame.signed, node)
+    };
+    Ok(closed_with(frame, typed, fault))
+}
+
+pub(crate) fn raised(frame: Frame, base: Closed, exponent: u128, own: Option<WidthErr>) -> Closed
+    ensures { result ≡ raised_closed exponent own frame.constant frame.size frame.signed base }
+{
+    let word = power(low_in(frame.size, &base.typed), exponent);
+    let fault = base.fault.or(own);
+    closed_with(frame, constant_of(frame, word.value()), fault)
+}
+
+/// The one of two that a constant condition chooses.
+fn taken(condition: Typed, yes: Typed, no: Typed) -> Typed
+    ensures { result ≡ (if is_true (number_in condition) then yes else no) }
+{
+    if is_true(word_in(&condition)) {
+        yes
+    } else {
+        no
+    }
+}
+
+/// A conditional expression, or what a constant one is.
+fn choice(
+    alloc: Global,
+    frame: Frame,
+    condition: Typed,
+    yes: Typed,
+    no: Typed,
+) -> Result<Typed, NoMemory>
+    ensures { IfOk result (λ t. t ≡ chosen_typed frame.constant frame.size frame.signed condition yes no) }
+{
+    if frame.constant {
+        return Ok(taken(condition, yes, no));
+    }
+    let node = choose_node(alloc, condition, yes, no)?;
+    Ok(sized(frame.size, frame.signed, node))
+}
+
+pub(crate) fn chosen(
+    alloc: Global,
+    frame: Frame,
+    condition: Closed,
+    yes: Closed,
+    no: Closed,
+) -> Result<Closed, NoMemory>
+    ensures { IfOk result (λ c. c ≡ chosen_closed frame.constant frame.size frame.signed condition yes no) }
+{
+    let fault = condition.fault.or(yes.fault.or(no.fault));
+    let typed = choice(alloc, frame, condition.typed, yes.typed, no.typed)?;
+    Ok(closed_with(frame, typed, fault))
+}
