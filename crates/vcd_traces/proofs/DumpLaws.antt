@@ -39,7 +39,6 @@ use Rattle.vcd_traces.specs.Sites.{site_port, site_fits, watches_from, IsScope, 
 use Rattle.vcd_traces.specs.Answers.{Answers}
 use Rattle.vcd_traces.proofs.PortLaws.{ports_count, ports_fit, watched_from}
 use Rattle.vcd_reading.proofs.ReadSteps.{at_map}
-use Rattle.design_core.specs.WellFormed.{IsWellFormed}
 use Rattle.vcd_traces.proofs.AnswerLaws.{refused_word, no_watches, table_none}
 
 pub front_going : (ports : List Port) (w : Watches) (plan : Plan) (dump : Dump) (reading : Reading) → IsFront ports dump

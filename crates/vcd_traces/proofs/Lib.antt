@@ -19,4 +19,5 @@ pub mod FinishLaws
 pub mod PortLaws
 pub mod AnswerLaws
 pub mod DumpLaws
+pub mod FitLaws
 mod Examples

@@ -12,7 +12,7 @@ use Rattle.loc_base.proofs.ShelfLists.{slice_get-some}
 use Rattle.design_core.specs.declared.design.Design.{Design}
 use Rattle.design_core.specs.declared.signal.Signal.{Signal}
 use Rattle.design_core.specs.Valuation.{width_at}
-use Rattle.design_core.specs.WellFormed.{IsWellFormed, signal_fits, input_fits, is_signal, is_input}
+use Rattle.design_core.specs.WellFormed.{signal_fits, input_fits, is_signal, is_input}
 use Rattle.vcd_reading.specs.Header.{Header}
 use Rattle.vcd_reading.specs.Scopes.{Port, port_at, clock_port, input_ports, output_ports, clock_ports, ports_of, code_of}
 use Rattle.vcd_traces.specs.Samples.{Watches, watch_of, watches_of}

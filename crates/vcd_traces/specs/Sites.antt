@@ -1,5 +1,5 @@
 -- The variables of a design's ports, as they are found.
-use Rattle.std.specs.Prelude.{ℕ, ◌≡◌, ◌&&◌, Bool, true, nat_le, List, map, take, drop, Some, All, slice_get}
+use Rattle.std.specs.Prelude.{ℕ, ◌≡◌, Bool, true, List, map, take, drop, Some, All, slice_get}
 use Rattle.std.specs.Option.{option_map}
 use Rattle.vcd_reading.specs.Header.{Header}
 use Rattle.vcd_reading.specs.HeaderView.{variable_of}

@@ -7,6 +7,7 @@ ghost use Rattle.vcd_reading.specs.declared.error.VcdErr.TheVariants.{NoMemory a
 ghost use Rattle.vcd_traces.specs.Ports.{HasPorts};
 ghost use Rattle.vcd_traces.specs.Samples.{HasSamples, IsRefused};
 ghost use Rattle.vcd_traces.specs.Answers.{Answers, IsOnly, IsOnlyFault};
+ghost use Rattle.design_core.specs.TraceFits.{IsTraceOf};
 
 use crate::dump::Dump;
 use design_core::{Design, Trace};
@@ -45,6 +46,7 @@ pub fn samples(
 ) -> Result<Trace, VcdErr>
     requires { HasPorts design.now }
     ensures samples { IfOk result (λ trace. HasSamples text.now design.now (option_copied clock.entry) trace) }
+    ensures fits { IfOk result (λ trace. IsTraceOf design.now trace) }
     ensures refused { IfErr result (λ fault. fault ≢ OutOfMemory → IsRefused text.now design.now (option_copied clock.entry) fault) }
     ensures only { (trace : TheTrace) → HasSamples text.now design.now (option_copied clock.entry) trace → IsOnly trace result }
     ensures only_refused { (fault : TheFault) → IsRefused text.now design.now (option_copied clock.entry) fault → IsOnlyFault fault result }

@@ -1,9 +1,13 @@
 use Rattle.std.specs.Option.{option_copied}
 use Rattle.vcd_traces.proofs.AnswerLaws.{ok_answers, err_answers, answers_only, refuses_only}
+use Rattle.vcd_traces.proofs.FitLaws.{ok_fits}
 use Rattle.vcd_traces.proofs.sampling.samples.Goals as goal
 
 pub returns-clause-samples : goal.returns-clause-samples
 returns-clause-samples c = ok_answers c.args.text.now c.args.design.now (option_copied c.args.clock) c.answer.result c.answer.ensures
+
+pub returns-clause-fits : goal.returns-clause-fits
+returns-clause-fits c = ok_fits c.args.text.now c.args.design.now (option_copied c.args.clock) c.answer.result c.answer.ensures
 
 pub returns-clause-refused : goal.returns-clause-refused
 returns-clause-refused c = err_answers c.args.text.now c.args.design.now (option_copied c.args.clock) c.answer.result c.answer.ensures

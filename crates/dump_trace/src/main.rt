@@ -1,0 +1,112 @@
+//! `dump_trace CLOCK SHOWN [in|out NAME WIDTH]..`: reads a value change dump from standard input as one of a design with
+//! these ports, and prints its trace or why it holds none.
+//!
+//! CLOCK is the clock's name, or `-` where there is none. SHOWN is `rows` for a line a cycle, `count` for their number
+//! alone, or `time` for the milliseconds too, on standard error.
+#![tactic(auto)]
+
+mod design;
+mod failure;
+
+use crate::design::{clock_of, design_of};
+use crate::failure::Failure;
+use design_core::{Design, Trace};
+use std::env;
+use std::io::{self, BufWriter, Read, Write};
+use std::process::ExitCode;
+use std::time::Instant;
+use vcd_traces::{VcdErr, has_ports, samples};
+
+/// The words behind the program's name.
+fn words(rt: &HostRuntime) -> Result<Vec<String>, Failure> {
+    let Ok(mut given) = env::args(rt) else {
+        return Err(Failure::Words);
+    };
+    let _name = given.next();
+    let mut words = Vec::new(rt.alloc());
+    for word in given {
+        words.push(word)?;
+    }
+    Ok(words)
+}
+
+/// What standard input holds.
+fn input(rt: &HostRuntime) -> Result<Vec<u8>, Failure> {
+    let mut bytes = Vec::new(rt.alloc());
+    match rt.reader().read_to_end(&mut bytes) {
+        Ok(_) => Ok(bytes),
+        Err(_) => Err(Failure::Stream),
+    }
+}
+
+/// One line for each cycle: its inputs, and its outputs with the bits that are known.
+fn print_rows(rt: &HostRuntime, design: &Design, trace: &Trace) -> Result<(), Failure> {
+    let mut out = BufWriter::new(rt.alloc(), io::writer(rt))?;
+    let (inputs, outputs) = (design.inputs.len(), design.outputs.len());
+    let (mut samples, mut expected) = (trace.inputs.iter(), trace.expected.iter());
+    for cycle in 0..trace.cycles {
+        write!(out, "{cycle}")?;
+        for sample in samples.by_ref().take(inputs) {
+            write!(out, " {}", sample.value())?;
+        }
+        for checked in expected.by_ref().take(outputs) {
+            write!(out, " {}/{}", checked.value.value(), checked.mask.value())?;
+        }
+        writeln!(out)?;
+    }
+    out.flush()?;
+    Ok(())
+}
+
+/// Prints a trace or why there is none, and gives the exit status.
+fn print_answer(
+    rt: &HostRuntime,
+    shown: &str,
+    design: &Design,
+    answer: &Result<Trace, VcdErr>,
+) -> Result<u8, Failure> {
+    match answer {
+        Err(fault) => {
+            println!(rt; "{fault:?}")?;
+            Ok(1)
+        }
+        Ok(trace) => {
+            println!(rt; "cycles {}", trace.cycles)?;
+            if shown == "rows" {
+                print_rows(rt, design, trace)?;
+            }
+            Ok(0)
+        }
+    }
+}
+
+/// Reads, prints, and gives the exit status.
+fn run(rt: &HostRuntime) -> Result<u8, Failure> {
+    let words = words(rt)?;
+    let [clock, shown, ports @ ..] = words.as_slice() else {
+        return Err(Failure::Words);
+    };
+    let design = design_of(rt.alloc(), clock, ports)?;
+    let clock = clock_of(rt.alloc(), clock)?;
+    let text = input(rt)?;
+    if !has_ports(&design) {
+        return Err(Failure::Words);
+    }
+    let begin = Instant::now(rt)?;
+    let answer = samples(rt.alloc(), text.as_slice(), &design, clock.as_ref());
+    let end = Instant::now(rt)?;
+    if shown.as_str() == "time" {
+        eprintln!(rt; "{}", end.duration_since(begin).as_millis())?;
+    }
+    print_answer(rt, shown, &design, &answer)
+}
+
+fn main(rt: HostRuntime) -> ExitCode {
+    match run(&rt) {
+        Ok(status) => ExitCode::from(status),
+        Err(failure) => {
+            let _printed = eprintln!(rt; "{failure:?}");
+            ExitCode::from(2)
+        }
+    }
+}
