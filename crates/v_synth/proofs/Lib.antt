@@ -1,0 +1,4 @@
+pub mod Base
+pub mod Index
+pub mod Arrays
+pub mod Expression

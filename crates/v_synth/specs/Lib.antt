@@ -4,3 +4,4 @@ pub mod Statement
 pub mod Driver
 pub mod Clocked
 pub mod Net
+pub mod Meaning
