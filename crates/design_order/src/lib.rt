@@ -1,0 +1,12 @@
+//! The order in which the drivers of a design are carried out, or a circle of drivers that depend on each other.
+//!
+//! The definitions stand in `design_core` (`specs/Order.antt`).
+#![tactic(auto)]
+
+mod circle;
+mod error;
+mod least;
+mod users;
+
+pub use error::OrderErr;
+pub use least::least_order;
