@@ -53,8 +53,8 @@ is-place count k address low within =
 
 -- ---- bits of a signal
 
-range-at : List Signal → ℕ → Range
-range-at signals s = record { width = width_at signals s; left = left_at signals s; right = right_at signals s }
+abbrev pub range_at : List Signal → ℕ → Range
+range_at signals s = record { width = width_at signals s; left = left_at signals s; right = right_at signals s }
 
 pub position-at : (signals : List Signal) (s : ℕ) (index : ℤ) → is_signal signals s ≡ true
     → position_at signals s index ≡ position_in (record { width = width_at signals s; left = left_at signals s; right = right_at signals s }) index

@@ -2,3 +2,5 @@ pub mod Base
 pub mod Index
 pub mod Arrays
 pub mod Expression
+pub mod Bits
+pub mod Store
