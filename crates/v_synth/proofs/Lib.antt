@@ -4,3 +4,4 @@ pub mod Arrays
 pub mod Expression
 pub mod Bits
 pub mod Store
+pub mod Merge
