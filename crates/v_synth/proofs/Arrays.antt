@@ -47,7 +47,7 @@ words-law : {e : Source} {signals : List Signal} {nodes_of : List ℕ} {V : Valu
     → Means e nodes so_far array.width (word_below (λ j. number array.width (λ b. V (array.first + j) (array.from + b))) (place_within count (address -ℤ array.low)) place)
     → place + more ≡ count
     → Gives e nodes (words_made signals nodes_of array nodes so_far place more) array.width
-      (word_below (λ j. number array.width (λ b. V (array.first + j) (array.from + b))) (place_within count (address -ℤ array.low)) count)
+    (word_below (λ j. number array.width (λ b. V (array.first + j) (array.from + b))) (place_within count (address -ℤ array.low)) count)
 unfolding words_made
 words-law {e} {signals} {nodes_of} {V} array count address zero {nodes} so_far place iv fits shows index at so all =
     let f : ℕ → ℕ = λ j. number array.width (λ b. V (array.first + j) (array.from + b)) in
@@ -59,21 +59,21 @@ words-law {e} {signals} {nodes_of} {V} array count address (suc more) {nodes} so
     let s : ℕ = array.first + place in
     let low : place < count = omega (arith, all) in
     let is = pushed-gives e nodes 1 (operation.Is array.index (array.low +ℤ pos place)) (one_if (is_at place p)) refl (index.there, refl)
-        (ap (λ v. one_if (int_eq (integer_of array.index.signed array.index.width v) (array.low +ℤ pos place))) index.is
-        ∙ ap (λ a. one_if (int_eq a (array.low +ℤ pos place))) at ∙ ap one_if (is-place count place address array.low low)) in
+    (ap (λ v. one_if (int_eq (integer_of array.index.signed array.index.width v) (array.low +ℤ pos place))) index.is
+    ∙ ap (λ a. one_if (int_eq a (array.low +ℤ pos place))) at ∙ ap one_if (is-place count place address array.low low)) in
     let m1 : Made = pushed nodes 1 (operation.Is array.index (array.low +ℤ pos place)) in
     let word = keep is.grown (shows.are s (fits.there place low)) in
     let bits = pushed-gives e m1.nodes array.width (operation.Slice (signal_read signals nodes_of s) array.from) (f place) fits.wide (word.there, fits.bits place low)
-        (ap (λ v. number array.width (λ b. bit v (array.from + b))) word.is ∙ number-bits (width_at signals s) array.width array.from (V s) (fits.bits place low)) in
+    (ap (λ v. number array.width (λ b. bit v (array.from + b))) word.is ∙ number-bits (width_at signals s) array.width array.from (V s) (fits.bits place low)) in
     let m2 : Made = pushed m1.nodes array.width (operation.Slice (signal_read signals nodes_of s) array.from) in
     let test = keep bits.grown is.means in
     let old = keep bits.grown (keep is.grown so) in
     let chosen = pushed-gives e m2.nodes array.width (operation.Choose (unsigned m1.node 1) (unsigned m2.node array.width) (unsigned so_far array.width)) (word_below f p (place + 1)) fits.wide
-        (record { there = test.there; wide = refl }, record { there = bits.means.there; wide = refl }, record { there = old.there; wide = refl })
-        (ap (λ t. if is_true t then get_or (values e [] m2.nodes) m2.node 0 else get_or (values e [] m2.nodes) so_far 0) test.is
-        ∙ ap (λ t. if t then get_or (values e [] m2.nodes) m2.node 0 else get_or (values e [] m2.nodes) so_far 0) (true-one_if (is_at place p))
-        ∙ ap₂ (λ x y. if is_at place p then x else y) bits.means.is old.is
-        ∙ next_below f p place) in
+    (record { there = test.there; wide = refl }, record { there = bits.means.there; wide = refl }, record { there = old.there; wide = refl })
+    (ap (λ t. if is_true t then get_or (values e [] m2.nodes) m2.node 0 else get_or (values e [] m2.nodes) so_far 0) test.is
+    ∙ ap (λ t. if t then get_or (values e [] m2.nodes) m2.node 0 else get_or (values e [] m2.nodes) so_far 0) (true-one_if (is_at place p))
+    ∙ ap₂ (λ x y. if is_at place p then x else y) bits.means.is old.is
+    ∙ next_below f p place) in
     let grown = grown-then is.grown (grown-then bits.grown chosen.grown) in
     gives-then grown
     (words-law array count address more (pushed m2.nodes array.width (operation.Choose (unsigned m1.node 1) (unsigned m2.node array.width) (unsigned so_far array.width))).node (place + 1) iv
@@ -83,7 +83,7 @@ words-law {e} {signals} {nodes_of} {V} array count address (suc more) {nodes} so
 pub array-law : {e : Source} {signals : List Signal} {nodes_of : List ℕ} {V : Valuation} (array : ArrayRead) (count : ℕ) {nodes : List WordNode} (iv : ℕ)
     → ArrayFits signals array.first array.from array.width count → Shows e signals nodes nodes_of V → Means e nodes array.index.node array.index.width iv
     → Gives e nodes (array_made signals nodes_of array nodes count) array.width
-      (word_value V array.from array.width (word_at array.first count array.low (integer_of array.index.signed array.index.width iv)))
+    (word_value V array.from array.width (word_at array.first count array.low (integer_of array.index.signed array.index.width iv)))
 unfolding array_made
 array-law {e} {signals} {nodes_of} {V} array count {nodes} iv fits shows index =
     let address : ℤ = integer_of array.index.signed array.index.width iv in

@@ -61,7 +61,7 @@ picked-here signals M s index b (k ∷ offsets) bits p there =
     let next : Valuation = with_bit M s at (bits b) in
     picked-here signals next s index (b + 1) offsets bits p there
     ∙ put_picked-same (range_at signals s) (next s) (put_bit (M s) (position_in (range_at signals s) (index +ℤ k)) (bits b)) index (b + 1) offsets bits p
-      (bit-here M s at (bits b) p ∙ ap (λ o. put_bit (M s) o (bits b) p) (position-at signals s (index +ℤ k) there))
+    (bit-here M s at (bits b) p ∙ ap (λ o. put_bit (M s) o (bits b) p) (position-at signals s (index +ℤ k) there))
 
 -- ---- words of arrays
 
@@ -85,7 +85,7 @@ next_word first (Some j) k = at (cases_order j k)
   where
     at : (j ≡ k) ⊎ ((j < k) ⊎ (k < j))
         → ((is_at k (Some j) ≡ true) × (word_before first (Some j) k ≡ None) × (word_before first (Some j) (k + 1) ≡ Some (first + k)))
-          ⊎ ((is_at k (Some j) ≡ false) × (word_before first (Some j) (k + 1) ≡ word_before first (Some j) k))
+        ⊎ ((is_at k (Some j) ≡ false) × (word_before first (Some j) (k + 1) ≡ word_before first (Some j) k))
     at (inl same) = inl (eq-eqb j k same, rw (le-ltb j k (omega (arith, same))) refl, rw (lt-ltb j (k + 1) (omega (arith, same))) (ap (λ n. Some (first + n)) same))
     at (inr (inl low)) = inr (equal-false j k (omega arith), rw (lt-ltb j k low, lt-ltb j (k + 1) (omega (arith, low))) refl)
     at (inr (inr high)) = inr (equal-false j k (omega arith), rw (le-ltb j k (omega (arith, high)), le-ltb j (k + 1) (omega (arith, high))) refl)

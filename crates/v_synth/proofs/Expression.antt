@@ -116,6 +116,7 @@ logical-value _ true v r s a b is = absurd cc
 -- ---- expressions
 mutual
   unfolding expression_made join_made parts_made
+
   pub expression-law : {e : Source} {signals : List Signal} {nodes_of : List ℕ} {V : Valuation} (width : ℕ) (signed : Bool) (n : Node) {nodes : List WordNode}
       → list_all signal_fits signals ≡ true → node_fits signals width signed n ≡ true → Shows e signals nodes nodes_of V
       → Gives e nodes (expression_made signals nodes_of nodes width n) width (node_value signals V width n)
@@ -153,7 +154,7 @@ mutual
       (word.there, record { index = i.means.there; range = (signal-at signals s own h.1).1 }, eqb-true (length offsets) width g.1)
       (ap₂ (λ v n. number width (picked_bit (record { width = width_at signals s; left = left_at signals s; right = right_at signals s }) (bit v) (integer_of signed index_width n) offsets)) word.is i.means.is
       ∙ number-same width (picked_bit (record { width = width_at signals s; left = left_at signals s; right = right_at signals s }) (bit (word_of signals V s)) (integer_of signed index_width iv) offsets)
-        (picked signals V s (integer_of signed index_width iv) offsets) (λ b low. picked-same signals V s (integer_of signed index_width iv) offsets b h.1)))
+      (picked signals V s (integer_of signed index_width iv) offsets) (λ b low. picked-same signals V s (integer_of signed index_width iv) offsets b h.1)))
   expression-law {e} {signals} {nodes_of} {V} width sign (Word' first count low _ (more_of-Typed index_width signed index end_of-Typed) from size) {nodes} own fits shows =
       let f = and_parts (words_fit signals first count from size && (size == width)) (node_fits signals index_width signed index) fits in
       let g = and_parts (words_fit signals first count from size) (size == width) f.0 in
@@ -272,7 +273,7 @@ mutual
       let top = width-bounds width wide in
       let l = keep p.grown m in
       let j = pushed-gives e mp.nodes (left_width + part_width) (operation.Join (unsigned left left_width) (unsigned mp.node part_width)) (v * 2 ^ part_width + pv)
-          (width-within (left_width + part_width) (omega (arith, some)) (omega (arith, all, top.1))) (l.there, p.means.there, refl) (ap₂ (λ a b. a * 2 ^ part_width + b) l.is p.means.is) in
+      (width-within (left_width + part_width) (omega (arith, some)) (omega (arith, all, top.1))) (l.there, p.means.there, refl) (ap₂ (λ a b. a * 2 ^ part_width + b) l.is p.means.is) in
       let mj : Made = pushed mp.nodes (left_width + part_width) (operation.Join (unsigned left left_width) (unsigned mp.node part_width)) in
       gives-then (grown-then p.grown j.grown)
       (parts-law width mj.node (left_width + part_width) (v * 2 ^ part_width + pv) rest own wide (omega (arith, all)) (omega (arith, some)) f.1 (keep-shows (grown-then p.grown j.grown) shows) j.means)

@@ -5,3 +5,4 @@ pub mod Expression
 pub mod Bits
 pub mod Store
 pub mod Merge
+pub mod StatementLaws

@@ -24,9 +24,9 @@ use Rattle.v_synth.proofs.Store.{set-shows}
 pub shows-same : {e : Source} {signals : List Signal} {nodes : List WordNode} {nodes_of : List ℕ} {V : Valuation} (W : Valuation)
     → ((s b : ℕ) → s < length signals → V s b ≡ W s b) → Shows e signals nodes nodes_of V → Shows e signals nodes nodes_of W
 shows-same {e} {signals} {nodes} {nodes_of} {V} W same shows = record {
-    each = shows.each;
-    are = λ s within. subst (λ v. Means e nodes (get_or nodes_of s 0) (width_at signals s) v) (number-same (width_at signals s) (V s) (W s) (λ b low. same s b within)) (shows.are s within);
-  }
+  each = shows.each;
+  are = λ s within. subst (λ v. Means e nodes (get_or nodes_of s 0) (width_at signals s) v) (number-same (width_at signals s) (V s) (W s) (λ b low. same s b within)) (shows.are s within);
+}
 
 -- one of two words
 pub chosen-law : {e : Source} {nodes : List WordNode} {test one other width a b : ℕ} (t : Bool) → is_width width ≡ true → Means e nodes test 1 (one_if t)
@@ -86,7 +86,7 @@ record RowShows (e : Source) (signals : List Signal) (nodes : List WordNode) (m 
 row-law : {e : Source} {signals : List Signal} {nodes : List WordNode} {test : ℕ} {arm nodes_of : List ℕ} (t : Bool) (s : ℕ) (Y N : Valuation) → list_all signal_fits signals ≡ true → s < length signals
     → Means e nodes test 1 (one_if t) → Shows e signals nodes arm Y → Shows e signals nodes nodes_of (mixed t s Y N)
     → RowShows e signals nodes (chosen_made nodes test (width_at signals s) (get_or arm s 0) (get_or nodes_of s 0))
-      (set nodes_of s (chosen_made nodes test (width_at signals s) (get_or arm s 0) (get_or nodes_of s 0)).node) (mixed t (s + 1) Y N)
+    (set nodes_of s (chosen_made nodes test (width_at signals s) (get_or arm s 0) (get_or nodes_of s 0)).node) (mixed t (s + 1) Y N)
 row-law {e} {signals} {nodes} {test} {arm} {nodes_of} t s Y N own there mt one_shows other_shows =
     let w : ℕ = width_at signals s in
     let g = chosen-law t (signal-at signals s own (lt-ltb s (length signals) there)).0 mt (one_shows.are s there) (other_shows.are s there) in
@@ -126,7 +126,7 @@ merged-from {e} {signals} {test} arm t y n (suc more) s m own mt ynow ylater now
     let other = row-law t s y.later n.later own there (keep one.grown mt) (keep-shows one.grown ylater) (keep-shows one.grown later) in
     let grown = grown-then one.grown other.grown in
     let rest = merged-from arm t y n more (s + 1) (maps b.nodes (set m.now s a.node) (set m.later s b.node)) own (keep grown mt) (keep-shows grown ynow) (keep-shows grown ylater)
-        (keep-shows other.grown one.shows) other.shows (omega (arith, all)) in
+    (keep-shows other.grown one.shows) other.shows (omega (arith, all)) in
     record { grown = grown-then grown rest.grown; shows = rest.shows }
 
 -- both maps of two arms

@@ -38,9 +38,9 @@ pub set-shows : {e : Source} {signals : List Signal} {nodes after : List WordNod
     → Shows e signals nodes nodes_of M → Grown nodes after → s < length signals → Means e after node (width_at signals s) (word_of signals N s)
     → ((t b : ℕ) → t ≢ s → N t b ≡ M t b) → Shows e signals after (set nodes_of s node) N
 set-shows {e} {signals} {nodes} {after} {nodes_of} {M} N s {node} shows grown there means others = record {
-    each = length-set nodes_of s node ∙ shows.each;
-    are = λ t within. at t within (cases_order t s);
-  }
+  each = length-set nodes_of s node ∙ shows.each;
+  are = λ t within. at t within (cases_order t s);
+}
   where
     at : (t : ℕ) → t < length signals → (t ≡ s) ⊎ ((t < s) ⊎ (s < t)) → Means e after (get_or (set nodes_of s node) t 0) (width_at signals t) (word_of signals N t)
     at t within (inl same) =
@@ -67,7 +67,7 @@ words_stored-law : {e : Source} {signals : List Signal} (M : Valuation) (array :
     → Shows e signals nodes nodes_of (with_word M (word_before array.first (place_within count (address -ℤ array.low)) place) array.from array.width (λ b. bit v (stored.offset + b)))
     → place + more ≡ count
     → ShowsIn e signals nodes (words_stored signals array stored nodes nodes_of place more)
-      (with_word M (word_before array.first (place_within count (address -ℤ array.low)) count) array.from array.width (λ b. bit v (stored.offset + b)))
+    (with_word M (word_before array.first (place_within count (address -ℤ array.low)) count) array.from array.width (λ b. bit v (stored.offset + b)))
 unfolding words_stored
 words_stored-law {e} {signals} M array stored count address zero {nodes} {nodes_of} place iv v own fits index at word room shows all =
     let end : place ≡ count = omega (arith, all) in
@@ -85,24 +85,24 @@ words_stored-law {e} {signals} M array stored count address (suc more) {nodes} {
     let there : s < length signals = fits.there place low in
     let wide : is_width width ≡ true = (signal-at signals s own (lt-ltb s (length signals) there)).0 in
     let is = pushed-gives e nodes 1 (operation.Is array.index (array.low +ℤ pos place)) (one_if (is_at place p)) refl (index.there, refl)
-        (ap (λ n. one_if (int_eq (integer_of array.index.signed array.index.width n) (array.low +ℤ pos place))) index.is
-        ∙ ap (λ a. one_if (int_eq a (array.low +ℤ pos place))) at ∙ ap one_if (is-place count place address array.low low)) in
+    (ap (λ n. one_if (int_eq (integer_of array.index.signed array.index.width n) (array.low +ℤ pos place))) index.is
+    ∙ ap (λ a. one_if (int_eq a (array.low +ℤ pos place))) at ∙ ap one_if (is-place count place address array.low low)) in
     let m1 : Made = pushed nodes 1 (operation.Is array.index (array.low +ℤ pos place)) in
     let old = keep is.grown (shows.are s there) in
     let given = keep is.grown word in
     let put_op = operation.Put (signal_read signals nodes_of s) array.from array.width stored.word stored.offset in
     let pv : ℕ = number width (put_bits (bit (word_of signals (W place) s)) array.from array.width bits) in
     let put = pushed-gives e m1.nodes width put_op pv wide (record { there = old.there; wide = refl }, given.there, fits.bits place low, room)
-        (ap₂ (λ o n. number width (put_bits (bit o) array.from array.width (λ b. bit n (stored.offset + b)))) old.is given.is) in
+    (ap₂ (λ o n. number width (put_bits (bit o) array.from array.width (λ b. bit n (stored.offset + b)))) old.is given.is) in
     let m2 : Made = pushed m1.nodes width put_op in
     let test = keep put.grown is.means in
     let old2 = keep put.grown old in
     let choose_op = operation.Choose (unsigned m1.node 1) (unsigned m2.node width) (signal_read signals nodes_of s) in
     let chosen = pushed-gives e m2.nodes width choose_op (if is_at place p then pv else word_of signals (W place) s) wide
-        (record { there = test.there; wide = refl }, record { there = put.means.there; wide = refl }, record { there = old2.there; wide = refl })
-        (ap (λ t. if is_true t then get_or (values e [] m2.nodes) m2.node 0 else get_or (values e [] m2.nodes) (get_or nodes_of s 0) 0) test.is
-        ∙ ap (λ t. if t then get_or (values e [] m2.nodes) m2.node 0 else get_or (values e [] m2.nodes) (get_or nodes_of s 0) 0) (true-one_if (is_at place p))
-        ∙ ap₂ (λ x y. if is_at place p then x else y) put.means.is old2.is) in
+    (record { there = test.there; wide = refl }, record { there = put.means.there; wide = refl }, record { there = old2.there; wide = refl })
+    (ap (λ t. if is_true t then get_or (values e [] m2.nodes) m2.node 0 else get_or (values e [] m2.nodes) (get_or nodes_of s 0) 0) test.is
+    ∙ ap (λ t. if t then get_or (values e [] m2.nodes) m2.node 0 else get_or (values e [] m2.nodes) (get_or nodes_of s 0) 0) (true-one_if (is_at place p))
+    ∙ ap₂ (λ x y. if is_at place p then x else y) put.means.is old2.is) in
     let m3 : Made = pushed m2.nodes width choose_op in
     let grown = grown-then is.grown (grown-then put.grown chosen.grown) in
     let next = changed (next_word array.first p place) in
@@ -128,17 +128,19 @@ words_stored-law {e} {signals} M array stored count address (suc more) {nodes} {
     changed : ((is_at place p ≡ true) × (word_before array.first p place ≡ None) × (word_before array.first p (place + 1) ≡ Some s))
         ⊎ ((is_at place p ≡ false) × (word_before array.first p (place + 1) ≡ word_before array.first p place))
         → ((if is_at place p then pv else word_of signals (W place) s) ≡ word_of signals (W (place + 1)) s)
-          × ((t b : ℕ) → t ≢ s → W (place + 1) t b ≡ W place t b)
-    changed (inl (yes_at, none, some)) =
-        (rw yes_at
+        × ((t b : ℕ) → t ≢ s → W (place + 1) t b ≡ W place t b)
+    changed (inl (yes_at, none, some)) = (
+      rw yes_at
           (number-same (width_at signals s) (put_bits (bit (word_of signals (W place) s)) array.from array.width bits) (W (place + 1) s)
           (λ b low. put-same (bit (word_of signals (W place) s)) (M s) array.from array.width bits b
-            (bit-number (width_at signals s) (W place s) b low ∙ ap (λ o. with_word M o array.from array.width bits s b) none)
-            ∙ sym (bits-here M s array.from array.width bits b) ∙ ap (λ o. with_word M o array.from array.width bits s b) (sym some))),
-         λ t b apart. ap (λ o. with_word M o array.from array.width bits t b) some ∙ bits-other M s array.from array.width bits t b apart ∙ ap (λ o. with_word M o array.from array.width bits t b) (sym none))
-    changed (inr (no_at, same)) =
-        (rw no_at (ap (λ o. number (width_at signals s) (with_word M o array.from array.width bits s)) (sym same)),
-         λ t b apart. ap (λ o. with_word M o array.from array.width bits t b) same)
+          (bit-number (width_at signals s) (W place s) b low ∙ ap (λ o. with_word M o array.from array.width bits s b) none)
+          ∙ sym (bits-here M s array.from array.width bits b) ∙ ap (λ o. with_word M o array.from array.width bits s b) (sym some))),
+      λ t b apart. ap (λ o. with_word M o array.from array.width bits t b) some ∙ bits-other M s array.from array.width bits t b apart ∙ ap (λ o. with_word M o array.from array.width bits t b) (sym none),
+    )
+    changed (inr (no_at, same)) = (
+      rw no_at (ap (λ o. number (width_at signals s) (with_word M o array.from array.width bits s)) (sym same)),
+      λ t b apart. ap (λ o. with_word M o array.from array.width bits t b) same,
+    )
 
 -- ---- the parts of a left side
 
@@ -217,8 +219,8 @@ part-law {e} {signals} {nodes} {nodes_of} E {M} (part.Whole s) index v stored ow
     let there : s < length signals = ltb-true s (length signals) fits in
     let N : Valuation = with_bits M s 0 w bits in
     let m = pushed-gives e nodes w (operation.Slice stored.word stored.offset) (word_of signals N s) (signal-at signals s own fits).0 (word.there, room)
-        (ap (λ n. number w (λ b. bit n (stored.offset + b))) word.is
-        ∙ number-same w bits (N s) (λ b low. sym (bits-here M s 0 w bits b ∙ inside (M s) bits w b low))) in
+    (ap (λ n. number w (λ b. bit n (stored.offset + b))) word.is
+    ∙ number-same w bits (N s) (λ b low. sym (bits-here M s 0 w bits b ∙ inside (M s) bits w b low))) in
     record { grown = m.grown; shows = set-shows N s shows m.grown there m.means (λ t b apart. bits-other M s 0 w bits t b apart) }
   where
     inside : (old bits : ℕ → Bool) (w b : ℕ) → b < w → put_bits old 0 w bits b ≡ bits b
@@ -232,10 +234,10 @@ part-law {e} {signals} {nodes} {nodes_of} E {M} (part.Slice s from size) index v
     let N : Valuation = with_bits M s from size bits in
     let old = shows.are s there in
     let m = pushed-gives e nodes w (operation.Put (signal_read signals nodes_of s) from size stored.word stored.offset) (word_of signals N s) (signal-at signals s own here).0
-        (record { there = old.there; wide = refl }, word.there, leb-true (from + size) w f.1, room)
-        (ap₂ (λ o n. number w (put_bits (bit o) from size (λ b. bit n (stored.offset + b)))) old.is word.is
-        ∙ number-same w (put_bits (bit (word_of signals M s)) from size bits) (N s)
-          (λ b low. put-same (bit (word_of signals M s)) (M s) from size bits b (bit-number w (M s) b low) ∙ sym (bits-here M s from size bits b))) in
+    (record { there = old.there; wide = refl }, word.there, leb-true (from + size) w f.1, room)
+    (ap₂ (λ o n. number w (put_bits (bit o) from size (λ b. bit n (stored.offset + b)))) old.is word.is
+    ∙ number-same w (put_bits (bit (word_of signals M s)) from size bits) (N s)
+    (λ b low. put-same (bit (word_of signals M s)) (M s) from size bits b (bit-number w (M s) b low) ∙ sym (bits-here M s from size bits b))) in
     record { grown = m.grown; shows = set-shows N s shows m.grown there m.means (λ t b apart. bits-other M s from size bits t b apart) }
 part-law {e} {signals} {nodes} {nodes_of} E {M} (part.Pick s at offsets) index v stored own fits i word room shows =
     let bits : ℕ → Bool = λ b. bit v (stored.offset + b) in
@@ -247,12 +249,12 @@ part-law {e} {signals} {nodes} {nodes_of} E {M} (part.Pick s at offsets) index v
     let old = shows.are s there in
     let own_range = signal-at signals s own here in
     let m = pushed-gives e nodes w (operation.PutPick (signal_read signals nodes_of s) (select_of signals s (operand index at.width at.signed) offsets) stored.word stored.offset) (word_of signals N s) own_range.0
-        (record { there = old.there; wide = refl }, word.there, record { index = i.there; range = own_range.1 }, room)
-        (ap (λ n. number w (put_picked (range_at signals s) (bit (get_or (values e [] nodes) (get_or nodes_of s 0) 0)) (integer_of at.signed at.width n) 0 offsets (λ b. bit (get_or (values e [] nodes) stored.word.node 0) (stored.offset + b)))) i.is
-        ∙ ap₂ (λ o n. number w (put_picked (range_at signals s) (bit o) (index_value signals E at) 0 offsets (λ b. bit n (stored.offset + b)))) old.is word.is
-        ∙ number-same w (put_picked (range_at signals s) (bit (word_of signals M s)) (index_value signals E at) 0 offsets bits) (N s)
-          (λ b low. put_picked-same (range_at signals s) (bit (word_of signals M s)) (M s) (index_value signals E at) 0 offsets bits b (bit-number w (M s) b low)
-            ∙ sym (picked-here signals M s (index_value signals E at) 0 offsets bits b here))) in
+    (record { there = old.there; wide = refl }, word.there, record { index = i.there; range = own_range.1 }, room)
+    (ap (λ n. number w (put_picked (range_at signals s) (bit (get_or (values e [] nodes) (get_or nodes_of s 0) 0)) (integer_of at.signed at.width n) 0 offsets (λ b. bit (get_or (values e [] nodes) stored.word.node 0) (stored.offset + b)))) i.is
+    ∙ ap₂ (λ o n. number w (put_picked (range_at signals s) (bit o) (index_value signals E at) 0 offsets (λ b. bit n (stored.offset + b)))) old.is word.is
+    ∙ number-same w (put_picked (range_at signals s) (bit (word_of signals M s)) (index_value signals E at) 0 offsets bits) (N s)
+    (λ b low. put_picked-same (range_at signals s) (bit (word_of signals M s)) (M s) (index_value signals E at) 0 offsets bits b (bit-number w (M s) b low)
+    ∙ sym (picked-here signals M s (index_value signals E at) 0 offsets bits b here))) in
     record { grown = m.grown; shows = set-shows N s shows m.grown there m.means (λ t b apart. picked-other signals M s (index_value signals E at) 0 offsets bits t b apart) }
 part-law {e} {signals} {nodes} {nodes_of} E {M} (part.Word first count low at from width) index v stored own fits i word room shows =
     let bits : ℕ → Bool = λ b. bit v (stored.offset + b) in
@@ -261,7 +263,7 @@ part-law {e} {signals} {nodes} {nodes_of} E {M} (part.Word first count low at fr
     let p : Option ℕ = place_within count (address -ℤ low) in
     let array : ArrayStore = record { first = first; low = low; index = operand index at.width at.signed; from = from; width = width } in
     let all = words_stored-law M array stored count address count 0 (value signals E at) v own (array-fits signals first count from width f.0) i refl word room
-        (subst (λ o. Shows e signals nodes nodes_of (with_word M o from width bits)) (sym (no_word_before first p)) shows) (omega arith) in
+    (subst (λ o. Shows e signals nodes nodes_of (with_word M o from width bits)) (sym (no_word_before first p)) shows) (omega arith) in
     record {
       grown = all.grown;
       shows = subst (λ o. Shows e signals (words_stored signals array stored nodes nodes_of 0 count).nodes (words_stored signals array stored nodes nodes_of 0 count).each (with_word M o from width bits))
