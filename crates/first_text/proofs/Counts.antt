@@ -45,7 +45,7 @@ pub record IsCounted (m : PlainModule) (n : PlainNetlist) : Type 0 where
 pub module_counted : (m : PlainModule) (n : PlainNetlist) → module_netlist m ≡ Some n → IsCounted m n
 module_counted m n e =
     let wires = wires_of m.items in
-    let from = from_parts m.parameters m.name (ports_of m.ports) wires (all_of assignment_of (drop (length wires) m.items)) n e in
+    let from = from_parts m.parameters m.name.name (ports_of m.ports) wires (all_of assignment_of (drop (length wires) m.items)) n e in
     let ports : length n.ports ≡ count_ports m.ports = ports_length m.ports n.ports from.ports_are in
     let few : length wires ≤ length m.items = wires_length m.items in
     let same : length wires ≡ length n.wires = ap length from.wires_are in

@@ -23,21 +23,21 @@ behind_from m items n wires assigns are is all =
     ap₂ (λ k l. all_of assignment_of (map item_of (drop k l))) (sym is) (sym are) ∙ ap (λ l. all_of assignment_of (map item_of l)) (sym same) ∙ all
 
 by_wires : (m : Module) (wires : List (List ℕ)) (assigns : Option (List PlainAssignment)) → wires ≡ wires_of (map item_of m.items.items) → Behind m wires assigns
-    → module_netlist (module_of m) ≡ netlist_from (map header_parameter_of m.parameters.items) m.name (ports_of (plain_ports m.ports)) wires assigns
+    → module_netlist (module_of m) ≡ netlist_from (map header_parameter_of m.parameters.items) m.name.name (ports_of (plain_ports m.ports)) wires assigns
 by_wires m wires assigns is behind =
     let parameters = map header_parameter_of m.parameters.items in
     let ports = ports_of (plain_ports m.ports) in
     let items = map item_of m.items.items in
-    ap (λ w. netlist_from parameters m.name ports w (all_of assignment_of (drop (length w) items))) (sym is)
-    ∙ ap (λ l. netlist_from parameters m.name ports wires (all_of assignment_of l)) (drop-map item_of (length wires) m.items.items)
-    ∙ ap (netlist_from parameters m.name ports wires) behind
+    ap (λ w. netlist_from parameters m.name.name ports w (all_of assignment_of (drop (length w) items))) (sym is)
+    ∙ ap (λ l. netlist_from parameters m.name.name ports wires (all_of assignment_of l)) (drop-map item_of (length wires) m.items.items)
+    ∙ ap (netlist_from parameters m.name.name ports wires) behind
 
-pub module_is : (m : Module) (name : List ℕ) (ports : List Port) (wires : List (List ℕ)) (assigns : List PlainAssignment) → length m.parameters.items ≡ 0 → name ≡ m.name
+pub module_is : (m : Module) (name : List ℕ) (ports : List Port) (wires : List (List ℕ)) (assigns : List PlainAssignment) → length m.parameters.items ≡ 0 → name ≡ m.name.name
     → ports_of (plain_ports m.ports) ≡ Some ports → wires ≡ wires_of (map item_of m.items.items) → Behind m wires (Some assigns)
     → module_netlist (module_of m) ≡ Some (record { name = name; ports = ports; wires = wires; assigns = assigns })
 module_is m name ports wires assigns none named ports_are is behind =
     by_wires m wires (Some assigns) is behind
-    ∙ ap₂ (λ p q. netlist_from p m.name q wires (Some assigns)) (nothing (map header_parameter_of m.parameters.items) (length-map m.parameters.items header_parameter_of ∙ none)) ports_are
+    ∙ ap₂ (λ p q. netlist_from p m.name.name q wires (Some assigns)) (nothing (map header_parameter_of m.parameters.items) (length-map m.parameters.items header_parameter_of ∙ none)) ports_are
     ∙ ap (λ text. netlist_from [] text (Some ports) wires (Some assigns)) (sym named)
   where
     nothing : (l : List PlainHeaderParameter) → length l ≡ 0 → l ≡ []
@@ -51,7 +51,7 @@ from_none (p ∷ ps) name ports wires = refl
 
 pub module_none : (m : Module) (wires : List (List ℕ)) → wires ≡ wires_of (map item_of m.items.items) → Behind m wires None → module_netlist (module_of m) ≡ None
 module_none m wires is behind =
-    by_wires m wires None is behind ∙ from_none (map header_parameter_of m.parameters.items) m.name (ports_of (plain_ports m.ports)) wires
+    by_wires m wires None is behind ∙ from_none (map header_parameter_of m.parameters.items) m.name.name (ports_of (plain_ports m.ports)) wires
 
 -- the modules of a source that has only one
 pub only_module : (ms : List Module) (m : Module) → 1 ≤ length ms → length ms < 2 → m ≡ get_or ms 0 m → map module_of ms ≡ module_of m ∷ []

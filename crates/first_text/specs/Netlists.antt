@@ -31,7 +31,7 @@ direction_of direction.Output = Output
 
 -- ('input' | 'output') NAME
 abbrev pub port_of : PlainPort → Option Port
-port_of (declared_port s direction None false None name None) = Some (record { direction = direction_of direction; name = name })
+port_of (declared_port s direction None false None name None) = Some (record { direction = direction_of direction; name = name.name })
 port_of _ = None
 
 -- '(' port,+ ')'
@@ -45,7 +45,7 @@ name_alone None None name = Some name
 name_alone _ _ _ = None
 
 abbrev pub declared_name : PlainDeclarator → Option (List ℕ)
-declared_name d = name_alone d.range d.value d.name
+declared_name d = name_alone d.range d.value d.name.name
 
 -- 'wire' NAME ';'
 abbrev pub wire_of : PlainItem → Option (List ℕ)
@@ -88,7 +88,7 @@ netlist_from _ _ _ _ _ = None
 abbrev pub module_netlist : PlainModule → Option PlainNetlist
 module_netlist m =
     let wires = wires_of m.items in
-    netlist_from m.parameters m.name (ports_of m.ports) wires (all_of assignment_of (drop (length wires) m.items))
+    netlist_from m.parameters m.name.name (ports_of m.ports) wires (all_of assignment_of (drop (length wires) m.items))
 
 -- one module, and no more
 abbrev pub netlist_of : List PlainModule → Option PlainNetlist

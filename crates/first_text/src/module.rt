@@ -25,7 +25,7 @@ fn module_netlist(alloc: Global, module: &Module) -> Result<Netlist, FormErr>
     let wires = wires_of(alloc, items)?;
     let assigns = assigns_of(alloc, &items[wires.len()..])?;
     Ok(Netlist {
-        name: module.name.copied(alloc)?,
+        name: module.name.name.copied(alloc)?,
         ports,
         wires,
         assigns,

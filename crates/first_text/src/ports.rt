@@ -32,7 +32,7 @@ fn port_of(alloc: Global, port: &TreePort) -> Result<Port, FormErr>
             value: None,
             ..
         } => {
-            let name = name.copied(alloc)?;
+            let name = name.name.copied(alloc)?;
             Ok(Port {
                 direction: direction_of(*direction),
                 name,

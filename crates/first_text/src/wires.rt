@@ -14,7 +14,7 @@ fn declared_name(alloc: Global, declarator: &Declarator) -> Result<Option<Name>,
     if declarator.range.is_some() || declarator.value.is_some() {
         return Ok(None);
     }
-    Ok(Some(declarator.name.copied(alloc)?))
+    Ok(Some(declarator.name.name.copied(alloc)?))
 }
 
 /// The wire that an item declares, if it declares one wire and no more.

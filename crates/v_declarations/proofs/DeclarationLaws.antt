@@ -107,7 +107,7 @@ taking_parameter_kind : (base : ℕ) (t u : List Lexeme) (d : ℕ) → TakingFro
 unfolding parameter_kind_at
 taking_parameter_kind base t u d a st = taking_word base t u d marks.Parameter marks.Localparam refl refl refl kinds.Parameter kinds.Local a st
 
-law_array : (base : ℕ) (t u : List Lexeme) (d from : ℕ) (name : List ℕ) (a : ℕ) → from ≤ a → Start base t d a → mark_at t a ≡ marks.OpenBracket
+law_array : (base : ℕ) (t u : List Lexeme) (d from : ℕ) (name : Identifier) (a : ℕ) → from ≤ a → Start base t d a → mark_at t a ≡ marks.OpenBracket
     → Law base t u a (array_at t d from name a) (array_at u d from name a)
     (λ x b. (range : _) × (m : ℕ) × IsRange t d range a m × ((mark_at t m ≢ marks.Equals) × ((x ≡ record { site = site t from m; name = name; range = Some range; value = None }) × (b ≡ m))))
 unfolding array_at
@@ -120,12 +120,12 @@ abbrev is_reg : NetKind → Bool
 is_reg nets.Wire = false
 is_reg nets.Reg = true
 
-law_array_of : (base : ℕ) (t u : List Lexeme) (d : ℕ) (net : NetKind) (from : ℕ) (name : List ℕ) (a : ℕ) → from ≤ a → Start base t d a → mark_at t a ≡ marks.OpenBracket
+law_array_of : (base : ℕ) (t u : List Lexeme) (d : ℕ) (net : NetKind) (from : ℕ) (name : Identifier) (a : ℕ) → from ≤ a → Start base t d a → mark_at t a ≡ marks.OpenBracket
     → Law base t u a (array_of t d net from name a) (array_of u d net from name a) (λ x b. IsArray t d net from name x a b)
 law_array_of base t u d nets.Wire from name a before st is = law_as base t u a _ _ _ _ (law_left_out base t u a st.inside) (λ x b h. absurd h) (λ x b h. true_false (sym (ap is_reg h.1)))
 law_array_of base t u d nets.Reg from name a before st is = law_as base t u a _ _ _ _ (law_array base t u d from name a before st is) (λ x b h. (is, refl, h)) (λ x b h. h.2)
 
-law_scalar : (base : ℕ) (t u : List Lexeme) (d from : ℕ) (name : List ℕ) (a : ℕ) → from ≤ a → Start base t d a → mark_at t a ≢ marks.OpenBracket
+law_scalar : (base : ℕ) (t u : List Lexeme) (d from : ℕ) (name : Identifier) (a : ℕ) → from ≤ a → Start base t d a → mark_at t a ≢ marks.OpenBracket
     → Law base t u a (scalar_at t d from name a) (scalar_at u d from name a) (λ x b. IsScalar t d from name x a b)
 unfolding scalar_at
 law_scalar base t u d from name a before st none =
@@ -135,7 +135,7 @@ law_scalar base t u d from name a before st none =
     law_node base t u d from m st2 (omega (arith, before, ge)) (λ z. record { site = z; name = name; range = None; value = v })))
     (λ x b h. (none, h)) (λ x b h. h.1)
 
-law_behind_name : (base : ℕ) (t u : List Lexeme) (d : ℕ) (net : NetKind) (from : ℕ) (name : List ℕ) (a : ℕ) → from ≤ a → Start base t d a
+law_behind_name : (base : ℕ) (t u : List Lexeme) (d : ℕ) (net : NetKind) (from : ℕ) (name : Identifier) (a : ℕ) → from ≤ a → Start base t d a
     → Law base t u a (behind_name_at t d net from name a) (behind_name_at u d net from name a) (λ x b. IsArray t d net from name x a b ⊎ IsScalar t d from name x a b)
 unfolding behind_name_at
 law_behind_name base t u d net from name a before st =
@@ -146,7 +146,7 @@ law_behind_name base t u d net from name a before st =
 law_declarator : (base : ℕ) (t u : List Lexeme) (d : ℕ) (net : NetKind) → LawFrom base t u d (declarator_at t d net) (declarator_at u d net) (IsDeclarator t d net)
 unfolding declarator_at
 law_declarator base t u d net a st =
-    law_bind base t u d a st (name_at t a) (name_at u a) _ _ (λ x b. IsName t x a b) _ (law_name base t u d a st) (λ x m q ge st2.
+    law_bind base t u d a st (identifier_at t a) (identifier_at u a) _ _ (λ x b. IsIdentifier t x a b) _ (law_identifier base t u d a st) (λ x m q ge st2.
     law_behind_name base t u d net a x m ge st2)
 
 taking_nets : (base : ℕ) (t u : List Lexeme) (d : ℕ) → TakingFrom base t u d (nets_at t d) (nets_at u d) (IsNets t d)

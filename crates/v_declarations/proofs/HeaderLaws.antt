@@ -47,7 +47,7 @@ unfolding header_parameter_at
 law_header_parameter base t u d a s =
     law_bind base t u d a s (parameter_word_at t a) (parameter_word_at u a) _ _ (λ x b. IsParameterWordIf t x a b) _ (law_parameter_word base t u d a s) (λ o m q ge st.
     law_bind base t u d m st (parameter_type_at t d m) (parameter_type_at u d m) _ _ (λ x b. IsParameterType t d x m b) _ (law_parameter_type base t u d m st) (λ k n q2 ge2 st2.
-    law_bind base t u d n st2 (name_at t n) (name_at u n) _ _ (λ x b. IsName t x n b) _ (law_name base t u d n st2) (λ x c q3 ge3 st3.
+    law_bind base t u d n st2 (identifier_at t n) (identifier_at u n) _ _ (λ x b. IsIdentifier t x n b) _ (law_identifier base t u d n st2) (λ x c q3 ge3 st3.
     law_expect base t u d c st3 marks.Equals refl _ _ _ (λ equals st4.
     law_bind base t u d (c + 1) st4 (value_at t d (c + 1)) (value_at u d (c + 1)) _ _ (λ y b. IsValue t d y (c + 1) b) _ (law_value base t u d (c + 1) st4) (λ y l q4 ge4 st5.
     law_node base t u d a l st5 (omega (arith, ge, ge2, ge3, ge4)) (λ z. record { site = z; opens = o; type_of = k; name = x; value = y }))))))
@@ -96,14 +96,14 @@ law_declared_port base t u d a s =
     law_bind base t u d m st (net_if_at t m) (net_if_at u m) _ _ (λ x b. IsNetIf t x m b) _ (law_net_if base t u d m st) (λ w n q2 ge2 st2.
     law_bind base t u d n st2 (signed_if_at t n) (signed_if_at u n) _ _ (λ x b. IsSignedIf t x n b) _ (law_signed_if base t u d n st2) (λ g k q3 ge3 st3.
     law_bind base t u d k st3 (range_if_at t d k) (range_if_at u d k) _ _ (λ x b. IsRangeIf t d x k b) _ (law_range_if base t u d k st3) (λ r l q4 ge4 st4.
-    law_bind base t u d l st4 (name_at t l) (name_at u l) _ _ (λ x b. IsName t x l b) _ (law_name base t u d l st4) (λ x o q5 ge5 st5.
+    law_bind base t u d l st4 (identifier_at t l) (identifier_at u l) _ _ (λ x b. IsIdentifier t x l b) _ (law_identifier base t u d l st4) (λ x o q5 ge5 st5.
     law_bind base t u d o st5 (port_value_at t d (is_output_reg v w) o) (port_value_at u d (is_output_reg v w) o) _ _ (λ y b. IsPortValue t d (is_output_reg v w) y o b) _ (law_port_value base t u d (is_output_reg v w) o st5) (λ y p q6 ge6 st6.
     law_node base t u d a p st6 (omega (arith, ge, ge2, ge3, ge4, ge5, ge6)) (λ z. declared_port z v w g r x y)))))))
 
 law_same_port : (base : ℕ) (t u : List Lexeme) (d : ℕ) (reg : Bool) → LawFrom base t u d (same_port_at t d reg) (same_port_at u d reg) (IsSamePort t d reg)
 unfolding same_port_at
 law_same_port base t u d reg a s =
-    law_bind base t u d a s (name_at t a) (name_at u a) _ _ (λ x b. IsName t x a b) _ (law_name base t u d a s) (λ x m q ge st.
+    law_bind base t u d a s (identifier_at t a) (identifier_at u a) _ _ (λ x b. IsIdentifier t x a b) _ (law_identifier base t u d a s) (λ x m q ge st.
     law_bind base t u d m st (port_value_at t d reg m) (port_value_at u d reg m) _ _ (λ y b. IsPortValue t d reg y m b) _ (law_port_value base t u d reg m st) (λ y n q2 ge2 st2.
     law_node base t u d a n st2 (omega (arith, ge, ge2)) (λ z. same_port z x y)))
 
@@ -115,7 +115,7 @@ law_port : (base : ℕ) (t u : List Lexeme) (d : ℕ) (reg : Bool) → LawFrom b
 unfolding port_at
 law_port base t u d reg a s =
     law_test base t u a is_direction _ _ _ _ (λ x b. IsDeclaredPort t d x a b) (λ x b. IsSamePort t d reg x a b) (λ is. law_declared_port base t u d a s) (λ other. law_same_port base t u d reg a s)
-    (λ x b (direction, m, q, r). direction_told t a direction m q) (λ x b h. ap is_direction h.2.0)
+    (λ x b (direction, m, q, r). direction_told t a direction m q) (λ x b h. ap is_direction h.2.2.0)
 
 pub taking_next_port : (base : ℕ) (t u : List Lexeme) (d : ℕ) (reg : Bool) → TakingFrom base t u d (next_port_at t d reg) (next_port_at u d reg) (IsNextPort t d reg)
 unfolding next_port_at

@@ -9,8 +9,8 @@ use Rattle.v_tree.specs.Tree.{Tree}
 use Rattle.v_tree.specs.Faults.{no_place}
 use Rattle.v_tree.proofs.BindLemmas.{good, bad_good, ok-one}
 use Rattle.v_tree.proofs.SteadyLemmas.{Steady, st_look, st_ok, st_no_place, not_by}
-use Rattle.v_parts.specs.Reading.{optional_at, list_at, name_at, value_at, delay_at, left_at}
-use Rattle.v_parts.specs.Productions.{IsOptional, AreListed, IsName, IsValue, IsDelay, IsLeft}
+use Rattle.v_parts.specs.Reading.{optional_at, list_at, name_at, identifier_at, value_at, delay_at, left_at}
+use Rattle.v_parts.specs.Productions.{IsOptional, AreListed, IsName, IsIdentifier, IsValue, IsDelay, IsLeft}
 use Rattle.v_tree.specs.ItemTree.{PlainItem, assign_item, gate_item, instance_item, PlainConnections, ordered, named}
 use Rattle.v_declarations.specs.Structures.{IsAssignment, IsAssigns, gate_kind, IsGateWord, IsGate, AreGates, ends_connection, IsConnection, IsNamedConnection, IsUnconnected, IsByName, IsByOrder, AreConnections, AreInParens, AreOverrides, IsInstance, AreInstances, IsStructure}
 use Rattle.v_declarations.specs.StructureReading.{assignment_at, assigns_at, kind_found, gate_word_at, gate_at, gates_at, connection_at, named_connection_at, by_name_at, by_order_at, connections_at, connected_at, overrides_at, instance_at, instances_at, is_gate, structure_at}
@@ -18,7 +18,7 @@ use Rattle.v_declarations.proofs.StructureSteps.{gate_inside}
 use Rattle.v_parts.proofs.Laws.{Start, Law, LawFrom, law_as, law_bind, law_expect, law_found, law_node, law_choice, law_optional, law_test}
 use Rattle.v_parts.proofs.TakingLaws.{Taking, TakingFrom, taking_expect, taking_bind}
 use Rattle.v_parts.proofs.ListLaws.{law_list}
-use Rattle.v_parts.proofs.NameLaws.{law_name, taking_name, law_value, law_delay, taking_left}
+use Rattle.v_parts.proofs.NameLaws.{law_name, law_identifier, taking_name, taking_identifier, law_value, law_delay, taking_left}
 
 law_delay_if : (base : ℕ) (t u : List Lexeme) (d : ℕ) → LawFrom base t u d (optional_at t marks.Hash (delay_at t d)) (optional_at u marks.Hash (delay_at u d)) (IsOptional t marks.Hash (IsDelay t d))
 law_delay_if base t u d a s = law_optional base t u d a s marks.Hash refl (delay_at t d) (delay_at u d) (IsDelay t d) (λ is. law_delay base t u d a s)
@@ -111,7 +111,7 @@ law_named_connection : (base : ℕ) (t u : List Lexeme) (d : ℕ) → LawFrom ba
 unfolding named_connection_at
 law_named_connection base t u d a s =
     law_expect base t u d a s marks.Dot refl _ _ _ (λ dot st.
-    law_bind base t u d (a + 1) st (name_at t (a + 1)) (name_at u (a + 1)) _ _ (λ x b. IsName t x (a + 1) b) _ (law_name base t u d (a + 1) st) (λ x m q ge st2.
+    law_bind base t u d (a + 1) st (identifier_at t (a + 1)) (identifier_at u (a + 1)) _ _ (λ x b. IsIdentifier t x (a + 1) b) _ (law_identifier base t u d (a + 1) st) (λ x m q ge st2.
     law_expect base t u d m st2 marks.Open refl _ _ _ (λ opens st3.
     law_bind base t u d (m + 1) st3 (connection_at t d (m + 1)) (connection_at u d (m + 1)) _ _ (λ y b. IsConnection t d y (m + 1) b) _ (law_connection base t u d (m + 1) st3) (λ y n q2 ge2 st4.
     law_expect base t u d n st4 marks.Close refl _ _ _ (λ close st5.
@@ -161,14 +161,14 @@ law_overrides base t u d a s = law_expect base t u d a s marks.Hash refl (λ m. 
 law_instance : (base : ℕ) (t u : List Lexeme) (d : ℕ) → LawFrom base t u d (instance_at t d) (instance_at u d) (IsInstance t d)
 unfolding instance_at
 law_instance base t u d a s =
-    law_bind base t u d a s (name_at t a) (name_at u a) _ _ (λ x b. IsName t x a b) _ (law_name base t u d a s) (λ x m q ge st.
+    law_bind base t u d a s (identifier_at t a) (identifier_at u a) _ _ (λ x b. IsIdentifier t x a b) _ (law_identifier base t u d a s) (λ x m q ge st.
     law_bind base t u d m st (connected_at t d m) (connected_at u d m) _ _ (λ y b. AreInParens t d y m b) _ (law_connected base t u d m st) (λ y n q2 ge2 st2.
     law_node base t u d a n st2 (omega (arith, ge, ge2)) (λ z. record { site = z; name = x; connections = y })))
 
 taking_instances : (base : ℕ) (t u : List Lexeme) (d : ℕ) → TakingFrom base t u d (instances_at t d) (instances_at u d) (AreInstances t d)
 unfolding instances_at
 taking_instances base t u d a s =
-    taking_bind base t u d a s (name_at t a) (name_at u a) _ _ (λ x b. IsName t x a b) _ (taking_name base t u d a s) (λ x c q ge st.
+    taking_bind base t u d a s (identifier_at t a) (identifier_at u a) _ _ (λ x b. IsIdentifier t x a b) _ (taking_identifier base t u d a s) (λ x c q ge st.
     law_bind base t u d c st (optional_at t marks.Hash (overrides_at t d) c) (optional_at u marks.Hash (overrides_at u d) c) _ _ (λ y b. IsOptional t marks.Hash (AreOverrides t d) y c b) _
     (law_optional base t u d c st marks.Hash refl (overrides_at t d) (overrides_at u d) (AreOverrides t d) (λ is. law_overrides base t u d c st)) (λ y m q2 ge2 st2.
     law_bind base t u d m st2 (list_at t (instance_at t d) m) (list_at u (instance_at u d) m) _ _ (λ xs b. AreListed t (IsInstance t d) xs m b) _
@@ -181,7 +181,7 @@ gates_tell : (t : List Lexeme) (d a : ℕ) (x : PlainItem) (b : ℕ) → AreGate
 gates_tell t d a x b (k, c, (e, f), r) = ap is_some e
 
 name_is_no_gate : (t : List Lexeme) (d a : ℕ) (x : PlainItem) (b : ℕ) → AreInstances t d x a b → is_gate (mark_at t a) ≡ false
-name_is_no_gate t d a x b (name, c, q, r) = ap is_gate q.0
+name_is_no_gate t d a x b (name, c, q, r) = ap is_gate q.2.0
 
 not_assign : (m : Terminal) (k : GateKind) → gate_kind m ≡ Some k → m ≢ marks.Assign
 not_assign m k e is = let h : gate_kind marks.Assign ≡ Some k = ap gate_kind (sym is) ∙ e in cc
@@ -199,7 +199,7 @@ taking_others base t u d a s = record {
 
 others_tell : (t : List Lexeme) (d a : ℕ) (x : PlainItem) (b : ℕ) → AreGates t d x a b ⊎ AreInstances t d x a b → mark_at t a ≢ marks.Assign
 others_tell t d a x b (inl (k, c, (e, f), r)) = not_assign (mark_at t a) k e
-others_tell t d a x b (inr (name, c, q, r)) = λ e. not_by marks.Name marks.Assign refl (sym q.0 ∙ e)
+others_tell t d a x b (inr (name, c, q, r)) = λ e. not_by marks.Name marks.Assign refl (sym q.2.0 ∙ e)
 
 pub taking_structure : (base : ℕ) (t u : List Lexeme) (d : ℕ) → TakingFrom base t u d (structure_at t d) (structure_at u d) (IsStructure t d)
 unfolding structure_at
@@ -217,4 +217,4 @@ pub structure_tells : {B : Type 0} (f : Terminal → B) (v : B) → f marks.Assi
     → (t : List Lexeme) (d a : ℕ) (x : PlainItem) (b : ℕ) → IsStructure t d x a b → f (mark_at t a) ≡ v
 structure_tells f v assign gate name t d a x b (inl h) = ap f h.0 ∙ assign
 structure_tells f v assign gate name t d a x b (inr (inl (k, c, (e, end), r))) = gate (mark_at t a) k e
-structure_tells f v assign gate name t d a x b (inr (inr (n, c, q, r))) = ap f q.0 ∙ name
+structure_tells f v assign gate name t d a x b (inr (inr (n, c, q, r))) = ap f q.2.0 ∙ name

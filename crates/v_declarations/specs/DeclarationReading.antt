@@ -51,26 +51,26 @@ net_at tokens a =
     else Err (no_place tokens a)
 
 -- the range of a name that begins at `from`
-unfoldable pub array_at : List Lexeme → ℕ → ℕ → List ℕ → ℕ → Read PlainDeclarator
+unfoldable pub array_at : List Lexeme → ℕ → ℕ → Identifier → ℕ → Read PlainDeclarator
 array_at tokens nesting_left from name a =
     range_at tokens nesting_left a >>= λ r. unless_at tokens mark.Equals r.1 (Ok (record { site = site tokens from r.1; name = name; range = Some r.0; value = None }, r.1))
 
 -- the range of a name, which only that of a reg may have
-abbrev pub array_of : List Lexeme → ℕ → NetKind → ℕ → List ℕ → ℕ → Read PlainDeclarator
+abbrev pub array_of : List Lexeme → ℕ → NetKind → ℕ → Identifier → ℕ → Read PlainDeclarator
 array_of tokens nesting_left nets.Wire from name a = Err (Unsupported a)
 array_of tokens nesting_left nets.Reg from name a = array_at tokens nesting_left from name a
 
 -- the value of a name that begins at `from`
-unfoldable pub scalar_at : List Lexeme → ℕ → ℕ → List ℕ → ℕ → Read PlainDeclarator
+unfoldable pub scalar_at : List Lexeme → ℕ → ℕ → Identifier → ℕ → Read PlainDeclarator
 scalar_at tokens nesting_left from name a =
     optional_at tokens mark.Equals (equals_at tokens nesting_left) a >>= λ v. Ok (record { site = site tokens from v.1; name = name; range = None; value = v.0 }, v.1)
 
-unfoldable pub behind_name_at : List Lexeme → ℕ → NetKind → ℕ → List ℕ → ℕ → Read PlainDeclarator
+unfoldable pub behind_name_at : List Lexeme → ℕ → NetKind → ℕ → Identifier → ℕ → Read PlainDeclarator
 behind_name_at tokens nesting_left net from name a =
     if same (mark_at tokens a) mark.OpenBracket then array_of tokens nesting_left net from name a else scalar_at tokens nesting_left from name a
 
 unfoldable pub declarator_at : List Lexeme → ℕ → NetKind → ℕ → Read PlainDeclarator
-declarator_at tokens nesting_left net a = name_at tokens a >>= λ x. behind_name_at tokens nesting_left net a x.0 x.1
+declarator_at tokens nesting_left net a = identifier_at tokens a >>= λ x. behind_name_at tokens nesting_left net a x.0 x.1
 
 -- the delay and the names of a net item that begins at `from`
 unfoldable pub net_names_at : List Lexeme → ℕ → ℕ → NetKind → Bool → Option PlainRange → ℕ → Read PlainItem

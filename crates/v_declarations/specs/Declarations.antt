@@ -54,7 +54,7 @@ IsNet tokens net a b =
     ((mark_at tokens a ≡ Wire) × ((net ≡ nets.Wire) × (b ≡ a + 1))) ⊎ ((mark_at tokens a ≡ Reg) × ((net ≡ nets.Reg) × (b ≡ a + 1)))
 
 -- range behind the name of a reg from `from` on, where no = stands behind it
-abbrev pub IsArray : List Lexeme → ℕ → NetKind → ℕ → List ℕ → PlainDeclarator → ℕ → ℕ → Type 0
+abbrev pub IsArray : List Lexeme → ℕ → NetKind → ℕ → Identifier → PlainDeclarator → ℕ → ℕ → Type 0
 IsArray tokens nesting_left net from name x a b =
     (mark_at tokens a ≡ OpenBracket) × (net ≡ nets.Reg)
     × ((range : PlainRange) × (m : ℕ) × IsRange tokens nesting_left range a m
@@ -62,7 +62,7 @@ IsArray tokens nesting_left net from name x a b =
     × ((x ≡ record { site = site tokens from m; name = name; range = Some range; value = None }) × (b ≡ m))))
 
 -- ('=' expr)? behind a name from `from` on, where no [ stands
-abbrev pub IsScalar : List Lexeme → ℕ → ℕ → List ℕ → PlainDeclarator → ℕ → ℕ → Type 0
+abbrev pub IsScalar : List Lexeme → ℕ → ℕ → Identifier → PlainDeclarator → ℕ → ℕ → Type 0
 IsScalar tokens nesting_left from name x a b =
     (mark_at tokens a ≢ OpenBracket)
     × ((value : Option Tree) × (m : ℕ) × IsOptional tokens Equals (IsEquals tokens nesting_left) value a m
@@ -71,7 +71,7 @@ IsScalar tokens nesting_left from name x a b =
 -- NAME range of a reg, or NAME ('=' expr)?
 abbrev pub IsDeclarator : List Lexeme → ℕ → NetKind → PlainDeclarator → ℕ → ℕ → Type 0
 IsDeclarator tokens nesting_left net x a b =
-    (name : List ℕ) × (m : ℕ) × IsName tokens name a m
+    (name : Identifier) × (m : ℕ) × IsIdentifier tokens name a m
     × (IsArray tokens nesting_left net a name x m b ⊎ IsScalar tokens nesting_left a name x m b)
 
 -- ('wire' | 'reg') 'signed'? range? delay? decl,+ ';'

@@ -21,7 +21,7 @@ parameter_word_at tokens a = if same (mark_at tokens a) mark.Parameter then Ok (
 
 unfoldable pub header_parameter_at : List Lexeme → ℕ → ℕ → Read PlainHeaderParameter
 header_parameter_at tokens nesting_left a =
-    parameter_word_at tokens a >>= λ o. parameter_type_at tokens nesting_left o.1 >>= λ t. name_at tokens t.1 >>= λ x. expect tokens mark.Equals x.1 >>= λ m.
+    parameter_word_at tokens a >>= λ o. parameter_type_at tokens nesting_left o.1 >>= λ t. identifier_at tokens t.1 >>= λ x. expect tokens mark.Equals x.1 >>= λ m.
     value_at tokens nesting_left m >>= λ y. Ok (record { site = site tokens a y.1; opens = o.0; type_of = t.0; name = x.0; value = y.0 }, y.1)
 
 -- parameters up to a closing parenthesis
@@ -48,7 +48,7 @@ port_value_at tokens nesting_left reg a = unless_at tokens mark.OpenBracket a (v
 -- the name of a port that begins at `from`
 unfoldable pub port_name_at : List Lexeme → ℕ → ℕ → Direction → Option NetKind → Bool → Option PlainRange → ℕ → Read PlainPort
 port_name_at tokens nesting_left from direction net signed range a =
-    name_at tokens a >>= λ x. port_value_at tokens nesting_left (is_output_reg direction net) x.1 >>= λ y.
+    identifier_at tokens a >>= λ x. port_value_at tokens nesting_left (is_output_reg direction net) x.1 >>= λ y.
     Ok (declared_port (site tokens from y.1) direction net signed range x.0 y.0, y.1)
 
 unfoldable pub declared_port_at : List Lexeme → ℕ → ℕ → Read PlainPort
@@ -57,7 +57,7 @@ declared_port_at tokens nesting_left a =
     port_name_at tokens nesting_left a d.0 n.0 s.0 r.0 r.1
 
 unfoldable pub same_port_at : List Lexeme → ℕ → Bool → ℕ → Read PlainPort
-same_port_at tokens nesting_left reg a = name_at tokens a >>= λ x. port_value_at tokens nesting_left reg x.1 >>= λ y. Ok (same_port (site tokens a y.1) x.0 y.0, y.1)
+same_port_at tokens nesting_left reg a = identifier_at tokens a >>= λ x. port_value_at tokens nesting_left reg x.1 >>= λ y. Ok (same_port (site tokens a y.1) x.0 y.0, y.1)
 
 unfoldable pub port_at : List Lexeme → ℕ → Bool → ℕ → Read PlainPort
 port_at tokens nesting_left reg a = if is_direction (mark_at tokens a) then declared_port_at tokens nesting_left a else same_port_at tokens nesting_left reg a

@@ -24,7 +24,7 @@ abbrev pub IsHeaderParameter : List Lexeme → ℕ → PlainHeaderParameter → 
 IsHeaderParameter tokens nesting_left x a b =
     (opens : Bool) × (m : ℕ) × IsParameterWordIf tokens opens a m
     × ((type_of : PlainParameterType) × (n : ℕ) × IsParameterType tokens nesting_left type_of m n
-    × ((name : List ℕ) × (k : ℕ) × IsName tokens name n k
+    × ((name : Identifier) × (k : ℕ) × IsIdentifier tokens name n k
     × ((mark_at tokens k ≡ Equals)
     × ((value : Tree) × (l : ℕ) × IsValue tokens nesting_left value (k + 1) l
     × ((x ≡ record { site = site tokens a l; opens = opens; type_of = type_of; name = name; value = value }) × (b ≡ l))))))
@@ -61,14 +61,14 @@ IsDeclaredPort tokens nesting_left x a b =
     × ((net : Option NetKind) × (n : ℕ) × IsNetIf tokens net m n
     × ((signed : Bool) × (k : ℕ) × IsSignedIf tokens signed n k
     × ((range : Option PlainRange) × (l : ℕ) × IsRangeIf tokens nesting_left range k l
-    × ((name : List ℕ) × (o : ℕ) × IsName tokens name l o
+    × ((name : Identifier) × (o : ℕ) × IsIdentifier tokens name l o
     × ((value : Option Tree) × (p : ℕ) × IsPortValue tokens nesting_left (is_output_reg direction net) value o p
     × ((x ≡ declared_port (site tokens a p) direction net signed range name value) × (b ≡ p)))))))
 
 -- NAME ('=' expr)?, where the port before is an output reg or isn't
 abbrev pub IsSamePort : List Lexeme → ℕ → Bool → PlainPort → ℕ → ℕ → Type 0
 IsSamePort tokens nesting_left reg x a b =
-    (name : List ℕ) × (m : ℕ) × IsName tokens name a m
+    (name : Identifier) × (m : ℕ) × IsIdentifier tokens name a m
     × ((value : Option Tree) × (n : ℕ) × IsPortValue tokens nesting_left reg value m n
     × ((x ≡ same_port (site tokens a n) name value) × (b ≡ n)))
 

@@ -1,6 +1,7 @@
 -- How the code reads assignments, gates and instances: the function on lists that each reader is. No public clause speaks of it.
 use Rattle.std.specs.Prelude.{ℕ, ◌+◌, Bool, List, [], Option, Some, None, is_some, Ok, Err, if◌then◌else◌}
 use Rattle.v_lexer.specs.Lexeme.{Lexeme}
+use Rattle.v_tree.specs.declared.declaration.Identifier.{Identifier}
 use Rattle.v_tree.specs.declared.item.GateKind.{GateKind}
 use Rattle.v_lexer.specs.declared.types.terminal.Terminal.{Terminal}
 use Rattle.v_lexer.specs.declared.types.terminal.Terminal.TheVariants as mark
@@ -9,7 +10,7 @@ use Rattle.v_tree.specs.Sites.{site}
 use Rattle.v_tree.specs.Faults.{no_place}
 use Rattle.v_tree.specs.Tree.{Tree}
 use Rattle.v_tree.specs.Reading.{Read, ◌>>=◌, expect}
-use Rattle.v_parts.specs.Reading.{optional_at, list_at, name_at, value_at, delay_at, left_at}
+use Rattle.v_parts.specs.Reading.{optional_at, list_at, name_at, identifier_at, value_at, delay_at, left_at}
 use Rattle.v_tree.specs.ItemTree.{PlainItem, assign_item, gate_item, instance_item, PlainAssignment, PlainGate, PlainConnection, PlainConnections, ordered, named, PlainInstance}
 use Rattle.v_declarations.specs.Structures.{gate_kind, ends_connection}
 
@@ -49,7 +50,7 @@ connection_at tokens nesting_left a = if ends_connection (mark_at tokens a) then
 
 unfoldable pub named_connection_at : List Lexeme → ℕ → ℕ → Read PlainConnection
 named_connection_at tokens nesting_left a =
-    expect tokens mark.Dot a >>= λ m. name_at tokens m >>= λ x. expect tokens mark.Open x.1 >>= λ n. connection_at tokens nesting_left n >>= λ y.
+    expect tokens mark.Dot a >>= λ m. identifier_at tokens m >>= λ x. expect tokens mark.Open x.1 >>= λ n. connection_at tokens nesting_left n >>= λ y.
     expect tokens mark.Close y.1 >>= λ b. Ok (record { site = site tokens a b; name = x.0; value = y.0 }, b)
 
 unfoldable pub by_name_at : List Lexeme → ℕ → ℕ → Read PlainConnections
@@ -74,11 +75,11 @@ overrides_at tokens nesting_left a = expect tokens mark.Hash a >>= λ m. connect
 
 unfoldable pub instance_at : List Lexeme → ℕ → ℕ → Read PlainInstance
 instance_at tokens nesting_left a =
-    name_at tokens a >>= λ x. connected_at tokens nesting_left x.1 >>= λ y. Ok (record { site = site tokens a y.1; name = x.0; connections = y.0 }, y.1)
+    identifier_at tokens a >>= λ x. connected_at tokens nesting_left x.1 >>= λ y. Ok (record { site = site tokens a y.1; name = x.0; connections = y.0 }, y.1)
 
 unfoldable pub instances_at : List Lexeme → ℕ → ℕ → Read PlainItem
 instances_at tokens nesting_left a =
-    name_at tokens a >>= λ x. optional_at tokens mark.Hash (overrides_at tokens nesting_left) x.1 >>= λ p.
+    identifier_at tokens a >>= λ x. optional_at tokens mark.Hash (overrides_at tokens nesting_left) x.1 >>= λ p.
     list_at tokens (instance_at tokens nesting_left) p.1 >>= λ xs. expect tokens mark.Semicolon xs.1 >>= λ b.
     Ok (instance_item (site tokens a b) x.0 p.0 xs.0, b)
 

@@ -3,6 +3,7 @@
 -- Productions.
 use Rattle.std.specs.Prelude.{◌≡◌, ◌≢◌, ℕ, ◌+◌, ◌⊎◌, Bool, true, false, List, [], Option, Some, None}
 use Rattle.v_lexer.specs.Lexeme.{Lexeme}
+use Rattle.v_tree.specs.declared.declaration.Identifier.{Identifier}
 use Rattle.v_tree.specs.declared.item.GateKind.{GateKind}
 use Rattle.v_tree.specs.declared.item.GateKind.TheVariants as gates
 use Rattle.v_lexer.specs.declared.types.terminal.Terminal.{Terminal}
@@ -11,7 +12,7 @@ use Rattle.v_tree.specs.Marks.{mark_at}
 use Rattle.v_tree.specs.Sites.{site}
 use Rattle.v_tree.specs.Tree.{Tree}
 use Rattle.v_tree.specs.PartTree.{PlainDelay, PlainLeft}
-use Rattle.v_parts.specs.Productions.{IsOptional, AreListed, IsName, IsValue, IsDelay, IsLeft}
+use Rattle.v_parts.specs.Productions.{IsOptional, AreListed, IsName, IsIdentifier, IsValue, IsDelay, IsLeft}
 use Rattle.v_tree.specs.ItemTree.{PlainItem, assign_item, gate_item, instance_item, PlainAssignment, PlainGate, PlainConnection, PlainConnections, ordered, named, PlainInstance}
 
 -- left '=' expr
@@ -80,7 +81,7 @@ IsConnection tokens nesting_left (Some value) a b = (ends_connection (mark_at to
 abbrev pub IsNamedConnection : List Lexeme → ℕ → PlainConnection → ℕ → ℕ → Type 0
 IsNamedConnection tokens nesting_left x a b =
     (mark_at tokens a ≡ mark.Dot)
-    × ((name : List ℕ) × (m : ℕ) × IsName tokens name (a + 1) m
+    × ((name : Identifier) × (m : ℕ) × IsIdentifier tokens name (a + 1) m
     × ((mark_at tokens m ≡ mark.Open)
     × ((value : Option Tree) × (n : ℕ) × IsConnection tokens nesting_left value (m + 1) n
     × ((mark_at tokens n ≡ mark.Close)
@@ -121,14 +122,14 @@ AreOverrides tokens nesting_left x a b = (mark_at tokens a ≡ mark.Hash) × Are
 -- NAME '(' conns? ')'
 abbrev pub IsInstance : List Lexeme → ℕ → PlainInstance → ℕ → ℕ → Type 0
 IsInstance tokens nesting_left x a b =
-    (name : List ℕ) × (m : ℕ) × IsName tokens name a m
+    (name : Identifier) × (m : ℕ) × IsIdentifier tokens name a m
     × ((connections : PlainConnections) × (n : ℕ) × AreInParens tokens nesting_left connections m n
     × ((x ≡ record { site = site tokens a n; name = name; connections = connections }) × (b ≡ n)))
 
 -- NAME ('#' '(' conns? ')')? (NAME '(' conns? ')'),+ ';'
 abbrev pub AreInstances : List Lexeme → ℕ → PlainItem → ℕ → ℕ → Type 0
 AreInstances tokens nesting_left x a b =
-    (name : List ℕ) × (k : ℕ) × IsName tokens name a k
+    (name : Identifier) × (k : ℕ) × IsIdentifier tokens name a k
     × ((parameters : Option PlainConnections) × (m : ℕ) × IsOptional tokens mark.Hash (AreOverrides tokens nesting_left) parameters k m
     × ((list : List PlainInstance) × (n : ℕ) × AreListed tokens (IsInstance tokens nesting_left) list m n
     × ((mark_at tokens n ≡ mark.Semicolon)

@@ -12,11 +12,11 @@ use crate::declaration_nodes as nodes;
 use crate::types::{
     PortWords, direction, is_direction, is_output_reg, net_if, parameter_type, signed_if,
 };
-use loc_base::Name;
 use std::alloc::Global;
 use v_lexer::types::Token;
 use v_parts::{
-    PartReader, Read, delay_if, identifiers, listed, name, named_values, range, range_if, value_if,
+    PartReader, Read, delay_if, identifier, identifiers, listed, named_values, range, range_if,
+    value_if,
 };
 use v_tree::{
     Declarator, Fault, Identifier, Item, NetKind, ParameterKind, Range, Stop, Terminal, expect,
@@ -147,7 +147,7 @@ fn array(
     alloc: Global,
     tokens: &[Token],
     from: usize,
-    name: Name,
+    name: Identifier,
     at: usize,
     nesting_left: u32,
 ) -> Read<Declarator>
@@ -177,7 +177,7 @@ fn scalar(
     alloc: Global,
     tokens: &[Token],
     from: usize,
-    name: Name,
+    name: Identifier,
     at: usize,
     nesting_left: u32,
 ) -> Read<Declarator>
@@ -204,7 +204,7 @@ fn behind_name(
     alloc: Global,
     tokens: &[Token],
     from: usize,
-    name: Name,
+    name: Identifier,
     at: usize,
     nesting_left: u32,
     net: NetKind,
@@ -238,7 +238,7 @@ fn declarator(
     ensures gives { Gives seen_declarator result (declarator_at tokens.now nesting_left net at) }
     ensures inside { IfOk result (Inside tokens.now) }
 {
-    let (name, next) = name(alloc, tokens, at)?;
+    let (name, next) = identifier(alloc, tokens, at)?;
     behind_name(alloc, tokens, at, name, next, nesting_left, net)
 }
 

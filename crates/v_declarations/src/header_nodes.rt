@@ -7,7 +7,6 @@ ghost use Rattle.v_tree.specs.ModuleTree as tree;
 ghost use Rattle.v_tree.specs.ModuleTree.{port_of, ports_of};
 
 use crate::types::is_output_reg;
-use loc_base::Name;
 use v_tree::{Direction, Expr, Identifier, NetKind, Port, Ports, Range, Site};
 
 pub fn declared_port(
@@ -16,7 +15,7 @@ pub fn declared_port(
     net: Option<NetKind>,
     signed: bool,
     range: Option<Range>,
-    name: Name,
+    name: Identifier,
     value: Option<Expr>,
 ) -> Port
     ensures { port_of result ≡ tree.declared_port site direction net signed (option_map range_of range) name (option_map tree_of value) }
@@ -32,7 +31,7 @@ pub fn declared_port(
     }
 }
 
-pub fn same_port(site: Site, name: Name, value: Option<Expr>) -> Port
+pub fn same_port(site: Site, name: Identifier, value: Option<Expr>) -> Port
     ensures { port_of result ≡ tree.same_port site name (option_map tree_of value) }
 {
     Port::Same { site, name, value }

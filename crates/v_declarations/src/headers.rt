@@ -14,7 +14,7 @@ use crate::types::{
 };
 use std::alloc::Global;
 use v_lexer::types::Token;
-use v_parts::{PartReader, Read, identifiers, listed, name, range_if, value, value_if};
+use v_parts::{PartReader, Read, identifier, identifiers, listed, range_if, value, value_if};
 use v_tree::{
     Expr, Fault, HeaderParameter, Port, Ports, Stop, Terminal, expect, mark_at, no_place, site_of,
     stands,
@@ -48,7 +48,7 @@ fn header_parameter(
 {
     let (opens, next) = parameter_word(tokens, at)?;
     let (type_of, next) = parameter_type(alloc, tokens, next, nesting_left)?;
-    let (name, equals) = name(alloc, tokens, next)?;
+    let (name, equals) = identifier(alloc, tokens, next)?;
     let next = expect(tokens, Terminal::Equals, equals)?;
     let (value, end) = value(alloc, tokens, next, nesting_left)?;
     let site = site_of(tokens, at, end);
@@ -189,7 +189,7 @@ fn port_name(
         signed,
         range,
     } = words;
-    let (name, next) = name(alloc, tokens, at)?;
+    let (name, next) = identifier(alloc, tokens, at)?;
     let reg = is_output_reg(direction, net);
     let (value, end) = port_value(alloc, tokens, next, nesting_left, reg)?;
     let site = site_of(tokens, from, end);
@@ -229,7 +229,7 @@ fn same_port(alloc: Global, tokens: &[Token], at: usize, nesting_left: u32, reg:
     ensures gives { Gives seen_port result (same_port_at tokens.now nesting_left reg at) }
     ensures inside { IfOk result (Inside tokens.now) }
 {
-    let (name, next) = name(alloc, tokens, at)?;
+    let (name, next) = identifier(alloc, tokens, at)?;
     let (value, end) = port_value(alloc, tokens, next, nesting_left, reg)?;
     Ok((nodes::same_port(site_of(tokens, at, end), name, value), end))
 }

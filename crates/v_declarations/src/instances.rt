@@ -14,7 +14,7 @@ ghost use Rattle.v_declarations.specs.StructureSeen.{seen_connection, seen_conne
 use crate::structure_nodes as nodes;
 use std::alloc::Global;
 use v_lexer::types::Token;
-use v_parts::{PartReader, Read, listed, name, value};
+use v_parts::{PartReader, Read, identifier, listed, value};
 use v_tree::{
     Connections, Expr, Instance, Item, NamedConnection, Terminal, expect, mark_at, site_of, stands,
 };
@@ -87,7 +87,7 @@ fn named_connection(
     ensures inside { IfOk result (Inside tokens.now) }
 {
     let dot = expect(tokens, Terminal::Dot, at)?;
-    let (name, open) = name(alloc, tokens, dot)?;
+    let (name, open) = identifier(alloc, tokens, dot)?;
     let next = expect(tokens, Terminal::Open, open)?;
     let (value, close) = connection(alloc, tokens, next, nesting_left)?;
     let end = expect(tokens, Terminal::Close, close)?;
@@ -195,7 +195,7 @@ fn instance(alloc: Global, tokens: &[Token], at: usize, nesting_left: u32) -> Re
     ensures gives { Gives seen_instance result (instance_at tokens.now nesting_left at) }
     ensures inside { IfOk result (Inside tokens.now) }
 {
-    let (name, open) = name(alloc, tokens, at)?;
+    let (name, open) = identifier(alloc, tokens, at)?;
     let (connections, end) = connected(alloc, tokens, open, nesting_left)?;
     let site = site_of(tokens, at, end);
     Ok((
@@ -236,7 +236,7 @@ pub fn instances(alloc: Global, tokens: &[Token], at: usize, nesting_left: u32) 
     ensures gives { Gives seen_item result (instances_at tokens.now nesting_left at) }
     ensures inside { IfOk result (Inside tokens.now) }
 {
-    let (module, next) = name(alloc, tokens, at)?;
+    let (module, next) = identifier(alloc, tokens, at)?;
     let (parameters, next) = overrides_if(alloc, tokens, next, nesting_left)?;
     let (list, semicolon) = listed(alloc, tokens, next, &InstanceReader { nesting_left })?;
     let end = expect(tokens, Terminal::Semicolon, semicolon)?;

@@ -3,8 +3,9 @@ ghost use Rattle.std.specs.Prelude.{◌≡◌, map, option_map};
 ghost use Rattle.v_tree.specs.PartTree.{delay_of};
 ghost use Rattle.v_tree.specs.ItemTree.{item_of, assign_item, gate_item, instance_item, assignment_of, gate_of, connections_of, instance_of};
 
-use loc_base::Name;
-use v_tree::{Connections, Delay, GateInstance, GateKind, Instance, Item, NetAssignment, Site};
+use v_tree::{
+    Connections, Delay, GateInstance, GateKind, Identifier, Instance, Item, NetAssignment, Site,
+};
 
 pub fn assigns(site: Site, delay: Option<Delay>, assignments: Vec<NetAssignment>) -> Item
     ensures { item_of result ≡ assign_item site (option_map delay_of delay) (map assignment_of assignments.items) }
@@ -29,7 +30,7 @@ pub fn gates(site: Site, kind: GateKind, delay: Option<Delay>, gates: Vec<GateIn
 
 pub fn instances(
     site: Site,
-    name: Name,
+    name: Identifier,
     parameters: Option<Connections>,
     instances: Vec<Instance>,
 ) -> Item

@@ -9,9 +9,9 @@ use Rattle.v_tree.specs.Reading.{Read}
 use Rattle.v_tree.proofs.BindLemmas.{ok-one}
 use Rattle.v_tree.proofs.PlaceLemmas.{marked_inside}
 use Rattle.v_tree.proofs.SteadyLemmas.{not_by}
-use Rattle.v_parts.proofs.NameLaws.{law_name}
+use Rattle.v_parts.proofs.NameLaws.{law_identifier}
 use Rattle.v_tree.specs.ModuleTree.{PlainPorts, PlainModule, no_ports, count_ports, parts_of}
-use Rattle.v_parts.specs.Reading.{name_at}
+use Rattle.v_parts.specs.Reading.{identifier_at}
 use Rattle.v_parts.specs.Productions.{AreMore, AreListed, AreRun, IsIdentifier}
 use Rattle.v_declarations.specs.Headers.{IsHeaderPorts, IsNextPort, is_reg}
 use Rattle.v_declarations.specs.HeaderReading.{declared_port_at, next_port_at, header_parameters_at, header_ports_at}
@@ -82,7 +82,7 @@ ports_few t d x a b st (inl (opens, inr (inr (names, m, list, (close, (is, end))
 module_few : (t : List Lexeme) (d : ℕ) (x : PlainModule) (a b : ℕ) → Start 0 t d a → IsModule t d x a b → a + (1 + count_ports x.ports + length x.items) ≤ b
 module_few t d x a b st (is, (name, m, q, (parameters, n, hp, (ports, k, hq, (semicolon, (items, l, run, (e, f))))))) =
     let st1 = behind t d a marks.Module refl is st in
-    let named = ends t (a + 1) (name_at t (a + 1)) _ (law_name 0 t t d (a + 1) st1) name m q in
+    let named = ends t (a + 1) (identifier_at t (a + 1)) _ (law_identifier 0 t t d (a + 1) st1) name m q in
     let st2 = later 0 t d (a + 1) m st1 named.0 named.1 in
     let head = ends t m (header_parameters_at t d m) _ (law_header_parameters 0 t t d m st2) parameters n hp in
     let st3 = later 0 t d m n st2 head.0 head.1 in

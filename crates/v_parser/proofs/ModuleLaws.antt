@@ -11,8 +11,8 @@ use Rattle.v_tree.proofs.CompleteLemmas.{then_of, else_of}
 use Rattle.v_tree.proofs.PlaceLemmas.{marked_inside}
 use Rattle.v_tree.proofs.SteadyLemmas.{reach_more, begins_less, not_by}
 use Rattle.v_tree.specs.ModuleTree.{PlainModule}
-use Rattle.v_parts.specs.Reading.{name_at}
-use Rattle.v_parts.specs.Productions.{IsName}
+use Rattle.v_parts.specs.Reading.{identifier_at}
+use Rattle.v_parts.specs.Productions.{IsIdentifier}
 use Rattle.v_declarations.specs.Headers.{AreHeaderParameters, IsHeaderPorts}
 use Rattle.v_declarations.specs.HeaderReading.{header_parameters_at, header_ports_at}
 use Rattle.v_parser.specs.Items.{AreItemsUpTo, IsItem}
@@ -22,7 +22,7 @@ use Rattle.v_parser.specs.ModuleReading.{module_items_at, module_at, modules_at,
 use Rattle.v_parts.specs.Answers.{ShowsFault}
 use Rattle.v_parts.proofs.Laws.{Start, Law, law_as, law_bind, law_expect, law_found, law_node, law_same, law_there}
 use Rattle.v_parts.proofs.TakingLaws.{TakingFrom, taking_expect}
-use Rattle.v_parts.proofs.NameLaws.{law_name}
+use Rattle.v_parts.proofs.NameLaws.{law_identifier}
 use Rattle.v_declarations.proofs.HeaderLaws.{law_header_parameters, law_header_ports}
 use Rattle.v_parser.proofs.ItemLaws.{law_items, taking_item}
 use Rattle.v_parts.proofs.AnswerLemmas.{LawAt}
@@ -31,7 +31,7 @@ pub taking_module : (base : ℕ) (t u : List Lexeme) (d : ℕ) → TakingFrom ba
 unfolding module_at module_items_at
 taking_module base t u d a st =
     taking_expect base t u d a st marks.Module refl _ _ _ (λ is st2.
-    law_bind base t u d (a + 1) st2 (name_at t (a + 1)) (name_at u (a + 1)) _ _ (λ x b. IsName t x (a + 1) b) _ (law_name base t u d (a + 1) st2) (λ x m q ge st3.
+    law_bind base t u d (a + 1) st2 (identifier_at t (a + 1)) (identifier_at u (a + 1)) _ _ (λ x b. IsIdentifier t x (a + 1) b) _ (law_identifier base t u d (a + 1) st2) (λ x m q ge st3.
     law_bind base t u d m st3 (header_parameters_at t d m) (header_parameters_at u d m) _ _ (λ x b. AreHeaderParameters t d x m b) _ (law_header_parameters base t u d m st3) (λ ps n q2 ge2 st4.
     law_bind base t u d n st4 (header_ports_at t d n) (header_ports_at u d n) _ _ (λ x b. IsHeaderPorts t d x n b) _ (law_header_ports base t u d n st4) (λ qs k q3 ge3 st5.
     law_expect base t u d k st5 marks.Semicolon refl _ _ _ (λ one st6.

@@ -2,13 +2,14 @@
 -- comment, as in Productions.
 use Rattle.std.specs.Prelude.{◌≡◌, ℕ, ◌+◌, List, [], ◌∷◌, length, Result, MatchResult}
 use Rattle.v_lexer.specs.Lexeme.{Lexeme}
+use Rattle.v_tree.specs.declared.declaration.Identifier.{Identifier}
 use Rattle.v_tree.specs.declared.module.SourceTree.{SourceTree}
 use Rattle.v_lexer.specs.declared.types.terminal.Terminal.TheVariants.{Semicolon, Endmodule, Module}
 use Rattle.v_tree.specs.declared.fault.ParseErr.{ParseErr}
 use Rattle.v_tree.specs.declared.fault.ParseErr.TheVariants as error
 use Rattle.v_tree.specs.Marks.{mark_at}
 use Rattle.v_tree.specs.Sites.{site}
-use Rattle.v_parts.specs.Productions.{IsName}
+use Rattle.v_parts.specs.Productions.{IsIdentifier}
 use Rattle.v_tree.specs.ItemTree.{PlainItem}
 use Rattle.v_tree.specs.ModuleTree.{PlainHeaderParameter, PlainPorts, PlainModule, source_of}
 use Rattle.v_declarations.specs.Headers.{AreHeaderParameters, IsHeaderPorts}
@@ -19,7 +20,7 @@ use Rattle.v_parts.specs.Answers.{ShowsFault}
 abbrev pub IsModule : List Lexeme → ℕ → PlainModule → ℕ → ℕ → Type 0
 IsModule tokens nesting_left x a b =
     (mark_at tokens a ≡ Module)
-    × ((name : List ℕ) × (m : ℕ) × IsName tokens name (a + 1) m
+    × ((name : Identifier) × (m : ℕ) × IsIdentifier tokens name (a + 1) m
     × ((parameters : List PlainHeaderParameter) × (n : ℕ) × AreHeaderParameters tokens nesting_left parameters m n
     × ((ports : PlainPorts) × (k : ℕ) × IsHeaderPorts tokens nesting_left ports n k
     × ((mark_at tokens k ≡ Semicolon)

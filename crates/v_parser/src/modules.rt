@@ -7,12 +7,11 @@ ghost use Rattle.v_parser.specs.ModuleSeen.{seen_module, seen_modules};
 ghost use Rattle.v_parser.specs.ModuleReading.{module_items_at, module_at, source_at};
 
 use crate::items::items;
-use loc_base::Name;
 use std::alloc::Global;
 use v_declarations::{header_parameters, header_ports};
 use v_lexer::types::Token;
-use v_parts::{Read, name};
-use v_tree::{HeaderParameter, Module, Ports, Terminal, expect, site_of};
+use v_parts::{Read, identifier};
+use v_tree::{HeaderParameter, Identifier, Module, Ports, Terminal, expect, site_of};
 
 /// How deep each part of a module may nest.
 const MOST_NESTING: u32 = 256;
@@ -20,7 +19,7 @@ const MOST_NESTING: u32 = 256;
 /// `'module' NAME ('#' '(' hparam,+ ')')? ('(' ports? ')')? ';'` from `from` on.
 struct Header {
     from: usize,
-    name: Name,
+    name: Identifier,
     parameters: Vec<HeaderParameter>,
     ports: Ports,
 }
@@ -67,7 +66,7 @@ fn module(alloc: Global, tokens: &[Token], from: usize, nesting_left: u32) -> Re
     ensures inside { IfOk result (Inside tokens.now) }
 {
     let next = expect(tokens, Terminal::Module, from)?;
-    let (name, next) = name(alloc, tokens, next)?;
+    let (name, next) = identifier(alloc, tokens, next)?;
     let (parameters, next) = header_parameters(alloc, tokens, next, nesting_left)?;
     let (ports, semicolon) = header_ports(alloc, tokens, next, nesting_left)?;
     let next = expect(tokens, Terminal::Semicolon, semicolon)?;

@@ -148,6 +148,12 @@ law_indexes base t u d a s = record {
 pub taking_name : (base : ℕ) (t u : List Lexeme) (d : ℕ) → TakingFrom base t u d (name_at t) (name_at u) (IsName t)
 taking_name base t u d a s = record { law = law_name base t u d a s; takes = λ x b h. omega (arith, h.2) }
 
+pub taking_identifier : (base : ℕ) (t u : List Lexeme) (d : ℕ) → TakingFrom base t u d (identifier_at t) (identifier_at u) (IsIdentifier t)
+unfolding identifier_at
+taking_identifier base t u d a s =
+    taking_bind base t u d a s (name_at t a) (name_at u a) _ _ (λ x b. IsName t x a b) _ (taking_name base t u d a s) (λ x m q ge there.
+    law_node base t u d a m there ge (λ z. record { site = z; name = x }))
+
 taking_name_left : (base : ℕ) (t u : List Lexeme) (d : ℕ) → TakingFrom base t u d (name_left_at t d) (name_left_at u d) (IsNameLeft t d)
 unfolding name_left_at
 taking_name_left base t u d a s =
@@ -194,7 +200,7 @@ taking_left base t u (suc d) = taking_left_with base t u (suc d) (left_at t d) (
 pub law_named_value : (base : ℕ) (t u : List Lexeme) (d : ℕ) → LawFrom base t u d (named_value_at t d) (named_value_at u d) (IsNamedValue t d)
 unfolding named_value_at
 law_named_value base t u d a s =
-    law_bind base t u d a s (name_at t a) (name_at u a) _ _ (λ x b. IsName t x a b) _ (law_name base t u d a s) (λ x m q ge st.
+    law_bind base t u d a s (identifier_at t a) (identifier_at u a) _ _ (λ x b. IsIdentifier t x a b) _ (law_identifier base t u d a s) (λ x m q ge st.
     law_expect base t u d m st marks.Equals refl _ _ _ (λ equals st2.
     law_bind base t u d (m + 1) st2 (value_at t d (m + 1)) (value_at u d (m + 1)) _ _ (λ y b. IsValue t d y (m + 1) b) _ (law_value base t u d (m + 1) st2) (λ y n q2 ge2 st3.
     law_node base t u d a n st3 (omega (arith, ge, ge2)) (λ z. record { site = z; name = x; value = y }))))

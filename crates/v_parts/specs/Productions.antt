@@ -117,7 +117,7 @@ IsLeft tokens (suc nesting_left) = IsLeftWith tokens (suc nesting_left) (IsLeft 
 -- NAME '=' expr
 abbrev pub IsNamedValue : List Lexeme → ℕ → PlainNamed → ℕ → ℕ → Type 0
 IsNamedValue tokens nesting_left named a b =
-    (name : List ℕ) × (m : ℕ) × IsName tokens name a m
+    (name : Identifier) × (m : ℕ) × IsIdentifier tokens name a m
     × ((mark_at tokens m ≡ Equals)
     × ((value : Tree) × (n : ℕ) × IsValue tokens nesting_left value (m + 1) n
     × ((named ≡ record { site = site tokens a n; name = name; value = value }) × (b ≡ n))))

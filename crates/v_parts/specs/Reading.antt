@@ -99,5 +99,5 @@ left_below tokens (suc nesting_left) = left_at tokens nesting_left
 
 unfoldable pub named_value_at : List Lexeme → ℕ → ℕ → Read PlainNamed
 named_value_at tokens nesting_left a =
-    name_at tokens a >>= λ x. expect tokens mark.Equals x.1 >>= λ m. value_at tokens nesting_left m >>= λ y.
+    identifier_at tokens a >>= λ x. expect tokens mark.Equals x.1 >>= λ m. value_at tokens nesting_left m >>= λ y.
     Ok (record { site = site tokens a y.1; name = x.0; value = y.0 }, y.1)

@@ -146,7 +146,7 @@ pub fn named_value(
     ensures gives { Gives seen_named result (named_value_at tokens.now nesting_left at) }
     ensures inside { IfOk result (Inside tokens.now) }
 {
-    let (name, equals) = name(alloc, tokens, at)?;
+    let (name, equals) = identifier(alloc, tokens, at)?;
     let next = expect(tokens, Terminal::Equals, equals)?;
     let (value, end) = value(alloc, tokens, next, nesting_left)?;
     let site = site_of(tokens, at, end);

@@ -47,7 +47,7 @@ pub data PlainParameterType : Type 0 where
 -- a name of a wire or reg declaration
 pub record PlainDeclarator : Type 0 where
   pub site : Site
-  pub name : List ℕ
+  pub name : Identifier
   pub range : Option PlainRange
   pub value : Option Tree
 
@@ -66,7 +66,7 @@ pub record PlainGate : Type 0 where
 -- .name(value)
 pub record PlainConnection : Type 0 where
   pub site : Site
-  pub name : List ℕ
+  pub name : Identifier
   pub value : Option Tree
 
 -- the connections of an instance, or the overrides of its parameters
@@ -77,7 +77,7 @@ pub data PlainConnections : Type 0 where
 -- a module instance
 pub record PlainInstance : Type 0 where
   pub site : Site
-  pub name : List ℕ
+  pub name : Identifier
   pub connections : PlainConnections
 
 mutual
@@ -91,7 +91,7 @@ mutual
     gate_item : Site → GateKind → Option PlainDelay → List PlainGate → PlainItem
     always_item : Site → PlainSensitivity → PlainStatement → PlainItem
     initial_item : Site → PlainStatement → PlainItem
-    instance_item : Site → List ℕ → Option PlainConnections → List PlainInstance → PlainItem
+    instance_item : Site → Identifier → Option PlainConnections → List PlainInstance → PlainItem
     generate_item : Site → Items → PlainItem
     loop_item : Site → PlainHead → PlainBlock → PlainItem
     if_item : Site → Tree → PlainBlock → PlainItem

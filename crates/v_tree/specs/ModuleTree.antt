@@ -20,13 +20,13 @@ pub record PlainHeaderParameter : Type 0 where
   pub site : Site
   pub opens : Bool
   pub type_of : PlainParameterType
-  pub name : List ℕ
+  pub name : Identifier
   pub value : Tree
 
 -- a port that a module's header declares
 pub data PlainPort : Type 0 where
-  declared_port : Site → Direction → Option NetKind → Bool → Option PlainRange → List ℕ → Option Tree → PlainPort
-  same_port : Site → List ℕ → Option Tree → PlainPort
+  declared_port : Site → Direction → Option NetKind → Bool → Option PlainRange → Identifier → Option Tree → PlainPort
+  same_port : Site → Identifier → Option Tree → PlainPort
 
 -- the ports of a module's header
 pub data PlainPorts : Type 0 where
@@ -36,7 +36,7 @@ pub data PlainPorts : Type 0 where
 
 pub record PlainModule : Type 0 where
   pub site : Site
-  pub name : List ℕ
+  pub name : Identifier
   pub parameters : List PlainHeaderParameter
   pub ports : PlainPorts
   pub items : List PlainItem

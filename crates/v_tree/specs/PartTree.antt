@@ -1,6 +1,7 @@
 -- The tree above expressions without where it lies in memory, a case for each production (IEEE 1364-2005, A.2, A.6 and A.8.5).
 use Rattle.std.specs.Prelude.{ℕ, List, [], ◌∷◌, map}
 use Rattle.v_tree.specs.declared.site.Site.{Site}
+use Rattle.v_tree.specs.declared.declaration.Identifier.{Identifier}
 use Rattle.v_tree.specs.declared.declaration.Range.{Range}
 use Rattle.v_tree.specs.declared.declaration.NamedValue.{NamedValue}
 use Rattle.v_tree.specs.declared.declaration.Delay.{Delay}
@@ -18,7 +19,7 @@ pub record PlainRange : Type 0 where
 -- a name with a value
 pub record PlainNamed : Type 0 where
   pub site : Site
-  pub name : List ℕ
+  pub name : Identifier
   pub value : Tree
 
 -- a delay

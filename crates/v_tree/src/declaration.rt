@@ -55,7 +55,7 @@ pub struct LoopHead {
 /// `name = value`
 pub struct NamedValue {
     pub site: Site,
-    pub name: Name,
+    pub name: Identifier,
     pub value: Expr,
 }
 

@@ -52,7 +52,7 @@ pub enum ParameterType {
 /// A name of a wire or reg declaration: with a second range it is an array.
 pub struct Declarator {
     pub site: Site,
-    pub name: Name,
+    pub name: Identifier,
     pub range: Option<Range>,
     pub value: Option<Expr>,
 }
@@ -74,7 +74,7 @@ pub struct GateInstance {
 /// `.name(value)`
 pub struct NamedConnection {
     pub site: Site,
-    pub name: Name,
+    pub name: Identifier,
     pub value: Option<Expr>,
 }
 
@@ -89,7 +89,7 @@ pub enum Connections {
 /// `name (connections)` of a module instance.
 pub struct Instance {
     pub site: Site,
-    pub name: Name,
+    pub name: Identifier,
     pub connections: Connections,
 }
 
@@ -158,7 +158,7 @@ pub enum Item {
     /// `module #(parameters) name (connections), ..;`
     Instances {
         site: Site,
-        module: Name,
+        module: Identifier,
         parameters: Option<Connections>,
         instances: Vec<Instance>,
     },

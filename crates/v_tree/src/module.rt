@@ -3,7 +3,6 @@ use crate::declaration::{Identifier, Range};
 use crate::expression::Expr;
 use crate::item::{Direction, Item, NetKind, ParameterType};
 use crate::site::Site;
-use loc_base::Name;
 
 /// A parameter of a module's header.
 pub struct HeaderParameter {
@@ -11,7 +10,7 @@ pub struct HeaderParameter {
     /// Whether the word `parameter` stands before it.
     pub opens: bool,
     pub type_of: ParameterType,
-    pub name: Name,
+    pub name: Identifier,
     pub value: Expr,
 }
 
@@ -24,13 +23,13 @@ pub enum Port {
         net: Option<NetKind>,
         signed: bool,
         range: Option<Range>,
-        name: Name,
+        name: Identifier,
         value: Option<Expr>,
     },
     /// `name = value`, with the direction and the type of the port before.
     Same {
         site: Site,
-        name: Name,
+        name: Identifier,
         value: Option<Expr>,
     },
 }
@@ -48,7 +47,7 @@ pub enum Ports {
 /// A module.
 pub struct Module {
     pub site: Site,
-    pub name: Name,
+    pub name: Identifier,
     pub parameters: Vec<HeaderParameter>,
     pub ports: Ports,
     pub items: Vec<Item>,
