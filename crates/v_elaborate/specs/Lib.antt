@@ -1,0 +1,10 @@
+pub mod Steps
+pub mod Constants
+pub mod Names
+pub mod Parameters
+pub mod Headers
+pub mod Paths
+pub mod Unrolled
+pub mod Items
+pub mod Instances
+pub mod Hierarchy

@@ -1,0 +1,27 @@
+-- The paths of scopes and instances (IEEE 1364-2005, 12.5): parts joined by dots. A block without a label has its line instead,
+-- and a turn of a loop its variable's value in brackets.
+use Rattle.std.specs.Prelude.{ℕ, ◌+◌, ℤ, pos, negsuc, List, [], ◌∷◌, ◌++◌, Option, Some, None, decimal}
+use Rattle.v_tree.specs.declared.site.Site.{Site}
+use Rattle.v_tree.specs.declared.declaration.Identifier.{Identifier}
+use Rattle.v_tree.specs.ItemTree.{PlainBlock, single, several}
+
+-- path.part
+abbrev pub below : List ℕ → List ℕ → List ℕ
+below path part = path ++ 46 ∷ part
+
+abbrev pub signed_decimal : ℤ → List ℕ
+signed_decimal (pos n) = decimal n
+signed_decimal (negsuc n) = 45 ∷ decimal (n + 1)
+
+-- @line
+abbrev pub line_part : Site → List ℕ
+line_part s = 64 ∷ decimal s.line
+
+abbrev pub block_part : PlainBlock → List ℕ
+block_part (single s _) = line_part s
+block_part (several s None _) = line_part s
+block_part (several s (Some label) _) = label.name
+
+-- part[turn]
+abbrev pub turn_part : PlainBlock → ℤ → List ℕ
+turn_part block turn = block_part block ++ 91 ∷ signed_decimal turn ++ 93 ∷ []
