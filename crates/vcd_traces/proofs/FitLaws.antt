@@ -22,7 +22,7 @@ use Rattle.vcd_reading.specs.Scopes.{Port, port_at}
 use Rattle.vcd_reading.specs.Events.{Event}
 use Rattle.vcd_reading.specs.declared.error.VcdErr.{VcdErr}
 use Rattle.vcd_traces.specs.Answers.{Answers}
-use Rattle.vcd_traces.specs.Samples.{Watch, watch_of, watches_of, cycles_of, sample, known_bits, AreSamples, HasSamples}
+use Rattle.vcd_traces.specs.Samples.{Watch, Watches, watch_of, watches_of, cycles_of, sample, known_bits, AreSamples, HasSamples}
 
 -- ---- blocks of one length, a block a stamp
 blocks : {X : Type 0} (F : ℕ → List X) (n : ℕ) (times : List ℕ) → ((time : ℕ) → length (F time) ≡ n) → length (flat_map F times) ≡ length times * n
@@ -116,41 +116,58 @@ widths_of d h ports (s ∷ numbers) = ap (λ l. width_at d.signals.items s ∷ l
 kept_within : (one known : ℕ) → bit_and (bit_and one known) known ≡ bit_and one known
 kept_within one known = and_assoc known one known ∙ ap (bit_and one) (and_self known)
 
+-- what stands in a cycle, field by field
+abbrev widths : List Watch → List ℕ
+widths watches = map (λ (w : Watch). w.width) watches
+
+abbrev known_at : Watches → List Event → ℕ → Watch → ℕ
+known_at w events time x = known_bits x.width (sample w.clock events time x)
+
+abbrev value_at : Watches → List Event → ℕ → Watch → ℕ
+value_at w events time x = bit_and (sample w.clock events time x).ones (known_at w events time x)
+
+inputs_fit : (d : Design) (clock : Option (List ℕ)) (h : Header) (events : List Event) (times : List ℕ) (trace : Trace)
+    → AreSamples (watches_of d clock h) events times trace → (t : ℕ) → t < length times → length (watches_of d clock h).inputs ≡ length d.inputs.items
+    → samples_fit d.signals.items d.inputs.items (samples_at d trace t) ≡ true
+inputs_fit d clock h events times trace are t below many =
+    let w = watches_of d clock h in
+    fit_samples d.signals.items d.inputs.items (samples_at d trace t)
+    (cycle_field width_of trace.inputs.items (λ time. widths w.inputs) (length d.inputs.items) t times (λ time. length-map w.inputs _ ∙ many) below
+    are.input_widths
+    ∙ widths_of d h _ d.inputs.items)
+
+outputs_fit : (d : Design) (clock : Option (List ℕ)) (h : Header) (events : List Event) (times : List ℕ) (trace : Trace)
+    → AreSamples (watches_of d clock h) events times trace → (t : ℕ) → t < length times → length (watches_of d clock h).outputs ≡ length d.outputs.items
+    → expected_fit d.signals.items d.outputs.items (expected_at d trace t) ≡ true
+outputs_fit d clock h events times trace are t below many =
+    let w = watches_of d clock h in
+    let m = length d.outputs.items in
+    let time = get_or times t 0 in
+    let each : (f : Watch → ℕ) → length (map f w.outputs) ≡ m = λ f. length-map w.outputs f ∙ many in
+    fit_expected d.signals.items d.outputs.items (expected_at d trace t) w.outputs (value_at w events time) (known_at w events time)
+    (λ x. kept_within (sample w.clock events time x).ones (known_at w events time x))
+    (cycle_field value_width trace.expected.items (λ u. widths w.outputs) m t times (λ u. each (λ (x : Watch). x.width)) below are.value_widths
+    ∙ widths_of d h _ d.outputs.items)
+    (cycle_field mask_width trace.expected.items (λ u. widths w.outputs) m t times (λ u. each (λ (x : Watch). x.width)) below are.mask_widths
+    ∙ widths_of d h _ d.outputs.items)
+    (cycle_field value_is trace.expected.items (λ u. map (value_at w events u) w.outputs) m t times (λ u. each (value_at w events u)) below are.values)
+    (cycle_field mask_is trace.expected.items (λ u. map (known_at w events u) w.outputs) m t times (λ u. each (known_at w events u)) below are.masks)
+
 pub trace_fits : (d : Design) (clock : Option (List ℕ)) (h : Header) (events : List Event) (times : List ℕ) (trace : Trace)
     → AreSamples (watches_of d clock h) events times trace → IsTraceOf d trace
 trace_fits d clock h events times trace are =
     let w = watches_of d clock h in
     let n = length d.inputs.items in
     let m = length d.outputs.items in
-    let many : length w.inputs ≡ n = length-map (map (port_at d) d.inputs.items) _ ∙ length-map d.inputs.items (port_at d) in
-    let most : length w.outputs ≡ m = length-map (map (port_at d) d.outputs.items) _ ∙ length-map d.outputs.items (port_at d) in
-    let one_input : (time : ℕ) → length (map (λ (x : Watch). x.width) w.inputs) ≡ n = λ time. length-map w.inputs _ ∙ many in
-    let one_output : (f : Watch → ℕ) → length (map f w.outputs) ≡ m = λ f. length-map w.outputs f ∙ most in
+    let inputs : length w.inputs ≡ n = length-map (map (port_at d) d.inputs.items) _ ∙ length-map d.inputs.items (port_at d) in
+    let outputs : length w.outputs ≡ m = length-map (map (port_at d) d.outputs.items) _ ∙ length-map d.outputs.items (port_at d) in
     record {
       sample_count = sym (length-map trace.inputs.items width_of) ∙ ap length are.input_widths
-          ∙ blocks (λ time. map (λ (x : Watch). x.width) w.inputs) n times one_input ∙ ap (λ k. k * n) (sym are.cycles);
+          ∙ blocks (λ time. widths w.inputs) n times (λ time. length-map w.inputs _ ∙ inputs) ∙ ap (λ k. k * n) (sym are.cycles);
       expected_count = sym (length-map trace.expected.items value_width) ∙ ap length are.value_widths
-          ∙ blocks (λ time. map (λ (x : Watch). x.width) w.outputs) m times (λ time. one_output (λ (x : Watch). x.width)) ∙ ap (λ k. k * m) (sym are.cycles);
-      samples = λ t within.
-          fit_samples d.signals.items d.inputs.items (samples_at d trace t)
-          (cycle_field width_of trace.inputs.items (λ time. map (λ (x : Watch). x.width) w.inputs) n t times one_input (omega (arith, within, are.cycles)) are.input_widths
-          ∙ widths_of d h _ d.inputs.items);
-      expected = λ t within.
-          let below : t < length times = omega (arith, within, are.cycles) in
-          let time = get_or times t 0 in
-          fit_expected d.signals.items d.outputs.items (expected_at d trace t) w.outputs
-          (λ x. bit_and (sample w.clock events time x).ones (known_bits x.width (sample w.clock events time x)))
-          (λ x. known_bits x.width (sample w.clock events time x))
-          (λ x. kept_within (sample w.clock events time x).ones (known_bits x.width (sample w.clock events time x)))
-          (cycle_field value_width trace.expected.items (λ time. map (λ (x : Watch). x.width) w.outputs) m t times (λ time. one_output (λ (x : Watch). x.width)) below are.value_widths
-          ∙ widths_of d h _ d.outputs.items)
-          (cycle_field mask_width trace.expected.items (λ time. map (λ (x : Watch). x.width) w.outputs) m t times (λ time. one_output (λ (x : Watch). x.width)) below are.mask_widths
-          ∙ widths_of d h _ d.outputs.items)
-          (cycle_field value_is trace.expected.items
-          (λ time. map (λ x. bit_and (sample w.clock events time x).ones (known_bits x.width (sample w.clock events time x))) w.outputs) m t times
-          (λ time. one_output (λ x. bit_and (sample w.clock events time x).ones (known_bits x.width (sample w.clock events time x)))) below are.values)
-          (cycle_field mask_is trace.expected.items (λ time. map (λ x. known_bits x.width (sample w.clock events time x)) w.outputs) m t times
-          (λ time. one_output (λ x. known_bits x.width (sample w.clock events time x))) below are.masks);
+          ∙ blocks (λ time. widths w.outputs) m times (λ time. length-map w.outputs _ ∙ outputs) ∙ ap (λ k. k * m) (sym are.cycles);
+      samples = λ t within. inputs_fit d clock h events times trace are t (omega (arith, within, are.cycles)) inputs;
+      expected = λ t within. outputs_fit d clock h events times trace are t (omega (arith, within, are.cycles)) outputs;
     }
 
 -- a text's trace is one of the design

@@ -20,4 +20,6 @@ pub mod PortLaws
 pub mod AnswerLaws
 pub mod DumpLaws
 pub mod FitLaws
+pub mod NearLaws
+pub mod DeclaredLaws
 mod Examples

@@ -1,10 +1,11 @@
 -- The table of a dump's codes: what each declared code is to the ports.
-use Rattle.std.specs.Prelude.{ℕ, ◌≡◌, true, false, ◌&&◌, min, nat_eq, nat_lt, if◌then◌else◌, List, [], ◌∷◌, ◌++◌, map, Option, Some, None, is_some, slice_get}
+use Rattle.std.specs.Prelude.{ℕ, ◌≡◌, true, false, ◌&&◌, min, nat_eq, nat_lt, if◌then◌else◌, List, [], ◌∷◌, ◌++◌, length, get_or, map, Option, Some, None, is_some, slice_get}
 use Rattle.std.specs.List.{list_any}
 use Rattle.std.specs.Borrow.{Bor}
 use Rattle.std.specs.HashMap as hash
 use Rattle.std.specs.Cmp.Lexicographic.{pointwise}
 use Rattle.std.specs.Option.{option_and_then}
+use Rattle.vcd_words.specs.Codes.{place_in}
 use Rattle.vcd_traces.specs.declared.codes.Codes.{Codes}
 use Rattle.vcd_traces.specs.declared.codes.Role.{Role}
 use Rattle.vcd_traces.specs.declared.codes.Role.TheVariants.{Other, Port as OfPort}
@@ -12,9 +13,17 @@ use Rattle.vcd_traces.specs.declared.table.Table.{Table}
 use Rattle.vcd_reading.specs.Header.{Header}
 use Rattle.vcd_reading.specs.Scopes.{Port, has_code, is_declared}
 
--- the role of a code, where it is declared
-abbrev pub role_of : Codes → List ℕ → Option Role
-role_of codes code = hash.get_by (λ key. pointwise nat_eq code key.now) codes.roles
+-- the place of a code in a list of so many, where it has one there
+abbrev pub near_place : ℕ → List ℕ → Option ℕ
+near_place count code = option_and_then (λ place. if nat_lt place count then Some place else None) (place_in code)
+
+-- the role of a code, where it is declared: by its place in the list, else by the map
+abbrev pub role_at : Codes → List ℕ → Option ℕ → Option Role
+role_at codes code None = hash.get_by (λ key. pointwise nat_eq code key.now) codes.far
+role_at codes code (Some place) = get_or codes.near.items place None
+
+unfoldable pub role_of : Codes → List ℕ → Option Role
+role_of codes code = role_at codes code (near_place (length codes.near.items) code)
 
 -- the roles of codes, with that of one code put in its place
 abbrev pub with_role : List ℕ → Role → (List ℕ → Option Role) → List ℕ → Option Role

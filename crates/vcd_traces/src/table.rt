@@ -59,7 +59,7 @@ impl<'a> Table<'a> {
 pub fn declared_codes<'a>(alloc: Global, variables: &[Variable<'a>]) -> Result<Codes<'a>, NoMemory>
     ensures { IfOk result (λ codes. (code : List ℕ) → role_of codes code ≡ (if list_any (λ (v : TheVariable). same_bytes v.code code) (map variable_of variables.now) then Some OfNone else None)) }
 {
-    let mut codes = Codes::new(alloc);
+    let mut codes = Codes::new(alloc, variables.len())?;
     for variable in variables {
         codes.set(variable.code, Role::Other)?;
     }
