@@ -6,3 +6,4 @@ pub mod Bits
 pub mod Store
 pub mod Merge
 pub mod StatementLaws
+pub mod Drivers
