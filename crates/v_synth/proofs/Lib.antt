@@ -7,3 +7,4 @@ pub mod Store
 pub mod Merge
 pub mod StatementLaws
 pub mod Drivers
+pub mod Begun

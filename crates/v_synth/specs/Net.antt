@@ -1,10 +1,14 @@
 -- The net of a design: inputs and registers, resets, drivers in an order, clocked blocks; its outputs, next states and the
 -- states before the first cycle.
 use Rattle.std.specs.Prelude.{ℕ, zero, suc, ◌+◌, if◌then◌else◌, List, [], ◌∷◌, ◌++◌, length, map, get_or}
+use Rattle.loc_base.specs.declared.bits.Bits.{Bits}
 use Rattle.design_core.specs.declared.design.Design.{Design}
-use Rattle.design_core.specs.Valuation.{number, width_at}
+use Rattle.design_core.specs.Valuation.{Valuation, number, width_at}
+use Rattle.design_core.specs.After.{Choice}
+use Rattle.design_core.specs.Cycle.{sampled}
 use Rattle.design_core.specs.Run.{start_state}
 use Rattle.word_net.specs.declared.node.WordNode.{WordNode}
+use Rattle.word_net.specs.Values.{Source}
 use Rattle.v_synth.specs.Store.{Nodes, nodes_made}
 use Rattle.v_synth.specs.Driver.{drivers_made}
 use Rattle.v_synth.specs.Clocked.{has_state, begun_made, masked_made, resets_made, bodies_made}
@@ -44,3 +48,11 @@ net_of d order =
       next = next.each;
       start = map (λ s. number (width_at d.signals.items s) (start_state d s)) (states_of d);
     }
+
+-- the source of a cycle: the samples of the inputs and the states of the registers, as numbers of their signals' widths
+abbrev pub cycle_source : Design → List Bits → Valuation → Choice → Source
+cycle_source d samples state choice = record {
+  inputs = λ i. let s = get_or d.inputs.items i 0 in number (width_at d.signals.items s) (sampled d.inputs.items samples s);
+  states = λ j. let s = get_or (states_of d) j 0 in number (width_at d.signals.items s) (state s);
+  choice = choice;
+}
