@@ -8,3 +8,4 @@ pub mod Merge
 pub mod StatementLaws
 pub mod Drivers
 pub mod Begun
+pub mod Blocks
