@@ -55,8 +55,8 @@ masked-law {e} {nodes} {word} d s f wide m =
     (record { there = kept.there; wide = refl }, record { there = none.means.there; wide = refl }, number-below w (is_register_bit d s))
     (ap₂ (λ x y. number w (λ b. if bit (register_mask d s) b then bit x b else bit y b)) kept.is none.means.is
     ∙ number-same w (λ b. if bit (register_mask d s) b then bit (number w f) b else bit 0 b) (λ b. is_register_bit d s b && f b)
-      (λ b low. ap (λ t. if t then bit (number w f) b else bit 0 b) (bit-number w (is_register_bit d s) b low)
-        ∙ ap₂ (λ x y. if is_register_bit d s b then x else y) (bit-number w f b low) (zero-bit b) ∙ as_and (is_register_bit d s b) (f b))))
+    (λ b low. ap (λ t. if t then bit (number w f) b else bit 0 b) (bit-number w (is_register_bit d s) b low)
+    ∙ ap₂ (λ x y. if is_register_bit d s b then x else y) (bit-number w f b low) (zero-bit b) ∙ as_and (is_register_bit d s b) (f b))))
   where
     as_and : (x y : Bool) → (if x then y else false) ≡ (x && y)
     as_and true y = refl
@@ -84,7 +84,7 @@ inputs-law {e} d v (input ∷ inputs) nodes place long given =
     let g = pushed-gives e nodes w (operation.Input place) (v input) here.1 tt (ap e.inputs (sym same) ∙ here.0) in
     let m : Made = pushed nodes w (operation.Input place) in
     let rest = inputs-law {e = e} d v inputs m.nodes (place + 1) (omega (arith, long, length-append nodes (record { width = w; operation = operation.Input place } ∷ [])))
-        (λ i s at. let next : place + 1 + i ≡ place + suc i = omega arith in let more = given (suc i) s at in (ap e.inputs next ∙ more.0, more.1)) in
+    (λ i s at. let next : place + 1 + i ≡ place + suc i = omega arith in let more = given (suc i) s at in (ap e.inputs next ∙ more.0, more.1)) in
     record { grown = grown-then g.grown rest.grown; are = λ i s at. each rest.are (keep rest.grown g.means) i s at }
   where
     each : ((i s : ℕ) → slice_get inputs i ≡ Some s → Means e (inputs_made d (pushed nodes (width_at d.signals.items input) (operation.Input place)).nodes (place + 1) inputs) (place + 1 + i) (width_at d.signals.items s) (v s))
@@ -135,7 +135,7 @@ first-law {nodes} d samples state choice s number_of own there inputs numbered =
 
     at : (t : Bool) → is_listed d s ≡ t → (u : Bool) → has_state d s ≡ u
         → Gives e nodes (if t then made nodes (place_in d.inputs.items s) else (if u then masked_made d (pushed nodes w (operation.State number_of)).nodes s (pushed nodes w (operation.State number_of)).node else pushed nodes w (operation.Const 0))) w
-          (number w (λ b. if is_listed d s then sampled d.inputs.items samples s b else is_register_bit d s b && state s b))
+        (number w (λ b. if is_listed d s then sampled d.inputs.items samples s b else is_register_bit d s b && state s b))
     at true listed u has =
         let m = inputs (place_in d.inputs.items s) s (place-in d.inputs.items s listed) in
         record {
@@ -147,15 +147,15 @@ first-law {nodes} d samples state choice s number_of own there inputs numbered =
     at false listed true has =
         let g = pushed-gives e nodes w (operation.State number_of) (number w (state s)) wide tt (ap (λ t. number (width_at d.signals.items t) (state t)) (numbered has)) in
         gives-is (number-same w (λ b. is_register_bit d s b && state s b) (λ b. if is_listed d s then sampled d.inputs.items samples s b else is_register_bit d s b && state s b)
-            (λ b low. ap (λ t. if t then sampled d.inputs.items samples s b else is_register_bit d s b && state s b) (sym listed)))
+        (λ b low. ap (λ t. if t then sampled d.inputs.items samples s b else is_register_bit d s b && state s b) (sym listed)))
         (gives-then g.grown (masked-law d s (state s) wide g.means))
     at false listed false has =
         let none : (register_mask d s == 0) ≡ true = not-none (register_mask d s == 0) has in
         pushed-gives e nodes w (operation.Const 0) (number w (λ b. if is_listed d s then sampled d.inputs.items samples s b else is_register_bit d s b && state s b)) wide (pow_pos w)
         (sym (number-same w (λ b. if is_listed d s then sampled d.inputs.items samples s b else is_register_bit d s b && state s b) (λ b. false)
-            (λ b low. ap (λ t. if t then sampled d.inputs.items samples s b else is_register_bit d s b && state s b) listed
-              ∙ ap (λ t. t && state s b) (no-bits w (is_register_bit d s) b none low))
-          ∙ number-none w))
+        (λ b low. ap (λ t. if t then sampled d.inputs.items samples s b else is_register_bit d s b && state s b) listed
+        ∙ ap (λ t. t && state s b) (no-bits w (is_register_bit d s) b none low))
+        ∙ number-none w))
 
 signals-law : (d : Design) (samples : List Bits) (state : Valuation) (choice : Choice) (more : ℕ) {nodes : List WordNode} (nodes_of : List ℕ) (number_of s : ℕ) (prefix : List ℕ)
     → list_all signal_fits d.signals.items ≡ true → s + more ≡ length d.signals.items
@@ -173,8 +173,8 @@ signals-law d samples state choice (suc more) {nodes} nodes_of number_of s prefi
     let g = first-law d samples state choice s number_of own there inputs (λ has. numbered (has_state d s) refl has) in
     let (next_prefix, next_states, next_long) = next (has_state d s) refl in
     let rest = signals-law d samples state choice more (nodes_of ++ m.node ∷ []) (if has_state d s then number_of + 1 else number_of) (s + 1) next_prefix own (omega (arith, all))
-        (λ i t at. keep g.grown (inputs i t at)) next_states next_long (omega (arith, length-append nodes_of (m.node ∷ []), each))
-        (λ r low. here m.nodes m.node g.grown g.means r (cases_lt r s) low) in
+    (λ i t at. keep g.grown (inputs i t at)) next_states next_long (omega (arith, length-append nodes_of (m.node ∷ []), each))
+    (λ r low. here m.nodes m.node g.grown g.means r (cases_lt r s) low) in
     record { grown = grown-then g.grown rest.grown; shows = rest.shows }
   where
     e : Source
@@ -189,10 +189,11 @@ signals-law d samples state choice (suc more) {nodes} nodes_of number_of s prefi
     numbered false is yes_state = cc
 
     next : (t : Bool) → has_state d s ≡ t → (p : List ℕ) × (states_of d ≡ p ++ states_from d (s + 1) more) × (length p ≡ (if has_state d s then number_of + 1 else number_of))
-    next true is =
-        (prefix ++ s ∷ [],
-         states ∙ ap (λ t. prefix ++ (if t then s ∷ states_from d (s + 1) more else states_from d (s + 1) more)) is ∙ sym (append_assoc prefix (s ∷ []) (states_from d (s + 1) more)),
-         rw is (omega (arith, length-append prefix (s ∷ []), long)))
+    next true is = (
+      prefix ++ s ∷ [],
+      states ∙ ap (λ t. prefix ++ (if t then s ∷ states_from d (s + 1) more else states_from d (s + 1) more)) is ∙ sym (append_assoc prefix (s ∷ []) (states_from d (s + 1) more)),
+      rw is (omega (arith, length-append prefix (s ∷ []), long)),
+    )
     next false is =
         (prefix, states ∙ ap (λ t. prefix ++ (if t then s ∷ states_from d (s + 1) more else states_from d (s + 1) more)) is, rw is long)
 
@@ -214,10 +215,10 @@ unfolding begun_made
 begun-law d samples state choice own inputs =
     let v : ℕ → ℕ = λ s. number (width_at d.signals.items s) (sampled d.inputs.items samples s) in
     let i = inputs-law {e = cycle_source d samples state choice} d v d.inputs.items [] 0 refl
-        (λ i s at. let plain : 0 + i ≡ i = omega arith in
-          (ap (λ k. v (get_or d.inputs.items k 0)) plain ∙ ap v (get_or_from_slice_get d.inputs.items i s 0 at), (signal-at d.signals.items s own (inputs i s at)).0)) in
+    (λ i s at. let plain : 0 + i ≡ i = omega arith in
+    (ap (λ k. v (get_or d.inputs.items k 0)) plain ∙ ap v (get_or_from_slice_get d.inputs.items i s 0 at), (signal-at d.signals.items s own (inputs i s at)).0)) in
     let all = signals-law d samples state choice (length d.signals.items) [] 0 0 [] own (omega arith)
-        (λ k s at. let plain : 0 + k ≡ k = omega arith in
-          subst (λ n. Means (cycle_source d samples state choice) (inputs_made d [] 0 d.inputs.items) n (width_at d.signals.items s) (v s)) plain (i.are k s at))
-        refl refl refl (λ r low. absurd (omega (arith, low))) in
+    (λ k s at. let plain : 0 + k ≡ k = omega arith in
+    subst (λ n. Means (cycle_source d samples state choice) (inputs_made d [] 0 d.inputs.items) n (width_at d.signals.items s) (v s)) plain (i.are k s at))
+    refl refl refl (λ r low. absurd (omega (arith, low))) in
     record { grown = grown-then i.grown all.grown; shows = all.shows }

@@ -120,11 +120,11 @@ own-law {e} {nodes} {so_far} m d block turn t L W s wide mt ml mw = at (own_mask
         }
     at false some =
         let b = pushed-gives e nodes w (operation.Blend (own_mask d block s) (unsigned (left_at block m s) w) (unsigned so_far w)) left_or wide
-            (record { there = ml.there; wide = refl }, record { there = mw.there; wide = refl }, number-below w own)
-            (ap₂ (λ x y. number w (λ b. if bit (own_mask d block s) b then bit x b else bit y b)) ml.is mw.is
-            ∙ number-same w (λ b. if bit (own_mask d block s) b then bit (word_of d.signals.items L s) b else bit (word_of d.signals.items W s) b) (λ b. if own b then L s b else W s b)
-              (λ b low. ap (λ t. if t then bit (word_of d.signals.items L s) b else bit (word_of d.signals.items W s) b) (bit-number w own b low)
-                ∙ ap₂ (λ x y. if own b then x else y) (bit-number w (L s) b low) (bit-number w (W s) b low))) in
+        (record { there = ml.there; wide = refl }, record { there = mw.there; wide = refl }, number-below w own)
+        (ap₂ (λ x y. number w (λ b. if bit (own_mask d block s) b then bit x b else bit y b)) ml.is mw.is
+        ∙ number-same w (λ b. if bit (own_mask d block s) b then bit (word_of d.signals.items L s) b else bit (word_of d.signals.items W s) b) (λ b. if own b then L s b else W s b)
+        (λ b low. ap (λ t. if t then bit (word_of d.signals.items L s) b else bit (word_of d.signals.items W s) b) (bit-number w own b low)
+        ∙ ap₂ (λ x y. if own b then x else y) (bit-number w (L s) b low) (bit-number w (W s) b low))) in
         gives-is (chosen t) (gives-then b.grown (turned-law turn t wide (keep-turn e turn t b.grown mt) b.means (keep b.grown mw)))
 
 -- ---- all signals of a block
@@ -178,7 +178,7 @@ left-law {e} {nodes} {from} {nodes_of} {E} {W} d block turn t statement fit fits
     let m : Maps = statement_made d.signals.items (maps nodes from from) statement in
     let L : Valuation = left_from d.signals.items e.choice block E statement in
     let all = owns-law m d block turn t L W (length d.signals.items) 0 fit (omega arith) (keep-turn e turn t s.grown mt) (λ r within. left-means block r within s.shows)
-        (shows-same (done_below 0 (own_bits d block t L W) W) (λ r b within. none r b) (keep-shows s.grown shows)) in
+    (shows-same (done_below 0 (own_bits d block t L W) W) (λ r b within. none r b) (keep-shows s.grown shows)) in
     record { grown = grown-then s.grown all.grown; shows = all.shows }
   where
     none : (r b : ℕ) → W r b ≡ done_below 0 (own_bits d block t (left_from d.signals.items e.choice block E statement) W) W r b

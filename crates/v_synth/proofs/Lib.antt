@@ -9,3 +9,4 @@ pub mod StatementLaws
 pub mod Drivers
 pub mod Begun
 pub mod Blocks
+pub mod Whole

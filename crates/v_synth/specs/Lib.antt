@@ -5,3 +5,4 @@ pub mod Driver
 pub mod Clocked
 pub mod Net
 pub mod Meaning
+pub mod Matches

@@ -3,5 +3,6 @@
 #![tactic(auto)]
 
 mod clocked;
+pub mod laws;
 
 pub use clocked::Turn;
