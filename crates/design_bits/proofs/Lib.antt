@@ -1,0 +1,5 @@
+pub mod Masks
+pub mod Added
+pub mod Nearness
+pub mod Picks
+pub mod DriveSteps
