@@ -35,7 +35,7 @@ IsSteady e = e.constant ≡ true → (V : Valuation) (size : ℕ) (signed : Bool
 own-steady : (e : Sizing) → IsSteady e → e.constant ≡ true → (V : Valuation) → own e V ≡ own e zeros
 own-steady e steady constant V = steady constant V e.width e.signed
 
-integer-zeros : (e : Sizing) → IsSteady e → e.constant ≡ true → (V : Valuation) → integer e V ≡ integer e zeros
+pub integer-zeros : (e : Sizing) → IsSteady e → e.constant ≡ true → (V : Valuation) → integer e V ≡ integer e zeros
 integer-zeros e steady constant V = ap (integer_of e.signed e.width) (own-steady e steady constant V)
 
 pub integer-steady : (e : Sizing) → IsSteady e → e.constant ≡ true → (V : Valuation) → integer e V ≡ known e
@@ -159,7 +159,7 @@ no_bit None = refl
 no_bit (Some p) = refl
 
 -- a word of zeros has the value 0, and so has each select of it
-zero_word : (width : ℕ) (left right : ℤ) (chosen : List Chosen) (V : Valuation)
+pub zero_word : (width : ℕ) (left right : ℤ) (chosen : List Chosen) (V : Valuation)
     → chosen_value (record { width = width; left = left; right = right; bits = λ b. false }) chosen V ≡ 0
 zero_word width left right [] V = number-none width
 zero_word width left right (one_bit index ∷ rest) V =
@@ -209,7 +209,7 @@ out_of_word : (w : Word) (distance : ℤ) (b count : ℕ) → bits_within w.widt
     → bit_or_zero w.bits (place_within w.width (distance +ℤ pos b)) ≡ false
 out_of_word w distance b count missing below = ap (bit_or_zero w.bits) (none-within w.width count distance missing b below)
 
-no_bit-value : (w : Word) (c : Chosen) (rest : List Chosen) → ChosenSteady c → is_chosen_by_constants c ≡ true → has_no_bit w.width w.left w.right c ≡ true
+pub no_bit-value : (w : Word) (c : Chosen) (rest : List Chosen) → ChosenSteady c → is_chosen_by_constants c ≡ true → has_no_bit w.width w.left w.right c ≡ true
     → (V : Valuation) → chosen_value w (c ∷ rest) V ≡ 0
 no_bit-value w (one_bit index) rest steady is missing V =
     ap (λ at. if bit_at_index w.bits w.width w.left w.right at then 1 else 0) (integer-steady index steady is V)
@@ -230,7 +230,7 @@ no_bit-value w (some_bits k one other) rest steady is missing V =
     ∙ number-none count
 
 -- ---- expressions
-none-of : (o : Option ℕ) → is_none o ≡ true → o ≡ None
+pub none-of : (o : Option ℕ) → is_none o ≡ true → o ≡ None
 none-of None h = refl
 none-of (Some x) h = cc
 

@@ -3,3 +3,8 @@ pub mod Takings
 pub mod Closing
 pub mod Taken
 pub mod Measuring
+pub mod Integer
+pub mod Capped
+pub mod Picked
+pub mod Named
+pub mod Sizes

@@ -4,8 +4,19 @@
 
 mod apply;
 mod close;
+mod first;
+mod integer;
 mod measured;
+mod name_fault;
+mod name_node;
+mod name_size;
+mod named;
 mod node;
 mod operators;
+mod part_select;
+mod picked;
+mod places;
+mod selected;
+mod taken;
 
 pub use v_sizes::{Const, Meaning, Scope, WidthErr};

@@ -3,6 +3,7 @@
 use design_core::{BinaryOp, Node, Typed, UnaryOp};
 use loc_base::{Boxed, Span};
 use v_sizes::WidthErr;
+use v_tree::PartKind;
 
 /// An expression in a context. Where it is refused, only the width and the sign of its sized expression count, and the
 /// value of a constant.
@@ -73,5 +74,18 @@ pub(crate) enum Shape {
         condition: Closed,
         on_true: Boxed<Measured>,
         on_false: Boxed<Measured>,
+    },
+}
+
+/// A select whose indexes are finished.
+#[derive(Drop)]
+pub(crate) enum Picked {
+    /// `[index]`
+    Bit(Closed),
+    /// `[one : other]`, `[one +: other]` or `[one -: other]`
+    Part {
+        kind: PartKind,
+        one: Closed,
+        other: Closed,
     },
 }
