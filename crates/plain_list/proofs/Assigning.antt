@@ -24,7 +24,7 @@ use Rattle.design_core.specs.declared.place.Place.{Place}
 use Rattle.design_core.specs.declared.design.Design.{Design}
 use Rattle.design_core.specs.Valuation.{Valuation, bit, width_at}
 use Rattle.design_core.specs.Words.{valuation_of, AreWordsOf}
-use Rattle.plain_sim.proofs.EvaluateWords.{word-width, words-length}
+use Rattle.plain_values.proofs.EvaluateWords.{word-width, words-length}
 use Rattle.design_core.specs.Store.{parts_width}
 use Rattle.design_core.specs.Value.{value}
 use Rattle.design_core.specs.After.{Choice}

@@ -15,7 +15,7 @@ use Rattle.design_core.specs.Valuation.{width_at}
 use Rattle.design_core.specs.Words.{valuation_of, AreWordsOf}
 use Rattle.design_core.specs.TraceFits.{samples_fit}
 use Rattle.design_core.specs.Cycle.{sampled}
-use Rattle.plain_sim.proofs.EvaluateWords.{word-width, words-length}
+use Rattle.plain_values.proofs.EvaluateWords.{word-width, words-length}
 use Rattle.plain_list.proofs.Settled.{same_or_not, Some-same}
 use Rattle.plain_list.proofs.Assigning.{both_true, get_at, get-set_same, get-set_other, words-set}
 

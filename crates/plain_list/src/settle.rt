@@ -11,7 +11,7 @@ ghost use Rattle.design_core.specs.Explained.{is_one_of, number_for, place_width
 use crate::samples::load_samples;
 use design_core::{Design, Driver, Part};
 use loc_base::Bits;
-use plain_sim::value;
+use plain_values::value;
 
 /// The number chosen for a place, if it is one of those that are freed.
 #[tactic(auto, using(crate::proofs::Numbers::search_rules))]

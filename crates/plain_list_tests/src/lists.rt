@@ -11,7 +11,7 @@ use first_form::{
 use loc_base::{Bits, Name, Span};
 use plain_list::laws::is_network;
 use plain_list::{PlainSearch, candidates};
-use plain_sim::is_trace_of;
+use design_fits::is_trace_of;
 use std::alloc::Global;
 use std::test::Fail;
 

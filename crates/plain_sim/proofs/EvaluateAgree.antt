@@ -8,7 +8,7 @@ use Rattle.design_core.specs.declared.signal.Signal.{Signal}
 use Rattle.design_core.specs.Valuation.{width_at}
 use Rattle.design_core.specs.Words.{valuation_of, AreWordsOf}
 use Rattle.design_core.specs.Reads.{AgreeOn}
-use Rattle.plain_sim.proofs.EvaluateWords.{slice_get_at, word-width, words-length}
+use Rattle.plain_values.proofs.EvaluateWords.{slice_get_at, word-width, words-length}
 use Rattle.plain_sim.proofs.EvaluateSweep.{valuation-past, valuation-high}
 
 pub bits-next : (test one other : ℕ → Bool) (k : ℕ) → ((b : ℕ) → b < k → IsTrue (test b) → one b ≡ other b) → (IsTrue (test k) → one k ≡ other k)

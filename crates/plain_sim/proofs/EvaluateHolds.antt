@@ -20,7 +20,7 @@ use Rattle.design_core.specs.Drives.{driver_drives, block_drives, block_assigns_
 use Rattle.design_core.specs.Cycle.{sampled, before, without, driven, left_from, is_active}
 use Rattle.design_core.specs.Reads.{AgreeOn}
 use Rattle.plain_sim.specs.EvaluateCycle.{is_in, blended, driven_from, DriverHolds, ResetHolds, BodyHolds}
-use Rattle.plain_sim.proofs.EvaluateWords.{slice_get_at}
+use Rattle.plain_values.proofs.EvaluateWords.{slice_get_at}
 
 pub Some-same : {X : Type 0} (x y : X) → Some x ≡ Some y → x ≡ y
 Some-same x y e = cc

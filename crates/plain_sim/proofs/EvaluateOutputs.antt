@@ -14,7 +14,7 @@ use Rattle.design_core.specs.Words.{valuation_of, AreWordsOf}
 use Rattle.design_core.specs.TraceFits.{expected_fit}
 use Rattle.design_core.specs.Run.{IsRight}
 use Rattle.std.proofs.lemmas.Bool.{and_parts}
-use Rattle.plain_sim.proofs.EvaluateWords.{slice_get_at, word-width, words-length}
+use Rattle.plain_values.proofs.EvaluateWords.{slice_get_at, word-width, words-length}
 use Rattle.plain_sim.specs.EvaluateCycle.{IsRightWord}
 use Rattle.plain_sim.proofs.EvaluateHolds.{Some-same}
 use Rattle.plain_sim.proofs.EvaluateSamples.{width-signal}

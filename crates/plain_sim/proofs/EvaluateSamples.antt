@@ -15,7 +15,7 @@ use Rattle.design_core.specs.Words.{valuation_of, AreWordsOf}
 use Rattle.design_core.specs.Constant.{zeros}
 use Rattle.design_core.specs.TraceFits.{samples_fit}
 use Rattle.design_core.specs.Cycle.{sampled}
-use Rattle.plain_sim.proofs.EvaluateWords.{word-width, words-length}
+use Rattle.plain_values.proofs.EvaluateWords.{word-width, words-length}
 use Rattle.loc_base.proofs.ShelfLists.{slice_get-set_same, slice_get-set_other}
 
 -- an element that is there is the same whatever stands for one that is not

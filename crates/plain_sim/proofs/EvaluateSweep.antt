@@ -15,9 +15,9 @@ use Rattle.design_core.specs.Valuation.{Valuation, bit, number, width_at}
 use Rattle.design_core.specs.Words.{valuation_of, AreWordsOf}
 use Rattle.plain_sim.specs.EvaluateCycle.{either_bit, blended}
 use Rattle.design_core.proofs.NumberLaws.{number-suc, number-below}
-use Rattle.plain_sim.proofs.EvaluateWords.{slice_get_at, valuation-bit, word-width, words-length}
+use Rattle.plain_values.proofs.EvaluateWords.{slice_get_at, valuation-bit, word-width, words-length}
 use Rattle.loc_base.proofs.ShelfLists.{slice_get-set_same, slice_get-set_other}
-use Rattle.plain_sim.proofs.EvaluateWrite.{bit-high}
+use Rattle.plain_values.proofs.EvaluateWrite.{bit-high}
 
 -- ---- the bits of a number that some bits mean
 same-bit : (x b y c : ℕ) → bit_at x b ≡ bit_at y c → bit x b ≡ bit y c

@@ -1,5 +1,5 @@
 -- Words that the contracts of the evaluator's own functions use, for cycles and runs.
-use Rattle.std.specs.Prelude.{ℕ, ◌≡◌, ◌+◌, Bool, false, not, ◌&&◌, ◌||◌, if◌then◌else◌, IsTrue, List, slice_get, Option, Some, None}
+use Rattle.std.specs.Prelude.{ℕ, ◌≡◌, ◌+◌, Bool, false, not, ◌&&◌, ◌||◌, if◌then◌else◌, IsTrue, List, slice_get, Some}
 use Rattle.std.specs.Option.{option_map_or}
 use Rattle.std.specs.List.{list_any}
 use Rattle.loc_base.specs.declared.bits.Bits.{Bits}
@@ -18,14 +18,12 @@ use Rattle.plain_sim.specs.declared.cycle.region.Region.TheVariants as region
 use Rattle.design_core.specs.declared.design.Design.{Design}
 use Rattle.design_core.specs.declared.trace.Checked.{Checked}
 use Rattle.design_core.specs.declared.trace.Trace.{Trace}
-use Rattle.design_core.specs.Run.{Choices, samples_at, expected_at, IsRunFrom, IsRight}
-use Rattle.design_core.specs.TraceFits.{samples_fit, expected_fit}
+use Rattle.design_core.specs.Run.{Choices, expected_at, IsRunFrom, IsRight}
 use Rattle.design_core.specs.Valuation.{Valuation, bit}
 use Rattle.design_core.specs.Value.{value}
 use Rattle.design_core.specs.Store.{store}
 use Rattle.design_core.specs.After.{Choice, after}
 use Rattle.design_core.specs.Reads.{AgreeOn}
-use Rattle.design_core.specs.WellFormed.{is_width}
 use Rattle.design_core.specs.Drives.{part_drives, part_names, some_set, driver_drives, is_driven, block_drives, block_assigns_later, is_register_bit, is_listed}
 use Rattle.design_core.specs.Cycle.{is_active, is_reset, is_clocked, cont_assigned, driven, left_from}
 
@@ -103,13 +101,3 @@ abbrev pub MeetsFrom : Design → Trace → (ℕ → Bool) → Choices → ℕ �
 MeetsFrom d trace freed c t state =
     (run : List Valuation) × IsRunFrom d trace freed c t state run
     × ((j : ℕ) (V : Valuation) → slice_get run j ≡ Some V → IsRight d (expected_at d trace (t + j)) V)
-
--- ---- whether a design can be carried out
--- a width of 1 to 128 bits, where it is one
-abbrev pub small_width : ℕ → Option ℕ
-small_width width = if is_width width then Some width else None
-
--- the samples and the entries of a cycle fit the inputs and outputs
-pub record CycleFits (d : Design) (trace : Trace) (t : ℕ) : Type 0 where
-  pub samples : IsTrue (samples_fit d.signals.items d.inputs.items (samples_at d trace t))
-  pub expected : IsTrue (expected_fit d.signals.items d.outputs.items (expected_at d trace t))

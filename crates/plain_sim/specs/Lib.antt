@@ -1,2 +1,1 @@
-pub mod Evaluate
 pub mod EvaluateCycle

@@ -5,7 +5,8 @@ use design_core::{
     Target, Trace, Typed, UnaryOp,
 };
 use loc_base::{Bits, Boxed, Items, Name, Span};
-use plain_sim::{are_chosen, can_run, is_trace_of, meets};
+use design_fits::{are_chosen, can_run, is_trace_of};
+use plain_sim::meets;
 use std::alloc::Global;
 use std::test::Fail;
 

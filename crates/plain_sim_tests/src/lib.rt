@@ -1,5 +1,5 @@
-//! Worked examples of `plain_sim`: expressions, statements and designs written down by hand, as elaboration makes them
-//! of the Verilog text that stands beside each, and what the calls answer.
+//! Worked examples of `plain_sim`, and of `plain_values` and `design_fits` below it: expressions, statements and designs
+//! written down by hand, as elaboration makes them of the Verilog text that stands beside each, and what the calls answer.
 #![tactic(auto)]
 
 #[cfg(test)]

@@ -2,7 +2,9 @@
 
 use crate::build::bits;
 use crate::resets::toggle;
-use plain_sim::{can_run, compute_cycle, is_cycle, run_statement, samples_fit, start_words};
+use design_fits::{can_run, samples_fit};
+use plain_sim::{compute_cycle, is_cycle, start_words};
+use plain_values::run_statement;
 use std::test::Fail;
 
 /// The body of the block leaves q at 1 and updates it to 0 later.

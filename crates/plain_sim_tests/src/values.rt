@@ -6,7 +6,7 @@ ghost use Rattle.design_core.specs.WellFormed.{is_width, typed_fits, binary_fits
 
 use design_core::{BinaryOp, Node, Signal, Typed};
 use loc_base::{Bits, Boxed};
-use plain_sim::value;
+use plain_values::value;
 use std::alloc::Global;
 use std::test::Fail;
 

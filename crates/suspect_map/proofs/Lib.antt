@@ -3,6 +3,7 @@ pub mod ChainLaws
 pub mod ChooseLaws
 pub mod FirstLaws
 pub mod GroupLaws
+pub mod ModuleKeys
 pub mod Steps
 pub mod SuspectLaws
 pub mod SuspectsFound

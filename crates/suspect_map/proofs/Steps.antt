@@ -3,11 +3,8 @@ use Rattle.std.proofs.Common.{◌≡◌, ℕ, ◌+◌, ◌<◌, Bool, List, ◌�
 use Rattle.std.specs.Prelude.{unwrap_or, Decides}
 use Rattle.std.proofs.lemmas.Bool.{cases_Bool, eqb-true, eq-eqb}
 use Rattle.std.proofs.lemmas.List.{take-append-drop, length-take-le}
-use Rattle.std.proofs.lemmas.List.{get_or-map}
 use Rattle.std.proofs.lemmas.Slice.Eq.{bytes_eq-Decides}
 use Rattle.std.specs.Cmp.Lexicographic.{pointwise}
-use Rattle.design_core.specs.declared.place.Place.{Place}
-use Rattle.suspect_map.specs.Modules.{modules}
 use Rattle.loc_base.proofs.ShelfLists.{take-at, drop-at}
 use Rattle.suspect_map.specs.Grouping.{first_at, is_same, first_by, met, after}
 use Rattle.suspect_map.proofs.FirstLaws.{first_or, first_or-false, first_or-true, first_at-push, first_at-found}
@@ -51,11 +48,6 @@ module _ {K : Type 0} (same : K → K → Bool) (decides : (a b : K) → Decides
       after-key i key numbers q ∙ ap (λ first. first_or first (is_same same q key) i) table
       ∙ ap (first_or (first_at (is_same same q) 0 (take i keys)) (is_same same q key)) number
       ∙ sym (first_at-push (is_same same q) 0 (take i keys) key) ∙ ap (first_at (is_same same q) 0) (sym (take-at keys i key within is))
-
--- the key of a place at its number
-pub module-key : (places : List Place) (i : ℕ) (place : Place) (name : List ℕ) → i < length places → place ≡ get_or places i place → name ≡ place.«module» → Some name ≡ get_or (map modules.key places) i (Some name)
-module-key places i place name within is same =
-    ap Some same ∙ ap (λ p. modules.key p) is ∙ sym (get_or-map modules.key places i place (Some name) within)
 
 -- names are the same where their bytes are
 pub same_name : (a b : List ℕ) → Decides (pointwise nat_eq a b) (a ≡ b)

@@ -1,4 +1,5 @@
--- How suspects are found: each place is given the least place of its suspect, which is the first with its key.
+-- Private, for the functions inside this crate: how suspects are found. Each place is given the least place of its suspect, which is
+-- the first with its key.
 use Rattle.std.specs.Prelude.{◌≡◌, ℕ, ◌+◌, ◌<◌, ◌≤◌, Bool, false, List, [], ◌∷◌, ◌++◌, map, length, drop, slice_index_or, Option, Some, None, if◌then◌else◌, nat_eq, unwrap_or}
 use Rattle.std.specs.Option.{option_map_or}
 use Rattle.std.specs.HashMap.{HashMap}

@@ -1,5 +1,5 @@
 //! The suspects of the granularities that are asked for.
-ghost use Rattle.std.specs.Prelude.{◌≡◌, ◌<◌, ◌≤◌, ◌^◌, ℕ, None, length, option_map, nat_eq, IfOk, IfErr, IfSome};
+ghost use Rattle.std.specs.Prelude.{◌≡◌, ◌<◌, ◌≤◌, ◌^◌, None, length, option_map, nat_eq, IfOk, IfErr, IfSome};
 ghost use Rattle.std.specs.Cmp.Lexicographic.{pointwise};
 ghost use Rattle.suspect_map.specs.Groups.{AreAscending, AreWithin};
 ghost use Rattle.suspect_map.specs.Choose.{ChooseCause, joined, named, unknown};

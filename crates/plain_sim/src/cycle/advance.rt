@@ -1,8 +1,8 @@
-ghost use Rattle.std.specs.Prelude.{◌≡◌, ◌<◌, IsTrue, length, slice_get, Some, OnOk, IfOk};
+ghost use Rattle.std.specs.Prelude.{◌≡◌, ◌<◌, length, slice_get, Some, OnOk, IfOk};
 ghost use Rattle.design_core.specs.declared.driver.Clocked.{Clocked};
 ghost use Rattle.design_core.specs.Constant.{zeros};
 ghost use Rattle.design_core.specs.Words.{valuation_of, AreWordsOf, choice_of};
-ghost use Rattle.design_core.specs.Steps.{with_body, with_bodies, kept, computed_next};
+ghost use Rattle.design_core.specs.Steps.{with_body, with_bodies, computed_next};
 ghost use Rattle.design_core.specs.Given.{AreChosen, CanRun};
 
 use crate::cycle::copies::zeros_like;

@@ -1,4 +1,4 @@
-ghost use Rattle.std.specs.Prelude.{◌≡◌, ◌↔◌, IsTrue, IfOk};
+ghost use Rattle.std.specs.Prelude.{◌↔◌, IsTrue, IfOk};
 ghost use Rattle.design_core.specs.Words.{valuation_of, AreWordsOf, choice_of};
 ghost use Rattle.design_core.specs.Constant.{zeros};
 ghost use Rattle.design_core.specs.TraceFits.{samples_fit};

@@ -1,11 +1,10 @@
-ghost use Rattle.std.specs.Prelude.{◌≡◌, false, IfOk};
-ghost use Rattle.loc_base.specs.Bits.{width_of, value_of};
+ghost use Rattle.std.specs.Prelude.{◌≡◌, IfOk};
 ghost use Rattle.design_core.specs.Words.{valuation_of, AreWordsOf};
 ghost use Rattle.design_core.specs.Constant.{zeros};
 
-use crate::evaluate::words::zero;
 use design_core::Design;
 use loc_base::{Bits, NoMemory};
+use plain_values::zero;
 use std::alloc::Global;
 
 /// A copy of some words.

@@ -1,17 +1,16 @@
-ghost use Rattle.std.specs.Prelude.{◌≡◌, ◌&&◌, ◌<◌, ◌+ℤ◌, length, option_map, IfSome};
+ghost use Rattle.std.specs.Prelude.{◌≡◌, ◌&&◌, ◌<◌, ◌+ℤ◌, option_map, IfSome};
 ghost use Rattle.std.specs.List.{list_any};
-ghost use Rattle.design_core.specs.Drives.{is_among, part_drives, part_names, some_set, driver_drives, is_driven, block_drives, block_assigns_later, is_reg, is_register_bit, is_listed};
+ghost use Rattle.design_core.specs.Drives.{is_among, part_drives, part_names, some_set, driver_drives, is_driven, block_drives, block_assigns_later, is_reg, is_register_bit};
 ghost use Rattle.plain_sim.specs.EvaluateCycle.{asked_of, item_passes, block_passes};
 ghost use Rattle.loc_base.specs.Bits.{width_of, value_of};
-ghost use Rattle.design_core.specs.Valuation.{width_at, position_at};
+ghost use Rattle.design_core.specs.Valuation.{position_at};
 ghost use Rattle.design_core.specs.Operator.{integer_of};
 ghost use Rattle.design_core.specs.Constant.{constant_of};
 ghost use Rattle.design_core.specs.Pick.{is_at, has_bit, may_pick};
 
-use crate::evaluate::select::position_from;
-use crate::evaluate::words::signal_at;
 use design_core::{CaseItem, Clocked, Design, Driver, Node, Part, Signal, SignalKind, Stmt, Typed};
 use loc_base::Bits;
+use plain_values::{position_from, signal_at, width_at};
 
 /// What is asked of an assignment: whether it assigns a bit, or whether it assigns a signal by `<=`.
 #[derive(Clone, Copy)]
@@ -25,16 +24,6 @@ fn is_among(first: usize, count: usize, n: usize) -> bool
     ensures { result ≡ is_among first count n }
 {
     first <= n && n - first < count
-}
-
-/// The width of a signal, 0 where there is none.
-pub(crate) fn width_at(signals: &[Signal], signal: usize) -> u8
-    ensures { result ≡ width_at signals.now signal }
-{
-    match signals.get(signal) {
-        Some(declared) => declared.width,
-        None => 0,
-    }
 }
 
 /// The word of an index that is a constant.
@@ -88,7 +77,7 @@ fn may_pick(signals: &[Signal], signal: usize, index: &Typed, offsets: &[i32], b
 }
 
 /// Whether a part of a left side drives a bit.
-fn part_drives(signals: &[Signal], s: usize, b: u8, part: &Part) -> bool
+pub fn part_drives(signals: &[Signal], s: usize, b: u8, part: &Part) -> bool
     ensures { result ≡ part_drives signals.now s b part.now }
 {
     match part {
@@ -225,7 +214,7 @@ pub(crate) fn block_drives(signals: &[Signal], s: usize, b: u8, block: &Clocked)
 }
 
 /// Whether a clocked block assigns a signal by `<=`.
-pub(crate) fn block_assigns_later(signals: &[Signal], s: usize, block: &Clocked) -> bool
+pub fn block_assigns_later(signals: &[Signal], s: usize, block: &Clocked) -> bool
     ensures { result ≡ block_assigns_later s block.now }
 {
     block_passes(signals, Asked::Later { signal: s }, block)
@@ -259,11 +248,4 @@ pub(crate) fn is_register_bit(design: &Design, s: usize, b: u8) -> bool
         Some(signal) => is_reg(signal.kind) && !is_driven(design, s, b),
         None => false,
     }
-}
-
-/// Whether a signal is an input that traces give.
-pub(crate) fn is_listed(design: &Design, s: usize) -> bool
-    ensures { result ≡ is_listed design.now s }
-{
-    design.inputs.iter().any(|input| *input as usize == s)
 }

@@ -1,5 +1,5 @@
-ghost use Rattle.std.specs.Prelude.{◌≡◌, ◌<◌, ◌↔◌, length, IsTrue, true};
-ghost use Rattle.loc_base.specs.Bits.{width_of, value_of};
+ghost use Rattle.std.specs.Prelude.{◌≡◌, ◌↔◌, IsTrue, true};
+ghost use Rattle.loc_base.specs.Bits.{width_of};
 ghost use Rattle.design_core.specs.Words.{valuation_of, AreWordsOf};
 ghost use Rattle.design_core.specs.TraceFits.{expected_fit};
 ghost use Rattle.design_core.specs.Run.{IsRight};
@@ -9,7 +9,7 @@ use design_core::{Checked, Design};
 use loc_base::Bits;
 
 /// Whether the bits of an output that are checked are as expected.
-fn is_right(word: Bits, checked: Checked) -> bool
+pub fn is_right(word: Bits, checked: Checked) -> bool
     requires value { width_of word ≡ width_of checked.value }
     requires mask { width_of word ≡ width_of checked.mask }
     ensures { IsTrue result ↔ IsRightWord word checked }

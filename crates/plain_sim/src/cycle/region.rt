@@ -4,12 +4,11 @@ ghost use Rattle.design_core.specs.Cycle.{is_active, is_reset, is_clocked};
 ghost use Rattle.plain_sim.specs.EvaluateCycle.{is_in};
 
 use crate::cycle::drives::{
-    block_assigns_later, block_drives, driver_drives, is_driven, is_listed, is_register_bit,
+    block_assigns_later, block_drives, driver_drives, is_driven, is_register_bit,
 };
-use crate::evaluate::select::bit_of;
-use crate::evaluate::words::word_at;
 use design_core::{Clocked, Design};
 use loc_base::Bits;
+use plain_values::{bit_of, is_listed, word_at};
 
 /// Some bits of a design.
 #[derive(Clone, Copy)]
@@ -47,7 +46,7 @@ pub(crate) fn bit_at(words: &[Bits], s: usize, b: u8) -> bool
 }
 
 /// Whether the reset of a clocked block is active.
-pub(crate) fn is_active(words: &[Bits], block: &Clocked) -> bool
+pub fn is_active(words: &[Bits], block: &Clocked) -> bool
     ensures { result ≡ is_active (valuation_of words.now) block.now }
 {
     match &block.reset {

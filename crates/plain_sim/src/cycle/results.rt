@@ -12,11 +12,9 @@ ghost use Rattle.design_core.specs.Given.{AreChosen, CanRun};
 use crate::cycle::copies::{copy_of, zeros_like};
 use crate::cycle::region::Region;
 use crate::cycle::take::take;
-use crate::evaluate::expression::value;
-use crate::evaluate::statement::{assigned, run_statement};
-use crate::evaluate::store::assign;
 use design_core::{Design, Driver, Stmt};
 use loc_base::{Bits, NoMemory};
+use plain_values::{assign, assigned, run_statement, value};
 use std::alloc::Global;
 
 /// What a continuous assignment assigns: the value chosen for its place where it has one that is freed.

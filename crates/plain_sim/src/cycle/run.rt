@@ -1,26 +1,19 @@
-ghost use Rattle.std.specs.Prelude.{◌≡◌, ◌+◌, ◌*◌, ◌<◌, ◌≤◌, IsTrue, IfOk, IfSome, IfNone, length};
+ghost use Rattle.std.specs.Prelude.{◌+◌, ◌<◌, IsTrue, IfOk, IfSome, IfNone};
 ghost use Rattle.design_core.specs.Words.{valuation_of, AreWordsOf};
 ghost use Rattle.design_core.specs.WellFormed.{IsWellFormed};
 ghost use Rattle.design_core.specs.TraceFits.{IsTraceOf};
 ghost use Rattle.design_core.specs.Reads.{IsOrder};
 ghost use Rattle.design_core.specs.Run.{Meets};
 ghost use Rattle.plain_sim.specs.EvaluateCycle.{MeetsFrom};
-ghost use Rattle.design_core.specs.Given.{CanRun, AreChosenThroughout, row, freed_of, choices_of};
+ghost use Rattle.design_core.specs.Given.{CanRun, AreChosenThroughout, freed_of, choices_of};
 
 use crate::cycle::compute::{CycleWords, compute_cycle};
 use crate::cycle::outputs::are_right;
 use crate::cycle::start::start_words;
 use design_core::{Design, Trace};
 use loc_base::{Bits, NoMemory};
+use plain_values::row;
 use std::alloc::Global;
-
-/// The entries of a cycle among those of a trace, `width` of them in each cycle.
-pub(crate) fn row<T>(entries: &[T], width: usize, t: usize) -> &[T]
-    requires { t * width + width ≤ length entries.now }
-    ensures { result.now ≡ row entries.now width t }
-{
-    &entries[t * width..t * width + width]
-}
 
 /// The state after a cycle whose outputs are right; none where there is no such cycle.
 fn step(

@@ -1,4 +1,4 @@
-ghost use Rattle.std.specs.Prelude.{◌≡◌, ◌<◌, IsTrue, length, slice_get, Some, OnOk};
+ghost use Rattle.std.specs.Prelude.{◌≡◌, ◌<◌, length, slice_get, Some, OnOk};
 ghost use Rattle.design_core.specs.declared.driver.Clocked.{Clocked};
 ghost use Rattle.design_core.specs.Words.{valuation_of, AreWordsOf, choice_of};
 ghost use Rattle.design_core.specs.Steps.{with_reset, with_resets, with_driver, with_drivers};

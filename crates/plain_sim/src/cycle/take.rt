@@ -1,13 +1,13 @@
-ghost use Rattle.std.specs.Prelude.{◌≡◌, ◌<◌, ℕ, if◌then◌else◌};
+ghost use Rattle.std.specs.Prelude.{◌≡◌};
 ghost use Rattle.loc_base.specs.Bits.{width_of, value_of};
 ghost use Rattle.design_core.specs.Valuation.{number, bit};
 ghost use Rattle.design_core.specs.Words.{valuation_of, AreWordsOf};
 ghost use Rattle.plain_sim.specs.EvaluateCycle.{is_in, either_bit, blended};
 
 use crate::cycle::region::{Region, is_in};
-use crate::evaluate::select::{bit_of, with_next};
 use design_core::Design;
 use loc_base::Bits;
+use plain_values::{bit_of, with_next};
 
 /// A bit of one word where it is in a region, else of another.
 fn taken_bit(

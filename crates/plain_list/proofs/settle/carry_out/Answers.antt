@@ -3,7 +3,7 @@ use Rattle.loc_base.specs.Bits.{width_of, value_of}
 use Rattle.design_core.specs.Words.{valuation_of}
 use Rattle.design_core.specs.Valuation.{width_at}
 use Rattle.design_core.specs.Value.{value}
-use Rattle.plain_sim.proofs.EvaluateWords.{words-length}
+use Rattle.plain_values.proofs.EvaluateWords.{words-length}
 use Rattle.plain_list.specs.Trial.{choice_of}
 use Rattle.design_core.specs.Explained.{number_for}
 use Rattle.plain_list.proofs.Assigning.{Fits, fits-at, width-at, AreNumbersFor-length, number_for-range, word_set, step-some, step-none, step-comb}

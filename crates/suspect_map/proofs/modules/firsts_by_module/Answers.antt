@@ -7,7 +7,8 @@ use Rattle.loc_base.proofs.ShelfLists.{map-take_at}
 use Rattle.suspect_map.specs.Grouping.{first_by}
 use Rattle.suspect_map.proofs.ChainLaws.{firsts-within}
 use Rattle.suspect_map.specs.Modules.{modules}
-use Rattle.suspect_map.proofs.Steps.{same_name, met-first, after-first, module-key}
+use Rattle.suspect_map.proofs.ModuleKeys.{module-key}
+use Rattle.suspect_map.proofs.Steps.{same_name, met-first, after-first}
 use Rattle.suspect_map.proofs.modules.firsts_by_module.Goals as goal
 
 pub loop-at-preserved : goal.loop-at-preserved

@@ -1,7 +1,7 @@
 use Rattle.std.proofs.Common.{◌≡◌, ◌∙◌, sym, ap, [], subst}
 use Rattle.design_core.specs.Words.{valuation_of, choice_of}
 use Rattle.design_core.specs.Steps.{with_body}
-use Rattle.plain_sim.proofs.EvaluateWords.{slice_get_at}
+use Rattle.plain_values.proofs.EvaluateWords.{slice_get_at}
 use Rattle.plain_sim.proofs.EvaluateHolds.{Some-same}
 use Rattle.plain_sim.proofs.EvaluateSteps.{body-is}
 use Rattle.plain_sim.proofs.cycle.advance.run_body.Goals as goal

@@ -2,7 +2,7 @@ use Rattle.std.proofs.Common.{◌∙◌, sym, ap}
 use Rattle.std.proofs.lemmas.Bool.{not_from_false}
 use Rattle.design_core.specs.Cycle.{is_active}
 use Rattle.design_core.specs.Words.{valuation_of, choice_of}
-use Rattle.plain_sim.proofs.EvaluateWords.{slice_get_at}
+use Rattle.plain_values.proofs.EvaluateWords.{slice_get_at}
 use Rattle.plain_sim.proofs.EvaluateHolds.{body-holds}
 use Rattle.plain_sim.proofs.cycle.holds.body_holds.Goals as goal
 

@@ -1,6 +1,6 @@
 use Rattle.std.proofs.Common.{◌∙◌, sym, ap}
 use Rattle.design_core.specs.Words.{valuation_of, choice_of}
-use Rattle.plain_sim.proofs.EvaluateWords.{slice_get_at}
+use Rattle.plain_values.proofs.EvaluateWords.{slice_get_at}
 use Rattle.plain_sim.proofs.EvaluateHolds.{reset-holds}
 use Rattle.plain_sim.proofs.cycle.holds.reset_holds.Goals as goal
 

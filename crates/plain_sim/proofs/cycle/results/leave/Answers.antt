@@ -3,7 +3,7 @@ use Rattle.loc_base.specs.declared.bits.Bits.{Bits}
 use Rattle.design_core.specs.After.{Choice, Updates, after}
 use Rattle.design_core.specs.Words.{valuation_of, choice_of}
 use Rattle.plain_sim.proofs.EvaluateHolds.{left-is}
-use Rattle.plain_sim.proofs.EvaluateStore.{updates}
+use Rattle.plain_values.proofs.EvaluateStore.{updates}
 use Rattle.plain_sim.proofs.cycle.results.leave.Goals as goal
 
 pub returns-clause-value : goal.returns-clause-value

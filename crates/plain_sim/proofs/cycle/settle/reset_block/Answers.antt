@@ -1,7 +1,7 @@
 use Rattle.std.proofs.Common.{◌≡◌, ◌∙◌, sym, ap, [], subst}
 use Rattle.design_core.specs.Words.{valuation_of, choice_of}
 use Rattle.design_core.specs.Steps.{with_reset}
-use Rattle.plain_sim.proofs.EvaluateWords.{slice_get_at}
+use Rattle.plain_values.proofs.EvaluateWords.{slice_get_at}
 use Rattle.plain_sim.proofs.EvaluateHolds.{Some-same}
 use Rattle.plain_sim.proofs.EvaluateSteps.{reset-is}
 use Rattle.plain_sim.proofs.cycle.settle.reset_block.Goals as goal

@@ -1,0 +1,3 @@
+pub mod FitLaws
+pub mod OperandLaws
+pub mod TestLaws

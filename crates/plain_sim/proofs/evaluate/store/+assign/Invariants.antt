@@ -1,5 +1,0 @@
-use Rattle.std.proofs.Common.{length}
-use Rattle.plain_sim.proofs.evaluate.store.+assign.Given as goal
-
-abbrev pub decreases-assign : goal.decreases-assign
-decreases-assign l = length l.parts.now

@@ -1,5 +1,0 @@
-use Rattle.std.proofs.Common.{length}
-use Rattle.plain_sim.proofs.fits.trace.+expected_fit.Given as goal
-
-abbrev pub decreases-expected_fit : goal.decreases-expected_fit
-decreases-expected_fit l = length l.expected.now
