@@ -4,8 +4,8 @@ use design_core::{
     BinaryOp, Checked, Design, Driver, Node, Part, Place, PlaceKind, Signal, SignalKind, Stmt,
     Target, Trace, Typed, UnaryOp,
 };
-use loc_base::{Bits, Boxed, Items, Name, Span};
 use design_fits::{are_chosen, can_run, is_trace_of};
+use loc_base::{Bits, Boxed, Items, Name, Span};
 use plain_sim::meets;
 use std::alloc::Global;
 use std::test::Fail;
