@@ -184,18 +184,18 @@ within_from t literals h f = λ i d k.
     (v.above, v.within)
 
 -- the clause is learned
-pub Learns-from : (t : TrailState) (marks : List Bool) (literals after : List Lit) (chain : List ℕ) (present place : ℕ) (l : Lit) → IsTrail t → Resolved t marks literals chain present place → IsOnlyPresent t marks l → after ≡ literals ++ opposite l ∷ [] → Learns t marks after chain
-Learns-from t marks literals after chain present place l h r o e = subst (λ ls. Learns t marks ls chain) (sym e) record {
-  accepted = Derives-done t.clauses chain (set_of marks (values_of t.entries)) (literals ++ opposite l ∷ []) r.derives whole;
-  distinct = distinct_push literals (opposite l) r.tracks.distinct (false_from_ne_true (has_variable literals l.var) (λ p. both_ways (is_present t l.var) (kept_variable t marks literals present l.var h r.tracks p).1 here));
+pub Learns-from : (t : TrailState) (marks : List Bool) (literals after : List Lit) (chain : List ℕ) (present : ℕ) (l : Lit) → IsTrail t → Tracks t marks literals present → Derives t.clauses chain (set_of marks (values_of t.entries)) → IsOnlyPresent t marks l → after ≡ literals ++ opposite l ∷ [] → Learns t marks after chain
+Learns-from t marks literals after chain present l h r v o e = subst (λ ls. Learns t marks ls chain) (sym e) record {
+  accepted = Derives-done t.clauses chain (set_of marks (values_of t.entries)) (literals ++ opposite l ∷ []) v whole;
+  distinct = distinct_push literals (opposite l) r.distinct (false_from_ne_true (has_variable literals l.var) (λ p. both_ways (is_present t l.var) (kept_variable t marks literals present l.var h r p).1 here));
   within = within_from t (literals ++ opposite l ∷ []) h (λ m p. is_false-true (values_of t.entries) m (and_parts (marked marks m.var) (is_false (values_of t.entries) m) (whole m ∙ p)).1);
-  marks_are = λ v low high y. at v y (values_of t.entries v) refl (r.tracks.valued v low high y);
+  marks_are = λ w low high y. at w y (values_of t.entries w) refl (r.valued w low high y);
   lower = literals;
   tells = opposite l;
   split = refl;
   told = o.is_true;
   level = o.level;
-  others = λ m p. let parts = and_parts (set_of marks (values_of t.entries) m) (not (is_present t m.var)) (sym (r.tracks.members m) ∙ p) in
+  others = λ m p. let parts = and_parts (set_of marks (values_of t.entries) m) (not (is_present t m.var)) (sym (r.members m) ∙ p) in
       (is_false-true (values_of t.entries) m (and_parts (marked marks m.var) (is_false (values_of t.entries) m) parts.0).1, not-true (is_present t m.var) parts.1);
 }
   where
@@ -203,13 +203,13 @@ Learns-from t marks literals after chain present place l h r o e = subst (λ ls.
     here = ap (λ k. has_level k t.level) o.level ∙ eq-eqb t.level t.level refl
 
     whole : (m : Lit) → set_of marks (values_of t.entries) m ≡ has (literals ++ opposite l ∷ []) m
-    whole = finished_set t marks literals present l r.tracks o
+    whole = finished_set t marks literals present l r o
 
-    at : (v : ℕ) → marked marks v ≡ true → (b : Option Bool) → values_of t.entries v ≡ b → is_some b ≡ true → has_variable (literals ++ opposite l ∷ []) v ≡ true
-    at v y None q s = absurd (false≢true s)
-    at v y (Some b) q s =
-        let x : Lit = record { var = v; negated = b } in
-        has_variable-has (literals ++ opposite l ∷ []) x (sym (whole x) ∙ and_from (marked marks v) (is_false (values_of t.entries) x) y (is_false_from (values_of t.entries) x q))
+    at : (w : ℕ) → marked marks w ≡ true → (b : Option Bool) → values_of t.entries w ≡ b → is_some b ≡ true → has_variable (literals ++ opposite l ∷ []) w ≡ true
+    at w y None q s = absurd (false≢true s)
+    at w y (Some b) q s =
+        let x : Lit = record { var = w; negated = b } in
+        has_variable-has (literals ++ opposite l ∷ []) x (sym (whole x) ∙ and_from (marked marks w) (is_false (values_of t.entries) x) y (is_false_from (values_of t.entries) x q))
 
 -- the place before, where some place is left
 pub one_before : (t : TrailState) (marks : List Bool) (literals : List Lit) (chain : List ℕ) (present place : ℕ) → Resolved t marks literals chain present place → Resolved t marks literals chain present (place - 1 + 1)

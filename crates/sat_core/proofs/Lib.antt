@@ -3,6 +3,7 @@ pub mod Marks
 pub mod Tracking
 pub mod TakingIn
 pub mod Resolving
+mod Shrinking
 pub mod Learning
 pub mod FreshLemmas
 pub mod Unmarking
@@ -20,3 +21,4 @@ pub mod GreatestModel
 pub mod Assumptions
 pub mod SolverLemmas
 pub mod FreshBound
+pub mod Importing

@@ -6,7 +6,7 @@ use Rattle.clause_base.specs.Resolution.{Gives}
 use Rattle.clause_base.specs.Acceptance.{numbered, IsAcceptedChain}
 use Rattle.trail_core.specs.declared.entry.Entry.{Entry}
 use Rattle.trail_core.specs.Values.{Values, IsTrueIn, IsFalseIn}
-use Rattle.trail_core.specs.TrailState.{TrailState, IsNumber, values_of, level_in, is_decision}
+use Rattle.trail_core.specs.TrailState.{TrailState, IsNumber, values_of, level_in, reason_in, is_decision}
 
 -- there is a sign, and it is this one
 abbrev pub has_sign : Option Bool → Bool → Bool
@@ -90,6 +90,16 @@ pub record IsOnlyPresent (t : TrailState) (marks : List Bool) (l : Lit) : Type 0
   pub is_true : IsTrueIn (values_of t.entries) l
   pub level : level_in t.entries l.var ≡ Some t.level
   pub only : (v : ℕ) → marked marks v ≡ true → level_in t.entries v ≡ Some t.level → v ≡ l.var
+
+-- the reason of the literal's variable has the number, and its other literals are of marked variables
+pub record Covers (t : TrailState) (marks : List Bool) (n : ℕ) (l : Lit) : Type 0 where
+  pub reason : reason_in t.entries l.var ≡ Some n
+  pub others : (m : Lit) → has (numbered t.clauses n) m ≡ true → m.var ≢ l.var → marked marks m.var ≡ true
+
+-- marks were taken away, none of them of the present decision level
+pub record Leaves (t : TrailState) (old new : List Bool) : Type 0 where
+  pub fewer : (v : ℕ) → 1 ≤ v → marked new v ≡ true → marked old v ≡ true
+  pub present : (v : ℕ) → 1 ≤ v → is_present t v ≡ true → marked new v ≡ marked old v
 
 -- no variable is marked
 abbrev pub IsClean : List Bool → Type 0

@@ -1,9 +1,9 @@
-ghost use Rattle.std.specs.Prelude.{◌≡◌, ◌+◌, ◌-◌, ◌<◌, false, true, length, slice_set, OnOk, OnErr, IfOk, ◌≤◌, ◌++◌, ◌∷◌, [], Some, IsTrue};
+ghost use Rattle.std.specs.Prelude.{◌≡◌, ◌≢◌, ◌+◌, ◌-◌, ◌<◌, false, true, IfSome, length, slice_set, OnOk, OnErr, IfOk, ◌≤◌, ◌++◌, ◌∷◌, [], Some, IsTrue, slice_index_or};
 ghost use Rattle.clause_base.specs.Literal.{IsWithin, has, has_distinct_variables};
 ghost use Rattle.clause_base.specs.Acceptance.{numbered};
 ghost use Rattle.trail_core.specs.Values.{IsVariable, IsTrueIn, IsFalseIn, IsFalsified};
 ghost use Rattle.trail_core.specs.TrailState.{IsTrail, IsNumber, MayAdd, back_at, values_of, level_in, reason_in};
-ghost use Rattle.sat_core.specs.Derivation.{marked, set_of, MarksOthers, Tracks, AreFalse, IsForced, Replaces, Derives, Resolved, IsOnlyPresent, Learns, AreOf, Unmarks, IsClean, RefutesAt, Refutes, opposites_of, Starts, Denies};
+ghost use Rattle.sat_core.specs.Derivation.{marked, set_of, MarksOthers, Tracks, AreFalse, IsForced, Replaces, Covers, Leaves, Derives, Resolved, IsOnlyPresent, Learns, AreOf, Unmarks, IsClean, RefutesAt, Refutes, opposites_of, Starts, Denies};
 
 use clause_base::{Lit, Log, StepKind};
 use loc_base::NoMemory;
@@ -58,8 +58,86 @@ impl Analysis {
         self.take_in(trail, trail.clause(conflict), 0)?;
         let place = self.descend(trail)?;
         let last = self.last_marked(trail, place);
+        self.shrink(trail)?;
         self.literals.push(last.opposite())?;
         Ok(())
+    }
+
+    /// Leaves out literals whose reasons' other literals are in the set, the last found first (Sörensson, Biere 2009, local
+    /// minimisation).
+    fn shrink(&mut self, trail: &Trail) -> Result<(), NoMemory>
+        requires trail { IsTrail trail.now }
+        requires tracks { Tracks trail.now self.old.marked.items self.old.literals.items self.old.present }
+        requires derives { Derives trail.now.clauses self.old.chain.items (set_of self.old.marked.items (values_of trail.now.entries)) }
+        ensures size { length self.new.marked.items ≡ length self.old.marked.items }
+        ensures tracks { OnOk result (Tracks trail.now self.new.marked.items self.new.literals.items self.new.present) }
+        ensures derives { OnOk result (Derives trail.now.clauses self.new.chain.items (set_of self.new.marked.items (values_of trail.now.entries))) }
+        ensures leaves { OnOk result (Leaves trail.now self.old.marked.items self.new.marked.items) }
+    {
+        let mut place = self.literals.len();
+        while 0 < place {
+            place -= 1;
+            let l = self.literals[place];
+            if let Some(number) = self.redundant_by(trail, l) {
+                self.leave_out(trail, place, number)?;
+            }
+        }
+        Ok(())
+    }
+
+    /// Leaves the literal at a place out, for the clause of a number that covers it.
+    fn leave_out(&mut self, trail: &Trail, place: usize, number: u32) -> Result<(), NoMemory>
+        requires trail { IsTrail trail.now }
+        requires tracks { Tracks trail.now self.old.marked.items self.old.literals.items self.old.present }
+        requires derives { Derives trail.now.clauses self.old.chain.items (set_of self.old.marked.items (values_of trail.now.entries)) }
+        requires place { place < length self.old.literals.items }
+        requires covers { (d : Lit) → Covers trail.now self.old.marked.items number (slice_index_or self.old.literals.items place d) }
+        ensures size { length self.new.marked.items ≡ length self.old.marked.items }
+        ensures shorter { OnOk result (length self.new.literals.items + 1 ≡ length self.old.literals.items) }
+        ensures tracks { OnOk result (Tracks trail.now self.new.marked.items self.new.literals.items self.new.present) }
+        ensures derives { OnOk result (Derives trail.now.clauses self.new.chain.items (set_of self.new.marked.items (values_of trail.now.entries))) }
+        ensures leaves { OnOk result (Leaves trail.now self.old.marked.items self.new.marked.items) }
+    {
+        self.chain.push(number)?;
+        let l = self.literals.remove(place);
+        self.marked[l.var as usize - 1] = false;
+        Ok(())
+    }
+
+    /// The reason of the literal's variable, where its other literals are in the set.
+    fn redundant_by(&self, trail: &Trail, l: Lit) -> Option<u32>
+        requires trail { IsTrail trail.now }
+        requires size { length self.now.marked.items ≡ trail.now.vars }
+        requires variable { IsVariable trail.now.vars l.var }
+        ensures { IfSome result (λ n. Covers trail.now self.now.marked.items n l) }
+    {
+        let reason = trail.reason(l.var)?;
+        if self.has_others(trail.clause(reason), l.var) {
+            Some(reason)
+        } else {
+            None
+        }
+    }
+
+    /// Whether the set has the literals of a clause, but for that of one variable.
+    fn has_others(&self, literals: &[Lit], skip: u32) -> bool
+        requires within { IsWithin (length self.now.marked.items) literals.now }
+        ensures { IsTrue result → (m : Lit) → has literals.now m ≡ true → m.var ≢ skip → marked self.now.marked.items m.var ≡ true }
+    {
+        for other in literals {
+            if !self.is_covered(*other, skip) {
+                return false;
+            }
+        }
+        true
+    }
+
+    /// Whether the literal is of that variable, or in the set.
+    fn is_covered(&self, l: Lit, skip: u32) -> bool
+        requires { IsVariable (length self.now.marked.items) l.var }
+        ensures { IsTrue result → l.var ≢ skip → marked self.now.marked.items l.var ≡ true }
+    {
+        l.var == skip || self.is_marked(l.var)
     }
 
     /// Derives a clause of opposites of decisions from a clause whose literals are all false.

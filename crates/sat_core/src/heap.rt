@@ -3,7 +3,7 @@ ghost use Rattle.std.specs.Prelude.{◌≡◌, ◌<◌, length, IfSome};
 use loc_base::NoMemory;
 use std::alloc::Global;
 
-/// Variables in the order of their activities, the greatest first, of equals the least number: a binary heap.
+/// Variables in the order of their activities, the greatest first, of equals the greatest number: a binary heap.
 #[derive(Drop)]
 pub(crate) struct VariableHeap {
     /// The activity of each variable, at its number.
@@ -23,7 +23,7 @@ impl VariableHeap {
             heap: Vec::with_capacity(alloc, size)?,
             places: vec![in alloc; None; size]?,
         };
-        for var in 0..vars {
+        for var in (0..vars).rev() {
             heap.insert(var + 1);
         }
         Ok(heap)
@@ -94,7 +94,7 @@ impl VariableHeap {
     {
         let (a, b) = (self.heap[place], self.heap[other]);
         let (high, low) = (self.activity(a), self.activity(b));
-        low < high || low == high && a < b
+        low < high || low == high && b < a
     }
 
     /// Lets the variable at the place `from` rise to where none above it is to come behind it.

@@ -1,4 +1,4 @@
-ghost use Rattle.std.specs.Prelude.{◌≡◌, ◌+◌, ◌^◌, ◌<◌, ◌≤◌, length, IsTrue, IfOk, OnOk, OnErr, All, []};
+ghost use Rattle.std.specs.Prelude.{◌≡◌, ◌+◌, ◌^◌, ◌<◌, ◌≤◌, false, length, IsTrue, IfOk, OnOk, OnErr, All, [], ◌∷◌};
 ghost use Rattle.clause_base.specs.Literal.{IsWithin, AreWithin, has_distinct_variables};
 ghost use Rattle.trail_core.specs.TrailState.{IsTrail};
 
@@ -35,9 +35,11 @@ impl Model for Solver {
 }
 
 impl Solver {
-    ghost use Rattle.sat_core.specs.SolverState.{IsSolver};
+    ghost use Rattle.clause_base.specs.Steps.{step_at};
+    ghost use Rattle.clause_base.specs.Acceptance.{is_block, IsAcceptedStep};
+    ghost use Rattle.sat_core.specs.SolverState.{IsSolver, blocks_of};
     ghost use Rattle.sat_core.specs.Outcome.{Searches, LearnedBeforeLast, Says, closings};
-    ghost use Rattle.sat_core.specs.Calls.{Begins, with_block};
+    ghost use Rattle.sat_core.specs.Calls.{Begins, MayFollow, TookOver, with_block, with_steps};
 
     /// A solver of a form, with an empty log. Of the preferred variables, which are to be true where they can be, the
     /// first counts most.
@@ -74,6 +76,34 @@ impl Solver {
         ensures solver { IsSolver self.new }
     {
         self.log.push(StepKind::Block, block.literals(), &[])
+    }
+
+    /// Appends the steps of a log. After `NoMemory` it has the first of them, some or none.
+    pub fn import(&mut self, log: &Log) -> Result<(), NoMemory>
+        requires may { MayFollow self.old log.now }
+        ensures ok { OnOk result (self.new ≡ with_steps self.old log.now) }
+        ensures err { OnErr result (TookOver self.old self.new log.now) }
+        ensures solver { IsSolver self.new }
+    {
+        // What holds of the solver holds before the first step too.
+        let _engine = &self.engine;
+        for place in 0..log.len() {
+            self.take_over(log, place)?;
+        }
+        Ok(())
+    }
+
+    /// Appends the step at a place of a log. Unchanged after `NoMemory`.
+    fn take_over(&mut self, log: &Log, place: usize) -> Result<(), NoMemory>
+        requires place { place < length log.now }
+        requires accepted { is_block (step_at log.now place) ≡ false → IsAcceptedStep self.old.form (blocks_of self.old.log) self.old.log (step_at log.now place) }
+        requires within { IsWithin self.old.vars (step_at log.now place).clause }
+        ensures ok { OnOk result (self.new ≡ with_steps self.old (step_at log.now place ∷ [])) }
+        ensures err { OnErr result (self.new ≡ self.old) }
+        ensures solver { IsSolver self.new }
+    {
+        self.log
+            .push(log.kind(place), log.clause(place), log.chain(place))
     }
 
     /// Searches for the model of form, log and assumptions that makes the preferred variables true as far as they can

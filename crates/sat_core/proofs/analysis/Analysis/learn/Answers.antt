@@ -1,5 +1,6 @@
 use Rattle.std.proofs.Common.{◌∙◌, ◌++◌, ◌∷◌, [], sym, subst, ap}
 use Rattle.sat_core.specs.Derivation.{MarksOthers, Tracks}
+use Rattle.sat_core.proofs.Shrinking.{only_left}
 use Rattle.sat_core.proofs.Learning.{Tracks-clean, Resolved-start, Learns-from}
 use Rattle.sat_core.proofs.analysis.Analysis.learn.Goals as goal
 
@@ -18,6 +19,7 @@ descend-requires-clause-resolved c =
 
 pub returns-clause-learns : goal.returns-clause-learns
 returns-clause-learns c =
-    Learns-from c.args.trail.now c.descend.new.self.marked.items c.descend.new.self.literals.items c.push-2.new.self.items c.descend.new.self.chain.items c.descend.new.self.present c.in_ok-place.place c.last_marked-last.result
-    c.requires.trail c.in_ok-place.ensures.resolved c.last_marked-last.ensures
-    (c.in_ok-push-2.ensures.items ∙ ap (λ l. c.descend.new.self.literals.items ++ l ∷ []) c.opposite.ensures)
+    Learns-from c.args.trail.now c.shrink.new.self.marked.items c.shrink.new.self.literals.items c.push-2.new.self.items c.shrink.new.self.chain.items c.shrink.new.self.present c.last_marked-last.result
+    c.requires.trail c.in_ok-shrink.ensures.tracks c.in_ok-shrink.ensures.derives
+    (only_left c.args.trail.now c.descend.new.self.marked.items c.shrink.new.self.marked.items c.last_marked-last.result c.requires.trail c.last_marked-last.ensures c.in_ok-shrink.ensures.leaves)
+    (c.in_ok-push-2.ensures.items ∙ ap (λ l. c.shrink.new.self.literals.items ++ l ∷ []) c.opposite.ensures)

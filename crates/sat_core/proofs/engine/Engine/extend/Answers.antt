@@ -4,7 +4,6 @@ use Rattle.trail_core.specs.TrailState.{TrailState}
 use Rattle.sat_core.specs.Searching.{form_of}
 use Rattle.sat_core.proofs.Resolving.{valued_variable}
 use Rattle.sat_core.proofs.Growing.{Grows-derived}
-use Rattle.sat_core.proofs.GreatestModel.{complete_model}
 use Rattle.sat_core.proofs.SearchLemmas.{StaysFit-from, IsReady-derived, IsUnderWay-decides, longer_decides, contrary_reason, refuted_contrary}
 use Rattle.sat_core.proofs.engine.Engine.extend.Goals as goal
 
