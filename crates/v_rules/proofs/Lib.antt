@@ -1,1 +1,4 @@
 pub mod OneDriverLaws
+pub mod DrivesWithin
+pub mod TallyLaws
+pub mod FirstTwice

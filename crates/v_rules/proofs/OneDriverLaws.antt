@@ -16,7 +16,7 @@ use Rattle.v_rules.specs.Entries.{driven_times}
 use Rattle.v_rules.specs.OneDriver.{IsDrivenTwice}
 
 -- how many of a list pass, by its first element
-count_by-cons : {X : Type 0} (test : X → Bool) (x : X) (xs : List X) → count_by test (x ∷ xs) ≡ cond (test x) 1 0 + count_by test xs
+pub count_by-cons : {X : Type 0} (test : X → Bool) (x : X) (xs : List X) → count_by test (x ∷ xs) ≡ cond (test x) 1 0 + count_by test xs
 count_by-cons test x xs = sum_by-cons (λ y. cond (test y) 1 0) x xs
 
 -- one element that passes is counted

@@ -7,3 +7,4 @@ pub mod Latches
 pub mod Assignments
 pub mod Races
 pub mod Sound
+pub mod Tallies

@@ -3,3 +3,7 @@
 #![tactic(auto)]
 
 pub mod laws;
+mod one_driver;
+mod tally;
+
+pub use one_driver::first_driven_twice;
