@@ -10,3 +10,4 @@ pub mod Drivers
 pub mod Begun
 pub mod Blocks
 pub mod Whole
+pub mod Scenes

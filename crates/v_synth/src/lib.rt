@@ -4,5 +4,6 @@
 
 mod clocked;
 pub mod laws;
+mod scene;
 
 pub use clocked::Turn;
