@@ -14,9 +14,10 @@ use Rattle.design_core.specs.WellFormed.{is_width, is_signal, slice_fits, words_
 use Rattle.word_net.specs.declared.node.Operation.TheVariants as operation
 use Rattle.word_net.specs.declared.node.WordNode.{WordNode}
 use Rattle.word_net.specs.Values.{Source, values}
+use Rattle.v_synth.specs.declared.array_parts.ArrayPart.{ArrayPart}
 use Rattle.word_net.specs.Build.{Made, pushed, Means, Gives}
 use Rattle.word_net.proofs.Meaning.{keep, grown-then, grown-none, pushed-gives}
-use Rattle.v_synth.specs.Expression.{ArrayRead, unsigned, signal_read, words_made, array_made}
+use Rattle.v_synth.specs.Expression.{unsigned, signal_read, word_made, words_made, array_made}
 use Rattle.v_synth.specs.Meaning.{Shows}
 use Rattle.v_synth.proofs.Base.{number-bits, true-one_if, gives-then, gives-is, keep-shows}
 use Rattle.v_synth.proofs.Index.{is-place, place-some, words-at, word_below, none_below, all_below, next_below}
@@ -41,14 +42,14 @@ array-fits signals first count from width fits =
     slices : words_fit signals first count from width ≡ true → slice_fits signals first from width ≡ true
     slices h = (and_parts (nat_le 1 count && nat_le (first + count) (length signals)) (slice_fits signals first from width) (and_parts (nat_le 1 count && nat_le (first + count) (length signals) && slice_fits signals first from width) _ h).0).1
 
-words-law : {e : Source} {signals : List Signal} {nodes_of : List ℕ} {V : Valuation} (array : ArrayRead) (count : ℕ) (address : ℤ) (more : ℕ)
+words-law : {e : Source} {signals : List Signal} {nodes_of : List ℕ} {V : Valuation} (array : ArrayPart) (count : ℕ) (address : ℤ) (more : ℕ)
     {nodes : List WordNode} (so_far place iv : ℕ) → ArrayFits signals array.first array.from array.width count → Shows e signals nodes nodes_of V
     → Means e nodes array.index.node array.index.width iv → integer_of array.index.signed array.index.width iv ≡ address
     → Means e nodes so_far array.width (word_below (λ j. number array.width (λ b. V (array.first + j) (array.from + b))) (place_within count (address -ℤ array.low)) place)
     → place + more ≡ count
     → Gives e nodes (words_made signals nodes_of array nodes so_far place more) array.width
     (word_below (λ j. number array.width (λ b. V (array.first + j) (array.from + b))) (place_within count (address -ℤ array.low)) count)
-unfolding words_made
+unfolding words_made word_made
 words-law {e} {signals} {nodes_of} {V} array count address zero {nodes} so_far place iv fits shows index at so all =
     let f : ℕ → ℕ = λ j. number array.width (λ b. V (array.first + j) (array.from + b)) in
     let end : place ≡ count = omega (arith, all) in
@@ -80,7 +81,7 @@ words-law {e} {signals} {nodes_of} {V} array count address (suc more) {nodes} so
     fits (keep-shows grown shows) (keep grown index) at chosen.means (omega (arith, all)))
 
 -- a word of an array, or 0
-pub array-law : {e : Source} {signals : List Signal} {nodes_of : List ℕ} {V : Valuation} (array : ArrayRead) (count : ℕ) {nodes : List WordNode} (iv : ℕ)
+pub array-law : {e : Source} {signals : List Signal} {nodes_of : List ℕ} {V : Valuation} (array : ArrayPart) (count : ℕ) {nodes : List WordNode} (iv : ℕ)
     → ArrayFits signals array.first array.from array.width count → Shows e signals nodes nodes_of V → Means e nodes array.index.node array.index.width iv
     → Gives e nodes (array_made signals nodes_of array nodes count) array.width
     (word_value V array.from array.width (word_at array.first count array.low (integer_of array.index.signed array.index.width iv)))

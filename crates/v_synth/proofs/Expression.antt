@@ -20,9 +20,10 @@ use Rattle.word_net.specs.declared.node.Operation.TheVariants as operation
 use Rattle.word_net.specs.declared.node.WordNode.{WordNode}
 use Rattle.word_net.specs.Selects.{picked_bit}
 use Rattle.word_net.specs.Values.{Source, values}
+use Rattle.v_synth.specs.declared.array_parts.ArrayPart.{ArrayPart}
 use Rattle.word_net.specs.Build.{Made, pushed, Means, Grown, Gives}
 use Rattle.word_net.proofs.Meaning.{keep, grown-then, grown-none, pushed-gives}
-use Rattle.v_synth.specs.Expression.{Prepared, ArrayRead, operand, unsigned, signal_read, select_of, truth_made, is_logical, prepared, left_at, right_at, array_made, expression_made, join_made, parts_made}
+use Rattle.v_synth.specs.Expression.{Prepared, operand, unsigned, signal_read, select_of, truth_made, is_logical, prepared, left_at, right_at, array_made, expression_made, join_made, parts_made}
 use Rattle.v_synth.specs.Meaning.{Shows, word_of}
 use Rattle.v_synth.proofs.Base.{signal-at, width-bounds, width-within, number-bits, true-one_if, gives-then, keep-shows}
 use Rattle.v_synth.proofs.Index.{picked-same}
@@ -161,7 +162,7 @@ mutual
       let i = expression-law index_width signed index own f.1 shows in
       let m : Made = expression_made signals nodes_of nodes index_width index in
       let iv : ℕ = node_value signals V index_width index in
-      let array : ArrayRead = record { first = first; low = low; index = operand m.node index_width signed; from = from; width = size } in
+      let array : ArrayPart = record { first = first; low = low; index = operand m.node index_width signed; from = from; width = size } in
       subst (λ w. Gives e nodes (array_made signals nodes_of array m.nodes count) w (word_value V from size (word_at first count low (integer_of signed index_width iv)))) (eqb-true size width g.1)
       (gives-then i.grown (array-law array count iv (array-fits signals first count from size g.0) (keep-shows i.grown shows) i.means))
   expression-law {e} {signals} {nodes_of} {V} width sign (Unary' op _ (more_of-Typed arg_width signed arg end_of-Typed)) {nodes} own fits shows =

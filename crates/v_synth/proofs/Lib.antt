@@ -11,3 +11,4 @@ pub mod Begun
 pub mod Blocks
 pub mod Whole
 pub mod Scenes
+pub mod ArraySteps

@@ -20,10 +20,11 @@ use Rattle.word_net.specs.declared.node.Operation.TheVariants as operation
 use Rattle.word_net.specs.declared.node.WordNode.{WordNode}
 use Rattle.word_net.specs.Selects.{put_bits, put_picked}
 use Rattle.word_net.specs.Values.{Source, values}
+use Rattle.v_synth.specs.declared.array_parts.ArrayPart.{ArrayPart}
 use Rattle.word_net.specs.Build.{Made, pushed, Means, Grown}
 use Rattle.word_net.proofs.Meaning.{keep, grown-then, grown-none, pushed-gives}
 use Rattle.v_synth.specs.Expression.{operand, unsigned, signal_read, select_of}
-use Rattle.v_synth.specs.Store.{Nodes, index_made, indexes_made, Stored, ArrayStore, words_stored, part_stored, parts_stored}
+use Rattle.v_synth.specs.Store.{Nodes, index_made, indexes_made, Stored, words_stored, part_stored, parts_stored}
 use Rattle.v_synth.specs.Meaning.{Shows, ShowsIn, word_of}
 use Rattle.v_synth.proofs.Base.{signal-at, bit-number, true-one_if, keep-shows}
 use Rattle.v_synth.proofs.Index.{is-place, place-some, range_at}
@@ -60,7 +61,7 @@ set-shows {e} {signals} {nodes} {after} {nodes_of} {M} N s {node} shows grown th
 
 -- ---- words of arrays
 
-words_stored-law : {e : Source} {signals : List Signal} (M : Valuation) (array : ArrayStore) (stored : Stored) (count : ℕ) (address : ℤ) (more : ℕ)
+words_stored-law : {e : Source} {signals : List Signal} (M : Valuation) (array : ArrayPart) (stored : Stored) (count : ℕ) (address : ℤ) (more : ℕ)
     {nodes : List WordNode} {nodes_of : List ℕ} (place iv v : ℕ) → list_all signal_fits signals ≡ true → ArrayFits signals array.first array.from array.width count
     → Means e nodes array.index.node array.index.width iv → integer_of array.index.signed array.index.width iv ≡ address
     → Means e nodes stored.word.node stored.word.width v → stored.offset + array.width ≤ stored.word.width
@@ -261,7 +262,7 @@ part-law {e} {signals} {nodes} {nodes_of} E {M} (part.Word first count low at fr
     let f = and_parts (words_fit signals first count from width) (typed_fits signals at) fits in
     let address : ℤ = index_value signals E at in
     let p : Option ℕ = place_within count (address -ℤ low) in
-    let array : ArrayStore = record { first = first; low = low; index = operand index at.width at.signed; from = from; width = width } in
+    let array : ArrayPart = record { first = first; low = low; index = operand index at.width at.signed; from = from; width = width } in
     let all = words_stored-law M array stored count address count 0 (value signals E at) v own (array-fits signals first count from width f.0) i refl word room
     (subst (λ o. Shows e signals nodes nodes_of (with_word M o from width bits)) (sym (no_word_before first p)) shows) (omega arith) in
     record {

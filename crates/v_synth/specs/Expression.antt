@@ -14,6 +14,7 @@ use Rattle.word_net.specs.declared.node.Operand.{Operand}
 use Rattle.word_net.specs.declared.node.Select.{Select}
 use Rattle.word_net.specs.declared.node.Operation.TheVariants as operation
 use Rattle.word_net.specs.declared.node.WordNode.{WordNode}
+use Rattle.v_synth.specs.declared.array_parts.ArrayPart.{ArrayPart}
 use Rattle.word_net.specs.Build.{Made, made, pushed}
 
 -- a node as it is read
@@ -58,25 +59,22 @@ unfoldable pub prepared : Bool → List WordNode → ℕ → ℕ → Bool → Pr
 prepared true nodes word width signed = let t = truth_made nodes word width in record { nodes = t.nodes; operand = unsigned t.node 1 }
 prepared false nodes word width signed = record { nodes = nodes; operand = operand word width signed }
 
--- a read of an array: where its words stand and at which addresses, its index, and which bits of the word are read
-pub record ArrayRead : Type 0 where
-  pub first : ℕ
-  pub low : ℤ
-  pub index : Operand
-  pub from : ℕ
-  pub width : ℕ
-
--- the words of the array from one on, so many of them: for each whether the address is its, and then its bits or those so far
-unfoldable pub words_made : List Signal → List ℕ → ArrayRead → List WordNode → ℕ → ℕ → ℕ → Made
-words_made signals nodes_of array nodes so_far place zero = made nodes so_far
-words_made signals nodes_of array nodes so_far place (suc more) =
+-- a word of the array: its bits where the address is its, else those so far
+unfoldable pub word_made : List Signal → List ℕ → ArrayPart → List WordNode → ℕ → ℕ → Made
+word_made signals nodes_of array nodes so_far place =
     let is = pushed nodes 1 (operation.Is array.index (array.low +ℤ pos place)) in
     let bits = pushed is.nodes array.width (operation.Slice (signal_read signals nodes_of (array.first + place)) array.from) in
-    let m = pushed bits.nodes array.width (operation.Choose (unsigned is.node 1) (unsigned bits.node array.width) (unsigned so_far array.width)) in
+    pushed bits.nodes array.width (operation.Choose (unsigned is.node 1) (unsigned bits.node array.width) (unsigned so_far array.width))
+
+-- the words of the array from one on, so many of them
+unfoldable pub words_made : List Signal → List ℕ → ArrayPart → List WordNode → ℕ → ℕ → ℕ → Made
+words_made signals nodes_of array nodes so_far place zero = made nodes so_far
+words_made signals nodes_of array nodes so_far place (suc more) =
+    let m = word_made signals nodes_of array nodes so_far place in
     words_made signals nodes_of array m.nodes m.node (place + 1) more
 
 -- a word of an array, from 0 on
-unfoldable pub array_made : List Signal → List ℕ → ArrayRead → List WordNode → ℕ → Made
+unfoldable pub array_made : List Signal → List ℕ → ArrayPart → List WordNode → ℕ → Made
 array_made signals nodes_of array nodes count =
     let none = pushed nodes array.width (operation.Const 0) in
     words_made signals nodes_of array none.nodes none.node 0 count

@@ -1,6 +1,6 @@
 -- The nodes of a store into a left side (IEEE 1364-2005, 6.1.1 and 9.2.1): first all its indexes, then its parts, from the
 -- left; the leftmost takes the highest bits.
-use Rattle.std.specs.Prelude.{ℕ, zero, suc, ◌+◌, ℤ, pos, ◌+ℤ◌, List, [], ◌∷◌, ◌++◌, set}
+use Rattle.std.specs.Prelude.{ℕ, zero, suc, ◌+◌, pos, ◌+ℤ◌, List, [], ◌∷◌, ◌++◌, set}
 use Rattle.design_core.specs.declared.signal.Signal.{Signal}
 use Rattle.design_core.specs.declared.statement.Part.{Part}
 use Rattle.design_core.specs.declared.statement.Part.TheVariants as part
@@ -9,6 +9,7 @@ use Rattle.design_core.specs.Store.{parts_width}
 use Rattle.word_net.specs.declared.node.Operand.{Operand}
 use Rattle.word_net.specs.declared.node.Operation.TheVariants as operation
 use Rattle.word_net.specs.declared.node.WordNode.{WordNode}
+use Rattle.v_synth.specs.declared.array_parts.ArrayPart.{ArrayPart}
 use Rattle.word_net.specs.Build.{Made, made, pushed}
 use Rattle.v_synth.specs.Expression.{operand, unsigned, signal_read, select_of, typed_made}
 
@@ -39,17 +40,9 @@ pub record Stored : Type 0 where
   pub word : Operand
   pub offset : ℕ
 
--- a store into an array: where its words stand and at which addresses, its index, and which bits of the word are replaced
-pub record ArrayStore : Type 0 where
-  pub first : ℕ
-  pub low : ℤ
-  pub index : Operand
-  pub from : ℕ
-  pub width : ℕ
-
 -- the words of the array from one on, so many of them: for each whether the address is its, and then it with the bits replaced
 -- or as it was
-unfoldable pub words_stored : List Signal → ArrayStore → Stored → List WordNode → List ℕ → ℕ → ℕ → Nodes
+unfoldable pub words_stored : List Signal → ArrayPart → Stored → List WordNode → List ℕ → ℕ → ℕ → Nodes
 words_stored signals array stored nodes nodes_of place zero = nodes_made nodes nodes_of
 words_stored signals array stored nodes nodes_of place (suc more) =
     let s = array.first + place in
@@ -73,7 +66,7 @@ part_stored signals nodes nodes_of (part.Pick s index offsets) at stored =
     let m = pushed nodes (width_at signals s) (operation.PutPick (signal_read signals nodes_of s) select stored.word stored.offset) in
     nodes_made m.nodes (set nodes_of s m.node)
 part_stored signals nodes nodes_of (part.Word first count low index from size) at stored =
-    let array : ArrayStore = record { first = first; low = low; index = operand at index.width index.signed; from = from; width = size } in
+    let array : ArrayPart = record { first = first; low = low; index = operand at index.width index.signed; from = from; width = size } in
     words_stored signals array stored nodes nodes_of 0 count
 
 -- all parts, each with its index

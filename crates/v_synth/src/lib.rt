@@ -2,8 +2,10 @@
 //! are each computed once.
 #![tactic(auto)]
 
+mod array_parts;
 mod clocked;
 pub mod laws;
 mod scene;
 
+pub use array_parts::ArrayPart;
 pub use clocked::Turn;
