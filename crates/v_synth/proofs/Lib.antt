@@ -12,3 +12,6 @@ pub mod Blocks
 pub mod Whole
 pub mod Scenes
 pub mod ArraySteps
+pub mod ExpressionMade
+pub mod FormFits
+pub mod JoinSteps

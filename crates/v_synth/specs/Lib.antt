@@ -6,3 +6,4 @@ pub mod Clocked
 pub mod Net
 pub mod Meaning
 pub mod Matches
+pub mod Lists

@@ -4,6 +4,7 @@
 
 mod array_parts;
 mod clocked;
+mod typed;
 pub mod laws;
 mod scene;
 
