@@ -1,5 +1,5 @@
 -- The nodes of each form of an expression as code makes it, one operand in its place.
-use Rattle.std.proofs.Common.{◌<◌, length, subst, arith, ◌≡◌, ℕ, ◌+◌, List, [], ◌∷◌, refl, ap, ◌∙◌, sym}
+use Rattle.std.proofs.Common.{◌<◌, length, subst, arith, ◌≡◌, ℕ, ◌+◌, List, refl, ap, ◌∙◌, sym}
 use Rattle.std.specs.Prelude.{ℤ}
 use denote.Hole.Carrier.{hidden}
 use Rattle.loc_base.specs.declared.bits.Bits.{Bits}
@@ -8,13 +8,12 @@ use Rattle.design_core.specs.declared.signal.Signal.{Signal}
 use Rattle.design_core.specs.declared.expression.UnaryOp.{UnaryOp}
 use Rattle.design_core.specs.declared.expression.BinaryOp.{BinaryOp}
 use Rattle.design_core.specs.declared.expression.Typed.{Typed}
-use Rattle.design_core.specs.declared.expression.Node.{Node, Row_of-Typed, end_of-Typed, more_of-Typed, items-the_row-Typed, items_hidden-the_row-Typed-1}
+use Rattle.design_core.specs.declared.expression.Node.{Row_of-Typed, end_of-Typed, more_of-Typed, items-the_row-Typed, items_hidden-the_row-Typed-1}
 use Rattle.design_core.specs.declared.expression.Node.TheVariants as node
 use Rattle.design_core.specs.declared.expression.Node.TheBlock.{shape-the_row-Typed-0, hidden-the_row-Typed-0, hidden-the_row-Typed-1}
 use Rattle.word_net.specs.declared.node.Operation.TheVariants as operation
 use Rattle.word_net.specs.declared.node.WordNode.{WordNode}
-use Rattle.v_synth.specs.declared.array_parts.ArrayPart.{ArrayPart}
-use Rattle.word_net.specs.Build.{Made, made, pushed}
+use Rattle.word_net.specs.Build.{pushed}
 use Rattle.v_synth.specs.Expression.{operand, unsigned, signal_read, select_of, truth_made, is_logical, prepared, array_made, expression_made, join_made, parts_made, typed_made}
 use Rattle.v_synth.specs.Lists.{part_joined, later_parts, all_parts}
 
@@ -38,20 +37,20 @@ made_unary signals nodes_of nodes width op arg = refl
 pub made_binary : (signals : List Signal) (nodes_of : List ℕ) (nodes : List WordNode) (width : ℕ) (op : BinaryOp) (left right : Typed)
     → expression_made signals nodes_of nodes width (node.Binary op left right)
     ≡ (let a = typed_made signals nodes_of nodes left in
-      let l = prepared (is_logical op) a.nodes a.node left.width left.signed in
-      let b = typed_made signals nodes_of l.nodes right in
-      let r = prepared (is_logical op) b.nodes b.node right.width right.signed in
-      pushed r.nodes width (operation.Binary op l.operand r.operand))
+    let l = prepared (is_logical op) a.nodes a.node left.width left.signed in
+    let b = typed_made signals nodes_of l.nodes right in
+    let r = prepared (is_logical op) b.nodes b.node right.width right.signed in
+    pushed r.nodes width (operation.Binary op l.operand r.operand))
 unfolding shape-the_row-Typed-0 hidden-the_row-Typed-0 hidden expression_made
 made_binary signals nodes_of nodes width op left right = refl
 
 pub made_choose : (signals : List Signal) (nodes_of : List ℕ) (nodes : List WordNode) (width : ℕ) (test on_true on_false : Typed)
     → expression_made signals nodes_of nodes width (node.Choose test on_true on_false)
     ≡ (let c = typed_made signals nodes_of nodes test in
-      let t = truth_made c.nodes c.node test.width in
-      let a = typed_made signals nodes_of t.nodes on_true in
-      let b = typed_made signals nodes_of a.nodes on_false in
-      pushed b.nodes width (operation.Choose (unsigned t.node 1) (unsigned a.node on_true.width) (unsigned b.node on_false.width)))
+    let t = truth_made c.nodes c.node test.width in
+    let a = typed_made signals nodes_of t.nodes on_true in
+    let b = typed_made signals nodes_of a.nodes on_false in
+    pushed b.nodes width (operation.Choose (unsigned t.node 1) (unsigned a.node on_true.width) (unsigned b.node on_false.width)))
 unfolding shape-the_row-Typed-0 hidden-the_row-Typed-0 hidden expression_made
 made_choose signals nodes_of nodes width test on_true on_false = refl
 

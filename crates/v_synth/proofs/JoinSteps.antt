@@ -1,6 +1,7 @@
 -- Steps of the loop over the parts of a concatenation.
-use Rattle.std.proofs.Common.{◌≡◌, ℕ, suc, ◌+◌, ◌<◌, ◌≤◌, Bool, true, List, [], ◌∷◌, length, get_or, drop, refl, sym, ◌∙◌, ap, subst, arith, drop-cons, drop-all}
-use Rattle.std.specs.Prelude.{◌&&◌, IsTrue}
+use Rattle.std.proofs.Common.{◌≡◌, ℕ, suc, ◌+◌, ◌<◌, ◌≤◌, List, [], ◌∷◌, length, get_or, drop, sym, ◌∙◌, ap, subst, arith, drop-cons}
+use Rattle.std.proofs.lemmas.List.{drop_all}
+use Rattle.std.specs.Prelude.{IsTrue}
 use Rattle.std.specs.List.{list_all}
 use Rattle.std.proofs.lemmas.Bool.{and_parts}
 use Rattle.design_core.specs.declared.signal.Signal.{Signal}
@@ -39,7 +40,7 @@ parts-next signals nodes_of nodes below after left width low n i parts part with
 pub parts-end : (signals : List Signal) (nodes_of : List ℕ) (nodes : List WordNode) (left width i : ℕ) (parts : List Typed) → length parts ≤ i
     → later_parts signals nodes_of nodes left width (drop i parts) ≡ made nodes left
 unfolding later_parts
-parts-end signals nodes_of nodes left width i parts past = ap (later_parts signals nodes_of nodes left width) (drop-all parts i past)
+parts-end signals nodes_of nodes left width i parts past = ap (later_parts signals nodes_of nodes left width) (drop_all i parts past)
 
 -- widths and fits of what is left
 pub sum-first : (parts : List Typed) (part : Typed) → 0 < length parts → part ≡ get_or parts 0 part → parts_sum parts ≡ part.width + parts_sum (drop 1 parts)

@@ -4,9 +4,9 @@
 
 mod array_parts;
 mod clocked;
-mod typed;
 pub mod laws;
 mod scene;
+mod typed;
 
 pub use array_parts::ArrayPart;
 pub use clocked::Turn;

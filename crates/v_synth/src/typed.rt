@@ -150,9 +150,11 @@ fn joined(at: &Scene, nodes: &mut Nodes, parts: &[Typed]) -> Result<u32, NoMemor
     requires width { parts_sum parts.now ≤ 128 }
     ensures { IfOk result (λ n. made nodes.new n ≡ all_parts at.now.signals.now at.now.nodes_of.now nodes.old parts.now) }
 {
-    let mut word = expression(at, nodes, &parts[0])?;
-    let mut width = parts[0].width;
-    for part in &parts[1..] {
+    let first = &parts[0];
+    let mut word = expression(at, nodes, first)?;
+    let mut width = first.width;
+    for i in 1..parts.len() {
+        let part = &parts[i];
         let low = expression(at, nodes, part)?;
         let join = Operation::Join {
             high: unsigned(word, width),

@@ -1,8 +1,8 @@
-use Rattle.std.proofs.Common.{◌≡◌, ℕ, ◌<◌, ◌≤◌, List, Bool, arith, rules, ap, ap₂, refl, sym, ◌∙◌, subst}
+use Rattle.std.proofs.Common.{◌≡◌, ℕ, ◌+◌, ◌<◌, ◌≤◌, length, List, Bool, arith, rules, ap, ap₂, refl, sym, ◌∙◌, subst}
 use Rattle.std.specs.Prelude.{IfOk, ℤ}
 use Rattle.std.proofs.Common.{w32}
 use Rattle.std.proofs.lemmas.Int.{to_z-of_z}
-use mir.Val.{SFits, to_z, of_z}
+use mir.Val.{SFits}
 use Rattle.design_core.specs.declared.signal.Signal.{Signal}
 use Rattle.design_core.specs.declared.expression.Typed.{Typed}
 use Rattle.word_net.specs.declared.node.Operand.{Operand}
@@ -10,13 +10,14 @@ use Rattle.word_net.specs.declared.node.Operation.TheVariants as operation
 use Rattle.word_net.specs.declared.node.WordNode.{WordNode}
 use Rattle.word_net.specs.Build.{Made, made, pushed}
 use Rattle.v_synth.specs.declared.array_parts.ArrayPart.{ArrayPart}
-use Rattle.v_synth.specs.Expression.{Prepared, operand, unsigned, signal_read, select_of, truth_made, is_logical, prepared, array_made, expression_made, typed_made}
+use Rattle.v_synth.specs.Expression.{Prepared, operand, unsigned, signal_read, select_of, truth_made, prepared, array_made, expression_made, typed_made}
 use Rattle.v_synth.specs.Lists.{prepared_in, all_parts}
+use Rattle.v_synth.proofs.JoinSteps.{parts-first, parts-next, parts-end, sum-first, sum-next, fits-first, fits-next}
 use Rattle.v_synth.proofs.ExpressionMade.{made_const, made_slice, made_pick, made_word, made_unary, made_binary, made_choose, made_repeat, made_resize, made_join}
 use denote.Hole.Carrier.{hidden}
 use Rattle.design_core.specs.declared.expression.Node.TheBlock.{shape-the_row-Typed-0, hidden-the_row-Typed-0}
 use Rattle.design_core.specs.declared.expression.Node.TheViews.{the_lemmas}
-use Rattle.v_synth.proofs.FormFits.{whole-there, slice-there, pick-parts, word-parts, unary-arg, binary-args, choose-args, repeat-part, resize-arg, join-parts}
+use Rattle.v_synth.proofs.FormFits.{pick-parts, word-parts, unary-arg, binary-args, choose-args, repeat-part, resize-arg, join-parts}
 use Rattle.v_synth.proofs.typed.+expression.Goals as goal
 
 pub expression-expression-requires : goal.expression-expression-requires
@@ -134,8 +135,8 @@ expression-returns-in_ok-select-in-Pick t c =
     let place : ℕ = c.in_ok-place-in-Pick.place in
     let p : made nodes place ≡ typed_made S M N index = c.in_ok-place-in-Pick.ensures ∙ ap (typed_made S M N) c.deref.ensures in
     let select : c.in_ok-select-in-Pick.select ≡ select_of S s (operand place index.width index.signed) offsets =
-        c.in_ok-select-in-Pick.ensures ∙ ap (select_of S s c.operand.result) c.deref-in-Pick-2.ensures
-        ∙ ap (λ o. select_of S s o offsets) (c.operand.ensures ∙ ap (λ (e : Typed). operand place e.width e.signed) c.deref-in-Pick.ensures) in
+    c.in_ok-select-in-Pick.ensures ∙ ap (select_of S s c.operand.result) c.deref-in-Pick-2.ensures
+    ∙ ap (λ o. select_of S s o offsets) (c.operand.ensures ∙ ap (λ (e : Typed). operand place e.width e.signed) c.deref-in-Pick.ensures) in
     let same : pushed nodes w (operation.Pick c.read-word-in-Pick.result c.in_ok-select-in-Pick.select) ≡ typed_made S M N c.args.e.now =
     ap₂ (λ x y. pushed nodes w (operation.Pick x y)) c.read-word-in-Pick.ensures select
     ∙ ap (λ (m : Made). pushed m.nodes w (operation.Pick (signal_read S M s) (select_of S s (operand m.node index.width index.signed) offsets))) p
@@ -200,12 +201,12 @@ expression-returns-in_ok-other-in-Binary-2 t c =
     let o2 : Operand = c.in_ok-other-in-Binary-2.other in
     let a : made nodes1 one ≡ typed_made S M N left = c.in_ok-one-in-Binary.ensures ∙ ap (typed_made S M N) c.deref-in-Binary.ensures in
     let l : prepared_in nodes2 o1 ≡ prepared L nodes1 one left.width left.signed =
-        c.in_ok-one-in-Binary-2.ensures
-        ∙ ap (λ (o : Operand). prepared L nodes1 o.node o.width o.signed) (c.operand-in-Binary.ensures ∙ ap (λ (e : Typed). operand one e.width e.signed) c.deref-in-Binary-2.ensures) in
+    c.in_ok-one-in-Binary-2.ensures
+    ∙ ap (λ (o : Operand). prepared L nodes1 o.node o.width o.signed) (c.operand-in-Binary.ensures ∙ ap (λ (e : Typed). operand one e.width e.signed) c.deref-in-Binary-2.ensures) in
     let b : made nodes3 other ≡ typed_made S M nodes2 right = c.in_ok-other-in-Binary.ensures ∙ ap (typed_made S M nodes2) c.deref-in-Binary-3.ensures in
     let r : prepared_in nodes4 o2 ≡ prepared L nodes3 other right.width right.signed =
-        c.in_ok-other-in-Binary-2.ensures
-        ∙ ap (λ (o : Operand). prepared L nodes3 o.node o.width o.signed) (c.operand-in-Binary-2.ensures ∙ ap (λ (e : Typed). operand other e.width e.signed) c.deref-in-Binary-4.ensures) in
+    c.in_ok-other-in-Binary-2.ensures
+    ∙ ap (λ (o : Operand). prepared L nodes3 o.node o.width o.signed) (c.operand-in-Binary-2.ensures ∙ ap (λ (e : Typed). operand other e.width e.signed) c.deref-in-Binary-4.ensures) in
     let last : Bool → List WordNode → ℕ → Operand → Made = λ k ns n o. let q = prepared k ns n right.width right.signed in pushed q.nodes w (operation.Binary op o q.operand) in
     let mid : Bool → List WordNode → Operand → Made = λ k ns o. let m = typed_made S M ns right in last k m.nodes m.node o in
     let whole : Bool → Made = λ k. let m = typed_made S M N left in let q = prepared k m.nodes m.node left.width left.signed in mid k q.nodes q.operand in
@@ -300,3 +301,38 @@ expression-returns-in_ok-word-in-Resize t c =
     ∙ (rw c.in-Resize.is (sym (made_resize S M N w arg))) in
     subst (λ m. IfOk c.push-in-Resize.result (λ n. made c.push-in-Resize.new.nodes n ≡ m)) same c.push-in-Resize.ensures
 
+pub joined-loop-i-init : goal.joined-loop-i-init
+joined-loop-i-init t c =
+    let S : List Signal = c.args.at.now.signals.now in
+    let P : List Typed = c.args.parts.now in
+    let part : Typed = c.index-parts-0.result in
+    record {
+      most = omega (arith, sum-first P part c.requires.some c.index-parts-0.is, c.requires.width);
+      made = parts-first S c.args.at.now.nodes_of.now c.args.nodes.now c.expression.new.nodes c.in_ok-word.word P part c.requires.some c.index-parts-0.is c.in_ok-word.ensures;
+      fits = (fits-first S P part c.requires.some c.index-parts-0.is c.requires.fits).1;
+    }
+
+pub joined-loop-i-preserved : goal.joined-loop-i-preserved
+joined-loop-i-preserved t c =
+    let S : List Signal = c.args.at.now.signals.now in
+    let P : List Typed = c.args.parts.now in
+    let part : Typed = c.index-parts-i.result in
+    let i : ℕ = c.loop-i.i in
+    let width : ℕ = c.loop-i.width in
+    let left : ℕ = c.loop-i.word in
+    let low : ℕ = c.in_ok-low.low in
+    let below : List WordNode = c.expression-in-loop-i.new.nodes in
+    let within : i < length P = c.loop-i-test.true in
+    let joined : made c.push.new.nodes c.in_ok-word-2.word ≡ pushed below (width + part.width) (operation.Join (unsigned left width) (unsigned low part.width)) =
+    c.in_ok-word-2.ensures ∙ ap₂ (λ x y. pushed below (width + part.width) (operation.Join x y)) c.unsigned.ensures c.unsigned-in-loop-i.ensures in
+    record {
+      most = omega (arith, sum-next P i part within c.index-parts-i.is, c.loop-i.invariant.most);
+      made = c.loop-i.invariant.made
+          ∙ parts-next S c.args.at.now.nodes_of.now c.loop-i.nodes below c.push.new.nodes left width low c.in_ok-word-2.word i P part within c.index-parts-i.is c.in_ok-low.ensures joined;
+      fits = (fits-next S P i part within c.index-parts-i.is c.loop-i.invariant.fits).1;
+    }
+
+pub joined-returns : goal.joined-returns
+joined-returns t c =
+    let past : length c.args.parts.now ≤ c.loop-i.i = c.loop-i-test.false in
+    sym (c.loop-i.invariant.made ∙ parts-end c.args.at.now.signals.now c.args.at.now.nodes_of.now c.loop-i.nodes c.loop-i.word c.loop-i.width c.loop-i.i c.args.parts.now past)
