@@ -1,4 +1,3 @@
 pub mod Masks
 pub mod Regions
 pub mod Rows
-pub mod Near

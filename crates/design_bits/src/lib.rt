@@ -6,7 +6,6 @@
 mod drives;
 mod mask;
 mod pick;
-mod position;
 mod region;
 mod set;
 

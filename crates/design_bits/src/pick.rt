@@ -7,10 +7,9 @@ ghost use Rattle.design_core.specs.Pick.{is_at, has_bit, may_pick, must_pick};
 ghost use Rattle.design_core.specs.Valuation.{bit, position_at, position_of};
 
 use crate::mask::{ones, run};
-use crate::position::position_from;
-use crate::region::width_at;
 use design_core::{Node, Signal, Typed};
 use loc_base::Bits;
+use plain_values::{position_from, width_at};
 
 /// The word of an index that is a constant.
 fn constant_of(index: &Typed) -> Option<Bits>

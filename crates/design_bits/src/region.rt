@@ -8,6 +8,7 @@ use crate::mask::ones;
 use crate::set::BitSet;
 use design_core::Signal;
 use loc_base::NoMemory;
+use plain_values::width_at;
 
 /// The same bits of each of so many signals from one on.
 #[derive(Clone, Copy)]
@@ -51,16 +52,6 @@ pub(crate) fn add_region(set: &mut BitSet, sure: &[u128], region: Region) -> Res
         set.add(signal, region.mask & !sure[signal])?;
     }
     Ok(())
-}
-
-/// The width of a signal, 0 where there is none.
-pub(crate) fn width_at(signals: &[Signal], signal: usize) -> u8
-    ensures { result ≡ width_at signals.now signal }
-{
-    match signals.get(signal) {
-        Some(declared) => declared.width,
-        None => 0,
-    }
 }
 
 /// Adds all bits of each of so many signals from one on, of those that there are.
