@@ -5,13 +5,13 @@ ghost use Rattle.design_core.specs.TraceFits.{IsTraceOf};
 ghost use Rattle.plain_list.specs.Network.{IsNetwork};
 
 use design_core::{Checked, Design, SetWithValues, Trace};
+use design_fits::is_trace_of;
 use first_form::{
     Assignment, Direction, FirstDesign, FormErr, Formula, Netlist, Operator, Port, design_of,
 };
 use loc_base::{Bits, Name, Span};
 use plain_list::laws::is_network;
 use plain_list::{PlainSearch, candidates};
-use design_fits::is_trace_of;
 use std::alloc::Global;
 use std::test::Fail;
 
