@@ -10,3 +10,4 @@ mod users;
 
 pub use error::OrderErr;
 pub use least::least_order;
+pub use users::are_within;

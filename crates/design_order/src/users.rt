@@ -1,4 +1,4 @@
-ghost use Rattle.std.specs.Prelude.{◌≡◌, ◌+◌, ◌^◌, ◌<◌, ◌==◌, ℕ, All, cond, if◌then◌else◌, length, OnOk, IfOk, vec_len};
+ghost use Rattle.std.specs.Prelude.{◌≡◌, ◌+◌, ◌^◌, ◌<◌, ◌==◌, ℕ, All, cond, if◌then◌else◌, length, ◌↔◌, IsTrue, OnOk, IfOk, vec_len};
 ghost use Rattle.design_order.specs.Rows.{AreUsers, AreWithin, row, times};
 
 use loc_base::{Items, NoMemory, Rows};
@@ -30,4 +30,23 @@ pub(crate) fn users_of(needs: &Rows<u32>, alloc: Global) -> Result<Vec<Items<u32
         add_user(&mut users, i as u32, needs.row(i))?;
     }
     Ok(users)
+}
+
+/// Whether all numbers of a row are below another.
+fn is_below(row: &[u32], count: usize) -> bool
+    ensures { IsTrue result ↔ All (λ x. x < count) row.now }
+{
+    row.iter().all(|number| (*number as usize) < count)
+}
+
+/// Whether each number of each row is that of a row.
+pub fn are_within(needs: &Rows<u32>) -> bool
+    ensures { IsTrue result ↔ AreWithin needs.now }
+{
+    for i in 0..needs.len() {
+        if !is_below(needs.row(i), needs.len()) {
+            return false;
+        }
+    }
+    true
 }
