@@ -3,8 +3,8 @@ use Rattle.std.proofs.Common.{◌≡◌, ℕ, ◌+◌, ◌-◌, ◌<◌, true, f
 use Rattle.std.specs.Result.{OnOk, OnErr}
 use Rattle.std.proofs.Math.Seq.{take-append-add}
 use Rattle.std.proofs.lemmas.Bool.{false≢true}
-use Rattle.std.proofs.lemmas.List.{get_or-append_right, length-append, length-map, get_or-map, append-nil}
-use Rattle.std.proofs.lemmas.List.Elements.{All-get_or}
+use Rattle.std.proofs.lemmas.List.{get_or-append_right, length-append, length-map, get_or-map, append-nil, drop_at}
+use Rattle.std.proofs.lemmas.List.Elements.{All-get_or, All-drop}
 use Rattle.loc_base.specs.declared.memory.NoMemory.{NoMemory}
 use Rattle.clause_base.specs.declared.literal.Lit.{Lit}
 use Rattle.clause_base.specs.declared.log.Step.{Step}
@@ -12,10 +12,10 @@ use Rattle.clause_base.specs.declared.log.StepKind.{StepKind}
 use Rattle.clause_base.specs.declared.log.StepKind.TheVariants.{Block, Learned, Derived}
 use Rattle.clause_base.specs.Literal.{has_distinct_variables, IsWithin, AreWithin}
 use Rattle.clause_base.specs.Steps.{step_at, no_step}
-use Rattle.clause_base.specs.Acceptance.{is_block, is_block_kind, IsAccepted, IsAcceptedAs, IsAcceptedStep}
+use Rattle.clause_base.specs.Acceptance.{clauses_of, is_block, is_block_kind, IsAccepted, IsAcceptedAs, IsAcceptedStep}
 use Rattle.sat_core.specs.declared.engine.Engine.{Engine}
-use Rattle.sat_core.specs.SolverState.{SolverState, blocks_of}
-use Rattle.sat_core.specs.Calls.{with_steps}
+use Rattle.sat_core.specs.SolverState.{SolverState, IsSolver, blocks_of}
+use Rattle.sat_core.specs.Calls.{MayFollow, with_steps}
 use Rattle.sat_core.specs.Searching.{form_of, state_of, IsReady}
 use Rattle.sat_core.proofs.Growing.{IsLogged, logged, IsLogged-push, IsLogged-block}
 use Rattle.sat_core.proofs.SearchLemmas.{StaysFit, IsReady-same, IsReady-pushed}
@@ -61,3 +61,11 @@ taken_as vars form log after s Derived k h a w d e = let n : is_block s ≡ fals
 pub IsReady-taken : {T : Type 0} (e : Engine) (log after : List Step) (s : Step) (r : Result T NoMemory) → IsReady e log → (is_block s ≡ false → IsAcceptedStep (form_of e) (blocks_of log) log s) → IsWithin e.trail.vars s.clause → has_distinct_variables s.clause ≡ true → OnOk r (after ≡ log ++ s ∷ []) → OnErr r (after ≡ log) → IsReady e after
 IsReady-taken e log after s (Ok x) h a w d p q = IsReady-pushed e e log after s h (stays e log h) refl refl p (taken_as e.trail.vars (form_of e) log after s s.kind refl (logged (state_of e log) h.solver) a w d p)
 IsReady-taken e log after s (Err x) h a w d p q = IsReady-same e e log after h (stays e log h) refl refl q
+
+-- the log of a solver may follow in a new one of the same form
+pub MayFollow-copy : (a b : SolverState) → IsSolver a → b.vars ≡ a.vars → b.form ≡ a.form → b.log ≡ [] → MayFollow b a.log
+MayFollow-copy a b h v f n = record {
+  accepted = subst (λ form. IsAccepted form (blocks_of (b.log ++ a.log)) (b.log ++ a.log)) (sym f) (subst (λ (log : List Step). IsAccepted a.form (blocks_of (log ++ a.log)) (log ++ a.log)) (sym n) h.accepted);
+  within = subst (λ k. AreWithin k (map (λ (s : Step). s.clause) a.log)) (sym v)
+      (subst (AreWithin a.vars) (drop_at a.form (map (λ (s : Step). s.clause) a.log) (length a.form) refl) (All-drop (IsWithin a.vars) (length a.form) (clauses_of a.form a.log) h.within));
+}
