@@ -2,3 +2,15 @@ pub mod Indexes
 pub mod Parted
 pub mod Picking
 pub mod NameLaws
+pub mod ClosedSteps
+pub mod Agrees
+pub mod FormLaws
+pub mod BinaryLaws
+pub mod ListLaws
+pub mod NameAgrees
+pub mod Many
+pub mod PartLaws
+pub mod Opened
+pub mod TreeSteps
+pub mod OnlyConstants
+pub mod Answered

@@ -8,3 +8,5 @@ pub mod Capped
 pub mod Picked
 pub mod Named
 pub mod Sizes
+pub mod Parts
+pub mod Opening

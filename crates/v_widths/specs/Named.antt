@@ -9,14 +9,15 @@ use Rattle.design_core.specs.declared.expression.Node.TheVariants as node
 use Rattle.design_core.specs.Constant.{zeros}
 use Rattle.v_sizes.specs.declared.error.WidthErr.{WidthErr}
 use Rattle.v_sizes.specs.declared.meaning.Meaning.{Meaning}
+use Rattle.v_sizes.specs.Operations.{ceiling_of_logarithm}
 use Rattle.v_sizes.specs.Refusals.{name_fault, concat_fault, repeat_fault, called_fault, first_of}
 use Rattle.v_sizes.specs.Sized.{sized, Select, bit_select, part_select, name_node}
-use Rattle.v_sizes.specs.Sizing.{Sizing, own, known, times_of, Chosen, one_bit, some_bits, joined_width, name_sizing, joined, replicated, called}
+use Rattle.v_sizes.specs.Sizing.{Sizing, own, known, times_of, Chosen, one_bit, some_bits, joined_width, name_sizing, joined, replicated}
 use Rattle.v_widths.specs.declared.measured.Closed.{Closed}
 use Rattle.v_widths.specs.declared.measured.Measured.{Measured}
 use Rattle.v_widths.specs.declared.measured.Picked.{Picked}
 use Rattle.v_widths.specs.declared.measured.Picked.TheVariants as picked
-use Rattle.v_widths.specs.Measuring.{own_measured}
+use Rattle.v_widths.specs.Measuring.{own_measured, number_of}
 use Rattle.v_widths.specs.Taken.{taken}
 
 -- a select, as its sizes are and as it is sized
@@ -67,4 +68,4 @@ repeated_measured span count parts =
 abbrev pub logarithm_measured : Span → Closed → Measured
 logarithm_measured span argument =
     own_measured 32 true argument.constant (option_or argument.fault (called_fault span function.Clog2 (taken argument)))
-    (own (called function.Clog2 (taken argument)) zeros) (node.Whole 0)
+    (ceiling_of_logarithm (number_of argument)) (node.Whole 0)

@@ -107,7 +107,7 @@ pub(crate) fn unary(alloc: Global, frame: Frame, op: UnaryOp, e: Closed) -> Resu
 }
 
 /// The words of two operands in the context.
-fn folded(frame: Frame, op: BinaryOp, left: &Typed, right: &Typed) -> Bits
+pub(crate) fn folded(frame: Frame, op: BinaryOp, left: &Typed, right: &Typed) -> Bits
     ensures { value_of result ≡ binary op frame.size frame.signed frame.signed (low frame.size left.now) (low frame.size right.now) }
 {
     let one = Operand {

@@ -5,7 +5,9 @@
 mod apply;
 mod close;
 mod first;
+mod form;
 mod integer;
+mod measure;
 mod measured;
 mod name_fault;
 mod name_node;
@@ -14,9 +16,12 @@ mod named;
 mod node;
 mod operators;
 mod part_select;
+mod parts;
 mod picked;
 mod places;
 mod selected;
+mod sizes;
 mod taken;
 
+pub use sizes::{constant, constant_in, typed};
 pub use v_sizes::{Const, Meaning, Scope, WidthErr};

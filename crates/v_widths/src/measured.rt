@@ -1,7 +1,7 @@
 //! An expression with its width and its sign, whose context is still to come (IEEE 1364-2005, 5.4 and 5.5): operands that no
 //! context sizes are finished in it.
 use design_core::{BinaryOp, Node, Typed, UnaryOp};
-use loc_base::{Boxed, Span};
+use loc_base::{Boxed, Items, Span};
 use v_sizes::WidthErr;
 use v_tree::PartKind;
 
@@ -75,6 +75,18 @@ pub(crate) enum Shape {
         on_true: Boxed<Measured>,
         on_false: Boxed<Measured>,
     },
+}
+
+/// Parts from the left, as they are joined.
+#[derive(Drop)]
+pub(crate) struct Parts {
+    pub typed: Items<Typed>,
+    /// The sum of their widths, or 1,000 where it is more.
+    pub width: u16,
+    pub constant: bool,
+    /// The low 128 bits of the number that they are where they are constants.
+    pub number: u128,
+    pub fault: Option<WidthErr>,
 }
 
 /// A select whose indexes are finished.
