@@ -33,7 +33,7 @@ use Rattle.v_synth.specs.Statement.{Maps, maps, statement_made}
 use Rattle.v_synth.specs.Clocked.{own_mask, left_at, turned_made, own_made, owns_made, left_made, active_made, reset_made, resets_made, body_made, bodies_made}
 use Rattle.v_synth.specs.Meaning.{Shows, ShowsIn, ShowsBoth, word_of}
 use Rattle.v_synth.proofs.Base.{signal-at, bit-number, true-one_if, gives-then, gives-is, keep-shows}
-use Rattle.v_synth.proofs.Store.{set-shows}
+use Rattle.v_synth.proofs.StoreLaws.{set-shows}
 use Rattle.v_synth.proofs.Merge.{shows-same}
 use Rattle.v_synth.proofs.StatementLaws.{statement-law}
 use Rattle.v_synth.proofs.Begun.{no-bits}

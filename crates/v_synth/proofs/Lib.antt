@@ -3,7 +3,7 @@ pub mod Index
 pub mod Arrays
 pub mod Expression
 pub mod Bits
-pub mod Store
+pub mod StoreLaws
 pub mod Merge
 pub mod StatementLaws
 pub mod Drivers
@@ -15,3 +15,4 @@ pub mod ArraySteps
 pub mod ExpressionMade
 pub mod FormFits
 pub mod JoinSteps
+pub mod StoreSteps

@@ -18,7 +18,7 @@ use Rattle.v_synth.specs.Expression.{unsigned}
 use Rattle.v_synth.specs.Statement.{Maps, maps, chosen_made, merged}
 use Rattle.v_synth.specs.Meaning.{Shows, ShowsBoth, ShowsBothIn}
 use Rattle.v_synth.proofs.Base.{signal-at, true-one_if, keep-shows}
-use Rattle.v_synth.proofs.Store.{set-shows}
+use Rattle.v_synth.proofs.StoreLaws.{set-shows}
 
 -- a map shows each valuation that is the same in the signals of the design
 pub shows-same : {e : Source} {signals : List Signal} {nodes : List WordNode} {nodes_of : List ℕ} {V : Valuation} (W : Valuation)

@@ -7,7 +7,9 @@ use Rattle.design_core.specs.declared.statement.Part.TheVariants as part
 use Rattle.design_core.specs.Valuation.{width_at}
 use Rattle.design_core.specs.Store.{parts_width}
 use Rattle.word_net.specs.declared.node.Operand.{Operand}
+use Rattle.word_net.specs.declared.node.Operation.{Operation}
 use Rattle.word_net.specs.declared.node.Operation.TheVariants as operation
+use Rattle.v_synth.specs.declared.store.Stored.{Stored}
 use Rattle.word_net.specs.declared.node.WordNode.{WordNode}
 use Rattle.v_synth.specs.declared.array_parts.ArrayPart.{ArrayPart}
 use Rattle.word_net.specs.Build.{Made, made, pushed}
@@ -35,36 +37,35 @@ indexes_made signals nodes_of nodes indexes (part ∷ parts) =
     let i = index_made signals nodes_of nodes part in
     indexes_made signals nodes_of i.nodes (indexes ++ i.node ∷ []) parts
 
--- what is stored: bits of a word from a position on
-pub record Stored : Type 0 where
-  pub word : Operand
-  pub offset : ℕ
+-- a signal gets a new node
+unfoldable pub signal_set : List Signal → List WordNode → List ℕ → ℕ → Operation → Nodes
+signal_set signals nodes nodes_of s operation =
+    let m = pushed nodes (width_at signals s) operation in nodes_made m.nodes (set nodes_of s m.node)
 
--- the words of the array from one on, so many of them: for each whether the address is its, and then it with the bits replaced
--- or as it was
-unfoldable pub words_stored : List Signal → ArrayPart → Stored → List WordNode → List ℕ → ℕ → ℕ → Nodes
-words_stored signals array stored nodes nodes_of place zero = nodes_made nodes nodes_of
-words_stored signals array stored nodes nodes_of place (suc more) =
+-- a word of the array: with the bits replaced where the address is its, else as it was
+unfoldable pub word_stored : List Signal → ArrayPart → Stored → List WordNode → List ℕ → ℕ → Nodes
+word_stored signals array stored nodes nodes_of place =
     let s = array.first + place in
     let width = width_at signals s in
     let old = signal_read signals nodes_of s in
     let is = pushed nodes 1 (operation.Is array.index (array.low +ℤ pos place)) in
     let put = pushed is.nodes width (operation.Put old array.from array.width stored.word stored.offset) in
-    let m = pushed put.nodes width (operation.Choose (unsigned is.node 1) (unsigned put.node width) old) in
-    words_stored signals array stored m.nodes (set nodes_of s m.node) (place + 1) more
+    signal_set signals put.nodes nodes_of s (operation.Choose (unsigned is.node 1) (unsigned put.node width) old)
+
+-- the words of the array from one on, so many of them
+unfoldable pub words_stored : List Signal → ArrayPart → Stored → List WordNode → List ℕ → ℕ → ℕ → Nodes
+words_stored signals array stored nodes nodes_of place zero = nodes_made nodes nodes_of
+words_stored signals array stored nodes nodes_of place (suc more) =
+    let m = word_stored signals array stored nodes nodes_of place in words_stored signals array stored m.nodes m.each (place + 1) more
 
 -- one part
 unfoldable pub part_stored : List Signal → List WordNode → List ℕ → Part → ℕ → Stored → Nodes
-part_stored signals nodes nodes_of (part.Whole s) at stored =
-    let m = pushed nodes (width_at signals s) (operation.Slice stored.word stored.offset) in
-    nodes_made m.nodes (set nodes_of s m.node)
+part_stored signals nodes nodes_of (part.Whole s) at stored = signal_set signals nodes nodes_of s (operation.Slice stored.word stored.offset)
 part_stored signals nodes nodes_of (part.Slice s from size) at stored =
-    let m = pushed nodes (width_at signals s) (operation.Put (signal_read signals nodes_of s) from size stored.word stored.offset) in
-    nodes_made m.nodes (set nodes_of s m.node)
+    signal_set signals nodes nodes_of s (operation.Put (signal_read signals nodes_of s) from size stored.word stored.offset)
 part_stored signals nodes nodes_of (part.Pick s index offsets) at stored =
-    let select = select_of signals s (operand at index.width index.signed) offsets in
-    let m = pushed nodes (width_at signals s) (operation.PutPick (signal_read signals nodes_of s) select stored.word stored.offset) in
-    nodes_made m.nodes (set nodes_of s m.node)
+    signal_set signals nodes nodes_of s
+    (operation.PutPick (signal_read signals nodes_of s) (select_of signals s (operand at index.width index.signed) offsets) stored.word stored.offset)
 part_stored signals nodes nodes_of (part.Word first count low index from size) at stored =
     let array : ArrayPart = record { first = first; low = low; index = operand at index.width index.signed; from = from; width = size } in
     words_stored signals array stored nodes nodes_of 0 count

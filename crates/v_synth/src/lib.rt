@@ -6,7 +6,9 @@ mod array_parts;
 mod clocked;
 pub mod laws;
 mod scene;
+mod store;
 mod typed;
 
 pub use array_parts::ArrayPart;
 pub use clocked::Turn;
+pub use store::Stored;

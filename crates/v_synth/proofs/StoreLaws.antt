@@ -21,10 +21,11 @@ use Rattle.word_net.specs.declared.node.WordNode.{WordNode}
 use Rattle.word_net.specs.Selects.{put_bits, put_picked}
 use Rattle.word_net.specs.Values.{Source, values}
 use Rattle.v_synth.specs.declared.array_parts.ArrayPart.{ArrayPart}
+use Rattle.v_synth.specs.declared.store.Stored.{Stored}
 use Rattle.word_net.specs.Build.{Made, pushed, Means, Grown}
 use Rattle.word_net.proofs.Meaning.{keep, grown-then, grown-none, pushed-gives}
 use Rattle.v_synth.specs.Expression.{operand, unsigned, signal_read, select_of}
-use Rattle.v_synth.specs.Store.{Nodes, index_made, indexes_made, Stored, words_stored, part_stored, parts_stored}
+use Rattle.v_synth.specs.Store.{Nodes, index_made, indexes_made, word_stored, words_stored, signal_set, part_stored, parts_stored}
 use Rattle.v_synth.specs.Meaning.{Shows, ShowsIn, word_of}
 use Rattle.v_synth.proofs.Base.{signal-at, bit-number, true-one_if, keep-shows}
 use Rattle.v_synth.proofs.Index.{is-place, place-some, range_at}
@@ -69,7 +70,7 @@ words_stored-law : {e : Source} {signals : List Signal} (M : Valuation) (array :
     → place + more ≡ count
     → ShowsIn e signals nodes (words_stored signals array stored nodes nodes_of place more)
     (with_word M (word_before array.first (place_within count (address -ℤ array.low)) count) array.from array.width (λ b. bit v (stored.offset + b)))
-unfolding words_stored
+unfolding words_stored word_stored signal_set
 words_stored-law {e} {signals} M array stored count address zero {nodes} {nodes_of} place iv v own fits index at word room shows all =
     let end : place ≡ count = omega (arith, all) in
     record {
@@ -213,7 +214,7 @@ pub part-law : {e : Source} {signals : List Signal} {nodes : List WordNode} {nod
     → part_fits signals p ≡ true → IndexMeans e signals nodes E p index → Means e nodes stored.word.node stored.word.width v
     → stored.offset + part_width signals p ≤ stored.word.width → Shows e signals nodes nodes_of M
     → ShowsIn e signals nodes (part_stored signals nodes nodes_of p index stored) (store_part signals E M p (λ b. bit v (stored.offset + b)))
-unfolding part_stored
+unfolding part_stored signal_set
 part-law {e} {signals} {nodes} {nodes_of} E {M} (part.Whole s) index v stored own fits i word room shows =
     let bits : ℕ → Bool = λ b. bit v (stored.offset + b) in
     let w : ℕ = width_at signals s in
