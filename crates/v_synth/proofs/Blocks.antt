@@ -34,7 +34,7 @@ use Rattle.v_synth.specs.Clocked.{own_mask, left_at, turned_made, own_made, owns
 use Rattle.v_synth.specs.Meaning.{Shows, ShowsIn, ShowsBoth, word_of}
 use Rattle.v_synth.proofs.Base.{signal-at, bit-number, true-one_if, gives-then, gives-is, keep-shows}
 use Rattle.v_synth.proofs.StoreLaws.{set-shows}
-use Rattle.v_synth.proofs.Merge.{shows-same}
+use Rattle.v_synth.proofs.MergeLaws.{shows-same}
 use Rattle.v_synth.proofs.StatementLaws.{statement-law}
 use Rattle.v_synth.proofs.Begun.{no-bits}
 

@@ -36,7 +36,7 @@ use Rattle.v_synth.specs.Driver.{assigned_made, driver_made, driver_at_made, dri
 use Rattle.v_synth.specs.Meaning.{Shows, ShowsIn}
 use Rattle.v_synth.proofs.Base.{bit-number, keep-shows}
 use Rattle.v_synth.proofs.Expression.{expression-law}
-use Rattle.v_synth.proofs.Merge.{shows-same}
+use Rattle.v_synth.proofs.MergeLaws.{shows-same}
 use Rattle.v_synth.proofs.StatementLaws.{assigned-law, statement-law}
 
 -- ---- one driver

@@ -4,7 +4,7 @@ pub mod Arrays
 pub mod Expression
 pub mod Bits
 pub mod StoreLaws
-pub mod Merge
+pub mod MergeLaws
 pub mod StatementLaws
 pub mod Drivers
 pub mod Begun

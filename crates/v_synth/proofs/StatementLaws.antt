@@ -34,7 +34,7 @@ use Rattle.v_synth.specs.Meaning.{Shows, ShowsIn, ShowsBoth, ShowsBothIn}
 use Rattle.v_synth.proofs.Base.{bit-number, gives-then, keep-shows, keep-both}
 use Rattle.v_synth.proofs.Expression.{expression-law, node-wide, truth-law}
 use Rattle.v_synth.proofs.StoreLaws.{AreIndexes, indexes-law, store-law}
-use Rattle.v_synth.proofs.Merge.{merged-law}
+use Rattle.v_synth.proofs.MergeLaws.{merged-law}
 
 -- ---- assignments
 

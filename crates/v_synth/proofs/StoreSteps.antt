@@ -1,5 +1,5 @@
 -- Steps of the loops over the parts of a left side.
-use Rattle.std.proofs.Common.{◌≡◌, ℕ, suc, ◌+◌, ◌-◌, ◌<◌, ◌≤◌, Bool, List, [], ◌∷◌, ◌++◌, length, get_or, drop, refl, sym, ◌∙◌, ap, subst, arith, drop-cons}
+use Rattle.std.proofs.Common.{◌≡◌, ℕ, suc, ◌+◌, ◌-◌, ◌<◌, ◌≤◌, Bool, List, [], ◌∷◌, ◌++◌, length, get_or, drop, refl, sym, ◌∙◌, ap, ap₂, subst, arith, drop-cons}
 use Rattle.std.specs.Prelude.{nat_le, ℤ, ◌&&◌, IsTrue}
 use Rattle.std.specs.List.{list_all}
 use Rattle.std.proofs.lemmas.List.{drop_all}
@@ -11,10 +11,12 @@ use Rattle.design_core.specs.declared.expression.Typed.{Typed}
 use Rattle.design_core.specs.Valuation.{width_at}
 use Rattle.v_synth.specs.declared.array_parts.ArrayPart.{ArrayPart}
 use Rattle.v_synth.specs.declared.store.Stored.{Stored}
+use Rattle.word_net.specs.declared.node.Operand.{Operand}
+use Rattle.design_core.specs.Store.{part_width, parts_width}
 use Rattle.design_core.specs.WellFormed.{is_signal, is_width, slice_fits, words_fit, typed_fits, part_fits}
 use Rattle.word_net.specs.declared.node.WordNode.{WordNode}
 use Rattle.word_net.specs.Build.{Made, made}
-use Rattle.v_synth.specs.Store.{Nodes, index_made, indexes_made, nodes_made, word_stored, words_stored}
+use Rattle.v_synth.specs.Store.{Nodes, index_made, indexes_made, nodes_made, word_stored, words_stored, part_stored, parts_stored}
 
 pub front : (parts : List Part) (i : ℕ) (part : Part) → i < length parts → part ≡ get_or parts i part → drop i parts ≡ part ∷ drop (i + 1) parts
 front parts i part within is =
@@ -85,3 +87,40 @@ word-in signals first count low index from width fits =
     leb-true (first + count) (length signals) (and_parts a b k.0).1
 
 pub ruleset part_steps = (whole-in, slice-in, pick-in, word-in)
+
+-- ---- widths
+
+pub pick-width : (signals : List Signal) (s : ℕ) (index : Typed) (offsets : List ℤ) → IsTrue (part_fits signals (part.Pick s index offsets)) → length offsets ≤ 128
+pick-width signals s index offsets fits =
+    leb-true (length offsets) 128
+    (and_parts (nat_le 1 (length offsets)) (nat_le (length offsets) 128) (and_parts (is_signal signals s) (is_width (length offsets)) (and_parts (is_signal signals s && is_width (length offsets)) (typed_fits signals index) fits).0).1).1
+
+pub ruleset width_steps = (whole-in, pick-width)
+
+pub sum-next : (signals : List Signal) (parts : List Part) (i : ℕ) (p : Part) → i < length parts → p ≡ get_or parts i p → parts_width signals (drop i parts) ≡ part_width signals p + parts_width signals (drop (i + 1) parts)
+sum-next signals parts i p within is = ap (parts_width signals) (front parts i p within is)
+
+pub sum-end : (signals : List Signal) (parts : List Part) (i : ℕ) → length parts ≤ i → parts_width signals (drop i parts) ≡ 0
+sum-end signals parts i past = ap (parts_width signals) (drop_all i parts past)
+
+pub ruleset sum_steps = (sum-next, sum-end, fits-next)
+
+-- ---- all parts
+
+pub parts-next : (signals : List Signal) (nodes after : List WordNode) (nodes_of each : List ℕ) (parts : List Part) (indexes : List ℕ) (word : Operand) (i : ℕ) (p : Part)
+    → i < length parts → i < length indexes → p ≡ get_or parts i p
+    → nodes_made after each ≡ part_stored signals nodes nodes_of p (get_or indexes i 0) (record { word = word; offset = parts_width signals (drop (i + 1) parts) })
+    → parts_stored signals nodes nodes_of (drop i parts) (drop i indexes) word ≡ parts_stored signals after each (drop (i + 1) parts) (drop (i + 1) indexes) word
+unfolding parts_stored
+parts-next signals nodes after nodes_of each parts indexes word i p within inside is m =
+    let next : suc i ≡ i + 1 = omega arith in
+    let numbers : drop i indexes ≡ get_or indexes i 0 ∷ drop (i + 1) indexes = drop-cons indexes i 0 inside ∙ ap (λ k. get_or indexes i 0 ∷ drop k indexes) next in
+    ap₂ (λ (ps : List Part) (ns : List ℕ). parts_stored signals nodes nodes_of ps ns word) (front parts i p within is) numbers
+    ∙ ap (λ (q : Nodes). parts_stored signals q.nodes q.each (drop (i + 1) parts) (drop (i + 1) indexes) word) (sym m)
+
+pub parts-end : (signals : List Signal) (nodes : List WordNode) (nodes_of : List ℕ) (parts : List Part) (indexes : List ℕ) (word : Operand) (i : ℕ) → length parts ≤ i
+    → parts_stored signals nodes nodes_of (drop i parts) (drop i indexes) word ≡ nodes_made nodes nodes_of
+unfolding parts_stored
+parts-end signals nodes nodes_of parts indexes word i past = ap (λ (ps : List Part). parts_stored signals nodes nodes_of ps (drop i indexes) word) (drop_all i parts past)
+
+pub ruleset parts_steps = (parts-next, parts-end, sum-next, sum-end, fits-next)

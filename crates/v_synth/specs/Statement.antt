@@ -17,7 +17,7 @@ use Rattle.word_net.specs.declared.node.Operation.TheVariants as operation
 use Rattle.word_net.specs.declared.node.WordNode.{WordNode}
 use Rattle.word_net.specs.Build.{Made, made, pushed}
 use Rattle.v_synth.specs.Expression.{unsigned, truth_made, typed_made}
-use Rattle.v_synth.specs.Store.{indexes_made, parts_stored}
+use Rattle.v_synth.specs.Store.{Nodes, nodes_made, indexes_made, parts_stored}
 
 -- the nodes, the node of each signal as it is read, and as it is updated later
 pub record Maps : Type 0 where
@@ -34,14 +34,19 @@ chosen_made nodes test width one other =
     if one == other then made nodes other
     else pushed nodes width (operation.Choose (unsigned test 1) (unsigned one width) (unsigned other width))
 
+-- one signal of one map: that of an arm beside that of the other
+unfoldable pub row_made : List WordNode → ℕ → ℕ → ℕ → List ℕ → List ℕ → Nodes
+row_made nodes test width s arm map =
+    let a = chosen_made nodes test width (get_or arm s 0) (get_or map s 0) in nodes_made a.nodes (set map s a.node)
+
 -- the maps of two arms become one, for the signals from one on, so many of them: the map that is read before that of later updates
 unfoldable pub merged : List Signal → ℕ → Maps → Maps → ℕ → ℕ → Maps
 merged signals test arm m s zero = m
 merged signals test arm m s (suc more) =
     let width = width_at signals s in
-    let a = chosen_made m.nodes test width (get_or arm.now s 0) (get_or m.now s 0) in
-    let b = chosen_made a.nodes test width (get_or arm.later s 0) (get_or m.later s 0) in
-    merged signals test arm (maps b.nodes (set m.now s a.node) (set m.later s b.node)) (s + 1) more
+    let a = row_made m.nodes test width s arm.now m.now in
+    let b = row_made a.nodes test width s arm.later m.later in
+    merged signals test arm (maps b.nodes a.each b.each) (s + 1) more
 
 -- an assignment: its value, what its place assigns, its indexes, and then the store
 unfoldable pub set_made : List Signal → Maps → ℕ → List Part → Typed → Bool → Maps

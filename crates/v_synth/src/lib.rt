@@ -5,6 +5,7 @@
 mod array_parts;
 mod clocked;
 pub mod laws;
+mod merge;
 mod scene;
 mod store;
 mod typed;

@@ -3,9 +3,10 @@ ghost use Rattle.std.specs.Prelude.{◌≡◌, ◌≤◌, ◌+◌, ◌^◌, ◌<
 ghost use Rattle.std.specs.List.{list_all};
 ghost use Rattle.design_core.specs.WellFormed.{part_fits};
 ghost use Rattle.design_core.specs.Valuation.{width_at};
+ghost use Rattle.design_core.specs.Store.{part_width, parts_width};
 ghost use Rattle.word_net.specs.Build.{made};
 ghost use Rattle.v_synth.specs.Expression.{signal_read};
-ghost use Rattle.v_synth.specs.Store.{index_made, indexes_made, nodes_made, part_stored, signal_set, word_stored, words_stored};
+ghost use Rattle.v_synth.specs.Store.{index_made, indexes_made, nodes_made, part_stored, parts_stored, signal_set, word_stored, words_stored};
 
 use crate::array_parts::{ArrayPart, is_word};
 use crate::scene::{Nodes, Scene, push, unsigned};
@@ -22,11 +23,18 @@ pub struct Stored {
     pub offset: u8,
 }
 
-/// A part of a left side, the node of its index where it has a variable one, and what is stored into it.
-pub(crate) struct Piece<'a> {
-    pub part: &'a Part,
+/// The node of a part's index, where it has a variable one, and what is stored into the part.
+#[derive(Clone, Copy)]
+pub(crate) struct Spot {
     pub index: u32,
     pub stored: Stored,
+}
+
+/// The parts of a left side, and the nodes of their indexes.
+#[derive(Clone, Copy, Drop)]
+pub(crate) struct Sides<'a> {
+    pub parts: &'a [Part],
+    pub indexes: &'a [u32],
 }
 
 /// Bits of a word of an array, and what is stored into them.
@@ -76,11 +84,7 @@ fn index(at: &Scene, nodes: &mut Nodes, part: &Part) -> Result<u32, NoMemory>
 
 /// The indexes of all parts of a left side.
 #[tactic(auto, using(crate::proofs::StoreSteps::indexes_steps))]
-pub(crate) fn indexes(
-    at: &Scene,
-    nodes: &mut Nodes,
-    parts: &[Part],
-) -> Result<Items<u32>, NoMemory>
+pub(crate) fn indexes(at: &Scene, nodes: &mut Nodes, parts: &[Part]) -> Result<Items<u32>, NoMemory>
     requires few { length at.now.signals.now < 2 ^ 32 }
     requires each { length at.now.nodes_of.now ≡ length at.now.signals.now }
     requires fits { IsTrue (list_all (part_fits at.now.signals.now) parts.now) }
@@ -195,16 +199,17 @@ impl Left<'_> {
         &self,
         nodes: &mut Nodes,
         map: &mut Items<u32>,
-        piece: &Piece,
+        part: &Part,
+        spot: Spot,
     ) -> Result<(), NoMemory>
         requires few { length self.now.signals.now < 2 ^ 32 }
         requires each { length map.old ≡ length self.now.signals.now }
-        requires fits { IsTrue (part_fits self.now.signals.now piece.now.part.now) }
-        ensures ok { OnOk result (nodes_made nodes.new map.new ≡ part_stored self.now.signals.now nodes.old map.old piece.now.part.now piece.now.index piece.now.stored) }
+        requires fits { IsTrue (part_fits self.now.signals.now part.now) }
+        ensures ok { OnOk result (nodes_made nodes.new map.new ≡ part_stored self.now.signals.now nodes.old map.old part.now spot.index spot.stored) }
         ensures each { length map.new ≡ length self.now.signals.now }
     {
-        let stored = piece.stored;
-        match piece.part {
+        let stored = spot.stored;
+        match part {
             Part::Whole(signal) => {
                 let slice = Operation::Slice {
                     word: stored.word,
@@ -237,7 +242,7 @@ impl Left<'_> {
                     nodes_of: map.as_slice(),
                 };
                 let old = scene.read(*signal);
-                let at = operand(piece.index, index);
+                let at = operand(spot.index, index);
                 let select = scene.select(*signal, at, offsets)?;
                 let put = Operation::PutPick {
                     old,
@@ -258,12 +263,84 @@ impl Left<'_> {
                 let array = ArrayPart {
                     first: *first,
                     low: *low,
-                    index: operand(piece.index, index),
+                    index: operand(spot.index, index),
                     from: *from,
                     width: *width,
                 };
                 self.words(nodes, map, ArrayStore { array, stored }, *count)
             }
         }
+    }
+
+    /// The number of bits of a part.
+    #[tactic(auto, using(crate::proofs::StoreSteps::width_steps))]
+    fn part_width(&self, part: &Part) -> u8
+        requires { IsTrue (part_fits self.now.signals.now part.now) }
+        ensures { result ≡ part_width self.now.signals.now part.now }
+    {
+        match part {
+            Part::Whole(signal) => self.width(*signal),
+            Part::Slice {
+                signal: _,
+                from: _,
+                width,
+            } => *width,
+            Part::Pick {
+                signal: _,
+                index: _,
+                offsets,
+            } => offsets.len() as u8,
+            Part::Word {
+                first: _,
+                count: _,
+                low: _,
+                index: _,
+                from: _,
+                width,
+            } => *width,
+        }
+    }
+
+    /// The number of bits of a left side.
+    #[tactic(auto, using(crate::proofs::StoreSteps::sum_steps))]
+    pub(crate) fn parts_width(&self, parts: &[Part]) -> u8
+        requires fits { IsTrue (list_all (part_fits self.now.signals.now) parts.now) }
+        requires most { parts_width self.now.signals.now parts.now ≤ 128 }
+        ensures { result ≡ parts_width self.now.signals.now parts.now }
+    {
+        let mut sum = 0;
+        for i in 0..parts.len() {
+            sum += self.part_width(&parts[i]);
+        }
+        sum
+    }
+
+    /// All parts of a left side, from the left; the leftmost takes the highest bits.
+    #[tactic(auto, using(crate::proofs::StoreSteps::parts_steps))]
+    pub(crate) fn parts(
+        &self,
+        nodes: &mut Nodes,
+        map: &mut Items<u32>,
+        sides: &Sides,
+        word: Operand,
+    ) -> Result<(), NoMemory>
+        requires few { length self.now.signals.now < 2 ^ 32 }
+        requires each { length map.old ≡ length self.now.signals.now }
+        requires fits { IsTrue (list_all (part_fits self.now.signals.now) sides.now.parts.now) }
+        requires most { parts_width self.now.signals.now sides.now.parts.now ≤ 128 }
+        requires indexes { length sides.now.indexes.now ≡ length sides.now.parts.now }
+        ensures ok { OnOk result (nodes_made nodes.new map.new ≡ parts_stored self.now.signals.now nodes.old map.old sides.now.parts.now sides.now.indexes.now word) }
+        ensures each { length map.new ≡ length self.now.signals.now }
+    {
+        let mut offset = self.parts_width(sides.parts);
+        for i in 0..sides.parts.len() {
+            offset -= self.part_width(&sides.parts[i]);
+            let spot = Spot {
+                index: sides.indexes[i],
+                stored: Stored { word, offset },
+            };
+            self.part(nodes, map, &sides.parts[i], spot)?;
+        }
+        Ok(())
     }
 }

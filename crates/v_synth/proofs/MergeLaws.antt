@@ -15,7 +15,7 @@ use Rattle.word_net.specs.Values.{Source, values}
 use Rattle.word_net.specs.Build.{Made, made, pushed, Means, Grown, Gives}
 use Rattle.word_net.proofs.Meaning.{keep, grown-then, grown-none, pushed-gives}
 use Rattle.v_synth.specs.Expression.{unsigned}
-use Rattle.v_synth.specs.Statement.{Maps, maps, chosen_made, merged}
+use Rattle.v_synth.specs.Statement.{Maps, maps, chosen_made, row_made, merged}
 use Rattle.v_synth.specs.Meaning.{Shows, ShowsBoth, ShowsBothIn}
 use Rattle.v_synth.proofs.Base.{signal-at, true-one_if, keep-shows}
 use Rattle.v_synth.proofs.StoreLaws.{set-shows}
@@ -104,7 +104,7 @@ merged-from : {e : Source} {signals : List Signal} {test : ℕ} (arm : Maps) (t 
     → Means e m.nodes test 1 (one_if t) → Shows e signals m.nodes arm.now y.now → Shows e signals m.nodes arm.later y.later
     → Shows e signals m.nodes m.now (mixed t s y.now n.now) → Shows e signals m.nodes m.later (mixed t s y.later n.later) → s + more ≡ length signals
     → ShowsBothIn e signals m.nodes (merged signals test arm m s more) (if t then y else n)
-unfolding merged
+unfolding merged row_made
 merged-from {e} {signals} {test} arm t y n zero s m own mt ynow ylater now later all =
     record { grown = grown-none m.nodes; shows = taken t now later }
   where
