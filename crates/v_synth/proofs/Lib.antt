@@ -16,3 +16,4 @@ pub mod ExpressionMade
 pub mod FormFits
 pub mod JoinSteps
 pub mod StoreSteps
+pub mod MergeSteps

@@ -1,5 +1,5 @@
 //! Two arms of a statement become one.
-ghost use Rattle.std.specs.Prelude.{◌≡◌, ◌<◌, [], length, set, IfOk, OnOk};
+ghost use Rattle.std.specs.Prelude.{◌≡◌, ◌^◌, ◌<◌, [], length, set, IfOk, OnOk};
 ghost use Rattle.design_core.specs.Valuation.{width_at};
 ghost use Rattle.word_net.specs.Build.{made};
 ghost use Rattle.v_synth.specs.Statement.{chosen_made, maps, merged, row_made};
@@ -12,14 +12,24 @@ use word_net::Operation;
 
 /// The node of each signal as it is read, and as it is updated later.
 pub(crate) struct Maps {
-    pub now: Items<u32>,
+    pub current: Items<u32>,
     pub later: Items<u32>,
 }
 
 impl Drop for Maps {
     fn drop(self) {
-        let Maps { now: _, later: _ } = self;
+        let Maps {
+            current: _,
+            later: _,
+        } = self;
     }
+}
+
+/// The signals, and the maps of an arm that is merged into the other.
+pub(crate) struct Arms<'a> {
+    pub signals: &'a [Signal],
+    pub current: &'a [u32],
+    pub later: &'a [u32],
 }
 
 /// A choice for one signal: the node of the condition, the signal, and its width.
@@ -58,5 +68,35 @@ fn row(nodes: &mut Nodes, fork: Fork, arm: &[u32], map: &mut Items<u32>) -> Resu
     let other = map.as_slice()[signal];
     let node = chosen(nodes, fork, arm[signal], other)?;
     map.set(signal, node);
+    Ok(())
+}
+
+/// Two arms become one: the maps of one arm are merged into those of the other, signal by signal, the map that is read
+/// before that of later updates.
+#[tactic(auto, using(crate::proofs::MergeSteps::steps, crate::proofs::Scenes::signals_at))]
+pub(crate) fn merge(
+    nodes: &mut Nodes,
+    test: u32,
+    arms: &Arms,
+    other: &mut Maps,
+) -> Result<(), NoMemory>
+    requires few { length arms.now.signals.now < 2 ^ 32 }
+    requires arm_now { length arms.now.current.now ≡ length arms.now.signals.now }
+    requires arm_later { length arms.now.later.now ≡ length arms.now.signals.now }
+    requires now { length other.old.current ≡ length arms.now.signals.now }
+    requires later { length other.old.later ≡ length arms.now.signals.now }
+    ensures ok { OnOk result (maps nodes.new other.new.current other.new.later ≡ merged arms.now.signals.now test (maps [] arms.now.current.now arms.now.later.now) (maps nodes.old other.old.current other.old.later) 0 (length arms.now.signals.now)) }
+    ensures now { length other.new.current ≡ length arms.now.signals.now }
+    ensures later { length other.new.later ≡ length arms.now.signals.now }
+{
+    for s in 0..arms.signals.len() {
+        let fork = Fork {
+            test,
+            width: arms.signals[s].width,
+            signal: s as u32,
+        };
+        row(nodes, fork, arms.current, &mut other.current)?;
+        row(nodes, fork, arms.later, &mut other.later)?;
+    }
     Ok(())
 }
