@@ -5,7 +5,7 @@
     python3 bench/solver.py [PROGRAM] --largest
 
 PROGRAM is the built crate solve_cnf (default: crates/solve_cnf/out/solve_cnf). Each formula is written in DIMACS CNF,
-given to PROGRAM and, where `minisat` is installed, to minisat; the answers must agree. A family of growing formulas ends
+given to PROGRAM and, where `minisat` is installed, to minisat, with its preprocessing and without; the answers must agree. A family of growing formulas ends
 with the first that takes longer than the limit (10 seconds, or 2 with --quick). All formulas are the same each time:
 the random ones have fixed seeds.
 
@@ -15,6 +15,7 @@ texts, up to 570 MB, are written one at a time into a temporary folder, which ta
 import argparse
 import os
 import random
+import re
 import shutil
 import subprocess
 import sys
@@ -163,12 +164,55 @@ def adders(width):
     return f
 
 
+def product(f, a, b):
+    """An array multiplier: a row of partial products for each bit of a, added one after the other."""
+    rest = [f.land(a[0], y) for y in b]
+    out, rest = [rest[0]], rest[1:]
+    for x in a[1:]:
+        row, carry, sums = [f.land(x, y) for y in b], None, []
+        for place, p in enumerate(row):
+            terms = [t for t in (p, rest[place] if place < len(rest) else None, carry) if t is not None]
+            carry = None
+            while len(terms) > 1:
+                x1, x2 = terms.pop(0), terms.pop(0)
+                both = f.land(x1, x2)
+                carry = both if carry is None else f.lor(carry, both)
+                terms.insert(0, f.xor(x1, x2))
+            sums.append(terms[0])
+        out.append(sums[0])
+        rest = sums[1:] + ([] if carry is None else [carry])
+    return out + rest
+
+
+def multipliers(width):
+    """a * b and b * a, some bit of which is said to differ: unsatisfiable."""
+    f = Formula()
+    a = [f.new() for _ in range(width)]
+    b = [f.new() for _ in range(width)]
+    f.add(*[f.xor(x, y) for x, y in zip(product(f, a, b), product(f, b, a))])
+    return f
+
+
+def accumulators(cycles):
+    """Registers of 16 bits that add an input in each cycle, by one adder and by another, said to differ in the end: unsatisfiable."""
+    f = Formula()
+    one = other = [f.new() for _ in range(16)]
+    for _ in range(cycles):
+        given = [f.new() for _ in range(16)]
+        one = sum_by_xor(f, one, given)[:16]
+        other = sum_by_majority(f, other, given)[:16]
+    f.add(*[f.xor(x, y) for x, y in zip(one, other)])
+    return f
+
+
 FAMILIES = [
     ("pigeons", [("pigeons-%d" % n, pigeons, (n,)) for n in range(3, 14)]),
     ("xor-chain", [("xor-chain-%d" % n, xor_chain, (n,)) for n in (100, 300, 1000, 3000)]),
-    ("parity", [("parity-%d" % n, parity, (n,)) for n in range(4, 21, 2)]),
-    ("3sat", [("3sat-%d-%d" % (n, s), random_3sat, (n, s)) for n in (20, 30, 40, 50, 60, 70, 80, 90, 100) for s in (1, 2, 3)]),
-    ("adders", [("adders-%d" % n, adders, (n,)) for n in range(1, 17)]),
+    ("parity", [("parity-%d" % n, parity, (n,)) for n in (4, 8, 12, 16, 20, 40, 80)]),
+    ("3sat", [("3sat-%d-%d" % (n, s), random_3sat, (n, s)) for n in (50, 100, 150, 175, 200) for s in (1, 2, 3)]),
+    ("adders", [("adders-%d" % n, adders, (n,)) for n in (8, 16, 32, 64, 128, 256, 512)]),
+    ("multipliers", [("multipliers-%d" % n, multipliers, (n,)) for n in range(3, 9)]),
+    ("accumulators", [("accumulators-%d" % n, accumulators, (n,)) for n in (1, 2, 4, 8, 16)]),
 ]
 
 
@@ -220,17 +264,24 @@ def fields(text):
     return found
 
 
-def minisat_on(path, stop):
-    """minisat's answer and its seconds of processor time, start and reading among them; None where it isn't there, and no
-    answer where it was stopped."""
+def minisat_on(path, stop, options=()):
+    """minisat's answer, its seconds of processor time, start and reading among them, and its conflicts; None where it isn't
+    there, and no answer where it was stopped."""
     if shutil.which("minisat") is None:
-        return None, None
-    code, _, _, _, processor, _ = run_child(["minisat", "-verb=0", path], os.devnull, stop)
-    return ANSWERS.get(code), processor
+        return None, None, None
+    code, out, _, _, processor, _ = run_child(["minisat", *options, path], os.devnull, stop)
+    found = re.search(r"^conflicts +: (\d+)", out, re.M)
+    return ANSWERS.get(code), processor, int(found.group(1)) if found else None
+
+
+def beside(other, other_time, processor):
+    """The columns of a run of minisat: its milliseconds, and how many times as long the program took."""
+    return ["-" if other_time is None else "%s%.0f" % ("" if other else "> ", other_time * 1000),
+            "-" if other is None else "%.1f" % (processor / max(other_time, 0.001))]
 
 
 def row(words):
-    print("%-14s %6s %7s %9s %9s %11s %10s %10s %7s %7s %8s %9s" % tuple(words), flush=True)
+    print("%-15s %6s %7s %8s %9s %10s %10s %9s %7s %7s %8s %7s %8s %7s %9s" % tuple(words), flush=True)
 
 
 def measure(program, name, formula, folder, stop, faults):
@@ -241,7 +292,7 @@ def measure(program, name, formula, folder, stop, faults):
     code, out, err, wall, processor, peak = run_child([program, "--times"], path, stop)
     base = [name, formula.vars, len(formula.clauses)]
     if code is None:
-        row(base + ["stopped", "-", "-", "> %d000" % stop, "-", "-", "%.1f" % peak, "-", "-"])
+        row(base + ["stopped", "-", "-", "> %d000" % stop, "-", "-", "%.1f" % peak] + ["-"] * 5)
         return None
     told, times = fields(out), fields(err)
     for _ in range(2 if wall < 1 else 0):
@@ -250,9 +301,10 @@ def measure(program, name, formula, folder, stop, faults):
         processor = min(processor, spent)
     if code not in ANSWERS or "log accepted" not in out or (code == 10 and "model satisfies every clause" not in out):
         faults.append("%s: status %d, %r %r" % (name, code, out, err))
-        row(base + ["FAULT"] + ["-"] * 8)
+        row(base + ["FAULT"] + ["-"] * 11)
         return None
-    other, other_time = minisat_on(path, stop)
+    other, other_time, _ = minisat_on(path, stop)
+    plain, plain_time, plain_conflicts = minisat_on(path, stop, ["-no-pre"])
     answer = ANSWERS[code]
     if other is not None and answer != "unknown" and other != answer:
         faults.append("%s: solve_cnf says %s, minisat says %s" % (name, answer, other))
@@ -265,9 +317,7 @@ def measure(program, name, formula, folder, stop, faults):
         "%.2f" % check,
         "%.4f" % (check / solve if solve else 0),
         "%.1f" % peak if wall > 0.05 else "-",
-        "-" if other_time is None else "%s%.0f" % ("" if other else "> ", other_time * 1000),
-        "-" if other is None else "%.1f" % (processor / max(other_time, 0.001)),
-    ])
+    ] + beside(other, other_time, processor) + beside(plain, plain_time, processor) + ["-" if plain_conflicts is None else plain_conflicts])
     POINTS.append((told["chain numbers"], told["steps"], check, name))
     return wall
 
@@ -351,7 +401,7 @@ def main():
 (the least of three runs where one takes less than a second) and of the processor for minisat and the ratio to it; memory is MB.""" % limit)
     if shutil.which("minisat") is None:
         print("minisat isn't installed: its columns are empty.")
-    row(["formula", "vars", "clauses", "answer", "conflicts", "chain nrs", "solve", "check", "chk/sol", "memory", "minisat", "ratio"])
+    row(["formula", "vars", "clauses", "answer", "conflicts", "chain nrs", "solve", "check", "chk/sol", "memory", "minisat", "ratio", "no-pre", "ratio", "conflicts"])
     faults = []
     with tempfile.TemporaryDirectory() as folder:
         for family, members in FAMILIES:
