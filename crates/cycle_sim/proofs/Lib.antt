@@ -1,0 +1,12 @@
+pub mod Blending
+pub mod ConstantReads
+pub mod StatementNow
+pub mod Resets
+pub mod Bodies
+pub mod BlockSteps
+pub mod Stepping
+pub mod Loading
+pub mod Driving
+pub mod Collecting
+pub mod Filling
+pub mod Planning

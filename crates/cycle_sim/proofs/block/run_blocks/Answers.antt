@@ -1,0 +1,26 @@
+use Rattle.std.proofs.Common.{◌≡◌, ◌+◌, ◌∙◌, arith, subst}
+use Rattle.design_core.specs.Valuation.{Valuation}
+use Rattle.design_core.specs.Words.{valuation_of, choice_of}
+use Rattle.plain_sim.proofs.EvaluateSteps.{slice-at}
+use Rattle.cycle_sim.specs.Blocks.{WithBody}
+use Rattle.cycle_sim.proofs.Bodies.{run-next, run-end}
+use Rattle.cycle_sim.proofs.block.run_blocks.Goals as goal
+
+pub loop-i-preserved : goal.loop-i-preserved
+loop-i-preserved c =
+    let (block, at) = slice-at c.args.design.now.clocked.items c.loop-i.i (omega (arith, c.loop-i-test.true, c.len-i-end.ensures, c.args.design.now.clocked.ok.0)) in
+    record {
+      values = c.run_block.ensures.values;
+      state = c.run_block.ensures.state;
+      room = c.run_block.ensures.room;
+      same = c.run_block.ensures.same ∙ c.loop-i.invariant.same;
+      run =
+          run-next c.args.design.now (choice_of c.args.freed.now c.args.chosen.now) (valuation_of c.args.values.now) (valuation_of c.loop-i.state) (valuation_of c.run_block.new.state)
+          c.loop-i.i block c.requires.well_formed c.requires.once at c.loop-i.invariant.run
+          (subst (λ (V : Valuation). WithBody c.args.design.now (choice_of c.args.freed.now c.args.chosen.now) block V (valuation_of c.loop-i.state) (valuation_of c.run_block.new.state)) c.loop-i.invariant.same (c.run_block.ensures.run block at));
+    }
+
+pub returns-clause-run : goal.returns-clause-run
+returns-clause-run c =
+    run-end c.args.design.now (choice_of c.args.freed.now c.args.chosen.now) (valuation_of c.args.values.now) (valuation_of c.loop-i.state) c.loop-i.i
+    (omega (arith, c.loop-i-test.false, c.len-i-end.ensures, c.args.design.now.clocked.ok.0)) c.loop-i.invariant.run

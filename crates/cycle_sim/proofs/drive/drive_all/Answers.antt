@@ -1,0 +1,16 @@
+use Rattle.std.proofs.Common.{◌∙◌}
+use Rattle.design_core.specs.Words.{valuation_of, choice_of}
+use Rattle.cycle_sim.proofs.Driving.{drivers-next}
+use Rattle.cycle_sim.proofs.drive.drive_all.Goals as goal
+
+pub loop-k-preserved : goal.loop-k-preserved
+loop-k-preserved c =
+    record {
+      words = c.drive_one.ensures.words;
+      later_words = c.drive_one.ensures.later_words;
+      value =
+          drivers-next c.args.design.now (choice_of c.args.freed.now c.args.chosen.now) c.args.order.now c.loop-k.k c.number_at.result (valuation_of c.loop-k.values) (valuation_of c.drive_one.new.values)
+          c.number_at.ensures c.drive_one.ensures.value
+          ∙ c.loop-k.invariant.value;
+      later = λ s b none. c.drive_one.ensures.later s b none ∙ c.loop-k.invariant.later s b none;
+    }

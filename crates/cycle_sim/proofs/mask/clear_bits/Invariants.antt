@@ -1,0 +1,14 @@
+use Rattle.std.proofs.Common.{◌≡◌, map, drop}
+use Rattle.loc_base.specs.Bits.{width_of}
+use Rattle.design_core.specs.Constant.{zeros}
+use Rattle.design_core.specs.Words.{valuation_of}
+use Rattle.plain_sim.specs.EvaluateCycle.{blended}
+use Rattle.cycle_sim.specs.Masks.{covers}
+use Rattle.cycle_sim.proofs.mask.clear_bits.Given as goal
+
+abbrev pub invariant-loop-k : goal.invariant-loop-k
+invariant-loop-k l =
+    record {
+      widths : map width_of l.words ≡ map width_of l.initial.words;
+      value : blended (covers (drop l.k l.masks)) zeros (valuation_of l.words) ≡ blended (covers l.masks) zeros (valuation_of l.initial.words);
+    }

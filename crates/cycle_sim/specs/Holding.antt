@@ -1,0 +1,46 @@
+-- How the fields of a simulator stand for what contracts see of it.
+use Rattle.std.specs.Prelude.{ℕ, ◌≡◌, Bool, false, List, slice_get}
+use Rattle.std.specs.Option.{option_map_or}
+use Rattle.loc_base.specs.Bits.{bit_of}
+use Rattle.design_core.specs.declared.signal.Signal.{Signal}
+use Rattle.design_core.specs.declared.design.Design.{Design}
+use Rattle.design_core.specs.Valuation.{Valuation}
+use Rattle.design_core.specs.Drives.{is_driven, is_listed, is_register_bit}
+use Rattle.design_core.specs.Steps.{kept}
+use Rattle.design_core.specs.Words.{valuation_of, AreWordsOf}
+use Rattle.cycle_sim.specs.declared.machine.Machine.{Machine}
+use Rattle.cycle_sim.specs.declared.plan.Plan.{Plan}
+use Rattle.cycle_sim.specs.Masks.{AreRegisters, AreDriverMasks, AreClockedMasks}
+use Rattle.cycle_sim.specs.Simulated.{Simulated, IsSimulable}
+
+-- the start values of the signals, as a valuation
+abbrev pub starts : List Signal → Valuation
+starts signals s b = option_map_or (λ signal. bit_of signal.start b) (slice_get signals s) false
+
+-- what the fields stand for
+abbrev pub simulated_of : Machine → Simulated
+simulated_of a = record {
+  design = a.design.now;
+  order = a.order.now;
+  values = valuation_of a.values.items;
+  state = kept a.design.now (valuation_of a.state.items);
+}
+
+-- the masks are those of the design
+pub record IsPlan (d : Design) (plan : Plan) : Type 0 where
+  pub registers : AreRegisters d plan.registers.items
+  pub drivers : AreDriverMasks d plan.drivers
+  pub blocks : AreClockedMasks d plan.blocks.own plan.blocks.at_once plan.blocks.now
+
+-- bits that are no input's, no register's and no driver's are 0
+abbrev pub AreQuiet : Design → Valuation → Type 0
+AreQuiet d V = (s b : ℕ) → is_listed d s ≡ false → is_register_bit d s b ≡ false → is_driven d s b ≡ false → V s b ≡ false
+
+-- what holds of the fields
+pub record IsHolding (a : Machine) : Type 0 where
+  pub simulable : IsSimulable a.design.now a.order.now
+  pub plan : IsPlan a.design.now a.plan
+  pub values : AreWordsOf a.design.now.signals.items a.values.items
+  pub state : AreWordsOf a.design.now.signals.items a.state.items
+  pub room : AreWordsOf a.design.now.signals.items a.room.items
+  pub quiet : AreQuiet a.design.now (valuation_of a.values.items)

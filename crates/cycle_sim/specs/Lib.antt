@@ -1,0 +1,7 @@
+pub mod Simulated
+pub mod Misses
+pub mod Masks
+pub mod Blocks
+pub mod Collected
+pub mod Planned
+pub mod Holding

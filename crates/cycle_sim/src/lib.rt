@@ -1,0 +1,14 @@
+//! The simulator: the cycles of a design one after another, each as the definition of a cycle says, and whether
+//! values that were chosen for places make traces right.
+#![tactic(auto)]
+
+mod begin;
+mod block;
+mod collect;
+mod drive;
+mod machine;
+mod mask;
+mod miss;
+mod plan;
+
+pub use miss::Miss;
