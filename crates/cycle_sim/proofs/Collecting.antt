@@ -186,7 +186,7 @@ passes-at test (y ∷ xs) zero x all at = ap test (sym (first at)) ∙ (and_part
 passes-at test (y ∷ xs) (suc i) x all at = passes-at test xs i x (and_parts (test y) (list_all test xs) all).1 at
 
 -- a bit that a part drives is one of its signal
-drives-below : (signals : List Signal) (s b : ℕ) (p : Part) → part_fits signals p ≡ true → part_drives signals s b p ≡ true → b < width_at signals s
+pub drives-below : (signals : List Signal) (s b : ℕ) (p : Part) → part_fits signals p ≡ true → part_drives signals s b p ≡ true → b < width_at signals s
 drives-below signals s b (Whole signal) fits h =
     let both = and_parts (s == signal) (nat_lt b (width_at signals signal)) h in
     subst (λ n. b < width_at signals n) (sym (eqb-true s signal both.0)) (ltb-true b (width_at signals signal) both.1)

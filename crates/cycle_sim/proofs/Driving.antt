@@ -58,7 +58,7 @@ own-by signals choice driver V N is outside = is ∙ fun_ext (λ s. fun_ext (λ 
         outside s b none ∙ ap (λ t. not t && V s b) none ∙ sym (ap (λ t. if t then driven signals choice V driver s b else V s b) none)
 
 -- an assignment that fits has parts that do
-cont-parts : (signals : List Signal) (places : List Place) (target : Target) (e : Typed) (place : Option ℕ) (span : Span)
+pub cont-parts : (signals : List Signal) (places : List Place) (target : Target) (e : Typed) (place : Option ℕ) (span : Span)
     → driver_fits signals places (Cont target e place span) ≡ true → list_all (part_fits signals) target.parts ≡ true
 cont-parts signals places target e place span fits =
     let own = and_parts (assignment_fits signals target.parts e) (option_map_or (place_fits places (parts_width signals target.parts)) place true) fits in

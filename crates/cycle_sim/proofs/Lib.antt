@@ -8,5 +8,7 @@ pub mod Stepping
 pub mod Loading
 pub mod Driving
 pub mod Collecting
+pub mod CollectSteps
+pub mod DrivesBelow
 pub mod Filling
 pub mod Planning

@@ -1,10 +1,10 @@
 -- The masks of a design, made one after another.
 use Rattle.std.proofs.Common.{ℕ, zero, suc, ◌+◌, ◌-◌, ◌^◌, ◌≡◌, ◌<◌, ◌≤◌, Bool, true, false, not, ◌&&◌, ◌||◌, List, [], ◌∷◌, ◌++◌, length, drop, map, get_or, refl, ap, sym, subst, ◌∙◌, arith, ◌⊎◌, inl, inr, Option, Some, None}
-use Rattle.std.specs.Prelude.{◌==◌, nat_lt, slice_get, slice_index_or, if◌then◌else◌, option_map}
+use Rattle.std.specs.Prelude.{◌==◌, nat_lt, slice_get, slice_index_or, if◌then◌else◌, option_map, IsTrue}
 use Rattle.std.specs.Option.{option_map_or}
 use Rattle.std.specs.List.{list_any}
 use Rattle.std.proofs.lemmas.List.{drop_all}
-use Rattle.std.proofs.lemmas.Bool.{cases_lt, lt-ltb, le-ltb, eq-eqb}
+use Rattle.std.proofs.lemmas.Bool.{cases_lt, cases_Bool, or_parts, and_parts, eqb-true, lt-ltb, le-ltb, eq-eqb}
 use Rattle.std.proofs.lemmas.Nat.Bits.{bit_at_ones}
 use Rattle.std.proofs.lemmas.Bool.Decides.{nat_tests}
 use Rattle.std.proofs.lemmas.Option.{slice_get_within, slice_get-map, slice_get_past}
@@ -14,19 +14,24 @@ use Rattle.design_core.specs.declared.signal.Signal.{Signal}
 use Rattle.design_core.specs.declared.driver.Driver.{Driver}
 use Rattle.design_core.specs.declared.driver.Clocked.{Clocked}
 use Rattle.design_core.specs.declared.design.Design.{Design}
-use Rattle.design_core.specs.Valuation.{Valuation, bit}
+use Rattle.design_core.specs.Valuation.{Valuation, bit, width_at}
 use Rattle.design_core.specs.Constant.{zeros}
 use Rattle.design_core.specs.Words.{valuation_of, AreWordsOf}
-use Rattle.design_core.specs.Drives.{driver_drives, is_driven}
+use Rattle.design_core.specs.Drives.{is_listed, some_set, driver_drives, is_driven, block_drives, block_assigns_later, is_register_bit}
+use Rattle.design_core.specs.declared.driver.Reset.{Reset}
+use Rattle.design_core.specs.WellFormed.{statement_fits, is_reset_values, reset_fits, clocked_fits}
+use Rattle.cycle_sim.specs.Collected.{Adds, set_drives}
+use Rattle.cycle_sim.proofs.DrivesBelow.{block-below}
 use Rattle.plain_sim.specs.EvaluateCycle.{blended}
 use Rattle.plain_sim.proofs.EvaluateSteps.{drop-some}
 use Rattle.plain_sim.proofs.EvaluateSweep.{bit-zero, valuation-past}
+use Rattle.design_core.proofs.NumberLaws.{number-below}
 use Rattle.plain_sim.proofs.EvaluateWrite.{bit-high}
-use Rattle.cycle_sim.proofs.Collecting.{slice_get-append}
+use Rattle.cycle_sim.proofs.Collecting.{slice_get-append, adds-then, adds-as}
 use Rattle.cycle_sim.specs.declared.mask.Mask.{Mask}
 use Rattle.cycle_sim.specs.declared.block.BlockMasks.{BlockMasks}
-use Rattle.cycle_sim.specs.Masks.{in_mask, covers, AreMasksOf, AreMasksFor, AreDriverMasks, AreBlockMasks, AreClockedMasks, widths_of}
-use Rattle.cycle_sim.specs.Planned.{Pushed}
+use Rattle.cycle_sim.specs.Masks.{in_mask, covers, AreMasksOf, AreMasksFor, AreDriverMasks, AreBlockMasks, AreClockedMasks, is_own, assigns_now, widths_of}
+use Rattle.cycle_sim.specs.Planned.{Pushed, ListedSoFar, Keeps, block_assigns}
 
 -- ---- rows
 row-before : {X : Type 0} (rows : List (List X)) (row : List X) (j : ℕ) → j < length rows → slice_index_or (rows ++ row ∷ []) j [] ≡ slice_index_or rows j []
@@ -224,21 +229,19 @@ widths-add widths row m fits w =
 
 -- ---- words of ones
 pub ones-bit : (w b : ℕ) → bit (2 ^ w - 1 - 0) b ≡ nat_lt b w
-ones-bit w b = at (cases_lt b w)
+ones-bit w b = ap (λ n. bit n b) (minus_zero (2 ^ w - 1)) ∙ at (cases_lt b w)
   where
-    at : (b < w) ⊎ (w ≤ b) → bit (2 ^ w - 1 - 0) b ≡ nat_lt b w
-    at (inl low) = ap (λ n. n == 1) (bit_at_ones w b low) ∙ sym (lt-ltb b w low)
-    at (inr high) = bit-high (2 ^ w - 1 - 0) w b (omega (arith, positive w)) high ∙ sym (le-ltb b w high)
+    minus_zero : (n : ℕ) → n - 0 ≡ n
+    minus_zero n = omega arith
 
     positive : (w : ℕ) → 1 ≤ 2 ^ w
-    positive w = omega arith
+    positive w = omega (arith, number-below w (λ b. false))
+
+    at : (b < w) ⊎ (w ≤ b) → bit (2 ^ w - 1) b ≡ nat_lt b w
+    at (inl low) = ap (λ n. n == 1) (bit_at_ones w b low) ∙ sym (lt-ltb b w low)
+    at (inr high) = bit-high (2 ^ w - 1) w b (omega (arith, positive w)) high ∙ sym (le-ltb b w high)
 
 -- ---- the masks of words
-pub record ListedSoFar (words : List Bits) (masks : List Mask) (k : ℕ) : Type 0 where
-  pub widths : AreMasksOf (map width_of words) masks
-  pub done : (s b : ℕ) → s < k → covers masks s b ≡ valuation_of words s b
-  pub rest : (s b : ℕ) → k ≤ s → covers masks s b ≡ false
-
 pub listed-begin : (words : List Bits) → ListedSoFar words [] 0
 listed-begin words =
     record { widths = record { each = λ i m at. absurd (none at) }; done = λ s b low. absurd (omega (arith, low)); rest = λ s b high. refl }
@@ -258,6 +261,10 @@ listed-more words masks k bits at before =
     m : Mask
     m = record { signal = k; bits = bits }
 
+    or_none : (x : Bool) → (x || false) ≡ x
+    or_none true = refl
+    or_none false = refl
+
     not_own : (s b : ℕ) → k < s → in_mask m s b ≡ false
     not_own s b h = ap (λ t. t && bit_of bits b) (differ k s h)
 
@@ -268,10 +275,6 @@ listed-more words masks k bits at before =
         ap (λ x. x || in_mask m s b) (before.rest s b last)
         ∙ ap (λ t. t && bit_of bits b) (eq-eqb k s here)
         ∙ sym (ap (λ n. valuation_of words n b) (sym here) ∙ ap (λ o. option_map_or (λ w. bit_of w b) o false) at)
-
-    or_none : (x : Bool) → (x || false) ≡ x
-    or_none true = refl
-    or_none false = refl
 
 -- a word of 0 needs no mask
 pub listed-none : (words : List Bits) (masks : List Mask) (k : ℕ) (bits : Bits) → slice_get words k ≡ Some bits → value_of bits ≡ 0 → ListedSoFar words masks k
@@ -296,3 +299,99 @@ listed-end words masks k past h s b = at (cases_lt s k)
     at : (s < k) ⊎ (k ≤ s) → covers masks s b ≡ valuation_of words s b
     at (inl low) = h.done s b low
     at (inr high) = h.rest s b high ∙ sym (valuation-past words s b (omega (arith, past, high)))
+
+-- ---- the masks of signals that a block does not assign by `<=`
+pub kept-mask : (block : Clocked) (old : List Mask) (m : Mask) → block_assigns_later m.signal block ≡ false → Keeps block m old (old ++ m ∷ [])
+kept-mask block old m none =
+    record {
+      widths = λ widths fits w. widths-add widths old m fits w;
+      same = λ s b. covers-push old m s b ∙ ap (λ x. covers old s b || x) (at s b (m.signal == s) refl);
+    }
+  where
+    at : (s b : ℕ) (t : Bool) → (m.signal == s) ≡ t → in_mask m s b ≡ (in_mask m s b && not (block_assigns_later s block))
+    at s b false e = ap (λ t. t && bit_of m.bits b) e ∙ sym (ap (λ t. (t && bit_of m.bits b) && not (block_assigns_later s block)) e)
+    at s b true e =
+        sym (ap (λ x. in_mask m s b && not x) (ap (λ n. block_assigns_later n block) (sym (eqb-true m.signal s e)) ∙ none) ∙ and_true (in_mask m s b))
+
+pub dropped-mask : (block : Clocked) (old : List Mask) (m : Mask) → block_assigns_later m.signal block ≡ true → Keeps block m old old
+dropped-mask block old m later =
+    record { widths = λ widths fits w. w; same = λ s b. sym (ap (λ x. covers old s b || x) (at s b (m.signal == s) refl) ∙ or_false (covers old s b)) }
+  where
+    or_false : (x : Bool) → (x || false) ≡ x
+    or_false true = refl
+    or_false false = refl
+
+    and_false : (x : Bool) → (x && false) ≡ false
+    and_false true = refl
+    and_false false = refl
+
+    at : (s b : ℕ) (t : Bool) → (m.signal == s) ≡ t → (in_mask m s b && not (block_assigns_later s block)) ≡ false
+    at s b false e = ap (λ t. (t && bit_of m.bits b) && not (block_assigns_later s block)) e
+    at s b true e =
+        ap (λ x. in_mask m s b && not x) (ap (λ n. block_assigns_later n block) (sym (eqb-true m.signal s e)) ∙ later) ∙ and_false (in_mask m s b)
+
+-- ---- the masks of all that is collected
+pub adds-all : (signals : List Signal) (new : List Mask) (test : ℕ → ℕ → Bool) → Adds signals [] new test → AreMasksFor signals new test
+adds-all signals new test added = record { widths = added.widths (record { each = λ i m at. absurd (none at) }); same = added.same }
+  where
+    none : {m : Mask} → None ≡ Some m → ⊥
+    none e = cc
+
+-- the masks of a block with a reset
+pub reset-adds : (d : Design) (block : Clocked) (r : Reset) (only : Bool) (a b : List Mask) → block.reset ≡ Some r → clocked_fits d block ≡ true
+    → (IsTrue (statement_fits d.signals.items d.places.items block.body) → Adds d.signals.items [] a (λ s p. some_set (set_drives d.signals.items only s p) block.body))
+    → (IsTrue (statement_fits d.signals.items d.places.items r.values) → Adds d.signals.items a b (λ s p. some_set (set_drives d.signals.items only s p) r.values))
+    → AreMasksFor d.signals.items b (block_assigns d.signals.items only block)
+reset-adds d block r only a b is fits body values =
+    let fit = and_parts (statement_fits d.signals.items d.places.items block.body) (option_map_or (reset_fits d) block.reset true) fits in
+    let own = and_parts (is_listed d r.signal && (width_at d.signals.items r.signal == 1) && is_reset_values r.values) (statement_fits d.signals.items d.places.items r.values)
+    (sym (ap (λ o. option_map_or (reset_fits d) o true) is) ∙ fit.1) in
+    adds-all d.signals.items b (block_assigns d.signals.items only block)
+    (adds-as d.signals.items [] b (λ s p. some_set (set_drives d.signals.items only s p) block.body || some_set (set_drives d.signals.items only s p) r.values) (block_assigns d.signals.items only block)
+    (λ s p. ap (λ o. some_set (set_drives d.signals.items only s p) block.body || option_map_or (λ (r : Reset). some_set (set_drives d.signals.items only s p) r.values) o false) (sym is))
+    (adds-then d.signals.items [] a b (λ s p. some_set (set_drives d.signals.items only s p) block.body) (λ s p. some_set (set_drives d.signals.items only s p) r.values) (body fit.0) (values own.1)))
+
+-- the masks of a clocked block
+pub pushed-masks : (d : Design) (block : Clocked) (registers : List Bits) (all own once current : List Mask) → AreWordsOf d.signals.items registers → clocked_fits d block ≡ true
+    → ((s b : ℕ) → valuation_of registers s b ≡ (is_register_bit d s b && nat_lt b (width_at d.signals.items s)))
+    → AreMasksFor d.signals.items all (block_assigns d.signals.items false block) → AreMasksOf (map width_of registers) own
+    → ((s b : ℕ) → covers own s b ≡ (covers all s b && valuation_of registers s b))
+    → AreMasksFor d.signals.items once (block_assigns d.signals.items true block)
+    → ((widths : List ℕ) → AreMasksOf widths own → AreMasksOf widths current)
+    → ((s b : ℕ) → covers current s b ≡ (covers own s b && not (block_assigns_later s block)))
+    → AreBlockMasks d block own once current
+pushed-masks d block registers all own once current words fits bits all_masks own_widths own_bits once_masks current_widths current_bits =
+    record {
+      own = record { widths = widths; same = own_same };
+      now = record { widths = current_widths (widths_of d.signals.items) widths; same = λ s b. current_bits s b ∙ ap (λ x. x && not (block_assigns_later s block)) (own_same s b) };
+      at_once_widths = once_masks.widths;
+      at_once = λ s b none.
+          let both = or_parts (assigns_now d.signals.items s b block.body) (option_map_or (λ r. assigns_now d.signals.items s b r.values) block.reset false) (sym (once_masks.same s b) ∙ none) in
+          record { body = both.0; reset = both.1 };
+    }
+  where
+    widths : AreMasksOf (widths_of d.signals.items) own
+    widths = subst (λ ws. AreMasksOf ws own) words.widths own_widths
+
+    own_same : (s b : ℕ) → covers own s b ≡ is_own d block s b
+    own_same s b =
+        own_bits s b ∙ ap (λ x. x && valuation_of registers s b) (all_masks.same s b) ∙ ap (λ x. block_drives d.signals.items s b block && x) (bits s b)
+        ∙ at (cases_Bool (block_drives d.signals.items s b block))
+      where
+        swap : (x z : Bool) → z ≡ true → (true && (x && z)) ≡ (x && true)
+        swap true true e = refl
+        swap true false e = cc
+        swap false z e = refl
+
+        and_none : (x : Bool) → (x && false) ≡ false
+        and_none true = refl
+        and_none false = refl
+
+        at : (block_drives d.signals.items s b block ≡ true) ⊎ (block_drives d.signals.items s b block ≡ false)
+            → (block_drives d.signals.items s b block && (is_register_bit d s b && nat_lt b (width_at d.signals.items s))) ≡ (is_register_bit d s b && block_drives d.signals.items s b block)
+        at (inl on) =
+            ap (λ x. x && (is_register_bit d s b && nat_lt b (width_at d.signals.items s))) on
+            ∙ swap (is_register_bit d s b) (nat_lt b (width_at d.signals.items s)) (lt-ltb b (width_at d.signals.items s) (block-below d block s b fits on))
+            ∙ sym (ap (λ x. is_register_bit d s b && x) on)
+        at (inr off) =
+            ap (λ x. x && (is_register_bit d s b && nat_lt b (width_at d.signals.items s))) off ∙ sym (ap (λ x. is_register_bit d s b && x) off ∙ and_none (is_register_bit d s b))

@@ -5,3 +5,4 @@ pub mod Blocks
 pub mod Collected
 pub mod Planned
 pub mod Holding
+pub mod Simulator

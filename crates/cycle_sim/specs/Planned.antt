@@ -1,14 +1,17 @@
 -- What the steps of making a design's masks give.
-use Rattle.std.specs.Prelude.{ℕ, ◌≡◌, ◌++◌, ◌∷◌, [], Bool, false, ◌&&◌, ◌||◌, nat_lt, List, slice_get}
+use Rattle.std.specs.Prelude.{ℕ, ◌≡◌, ◌<◌, ◌≤◌, ◌++◌, ◌∷◌, [], Bool, false, not, ◌&&◌, ◌||◌, nat_lt, List, map, slice_get, Some}
 use Rattle.std.specs.Option.{option_map_or}
 use Rattle.design_core.specs.declared.signal.Signal.{Signal}
 use Rattle.design_core.specs.declared.driver.Clocked.{Clocked}
 use Rattle.design_core.specs.declared.design.Design.{Design}
-use Rattle.design_core.specs.Drives.{is_reg, some_set}
+use Rattle.loc_base.specs.declared.bits.Bits.{Bits}
+use Rattle.loc_base.specs.Bits.{width_of}
+use Rattle.design_core.specs.Words.{valuation_of}
+use Rattle.design_core.specs.Drives.{is_reg, some_set, block_assigns_later}
 use Rattle.cycle_sim.specs.declared.mask.Mask.{Mask}
 use Rattle.cycle_sim.specs.declared.block.BlockMasks.{BlockMasks}
 use Rattle.cycle_sim.specs.Collected.{set_drives}
-use Rattle.cycle_sim.specs.Masks.{AreBlockMasks}
+use Rattle.cycle_sim.specs.Masks.{AreBlockMasks, AreMasksOf, covers, in_mask}
 
 -- whether a bit is a variable's
 abbrev pub is_full_bit : List Signal → ℕ → ℕ → Bool
@@ -28,3 +31,14 @@ pub record Pushed (d : Design) (block : Clocked) (old new : BlockMasks) : Type 0
   pub at_once_last : new.at_once ≡ old.at_once ++ at_once ∷ []
   pub now_last : new.now ≡ old.now ++ now ∷ []
   pub masks : AreBlockMasks d block own at_once now
+
+-- the masks of the words of the first k signals, so far as they have 1 in a bit
+pub record ListedSoFar (words : List Bits) (masks : List Mask) (k : ℕ) : Type 0 where
+  pub widths : AreMasksOf (map width_of words) masks
+  pub done : (s b : ℕ) → s < k → covers masks s b ≡ valuation_of words s b
+  pub rest : (s b : ℕ) → k ≤ s → covers masks s b ≡ false
+
+-- a mask is kept where its signal is not assigned by `<=` in a block
+pub record Keeps (block : Clocked) (m : Mask) (old new : List Mask) : Type 0 where
+  pub widths : (widths : List ℕ) → slice_get widths m.signal ≡ Some (width_of m.bits) → AreMasksOf widths old → AreMasksOf widths new
+  pub same : (s b : ℕ) → covers new s b ≡ (covers old s b || (in_mask m s b && not (block_assigns_later s block)))

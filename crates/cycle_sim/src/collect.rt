@@ -1,6 +1,6 @@
 //! The masks of the bits that left sides and statements assign.
 
-ghost use Rattle.std.specs.Prelude.{◌≡◌, ◌==◌, ◌&&◌, ◌<◌, ◌≤◌, ◌+◌, ◌^◌, ℕ, IsTrue, OnOk, length};
+ghost use Rattle.std.specs.Prelude.{◌≡◌, ◌==◌, ◌&&◌, not, ◌<◌, ◌≤◌, ◌+◌, ◌^◌, ℕ, IsTrue, OnOk, length};
 ghost use Rattle.std.specs.List.{list_any, list_all};
 ghost use Rattle.loc_base.specs.Bits.{width_of, value_of};
 ghost use Rattle.design_core.specs.Valuation.{number, width_at};
@@ -98,6 +98,13 @@ pub(crate) fn add_parts(
     Ok(())
 }
 
+/// Whether an assignment counts: not one by `<=` where only `=` is asked for.
+fn counts(only_now: bool, later: bool) -> bool
+    ensures { result ≡ not (only_now && later) }
+{
+    !(only_now && later)
+}
+
 /// Adds the masks of the bits that a statement assigns; where `only_now` is true, of those that it assigns by `=`.
 #[cycle(collect)]
 pub(crate) fn add_statement(
@@ -111,20 +118,26 @@ pub(crate) fn add_statement(
 {
     match statement {
         Stmt::Nothing => Ok(()),
-        Stmt::Block(statements) => add_statements(design, statements, only_now, row),
+        Stmt::Block(statements) => {
+            add_statements(design, statements, only_now, row)?;
+            Ok(())
+        }
         Stmt::If { yes, no, .. } => {
             add_statement(design, yes, only_now, row)?;
-            add_statement(design, no, only_now, row)
+            add_statement(design, no, only_now, row)?;
+            Ok(())
         }
         Stmt::Case { items, other, .. } => {
             add_items(design, items, only_now, row)?;
-            add_statement(design, other, only_now, row)
+            add_statement(design, other, only_now, row)?;
+            Ok(())
         }
         Stmt::Set { target, later, .. } => {
-            if only_now && *later {
+            if !counts(only_now, *later) {
                 return Ok(());
             }
-            add_parts(&design.signals, &target.parts, row)
+            add_parts(&design.signals, &target.parts, row)?;
+            Ok(())
         }
     }
 }

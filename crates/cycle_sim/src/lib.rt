@@ -10,5 +10,7 @@ mod machine;
 mod mask;
 mod miss;
 mod plan;
+mod sim;
 
 pub use miss::Miss;
+pub use sim::Sim;

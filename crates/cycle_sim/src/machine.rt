@@ -60,6 +60,17 @@ fn restart(signals: &[Signal], words: &mut [Bits])
     }
 }
 
+/// The start value of each signal.
+fn start_words(alloc: Global, signals: &[Signal]) -> Result<Vec<Bits>, NoMemory>
+    requires { IsTrue (list_all signal_fits signals.now) }
+    ensures words { IfOk result (λ words. AreWordsOf signals.now words.items) }
+    ensures value { IfOk result (λ words. valuation_of words.items ≡ starts signals.now) }
+{
+    let mut words = zero_words(alloc, signals)?;
+    restart(signals, &mut words);
+    Ok(words)
+}
+
 /// Puts every word at 0.
 fn clear(signals: &[Signal], words: &mut [Bits])
     requires words { AreWordsOf signals.now words.old }
@@ -117,9 +128,8 @@ impl<'a> Machine<'a> {
     {
         let plan = plan_of(alloc, design)?;
         let values = zero_words(alloc, &design.signals)?;
-        let mut state = zero_words(alloc, &design.signals)?;
+        let state = start_words(alloc, &design.signals)?;
         let room = zero_words(alloc, &design.signals)?;
-        restart(&design.signals, &mut state);
         Ok(Machine {
             design,
             order: order.as_slice(),

@@ -1,6 +1,6 @@
 //! What a simulator makes of a design once: the masks of its registers, drivers and clocked blocks.
 
-ghost use Rattle.std.specs.Prelude.{◌≡◌, ◌<◌, ◌&&◌, not, nat_lt, ℕ, List, IsTrue, IfOk, OnOk, length, slice_get, Some, map};
+ghost use Rattle.std.specs.Prelude.{◌≡◌, ◌<◌, ◌+◌, ◌&&◌, not, nat_lt, ℕ, List, IsTrue, IfOk, OnOk, length, slice_get, Some, map};
 ghost use Rattle.std.specs.List.{list_all};
 ghost use Rattle.loc_base.specs.Bits.{width_of, bit_of};
 ghost use Rattle.design_core.specs.Valuation.{width_at};
@@ -9,7 +9,8 @@ ghost use Rattle.design_core.specs.Given.{CanRun};
 ghost use Rattle.design_core.specs.Drives.{is_reg, is_driven, is_register_bit, driver_drives, block_assigns_later};
 ghost use Rattle.design_core.specs.WellFormed.{signal_fits, driver_fits, clocked_fits};
 ghost use Rattle.cycle_sim.specs.Masks.{AreMasksFor, AreMasksOf, AreDriverMasks, AreClockedMasks, covers, in_mask};
-ghost use Rattle.cycle_sim.specs.Planned.{is_full_bit, block_assigns, Pushed};
+ghost use Rattle.cycle_sim.specs.Planned.{is_full_bit, block_assigns, Keeps, ListedSoFar, Pushed};
+ghost use Rattle.loc_base.specs.declared.bits.Bits.{Bits as Word};
 ghost use Rattle.cycle_sim.specs.Holding.{IsPlan};
 
 use crate::block::BlockMasks;
@@ -94,6 +95,18 @@ fn register_words(
     Ok(words)
 }
 
+/// Appends the mask of the bits at which the word of a signal has 1, where there is one.
+fn list_word(signal: usize, bits: Bits, masks: &mut Vec<Mask>) -> Result<(), NoMemory>
+    ensures { OnOk result ((words : List Word) → slice_get words signal ≡ Some bits
+        → ListedSoFar words masks.old.items signal → ListedSoFar words masks.new.items (signal + 1)) }
+{
+    if bits.value() == 0 {
+        return Ok(());
+    }
+    masks.push(Mask { signal, bits })?;
+    Ok(())
+}
+
 /// The masks of the bits at which words have 1.
 fn masks_of(alloc: Global, words: &[Bits]) -> Result<Vec<Mask>, NoMemory>
     ensures widths { IfOk result (λ masks. AreMasksOf (map width_of words.now) masks.items) }
@@ -101,10 +114,7 @@ fn masks_of(alloc: Global, words: &[Bits]) -> Result<Vec<Mask>, NoMemory>
 {
     let mut masks = Vec::new(alloc);
     for signal in 0..words.len() {
-        let bits = words[signal];
-        if bits.value() != 0 {
-            masks.push(Mask { signal, bits })?;
-        }
+        list_word(signal, words[signal], &mut masks)?;
     }
     Ok(masks)
 }
@@ -117,10 +127,15 @@ fn driver_masks(alloc: Global, design: &Design, driver: &Driver) -> Result<Vec<M
 {
     let mut row = Vec::new(alloc);
     match driver {
-        Driver::Cont { target, .. } => add_parts(&design.signals, &target.parts, &mut row)?,
-        Driver::Comb { body, .. } => add_statement(design, body, false, &mut row)?,
+        Driver::Cont { target, .. } => {
+            add_parts(&design.signals, &target.parts, &mut row)?;
+            Ok(row)
+        }
+        Driver::Comb { body, .. } => {
+            add_statement(design, body, false, &mut row)?;
+            Ok(row)
+        }
     }
-    Ok(row)
 }
 
 /// A row of masks for each driver.
@@ -149,10 +164,13 @@ fn assigned_masks(
 {
     let mut row = Vec::new(alloc);
     add_statement(design, &block.body, only_now, &mut row)?;
-    if let Some(reset) = &block.reset {
-        add_statement(design, &reset.values, only_now, &mut row)?;
+    match &block.reset {
+        Some(reset) => {
+            add_statement(design, &reset.values, only_now, &mut row)?;
+            Ok(row)
+        }
+        None => Ok(row),
     }
-    Ok(row)
 }
 
 /// The mask of a number with the bits alone that a word of its signal has.
@@ -180,6 +198,22 @@ fn own_masks(alloc: Global, masks: &[Mask], registers: &[Bits]) -> Result<Vec<Ma
     Ok(own)
 }
 
+/// Appends a mask where a clocked block does not assign its signal by `<=`.
+fn keep_mask(
+    design: &Design,
+    block: &Clocked,
+    mask: Mask,
+    now: &mut Vec<Mask>,
+) -> Result<(), NoMemory>
+    ensures { OnOk result (Keeps block.now mask now.old.items now.new.items) }
+{
+    if block_assigns_later(&design.signals, mask.signal, block) {
+        return Ok(());
+    }
+    now.push(mask)?;
+    Ok(())
+}
+
 /// Those masks whose signals a clocked block does not assign by `<=`.
 fn now_masks(
     alloc: Global,
@@ -192,10 +226,7 @@ fn now_masks(
 {
     let mut now = Vec::new(alloc);
     for k in 0..masks.len() {
-        let mask = mask_at(masks, k);
-        if !block_assigns_later(&design.signals, mask.signal, block) {
-            now.push(mask)?;
-        }
+        keep_mask(design, block, mask_at(masks, k), &mut now)?;
     }
     Ok(now)
 }

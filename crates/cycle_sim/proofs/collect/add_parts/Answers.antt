@@ -10,4 +10,4 @@ loop-k-preserved c fits =
     let signals = c.args.signals.now in
     let at = slice_get_at c.args.parts.now c.loop-k.k c.index-parts-k.result c.loop-k-test.true c.index-parts-k.is in
     adds-next signals c.args.row.now.items c.loop-k.row.items c.add_part.new.row.items (λ s b. part_drives signals s b) c.args.parts.now c.loop-k.k c.index-parts-k.result at
-    (c.loop-k.invariant fits) (rw c.index-parts-k.is (c.in_ok-add_part.ensures (rw ← c.index-parts-k.is (passes-at (part_fits signals) c.args.parts.now c.loop-k.k c.index-parts-k.result fits at))))
+    (c.loop-k.invariant fits) (c.in_ok-add_part.ensures (passes-at (part_fits signals) c.args.parts.now c.loop-k.k c.index-parts-k.result fits at))

@@ -6,6 +6,8 @@ use Rattle.design_core.specs.declared.signal.Signal.{Signal}
 use Rattle.design_core.specs.Drives.{is_reg}
 use Rattle.std.proofs.Common.{false}
 use Rattle.cycle_sim.specs.Planned.{is_full_bit}
+use Rattle.design_core.specs.WellFormed.{signal_fits}
+use Rattle.cycle_sim.proofs.Collecting.{passes-at}
 use Rattle.cycle_sim.proofs.Filling.{filled-next, filled-bits}
 use Rattle.cycle_sim.proofs.plan.full_words.Goals as goal
 
@@ -19,3 +21,6 @@ pub returns-clause-bits : goal.returns-clause-bits
 returns-clause-bits c =
     filled-bits (is_full_bit c.args.signals.now) c.args.signals.now c.loop-k.words.items c.loop-k.k (omega (arith, c.loop-k-test.false, c.loop-k.auto.k-end)) c.loop-k.invariant
     (λ s b past. ap (λ o. option_map_or (λ (x : Signal). is_reg x.kind && nat_lt b x.width) o false) (slice_get_past c.args.signals.now s past))
+
+pub full_word-requires : goal.full_word-requires
+full_word-requires c = passes-at signal_fits c.args.signals.now c.loop-k.k c.signal_at.result.now c.requires c.signal_at.ensures

@@ -1,4 +1,4 @@
-use Rattle.cycle_sim.proofs.Planning.{ListedSoFar}
+use Rattle.cycle_sim.specs.Planned.{ListedSoFar}
 use Rattle.cycle_sim.proofs.plan.masks_of.Given as goal
 
 abbrev pub invariant-loop-signal : goal.invariant-loop-signal

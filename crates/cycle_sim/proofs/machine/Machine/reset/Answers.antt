@@ -1,17 +1,28 @@
 use Rattle.std.proofs.Common.{ap, refl}
+use Rattle.design_core.specs.declared.design.Design.{Design}
 use Rattle.design_core.specs.Valuation.{Valuation}
+use Rattle.cycle_sim.proofs.Stepping.{words-back}
 use Rattle.cycle_sim.proofs.machine.Machine.reset.Goals as goal
 
 pub returns-clause-holding : goal.returns-clause-holding
 returns-clause-holding c =
+    let d : Design = c.args.self.now.design.now in
+    let cleared = rw c.deref.ensures.value at c.clear.ensures.words in
+    let started = rw c.deref-2.ensures.value at c.restart.ensures.words in
+    let values = words-back d.signals.items c.args.self.now.values c.clear.new.words c.requires.values cleared in
+    let state = words-back d.signals.items c.args.self.now.state c.restart.new.words c.requires.state started in
     record {
       simulable = c.requires.simulable;
       plan = c.requires.plan;
-      values = c.clear.ensures.words;
-      state = c.restart.ensures.words;
+      values = rw values cleared;
+      state = rw state started;
       room = c.requires.room;
-      quiet = λ s b unlisted other undriven. ap (λ (V : Valuation). V s b) c.clear.ensures.value;
+      quiet = rw values (λ s b unlisted other undriven. ap (λ (V : Valuation). V s b) c.clear.ensures.value);
     }
 
 pub returns-clause-start : goal.returns-clause-start
-returns-clause-start c = rw (c.clear.ensures.value, c.restart.ensures.value) refl
+returns-clause-start c =
+    let d : Design = c.args.self.now.design.now in
+    let values = words-back d.signals.items c.args.self.now.values c.clear.new.words c.requires.values (rw c.deref.ensures.value at c.clear.ensures.words) in
+    let state = words-back d.signals.items c.args.self.now.state c.restart.new.words c.requires.state (rw c.deref-2.ensures.value at c.restart.ensures.words) in
+    rw (values, state, c.clear.ensures.value, c.restart.ensures.value, c.deref-2.ensures.value) refl
