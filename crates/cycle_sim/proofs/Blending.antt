@@ -18,7 +18,7 @@ use Rattle.design_core.specs.Valuation.{Valuation, bit}
 use Rattle.design_core.specs.Constant.{zeros}
 use Rattle.design_core.specs.Words.{valuation_of}
 use Rattle.plain_sim.specs.EvaluateCycle.{either_bit, blended}
-use Rattle.plain_sim.proofs.EvaluateWords.{slice_get_at, valuation-bit}
+use Rattle.plain_values.proofs.EvaluateWords.{slice_get_at, valuation-bit}
 use Rattle.plain_sim.proofs.EvaluateSteps.{drop-some}
 use Rattle.cycle_sim.specs.declared.mask.Mask.{Mask}
 use Rattle.cycle_sim.specs.Masks.{in_mask, covers, AreMasksOf}

@@ -15,9 +15,9 @@ use Rattle.design_core.specs.Drives.{part_drives, some_set}
 use Rattle.design_core.specs.Store.{parts_width}
 use Rattle.design_core.specs.WellFormed.{is_width, typed_fits, part_fits, place_fits, assignment_fits, statement_fits}
 use Rattle.design_core.proofs.StatementSteps.{sets_if}
-use Rattle.plain_sim.specs.Evaluate.{item_fits}
+use Rattle.plain_values.specs.Evaluate.{item_fits}
 use Rattle.plain_sim.proofs.EvaluateDrives.{block-sets, case-sets}
-use Rattle.plain_sim.proofs.EvaluateStatement.{block-fits, if-fits, case-fits, case-ends}
+use Rattle.plain_values.proofs.EvaluateStatement.{block-fits, if-fits, case-fits, case-ends}
 use Rattle.cycle_sim.specs.declared.mask.Mask.{Mask}
 use Rattle.cycle_sim.specs.Collected.{Adds, set_drives, item_drives}
 use Rattle.cycle_sim.proofs.Collecting.{adds-none, adds-then, adds-as}

@@ -19,7 +19,7 @@ use Rattle.design_core.proofs.ReadsWithin.{slice-below, may_pick-below}
 use Rattle.design_core.specs.Drives.{is_among, part_drives}
 use Rattle.plain_sim.proofs.EvaluateSteps.{drop-some, slice-at}
 use Rattle.plain_sim.proofs.EvaluateSweep.{bit-number}
-use Rattle.plain_sim.proofs.EvaluateWrite.{bit-high}
+use Rattle.plain_values.proofs.EvaluateWrite.{bit-high}
 use Rattle.plain_sim.proofs.EvaluateSamples.{width-signal}
 use Rattle.cycle_sim.specs.declared.mask.Mask.{Mask}
 use Rattle.cycle_sim.specs.Masks.{in_mask, covers, AreMasksOf, widths_of}

@@ -16,7 +16,7 @@ use Rattle.design_core.specs.Valuation.{distance_of}
 use Rattle.design_core.specs.WellFormed.{is_width, spans, signal_fits}
 use Rattle.plain_sim.proofs.EvaluateSweep.{valuation-past, Swept, swept-next, swept-all}
 use Rattle.plain_sim.proofs.EvaluateSamples.{get_or-default}
-use Rattle.plain_sim.proofs.EvaluateWords.{slice_get_at, word-width, words-length}
+use Rattle.plain_values.proofs.EvaluateWords.{slice_get_at, word-width, words-length}
 use Rattle.cycle_sim.specs.Holding.{starts}
 use Rattle.cycle_sim.proofs.Collecting.{passes-at}
 

@@ -14,7 +14,7 @@ use Rattle.design_core.specs.Valuation.{Valuation, width_at}
 use Rattle.design_core.specs.Words.{valuation_of, AreWordsOf}
 use Rattle.design_core.specs.TraceFits.{samples_fit}
 use Rattle.design_core.specs.Cycle.{sampled}
-use Rattle.plain_sim.proofs.EvaluateWords.{word-width}
+use Rattle.plain_values.proofs.EvaluateWords.{word-width}
 use Rattle.plain_sim.proofs.EvaluateSamples.{samples-length, sample-width, sample-within}
 use Rattle.cycle_sim.proofs.Blending.{eq-swap}
 

@@ -26,7 +26,7 @@ use Rattle.plain_sim.specs.EvaluateCycle.{blended}
 use Rattle.plain_sim.proofs.EvaluateSteps.{drop-some}
 use Rattle.plain_sim.proofs.EvaluateSweep.{bit-zero, valuation-past}
 use Rattle.design_core.proofs.NumberLaws.{number-below}
-use Rattle.plain_sim.proofs.EvaluateWrite.{bit-high}
+use Rattle.plain_values.proofs.EvaluateWrite.{bit-high}
 use Rattle.cycle_sim.proofs.Collecting.{slice_get-append, adds-then, adds-as}
 use Rattle.cycle_sim.specs.declared.mask.Mask.{Mask}
 use Rattle.cycle_sim.specs.declared.block.BlockMasks.{BlockMasks}

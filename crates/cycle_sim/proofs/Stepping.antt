@@ -1,9 +1,7 @@
 -- What a step leaves is the cycle.
-use Rattle.std.proofs.Common.{ℕ, ◌≡◌, ◌<◌, ◌≤◌, Bool, true, false, not, ◌&&◌, ◌||◌, List, refl, ap, sym, subst, ◌∙◌, ◌⊎◌, inl, inr, arith}
+use Rattle.std.proofs.Common.{ℕ, ◌≡◌, ◌<◌, ◌≤◌, Bool, true, false, not, ◌&&◌, ◌||◌, List, length, refl, ap, sym, subst, ◌∙◌, ◌⊎◌, inl, inr, arith}
 use Rattle.std.specs.Prelude.{if◌then◌else◌, slice_get, Contains, nat_lt}
 use Rattle.std.specs.List.{list_any}
-use Rattle.std.specs.Vec.{Vec, with_items}
-use Rattle.std.proofs.lemmas.List.{with_items_is}
 use Rattle.std.proofs.Math.Path.{fun_ext}
 use Rattle.std.proofs.lemmas.Bool.{and_parts, and_from, cases_Bool, both_ways, cases_lt, lt-ltb, le-ltb}
 use Rattle.loc_base.specs.declared.bits.Bits.{Bits}
@@ -14,7 +12,7 @@ use Rattle.design_core.specs.Valuation.{Valuation, width_at}
 use Rattle.design_core.specs.Words.{valuation_of, AreWordsOf}
 use Rattle.design_core.specs.WellFormed.{IsWellFormed}
 use Rattle.plain_sim.proofs.EvaluateSweep.{valuation-high}
-use Rattle.plain_sim.proofs.EvaluateWords.{words-length}
+use Rattle.plain_values.proofs.EvaluateWords.{words-length}
 use Rattle.cycle_sim.specs.declared.mask.Mask.{Mask}
 use Rattle.design_core.specs.After.{Choice}
 use Rattle.design_core.specs.Drives.{is_driven, is_listed, block_drives, is_register_bit}
@@ -175,6 +173,6 @@ cycle-quiet d samples state choice V N c s b none other undriven = c.other s b (
 pub words-narrow : (d : Design) (words : List Bits) → AreWordsOf d.signals.items words → IsNarrow d (valuation_of words)
 words-narrow d words fit s b high = valuation-high d.signals.items words s b fit high
 
--- words that are written back into a vector of as many
-pub words-back : {Z : Type 0} (signals : List Signal) (v : Vec Bits Z) (ws : List Bits) → AreWordsOf signals v.items → AreWordsOf signals ws → (with_items v ws).items ≡ ws
-words-back signals v ws old new = with_items_is v ws (omega (arith, words-length signals ws new, words-length signals v.items old, v.ok.0))
+-- words of the same signals are as many
+pub as-many : (signals : List Signal) (one other : List Bits) → AreWordsOf signals one → AreWordsOf signals other → length other ≡ length one
+as-many signals one other fit fits = omega (arith, words-length signals one fit, words-length signals other fits)

@@ -11,7 +11,7 @@ use Rattle.design_core.specs.Words.{valuation_of, AreWordsOf}
 use Rattle.cycle_sim.specs.declared.machine.Machine.{Machine}
 use Rattle.cycle_sim.specs.declared.plan.Plan.{Plan}
 use Rattle.cycle_sim.specs.Masks.{AreRegisters, AreDriverMasks, AreClockedMasks}
-use Rattle.cycle_sim.specs.Simulated.{Simulated, IsSimulable}
+use Rattle.cycle_sim.specs.Simulated.{Simulated, IsSimulable, CanSimulate}
 
 -- the start values of the signals, as a valuation
 abbrev pub starts : List Signal → Valuation
@@ -38,9 +38,9 @@ AreQuiet d V = (s b : ℕ) → is_listed d s ≡ false → is_register_bit d s b
 
 -- what holds of the fields
 pub record IsHolding (a : Machine) : Type 0 where
-  pub simulable : IsSimulable a.design.now a.order.now
+  pub can : CanSimulate a.design.now a.order.now
   pub plan : IsPlan a.design.now a.plan
   pub values : AreWordsOf a.design.now.signals.items a.values.items
   pub state : AreWordsOf a.design.now.signals.items a.state.items
   pub room : AreWordsOf a.design.now.signals.items a.room.items
-  pub quiet : AreQuiet a.design.now (valuation_of a.values.items)
+  pub quiet : IsSimulable a.design.now a.order.now → AreQuiet a.design.now (valuation_of a.values.items)

@@ -1,5 +1,5 @@
 -- What a simulator of a design holds, as contracts see it.
-use Rattle.std.specs.Prelude.{ℕ, ◌≡◌, List}
+use Rattle.std.specs.Prelude.{ℕ, ◌≡◌, ◌<◌, List, length, All}
 use Rattle.loc_base.specs.declared.bits.Bits.{Bits}
 use Rattle.design_core.specs.declared.design.Design.{Design}
 use Rattle.design_core.specs.Valuation.{Valuation}
@@ -10,6 +10,7 @@ use Rattle.design_core.specs.Run.{start_state}
 use Rattle.design_core.specs.WellFormed.{IsWellFormed}
 use Rattle.design_core.specs.DrivenOnce.{IsDrivenOnce}
 use Rattle.design_core.specs.Reads.{IsOrder}
+use Rattle.design_core.specs.Given.{CanRun}
 
 -- a design that has one cycle for all samples, states and choices: its drivers stand in an order, and each bit gets its
 -- value once
@@ -17,6 +18,11 @@ pub record IsSimulable (d : Design) (order : List ℕ) : Type 0 where
   pub well_formed : IsWellFormed d
   pub once : IsDrivenOnce d
   pub ordered : IsOrder d order
+
+-- what can be simulated without a fault: the design's signals and assignments fit, and the numbers are some of its drivers'
+pub record CanSimulate (d : Design) (order : List ℕ) : Type 0 where
+  pub can_run : CanRun d
+  pub numbers : All (λ i. i < length d.drivers.items) order
 
 -- the design and the order of its drivers, the values of the last step, and the states with which the next one begins
 pub record Simulated : Type 0 where
@@ -29,8 +35,8 @@ pub record Simulated : Type 0 where
 abbrev pub at_start : Design → List ℕ → Simulated
 at_start d order = record { design = d; order = order; values = zeros; state = start_state d }
 
--- one step: the values are those of the cycle, and the states its next ones
+-- one step: in a design that has one cycle the values are those of the cycle, and the states its next ones
 pub record Steps (samples : List Bits) (choice : Choice) (old new : Simulated) : Type 0 where
   pub design : new.design ≡ old.design
   pub order : new.order ≡ old.order
-  pub cycle : Cycle old.design samples old.state choice new.values new.state
+  pub cycle : IsSimulable old.design old.order → Cycle old.design samples old.state choice new.values new.state

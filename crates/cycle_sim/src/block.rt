@@ -15,7 +15,8 @@ ghost use Rattle.cycle_sim.specs.Blocks.{WithReset, WithBody, AreReset, AreRun};
 use crate::mask::{Mask, copy_bits};
 use design_core::{Design, Stmt};
 use loc_base::{Bits, Rows};
-use plain_sim::{is_active, run_statement};
+use plain_sim::is_active;
+use plain_values::run_statement;
 
 /// The masks of all clocked blocks, a row of each kind for a block.
 #[derive(Drop)]
@@ -117,18 +118,18 @@ pub(crate) fn reset_blocks(
     state: &mut [Bits],
     room: &mut [Bits],
 )
-    requires well_formed { IsWellFormed design.now }
-    requires once { IsDrivenOnce design.now }
+    requires design { CanRun design.now }
     requires masks { AreClockedMasks design.now masks.now.own masks.now.at_once masks.now.now }
     requires chosen { AreChosen design.now freed.now chosen.now }
     requires values { AreWordsOf design.now.signals.items values.old }
     requires state { AreWordsOf design.now.signals.items state.old }
     requires room { AreWordsOf design.now.signals.items room.old }
-    requires registers { (s b : ℕ) → is_register_bit design.now s b ≡ true → valuation_of state.old s b ≡ valuation_of values.old s b }
     ensures values { AreWordsOf design.now.signals.items values.new }
     ensures state { AreWordsOf design.now.signals.items state.new }
     ensures room { AreWordsOf design.now.signals.items room.new }
-    ensures reset { (E : Valuation) → ((s b : ℕ) → is_driven design.now s b ≡ false → valuation_of values.old s b ≡ E s b)
+    ensures reset { IsWellFormed design.now → IsDrivenOnce design.now
+        → ((s b : ℕ) → is_register_bit design.now s b ≡ true → valuation_of state.old s b ≡ valuation_of values.old s b)
+        → (E : Valuation) → ((s b : ℕ) → is_driven design.now s b ≡ false → valuation_of values.old s b ≡ E s b)
         → AreReset design.now (choice_of freed.now chosen.now) E (valuation_of values.new) (valuation_of state.new) }
 {
     for i in 0..design.clocked.len() {
@@ -188,19 +189,19 @@ pub(crate) fn run_blocks(
     state: &mut [Bits],
     room: &mut [Bits],
 )
-    requires well_formed { IsWellFormed design.now }
-    requires once { IsDrivenOnce design.now }
+    requires design { CanRun design.now }
     requires masks { AreClockedMasks design.now masks.now.own masks.now.at_once masks.now.now }
     requires chosen { AreChosen design.now freed.now chosen.now }
     requires values { AreWordsOf design.now.signals.items values.old }
     requires state { AreWordsOf design.now.signals.items state.old }
     requires room { AreWordsOf design.now.signals.items room.old }
-    requires registers { (s b : ℕ) → is_register_bit design.now s b ≡ true → valuation_of state.old s b ≡ valuation_of values.old s b }
     ensures values { AreWordsOf design.now.signals.items values.new }
     ensures state { AreWordsOf design.now.signals.items state.new }
     ensures room { AreWordsOf design.now.signals.items room.new }
     ensures same { valuation_of values.new ≡ valuation_of values.old }
-    ensures run { AreRun design.now (choice_of freed.now chosen.now) (valuation_of values.old) (valuation_of state.new) }
+    ensures run { IsWellFormed design.now → IsDrivenOnce design.now
+        → ((s b : ℕ) → is_register_bit design.now s b ≡ true → valuation_of state.old s b ≡ valuation_of values.old s b)
+        → AreRun design.now (choice_of freed.now chosen.now) (valuation_of values.old) (valuation_of state.new) }
 {
     for i in 0..design.clocked.len() {
         run_block(design, i, masks, freed, chosen, values, state, room);

@@ -6,14 +6,15 @@ ghost use Rattle.loc_base.specs.Bits.{width_of, value_of};
 ghost use Rattle.design_core.specs.Valuation.{number, width_at};
 ghost use Rattle.design_core.specs.Drives.{part_drives, some_set};
 ghost use Rattle.design_core.specs.WellFormed.{signal_fits, part_fits, statement_fits};
-ghost use Rattle.plain_sim.specs.Evaluate.{item_fits};
+ghost use Rattle.plain_values.specs.Evaluate.{item_fits};
 ghost use Rattle.cycle_sim.specs.Collected.{Adds, first_named, count_named, set_drives, item_drives};
 
 use crate::mask::Mask;
 use crate::plan::signal_at;
 use design_core::{CaseItem, Design, Part, Signal, Stmt};
 use loc_base::{Bits, NoMemory};
-use plain_sim::{part_drives, with_next};
+use plain_sim::part_drives;
+use plain_values::with_next;
 
 /// The first of the signals that a part names, and how many they are.
 fn named(part: &Part) -> (usize, usize)

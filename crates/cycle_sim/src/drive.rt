@@ -13,7 +13,7 @@ ghost use Rattle.cycle_sim.specs.Masks.{AreMasksFor, AreDriverMasks, with_own};
 use crate::mask::{Mask, clear_bits};
 use design_core::{Design, Driver};
 use loc_base::{Bits, Rows};
-use plain_sim::{assign, assigned, run_statement, value};
+use plain_values::{assign, assigned, run_statement, value};
 
 /// What a continuous assignment assigns: the value chosen for its place where it has one that is freed.
 fn placed(freed: &[bool], chosen: &[Bits], place: Option<u32>, computed: Bits) -> Bits
@@ -68,7 +68,7 @@ fn drive(
 }
 
 /// The number at a place.
-#[tactic(auto, using(plain_sim::proofs::EvaluateWords::slice_get_at))]
+#[tactic(auto, using(plain_values::proofs::EvaluateWords::slice_get_at))]
 fn number_at(numbers: &[u32], k: usize) -> usize
     requires { k < length numbers.now }
     ensures { slice_get numbers.now k ≡ Some result }

@@ -9,7 +9,7 @@ ghost use Rattle.design_core.specs.Constant.{zeros};
 ghost use Rattle.design_core.specs.WellFormed.{signal_fits};
 ghost use Rattle.design_core.specs.Words.{choice_of, valuation_of, AreWordsOf};
 ghost use Rattle.design_core.specs.Given.{AreChosen};
-ghost use Rattle.cycle_sim.specs.Simulated.{IsSimulable, at_start, Steps};
+ghost use Rattle.cycle_sim.specs.Simulated.{CanSimulate, IsSimulable, at_start, Steps};
 ghost use Rattle.cycle_sim.specs.Holding.{IsHolding, IsPlan, AreQuiet, simulated_of, starts};
 ghost use Rattle.design_core.specs.Cycle.{Cycle};
 ghost use Rattle.design_core.specs.Steps.{kept};
@@ -95,18 +95,18 @@ fn make_cycle(
     state: &mut [Bits],
     room: &mut [Bits],
 )
-    requires simulable { IsSimulable design.now order.now }
+    requires can { CanSimulate design.now order.now }
     requires plan { IsPlan design.now plan.now }
     requires samples { IsTrue (samples_fit design.now.signals.items design.now.inputs.items samples.now) }
     requires chosen { AreChosen design.now freed.now chosen.now }
     requires values { AreWordsOf design.now.signals.items values.old }
     requires state { AreWordsOf design.now.signals.items state.old }
     requires room { AreWordsOf design.now.signals.items room.old }
-    requires quiet { AreQuiet design.now (valuation_of values.old) }
     ensures values { AreWordsOf design.now.signals.items values.new }
     ensures state { AreWordsOf design.now.signals.items state.new }
     ensures room { AreWordsOf design.now.signals.items room.new }
-    ensures cycle { Cycle design.now samples.now (kept design.now (valuation_of state.old)) (choice_of freed.now chosen.now)
+    ensures cycle { IsSimulable design.now order.now → AreQuiet design.now (valuation_of values.old)
+        → Cycle design.now samples.now (kept design.now (valuation_of state.old)) (choice_of freed.now chosen.now)
         (valuation_of values.new) (kept design.now (valuation_of state.new)) }
 {
     begin(design, &plan.registers, samples, state, values);
@@ -122,7 +122,7 @@ impl<'a> Machine<'a> {
         design: &'a Design,
         order: &'a Order,
     ) -> Result<Machine<'a>, NoMemory>
-        requires { IsSimulable design.now order.now }
+        requires { CanSimulate design.now order.now }
         ensures holding { IfOk result IsHolding }
         ensures start { IfOk result (λ machine. simulated_of machine ≡ at_start design.now order.now) }
     {

@@ -17,7 +17,7 @@ pub(crate) struct Mask {
 }
 
 /// The mask of a number.
-#[tactic(auto, using(plain_sim::proofs::EvaluateWords::slice_get_at))]
+#[tactic(auto, using(plain_values::proofs::EvaluateWords::slice_get_at))]
 pub(crate) fn mask_at(masks: &[Mask], k: usize) -> Mask
     requires { k < length masks.now }
     ensures { slice_get masks.now k ≡ Some result }

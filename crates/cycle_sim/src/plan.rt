@@ -32,7 +32,7 @@ pub(crate) struct Plan {
 }
 
 /// The signal of a number.
-#[tactic(auto, using(plain_sim::proofs::EvaluateWords::slice_get_at))]
+#[tactic(auto, using(plain_values::proofs::EvaluateWords::slice_get_at))]
 pub(crate) fn signal_at(signals: &[Signal], k: usize) -> &Signal
     requires { k < length signals.now }
     ensures { slice_get signals.now k ≡ Some result.now }

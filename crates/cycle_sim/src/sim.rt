@@ -6,7 +6,7 @@ ghost use Rattle.design_core.specs.Valuation.{width_at};
 ghost use Rattle.design_core.specs.TraceFits.{samples_fit};
 ghost use Rattle.design_core.specs.Words.{choice_of};
 ghost use Rattle.design_core.specs.Given.{AreChosen};
-ghost use Rattle.cycle_sim.specs.Simulated.{IsSimulable, at_start, Steps};
+ghost use Rattle.cycle_sim.specs.Simulated.{CanSimulate, at_start, Steps};
 ghost use Rattle.cycle_sim.specs.Simulator.{IsSim, held_by};
 
 use crate::machine::Machine;
@@ -50,7 +50,7 @@ fn none_chosen(alloc: Global, count: usize) -> Result<Vec<Bits>, NoMemory>
 impl<'a> Sim<'a> {
     /// Makes all the room that the other calls need; they take no memory. The drivers are carried out in the order.
     pub fn new(alloc: Global, design: &'a Design, order: &'a Order) -> Result<Sim<'a>, NoMemory>
-        requires { IsSimulable design.now order.now }
+        requires { CanSimulate design.now order.now }
         ensures sim { IfOk result IsSim }
         ensures start { IfOk result (λ sim. held_by sim ≡ at_start design.now order.now) }
     {

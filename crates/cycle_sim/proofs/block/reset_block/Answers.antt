@@ -2,7 +2,7 @@ use Rattle.std.proofs.Common.{◌≡◌, ◌∙◌, ap, sym, subst, true}
 use Rattle.std.specs.Prelude.{slice_get, Some}
 use Rattle.design_core.specs.declared.driver.Clocked.{Clocked}
 use Rattle.design_core.specs.Words.{valuation_of, choice_of}
-use Rattle.plain_sim.proofs.EvaluateWords.{slice_get_at}
+use Rattle.plain_values.proofs.EvaluateWords.{slice_get_at}
 use Rattle.plain_sim.proofs.EvaluateHolds.{Some-same}
 use Rattle.cycle_sim.specs.Blocks.{WithReset}
 use Rattle.cycle_sim.proofs.BlockSteps.{reset-step, values-fit}

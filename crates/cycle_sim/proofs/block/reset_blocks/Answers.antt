@@ -10,7 +10,7 @@ loop-i-init c =
       values = c.requires.values;
       state = c.requires.state;
       room = c.requires.room;
-      reset = λ E same. reset-begin c.args.design.now (choice_of c.args.freed.now c.args.chosen.now) E (valuation_of c.args.values.now) (valuation_of c.args.state.now) same c.requires.registers;
+      reset = λ well once registers E same. reset-begin c.args.design.now (choice_of c.args.freed.now c.args.chosen.now) E (valuation_of c.args.values.now) (valuation_of c.args.state.now) same registers;
     }
 
 pub loop-i-preserved : goal.loop-i-preserved
@@ -20,12 +20,12 @@ loop-i-preserved c =
       values = c.reset_block.ensures.values;
       state = c.reset_block.ensures.state;
       room = c.reset_block.ensures.room;
-      reset = λ E same.
+      reset = λ well once registers E same.
           reset-next c.args.design.now (choice_of c.args.freed.now c.args.chosen.now) E (valuation_of c.loop-i.values) (valuation_of c.loop-i.state) (valuation_of c.reset_block.new.values) (valuation_of c.reset_block.new.state)
-          c.loop-i.i block c.requires.well_formed c.requires.once at (c.loop-i.invariant.reset E same) (c.reset_block.ensures.reset block at);
+          c.loop-i.i block well once at (c.loop-i.invariant.reset well once registers E same) (c.reset_block.ensures.reset block at);
     }
 
 pub returns-clause-reset : goal.returns-clause-reset
-returns-clause-reset c E same =
+returns-clause-reset c well once registers E same =
     reset-end c.args.design.now (choice_of c.args.freed.now c.args.chosen.now) E (valuation_of c.loop-i.values) (valuation_of c.loop-i.state) c.loop-i.i
-    (omega (arith, c.loop-i-test.false, c.len-i-end.ensures, c.args.design.now.clocked.ok.0)) (c.loop-i.invariant.reset E same)
+    (omega (arith, c.loop-i-test.false, c.len-i-end.ensures, c.args.design.now.clocked.ok.0)) (c.loop-i.invariant.reset well once registers E same)

@@ -2,7 +2,7 @@ use Rattle.std.proofs.Common.{◌≡◌, ◌∙◌, ap, sym, subst, []}
 use Rattle.std.specs.Prelude.{slice_index_or}
 use Rattle.design_core.specs.declared.driver.Clocked.{Clocked}
 use Rattle.design_core.specs.Words.{valuation_of, choice_of}
-use Rattle.plain_sim.proofs.EvaluateWords.{slice_get_at}
+use Rattle.plain_values.proofs.EvaluateWords.{slice_get_at}
 use Rattle.plain_sim.proofs.EvaluateHolds.{Some-same}
 use Rattle.cycle_sim.specs.Blocks.{WithBody}
 use Rattle.cycle_sim.proofs.BlockSteps.{body-step, body-fits}

@@ -2,7 +2,7 @@ use Rattle.std.proofs.Common.{IsTrue, ℕ}
 use Rattle.std.specs.List.{list_all}
 use Rattle.design_core.specs.Drives.{some_set}
 use Rattle.design_core.specs.WellFormed.{statement_fits}
-use Rattle.plain_sim.specs.Evaluate.{item_fits}
+use Rattle.plain_values.specs.Evaluate.{item_fits}
 use Rattle.cycle_sim.specs.Collected.{set_drives, item_drives}
 use Rattle.cycle_sim.proofs.Collecting.{AddsSoFar}
 use Rattle.cycle_sim.proofs.collect.+collect.Given as goal

@@ -1,7 +1,7 @@
 use Rattle.std.proofs.Common.{◌<◌, length, arith}
 use Rattle.design_core.specs.Drives.{part_drives}
 use Rattle.design_core.specs.WellFormed.{part_fits}
-use Rattle.plain_sim.proofs.EvaluateWords.{slice_get_at}
+use Rattle.plain_values.proofs.EvaluateWords.{slice_get_at}
 use Rattle.cycle_sim.proofs.Collecting.{adds-next, passes-at}
 use Rattle.cycle_sim.proofs.collect.add_parts.Goals as goal
 

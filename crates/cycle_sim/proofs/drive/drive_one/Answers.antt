@@ -1,5 +1,5 @@
 use Rattle.design_core.specs.Words.{valuation_of, choice_of}
-use Rattle.plain_sim.proofs.EvaluateWords.{slice_get_at}
+use Rattle.plain_values.proofs.EvaluateWords.{slice_get_at}
 use Rattle.cycle_sim.proofs.Driving.{own-with}
 use Rattle.cycle_sim.proofs.drive.drive_one.Goals as goal
 

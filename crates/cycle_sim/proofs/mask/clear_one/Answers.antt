@@ -2,7 +2,7 @@ use Rattle.std.proofs.Common.{◌<◌, length, ap, ◌∙◌}
 use Rattle.std.proofs.Math.Seq.{map-set_same}
 use Rattle.loc_base.specs.Bits.{width_of}
 use Rattle.design_core.specs.Constant.{zeros}
-use Rattle.plain_sim.proofs.EvaluateWords.{slice_get_at}
+use Rattle.plain_values.proofs.EvaluateWords.{slice_get_at}
 use Rattle.cycle_sim.proofs.Blending.{mask-within, replaced-bits}
 use Rattle.cycle_sim.proofs.mask.clear_one.Goals as goal
 

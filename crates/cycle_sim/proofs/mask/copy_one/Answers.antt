@@ -4,7 +4,7 @@ use Rattle.std.proofs.Math.Seq.{map-set_same}
 use Rattle.std.proofs.lemmas.List.{length-map}
 use Rattle.loc_base.specs.Bits.{width_of, bit_of}
 use Rattle.design_core.specs.Words.{valuation_of}
-use Rattle.plain_sim.proofs.EvaluateWords.{slice_get_at, valuation-bit}
+use Rattle.plain_values.proofs.EvaluateWords.{slice_get_at, valuation-bit}
 use Rattle.cycle_sim.proofs.Blending.{mask-within, replaced-bits}
 use Rattle.cycle_sim.proofs.mask.copy_one.Goals as goal
 

@@ -1,5 +1,5 @@
 use Rattle.std.proofs.Common.{arith}
-use Rattle.plain_sim.proofs.EvaluateWords.{slice_get_at}
+use Rattle.plain_values.proofs.EvaluateWords.{slice_get_at}
 use Rattle.cycle_sim.proofs.Planning.{blocks-next, blocks-end}
 use Rattle.cycle_sim.proofs.plan.blocks_masks.Goals as goal
 
