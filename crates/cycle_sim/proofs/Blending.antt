@@ -1,11 +1,9 @@
 -- Words and valuations in which some bits are replaced.
-use Rattle.std.proofs.Common.{◌≡◌, ℕ, zero, suc, ◌+◌, ◌<◌, ◌%◌, min, List, [], ◌∷◌, length, get_or, set, drop, map, ap, ◌∙◌, sym, refl, arith, ◌⊎◌, inl, inr}
-use Rattle.std.specs.Prelude.{Bool, true, false, not, ◌&&◌, ◌||◌, ◌==◌, if◌then◌else◌, bit_and, bit_xor, slice_get, Option, Some, None, option_map}
+use Rattle.std.proofs.Common.{◌≡◌, ℕ, zero, suc, ◌+◌, ◌<◌, ◌%◌, min, List, length, set, drop, map, ap, ◌∙◌, sym, refl, arith}
+use Rattle.std.specs.Prelude.{Bool, true, false, not, ◌&&◌, ◌||◌, ◌==◌, if◌then◌else◌, bit_and, bit_xor, slice_get, Some, option_map}
 use Rattle.std.specs.Option.{option_map_or}
-use Rattle.std.specs.List.{list_any}
 use Rattle.std.specs.Int.{bit_at}
 use Rattle.std.proofs.Math.Path.{fun_ext}
-use Rattle.std.proofs.Math.Seq.{map-set_same}
 use Rattle.std.proofs.lemmas.Nat.Bits.{bit_at_and, bit_at_xor, bit_at-lt}
 use Rattle.std.proofs.lemmas.Bool.{eqb-true}
 use Rattle.std.proofs.lemmas.Bool.Decides.{nat_tests}
@@ -15,13 +13,12 @@ use Rattle.loc_base.specs.declared.bits.Bits.{Bits}
 use Rattle.loc_base.specs.Bits.{bit_of, width_of, value_of}
 use Rattle.loc_base.proofs.ShelfLists.{slice_get-set_same, slice_get-set_other}
 use Rattle.design_core.specs.Valuation.{Valuation, bit}
-use Rattle.design_core.specs.Constant.{zeros}
 use Rattle.design_core.specs.Words.{valuation_of}
-use Rattle.plain_sim.specs.EvaluateCycle.{either_bit, blended}
-use Rattle.plain_values.proofs.EvaluateWords.{slice_get_at, valuation-bit}
+use Rattle.plain_sim.specs.EvaluateCycle.{blended}
+use Rattle.plain_values.proofs.EvaluateWords.{valuation-bit}
 use Rattle.plain_sim.proofs.EvaluateSteps.{drop-some}
 use Rattle.cycle_sim.specs.declared.mask.Mask.{Mask}
-use Rattle.cycle_sim.specs.Masks.{in_mask, covers, AreMasksOf}
+use Rattle.cycle_sim.specs.Masks.{in_mask, covers}
 
 -- ---- one bit
 and_of : (a b : ℕ) → a < 2 → b < 2 → (min a b == 1) ≡ ((a == 1) && (b == 1))

@@ -1,7 +1,7 @@
 -- The bodies of the clocked blocks, one after another, in the words of the states.
-use Rattle.std.proofs.Common.{ℕ, ◌+◌, ◌≡◌, ◌<◌, ◌≤◌, Bool, true, false, not, ◌&&◌, length, refl, ap, sym, subst, ◌∙◌, arith, ◌⊎◌, inl, inr, Some}
-use Rattle.std.specs.Prelude.{if◌then◌else◌, slice_get, Contains}
-use Rattle.std.proofs.lemmas.Bool.{and_parts, and_from, cases_Bool, both_ways, cases_order}
+use Rattle.std.proofs.Common.{ℕ, ◌+◌, ◌≡◌, ◌<◌, ◌≤◌, Bool, true, false, not, ◌&&◌, length, refl, ap, sym, ◌∙◌, arith, ◌⊎◌, inl, inr, Some}
+use Rattle.std.specs.Prelude.{if◌then◌else◌, slice_get}
+use Rattle.std.proofs.lemmas.Bool.{and_parts, and_from, cases_Bool, cases_order}
 use Rattle.std.proofs.lemmas.Option.{slice_get_within}
 use Rattle.design_core.specs.declared.driver.Clocked.{Clocked}
 use Rattle.design_core.specs.declared.design.Design.{Design}
@@ -9,7 +9,6 @@ use Rattle.design_core.specs.Valuation.{Valuation}
 use Rattle.design_core.specs.After.{Choice, Updates, after}
 use Rattle.design_core.specs.Drives.{block_drives, is_register_bit}
 use Rattle.design_core.specs.Cycle.{left, left_from, is_active}
-use Rattle.design_core.specs.Reads.{AgreeOn, statement_reads}
 use Rattle.design_core.specs.WellFormed.{clocked_fits, reset_fits, statement_fits, IsWellFormed}
 use Rattle.design_core.specs.DrivenOnce.{IsDrivenOnce}
 use Rattle.design_core.proofs.Widened.{list_all-member}

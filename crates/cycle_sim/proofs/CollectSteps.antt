@@ -1,5 +1,5 @@
 -- The masks of a statement are those of its parts.
-use Rattle.std.proofs.Common.{ℕ, ◌≡◌, Bool, true, false, not, ◌&&◌, ◌||◌, List, refl, ap, sym, ◌∙◌}
+use Rattle.std.proofs.Common.{ℕ, ◌≡◌, Bool, true, not, ◌&&◌, ◌||◌, List, ap, sym, ◌∙◌}
 use Rattle.std.specs.Prelude.{IsTrue, nat_le}
 use Rattle.std.specs.List.{list_any, list_all}
 use Rattle.std.proofs.lemmas.Bool.{and_parts}
@@ -20,7 +20,7 @@ use Rattle.plain_sim.proofs.EvaluateDrives.{block-sets, case-sets}
 use Rattle.plain_values.proofs.EvaluateStatement.{block-fits, if-fits, case-fits, case-ends}
 use Rattle.cycle_sim.specs.declared.mask.Mask.{Mask}
 use Rattle.cycle_sim.specs.Collected.{Adds, set_drives, item_drives}
-use Rattle.cycle_sim.proofs.Collecting.{adds-none, adds-then, adds-as}
+use Rattle.cycle_sim.proofs.Collecting.{adds-then, adds-as}
 
 pub block-adds : (signals : List Signal) (places : List Place) (only : Bool) (statements : List Stmt) (a b : List Mask)
     → (IsTrue (list_all (statement_fits signals places) statements) → Adds signals a b (λ s p. list_any (some_set (set_drives signals only s p)) statements))

@@ -5,8 +5,7 @@ use Rattle.std.specs.Option.{option_map_or}
 use Rattle.std.specs.List.{list_any, list_all}
 use Rattle.std.proofs.lemmas.Bool.{and_parts, both_ways}
 use Rattle.design_core.specs.declared.signal.Signal.{Signal}
-use Rattle.design_core.specs.declared.place.Place.{Place}
-use Rattle.design_core.specs.declared.expression.Node.{Node, Row_of-Typed, end_of-Typed, more_of-Typed}
+use Rattle.design_core.specs.declared.expression.Node.{Node, end_of-Typed, more_of-Typed}
 use Rattle.design_core.specs.declared.expression.Node.TheVariants as node
 use Rattle.design_core.specs.declared.statement.Part.{Part}
 use Rattle.design_core.specs.declared.statement.Part.TheVariants as part
@@ -20,7 +19,7 @@ use Rattle.design_core.specs.Constant.{is_constant}
 use Rattle.design_core.specs.After.{Choice, Updates, after}
 use Rattle.design_core.specs.Drives.{block_assigns_later, is_listed}
 use Rattle.design_core.specs.Cycle.{left, left_from}
-use Rattle.design_core.specs.Reads.{AgreeOn, node_reads, reads, part_reads, assigns, statement_reads, statements_read}
+use Rattle.design_core.specs.Reads.{AgreeOn, node_reads, part_reads, assigns, statement_reads, statements_read}
 use Rattle.design_core.specs.WellFormed.{is_fixed, is_reset_values, are_reset_values, statement_fits, reset_fits, clocked_fits}
 use Rattle.design_core.proofs.StatementAgrees.{after-agrees, after-agrees_later}
 

@@ -1,13 +1,11 @@
 -- A driver carried out in place, its own bits being put at 0 first.
-use Rattle.std.proofs.Common.{ℕ, ◌+◌, ◌≡◌, ◌<◌, ◌≤◌, Bool, true, false, not, ◌&&◌, ◌||◌, List, [], ◌∷◌, drop, length, refl, ap, sym, ◌∙◌, ◌⊎◌, inl, inr, Option, Some, None}
-use Rattle.std.specs.Prelude.{if◌then◌else◌, slice_get, All, Contains}
+use Rattle.std.proofs.Common.{ℕ, ◌+◌, ◌≡◌, ◌<◌, Bool, true, false, not, ◌&&◌, List, drop, refl, ap, sym, ◌∙◌, ◌⊎◌, inl, inr, Option, Some}
+use Rattle.std.specs.Prelude.{if◌then◌else◌, slice_get, All}
 use Rattle.std.specs.Option.{option_map_or}
-use Rattle.std.specs.List.{list_any, list_all}
+use Rattle.std.specs.List.{list_all}
 use Rattle.std.proofs.Math.Path.{fun_ext}
 use Rattle.std.proofs.lemmas.Bool.{and_parts, cases_Bool}
-use Rattle.loc_base.specs.declared.bits.Bits.{Bits}
 use Rattle.loc_base.specs.declared.span.Span.{Span}
-use Rattle.loc_base.specs.Bits.{value_of}
 use Rattle.design_core.specs.declared.signal.Signal.{Signal}
 use Rattle.design_core.specs.declared.place.Place.{Place}
 use Rattle.design_core.specs.declared.expression.Typed.{Typed}

@@ -1,5 +1,5 @@
 -- The samples put into words, from the last input to the first.
-use Rattle.std.proofs.Common.{◌≡◌, ℕ, ◌+◌, ◌<◌, List, [], ◌∷◌, length, get_or, set, drop, map, add-one, ap, ◌∙◌, sym, refl, arith, subst}
+use Rattle.std.proofs.Common.{◌≡◌, ℕ, ◌+◌, ◌<◌, List, ◌∷◌, length, get_or, set, drop, map, add-one, ap, ◌∙◌, sym, refl, arith}
 use Rattle.std.specs.Prelude.{Bool, true, false, ◌==◌, ◌||◌, if◌then◌else◌}
 use Rattle.std.specs.Option.{option_map_or}
 use Rattle.std.specs.List.{list_any}
@@ -10,7 +10,7 @@ use Rattle.loc_base.specs.declared.bits.Bits.{Bits}
 use Rattle.loc_base.specs.Bits.{width_of, bit_of}
 use Rattle.loc_base.proofs.ShelfLists.{slice_get-set_same, slice_get-set_other}
 use Rattle.design_core.specs.declared.signal.Signal.{Signal}
-use Rattle.design_core.specs.Valuation.{Valuation, width_at}
+use Rattle.design_core.specs.Valuation.{Valuation}
 use Rattle.design_core.specs.Words.{valuation_of, AreWordsOf}
 use Rattle.design_core.specs.TraceFits.{samples_fit}
 use Rattle.design_core.specs.Cycle.{sampled}

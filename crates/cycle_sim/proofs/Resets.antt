@@ -1,27 +1,24 @@
 -- The resets of the clocked blocks, one after another, in the words of the values and of the states.
-use Rattle.std.proofs.Common.{ℕ, ◌+◌, ◌≡◌, ◌<◌, ◌≤◌, Bool, true, false, not, ◌&&◌, ◌||◌, List, [], ◌∷◌, drop, length, refl, ap, sym, subst, ◌∙◌, arith, ◌⊎◌, inl, inr, Option, Some, None}
+use Rattle.std.proofs.Common.{ℕ, ◌+◌, ◌≡◌, ◌≤◌, Bool, true, false, not, ◌&&◌, List, [], ◌∷◌, drop, length, refl, ap, sym, subst, ◌∙◌, arith, ◌⊎◌, inl, inr, Option, Some, None}
 use Rattle.std.specs.Prelude.{◌==◌, if◌then◌else◌, slice_get, Contains}
 use Rattle.std.specs.Option.{option_map_or}
-use Rattle.std.specs.List.{list_any, list_all}
 use Rattle.std.proofs.lemmas.List.{drop_all}
-use Rattle.std.proofs.lemmas.Bool.{or_cases, and_parts, and_from, cases_Bool, both_ways, cases_order, cases_lt, eqb-true}
-use Rattle.std.proofs.lemmas.Option.{slice_get_within}
+use Rattle.std.proofs.lemmas.Bool.{and_parts, cases_Bool, eqb-true}
 use Rattle.design_core.specs.declared.signal.Signal.{Signal}
 use Rattle.design_core.specs.declared.signal.SignalKind.{SignalKind}
 use Rattle.design_core.specs.declared.signal.SignalKind.TheVariants.{Input, Net, Reg}
-use Rattle.design_core.specs.declared.driver.Driver.{Driver}
 use Rattle.design_core.specs.declared.driver.Reset.{Reset}
 use Rattle.design_core.specs.declared.driver.Clocked.{Clocked}
 use Rattle.design_core.specs.declared.design.Design.{Design}
 use Rattle.design_core.specs.Valuation.{Valuation}
-use Rattle.design_core.specs.After.{Choice, Updates, after}
-use Rattle.design_core.specs.Drives.{is_reg, driver_drives, is_driven, block_drives, is_register_bit, is_listed, block_assigns_later}
+use Rattle.design_core.specs.After.{Choice, after}
+use Rattle.design_core.specs.Drives.{is_reg, driver_drives, is_driven, block_drives, is_register_bit, is_listed}
 use Rattle.design_core.specs.Cycle.{left, left_from, is_active}
-use Rattle.design_core.specs.WellFormed.{is_input, input_fits, clocked_fits, reset_fits, is_reset_values, statement_fits, IsWellFormed}
+use Rattle.design_core.specs.WellFormed.{is_input, input_fits, clocked_fits, IsWellFormed}
 use Rattle.design_core.specs.DrivenOnce.{IsDrivenOnce}
 use Rattle.design_core.specs.Steps.{with_reset, with_resets}
 use Rattle.design_core.proofs.Widened.{list_all-member}
-use Rattle.design_core.proofs.CycleLaws.{list_any-found, list_any-none, Contains-at, Contains-place, reset-listed}
+use Rattle.design_core.proofs.CycleLaws.{list_any-found, Contains-at, reset-listed}
 use Rattle.plain_sim.proofs.EvaluateSteps.{drop-some}
 use Rattle.cycle_sim.specs.Masks.{is_own}
 use Rattle.cycle_sim.specs.Blocks.{reset_leaves, WithReset, AreReset}

@@ -1,6 +1,6 @@
 -- A statement leaves, in what is read, the bits that it does not assign by `=`; and what is read after it does not depend
 -- on later updates.
-use Rattle.std.proofs.Common.{ℕ, ◌≡◌, Bool, true, false, not, ◌&&◌, ◌||◌, List, [], ◌∷◌, refl, ap, sym, ◌∙◌, inl}
+use Rattle.std.proofs.Common.{ℕ, ◌≡◌, Bool, true, false, not, ◌&&◌, List, refl, ◌∙◌, inl}
 use Rattle.std.specs.Prelude.{if◌then◌else◌, nat_le}
 use Rattle.std.specs.List.{list_any, list_all}
 use Rattle.std.proofs.lemmas.Bool.{or_parts, and_parts}
@@ -16,7 +16,6 @@ use Rattle.design_core.specs.Store.{parts_width}
 use Rattle.design_core.specs.Value.{value}
 use Rattle.design_core.specs.After.{Choice, assigned, Updates, matches, after_set, after, after_all, after_case}
 use Rattle.design_core.specs.Drives.{part_drives, some_set_of, some_set_in}
-use Rattle.design_core.specs.Reads.{AgreeOn, statement_reads}
 use Rattle.design_core.specs.WellFormed.{is_width, assignment_fits, place_fits, typed_fits, part_fits, label_fits, statement_fits, statements_fit, items_fit}
 use Rattle.design_core.proofs.StoreOutside.{store-outside}
 use Rattle.design_core.proofs.StatementAgrees.{after-agrees}

@@ -1,7 +1,6 @@
 -- What a step leaves is the cycle.
 use Rattle.std.proofs.Common.{ℕ, ◌≡◌, ◌<◌, ◌≤◌, Bool, true, false, not, ◌&&◌, ◌||◌, List, length, refl, ap, sym, subst, ◌∙◌, ◌⊎◌, inl, inr, arith}
 use Rattle.std.specs.Prelude.{if◌then◌else◌, slice_get, Contains, nat_lt}
-use Rattle.std.specs.List.{list_any}
 use Rattle.std.proofs.Math.Path.{fun_ext}
 use Rattle.std.proofs.lemmas.Bool.{and_parts, and_from, cases_Bool, both_ways, cases_lt, lt-ltb, le-ltb}
 use Rattle.loc_base.specs.declared.bits.Bits.{Bits}
@@ -16,12 +15,12 @@ use Rattle.plain_values.proofs.EvaluateWords.{words-length}
 use Rattle.cycle_sim.specs.declared.mask.Mask.{Mask}
 use Rattle.design_core.specs.After.{Choice}
 use Rattle.design_core.specs.Drives.{is_driven, is_listed, block_drives, is_register_bit}
-use Rattle.design_core.specs.Cycle.{before, sampled, left_from, is_active, is_reset, is_clocked, Cycle}
+use Rattle.design_core.specs.Cycle.{before, sampled, is_active, is_reset, is_clocked, Cycle}
 use Rattle.design_core.specs.Steps.{with_resets, with_drivers, kept, computed_now, computed_next}
 use Rattle.design_core.proofs.CycleLaws.{list_any-found, list_any-none, Contains-place}
 use Rattle.design_core.proofs.CycleExists.{cycle-exists, with_drivers-undriven}
 use Rattle.design_core.proofs.DriversForget.{drivers-forget}
-use Rattle.cycle_sim.specs.Masks.{is_own, covers, AreRegisters}
+use Rattle.cycle_sim.specs.Masks.{covers, AreRegisters}
 use Rattle.cycle_sim.specs.Holding.{AreQuiet}
 use Rattle.cycle_sim.specs.Blocks.{AreReset, AreRun}
 use Rattle.cycle_sim.specs.Simulated.{IsSimulable}

@@ -1,5 +1,5 @@
 -- How the fields of a simulator stand for what contracts see of it.
-use Rattle.std.specs.Prelude.{ℕ, ◌≡◌, Bool, false, List, slice_get}
+use Rattle.std.specs.Prelude.{ℕ, ◌≡◌, false, List, slice_get}
 use Rattle.std.specs.Option.{option_map_or}
 use Rattle.loc_base.specs.Bits.{bit_of}
 use Rattle.design_core.specs.declared.signal.Signal.{Signal}

@@ -1,18 +1,16 @@
 -- Masks: some bits of the signals, each mask those of one signal where its word has 1.
-use Rattle.std.specs.Prelude.{ℕ, ◌≡◌, ◌==◌, Bool, false, not, ◌&&◌, if◌then◌else◌, IsTrue, List, map, length, slice_get, slice_index_or, nat_lt, [], Some}
+use Rattle.std.specs.Prelude.{ℕ, ◌≡◌, ◌==◌, Bool, false, not, ◌&&◌, if◌then◌else◌, List, map, length, slice_get, slice_index_or, nat_lt, [], Some}
 use Rattle.std.specs.List.{list_any}
 use Rattle.std.specs.Option.{option_map_or}
-use Rattle.loc_base.specs.declared.bits.Bits.{Bits}
 use Rattle.loc_base.specs.Bits.{bit_of, width_of}
 use Rattle.design_core.specs.declared.signal.Signal.{Signal}
-use Rattle.design_core.specs.declared.statement.Part.{Part}
 use Rattle.design_core.specs.declared.statement.Stmt.{Stmt}
 use Rattle.design_core.specs.declared.driver.Driver.{Driver}
 use Rattle.design_core.specs.declared.driver.Clocked.{Clocked}
 use Rattle.design_core.specs.declared.design.Design.{Design}
 use Rattle.design_core.specs.Valuation.{Valuation, width_at}
-use Rattle.design_core.specs.After.{Choice, Updates, after}
-use Rattle.design_core.specs.Cycle.{left, driven}
+use Rattle.design_core.specs.After.{Choice, after}
+use Rattle.design_core.specs.Cycle.{driven}
 use Rattle.design_core.specs.Drives.{some_set, part_drives, driver_drives, block_drives, block_assigns_later, is_register_bit}
 use Rattle.cycle_sim.specs.declared.mask.Mask.{Mask}
 

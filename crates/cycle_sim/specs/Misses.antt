@@ -8,7 +8,6 @@ use Rattle.design_core.specs.declared.values.Values.{Values}
 use Rattle.design_core.specs.declared.values.SetWithValues.{SetWithValues}
 use Rattle.design_core.specs.Valuation.{Valuation}
 use Rattle.design_core.specs.Run.{Choices, IsRun, Meets, expected_at}
-use Rattle.design_core.specs.TraceFits.{IsTraceOf}
 use Rattle.design_core.specs.Explained.{is_one_of, choices_in, cycles_before, AreRows}
 use Rattle.cycle_sim.specs.declared.miss.Miss.{Miss}
 

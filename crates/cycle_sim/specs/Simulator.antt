@@ -1,5 +1,4 @@
 -- What contracts see of a simulator.
-use Rattle.std.specs.Prelude.{◌≡◌}
 use Rattle.design_core.specs.Given.{AreChosen}
 use Rattle.cycle_sim.specs.declared.sim.Sim.{Sim}
 use Rattle.cycle_sim.specs.Simulated.{Simulated}

@@ -1,4 +1,4 @@
-use Rattle.std.proofs.Common.{◌≡◌, ◌≤◌, length}
+use Rattle.std.proofs.Common.{◌≤◌, length}
 use Rattle.design_core.specs.Words.{valuation_of, AreWordsOf}
 use Rattle.cycle_sim.proofs.Loading.{Loaded}
 use Rattle.cycle_sim.proofs.begin.load.Given as goal

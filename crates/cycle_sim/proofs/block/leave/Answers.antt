@@ -1,4 +1,3 @@
-use Rattle.std.proofs.Common.{◌∙◌, ap}
 use Rattle.design_core.specs.Words.{valuation_of, choice_of}
 use Rattle.cycle_sim.proofs.BlockSteps.{restored, now-same, left-is}
 use Rattle.cycle_sim.proofs.block.leave.Goals as goal

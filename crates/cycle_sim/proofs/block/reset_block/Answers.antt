@@ -1,5 +1,4 @@
-use Rattle.std.proofs.Common.{◌≡◌, ◌∙◌, ap, sym, subst, true}
-use Rattle.std.specs.Prelude.{slice_get, Some}
+use Rattle.std.proofs.Common.{◌∙◌, sym, subst}
 use Rattle.design_core.specs.declared.driver.Clocked.{Clocked}
 use Rattle.design_core.specs.Words.{valuation_of, choice_of}
 use Rattle.plain_values.proofs.EvaluateWords.{slice_get_at}

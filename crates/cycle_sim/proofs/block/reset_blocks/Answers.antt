@@ -1,4 +1,4 @@
-use Rattle.std.proofs.Common.{◌+◌, arith}
+use Rattle.std.proofs.Common.{arith}
 use Rattle.design_core.specs.Words.{valuation_of, choice_of}
 use Rattle.plain_sim.proofs.EvaluateSteps.{slice-at}
 use Rattle.cycle_sim.proofs.Resets.{reset-begin, reset-next, reset-end}

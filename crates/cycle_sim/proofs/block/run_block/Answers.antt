@@ -1,4 +1,4 @@
-use Rattle.std.proofs.Common.{◌≡◌, ◌∙◌, ap, sym, subst, []}
+use Rattle.std.proofs.Common.{◌∙◌, sym, subst, []}
 use Rattle.std.specs.Prelude.{slice_index_or}
 use Rattle.design_core.specs.declared.driver.Clocked.{Clocked}
 use Rattle.design_core.specs.Words.{valuation_of, choice_of}

@@ -1,4 +1,4 @@
-use Rattle.std.proofs.Common.{◌≡◌, ◌+◌, ◌∙◌, arith, subst, refl}
+use Rattle.std.proofs.Common.{◌∙◌, arith, subst, refl}
 use Rattle.design_core.specs.Valuation.{Valuation}
 use Rattle.design_core.specs.Words.{valuation_of, choice_of}
 use Rattle.plain_sim.proofs.EvaluateSteps.{slice-at}

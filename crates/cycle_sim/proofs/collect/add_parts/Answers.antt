@@ -1,4 +1,3 @@
-use Rattle.std.proofs.Common.{◌<◌, length, arith}
 use Rattle.design_core.specs.Drives.{part_drives}
 use Rattle.design_core.specs.WellFormed.{part_fits}
 use Rattle.plain_values.proofs.EvaluateWords.{slice_get_at}

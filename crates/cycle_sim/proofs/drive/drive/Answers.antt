@@ -1,4 +1,4 @@
-use Rattle.std.proofs.Common.{◌≡◌, ◌∙◌, ap, sym, refl}
+use Rattle.std.proofs.Common.{◌∙◌, ap}
 use Rattle.design_core.specs.Valuation.{Valuation, bit}
 use Rattle.design_core.specs.Store.{store}
 use Rattle.design_core.specs.Cycle.{cont_assigned}

@@ -1,4 +1,4 @@
-use Rattle.std.proofs.Common.{◌≡◌, ◌∙◌, sym, subst, ℕ, true}
+use Rattle.std.proofs.Common.{◌≡◌, sym, subst, ℕ, true}
 use Rattle.design_core.specs.declared.design.Design.{Design}
 use Rattle.design_core.specs.Valuation.{Valuation}
 use Rattle.design_core.specs.After.{Choice}

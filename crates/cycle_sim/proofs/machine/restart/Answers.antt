@@ -1,7 +1,4 @@
-use Rattle.std.proofs.Common.{◌≡◌, ◌<◌, length, ap, arith, sym}
-use Rattle.std.specs.Prelude.{slice_get, Some}
-use Rattle.design_core.specs.Words.{AreWordsOf}
-use Rattle.plain_values.proofs.EvaluateWords.{words-length}
+use Rattle.std.proofs.Common.{arith}
 use Rattle.cycle_sim.proofs.Filling.{restart-next, restart-all}
 use Rattle.cycle_sim.proofs.machine.restart.Goals as goal
 

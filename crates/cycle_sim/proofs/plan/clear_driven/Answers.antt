@@ -1,4 +1,4 @@
-use Rattle.std.proofs.Common.{◌+◌, ◌∙◌, arith}
+use Rattle.std.proofs.Common.{◌∙◌, arith}
 use Rattle.design_core.specs.Words.{valuation_of}
 use Rattle.plain_sim.proofs.EvaluateSteps.{slice-at}
 use Rattle.cycle_sim.proofs.Planning.{cleared-next, cleared-end}

@@ -1,5 +1,3 @@
-use Rattle.std.proofs.Common.{◌∙◌, ap}
-use Rattle.design_core.specs.Valuation.{bit}
 use Rattle.cycle_sim.proofs.Planning.{ones-bit}
 use Rattle.cycle_sim.proofs.plan.full_word.Goals as goal
 

@@ -1,6 +1,5 @@
 use Rattle.std.proofs.Common.{◌<◌, length, refl}
 use Rattle.plain_values.proofs.EvaluateWords.{slice_get_at}
-use Rattle.cycle_sim.specs.declared.mask.Mask.{Mask}
 use Rattle.cycle_sim.proofs.Blending.{mask-within, within-bits}
 use Rattle.cycle_sim.proofs.plan.within.Goals as goal
 

@@ -1,5 +1,4 @@
-use Rattle.std.proofs.Common.{◌≡◌, ◌<◌, length, ap, arith, sym, ◌∙◌}
-use Rattle.std.specs.Prelude.{slice_get, Some}
+use Rattle.std.proofs.Common.{◌<◌, length, arith, sym}
 use Rattle.plain_values.proofs.EvaluateWords.{slice_get_at, word-width, words-length, valuation-bit}
 use Rattle.cycle_sim.proofs.machine.Machine.value.Goals as goal
 
