@@ -17,3 +17,4 @@ pub mod FormFits
 pub mod JoinSteps
 pub mod StoreSteps
 pub mod MergeSteps
+pub mod AssignSteps

@@ -3,6 +3,7 @@
 #![tactic(auto)]
 
 mod array_parts;
+mod assign;
 mod clocked;
 pub mod laws;
 mod merge;
