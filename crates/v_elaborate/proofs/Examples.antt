@@ -20,7 +20,7 @@ use Rattle.design_core.specs.Valuation.{number}
 use Rattle.v_sizes.specs.Word.{word}
 use Rattle.v_elaborate.specs.declared.error.ElabErr.{ElabErr}
 use Rattle.v_elaborate.specs.declared.error.ElabErr.TheVariants as fault
-use Rattle.v_elaborate.specs.Constants.{Bounds}
+use Rattle.v_elaborate.specs.declared.bounds.Bounds.{Bounds}
 use Rattle.v_elaborate.specs.Headers.{Port}
 use Rattle.v_elaborate.specs.Instances.{Instance, instances}
 

@@ -17,6 +17,7 @@ use Rattle.v_sizes.specs.Word.{word}
 use Rattle.v_sizes.specs.Context.{constant_of, constant_refusal_in}
 use Rattle.v_elaborate.specs.declared.error.ElabErr.{ElabErr}
 use Rattle.v_elaborate.specs.declared.error.ElabErr.TheVariants as fault
+use Rattle.v_elaborate.specs.declared.bounds.Bounds.{Bounds}
 use Rattle.v_elaborate.specs.Steps.{◌>>=◌}
 
 -- where an expression stands
@@ -56,11 +57,6 @@ assigned width signed c =
     record { bits = word width (extended c.signed (width_of c.bits) (max width (width_of c.bits)) (value_of c.bits)); signed = signed }
 
 -- ---- ranges (4.3.1)
--- the indexes of the leftmost and of the rightmost bit
-pub record Bounds : Type 0 where
-  pub left : ℤ
-  pub right : ℤ
-
 abbrev pub bounds : ℤ → ℤ → Bounds
 bounds left right = record { left = left; right = right }
 

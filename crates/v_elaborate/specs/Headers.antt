@@ -14,7 +14,8 @@ use Rattle.v_elaborate.specs.declared.error.ElabErr.{ElabErr}
 use Rattle.v_elaborate.specs.declared.error.ElabErr.TheVariants as fault
 use Rattle.v_elaborate.specs.Steps.{◌>>=◌, each}
 use Rattle.v_elaborate.specs.Constants.{bounds_if}
-use Rattle.v_elaborate.specs.Names.{Signal, Entry, Standing, signal, same_name, declared, find, look_in}
+use Rattle.v_elaborate.specs.declared.signal.Signal.{Signal}
+use Rattle.v_elaborate.specs.Names.{Entry, Standing, signal, same_name, declared, find, look_in}
 
 -- a port of an instance, with the start value that its header gives it
 pub record Port : Type 0 where

@@ -18,9 +18,11 @@ use Rattle.v_sizes.specs.declared.meaning.Const.{Const}
 use Rattle.v_elaborate.specs.declared.error.ElabErr.{ElabErr}
 use Rattle.v_elaborate.specs.declared.error.ElabErr.TheVariants as fault
 use Rattle.v_elaborate.specs.Steps.{◌>>=◌, each, Left, turned, placed}
-use Rattle.v_elaborate.specs.Constants.{Bounds, bounds_if, site_of}
+use Rattle.v_elaborate.specs.declared.bounds.Bounds.{Bounds}
+use Rattle.v_elaborate.specs.Constants.{bounds_if, site_of}
 use Rattle.v_elaborate.specs.Constants as whole
-use Rattle.v_elaborate.specs.Names.{Signal, Entry, Standing, signal, array, integer, genvar, same_name, declared, find_in, look_in}
+use Rattle.v_elaborate.specs.declared.signal.Signal.{Signal}
+use Rattle.v_elaborate.specs.Names.{Entry, Standing, signal, array, integer, genvar, same_name, declared, find_in, look_in}
 use Rattle.v_elaborate.specs.Parameters.{Given, given, given_at, kind_at, Kind, parameter, is_among}
 use Rattle.v_elaborate.specs.Headers.{port_names}
 use Rattle.v_elaborate.specs.Paths.{below, block_part, turn_part}

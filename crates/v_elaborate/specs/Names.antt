@@ -5,8 +5,6 @@ use Rattle.std.specs.Option.{option_or, option_map_or}
 use Rattle.std.specs.Cmp.Lexicographic.{pointwise}
 use Rattle.loc_base.specs.declared.span.Span.{Span}
 use Rattle.v_tree.specs.declared.declaration.Identifier.{Identifier}
-use Rattle.v_tree.specs.declared.item.Direction.{Direction}
-use Rattle.v_tree.specs.declared.item.NetKind.{NetKind}
 use Rattle.v_tree.specs.PartTree.{PlainRange}
 use Rattle.v_sizes.specs.declared.meaning.Meaning.{Meaning}
 use Rattle.v_sizes.specs.declared.meaning.Meaning.TheVariants as meaning
@@ -14,17 +12,12 @@ use Rattle.v_sizes.specs.declared.meaning.Const.{Const}
 use Rattle.v_sizes.specs.Look.{Look}
 use Rattle.v_elaborate.specs.declared.error.ElabErr.{ElabErr}
 use Rattle.v_elaborate.specs.declared.error.ElabErr.TheVariants as fault
-use Rattle.v_elaborate.specs.Constants.{Bounds, scalar, width}
+use Rattle.v_elaborate.specs.declared.bounds.Bounds.{Bounds}
+use Rattle.v_elaborate.specs.declared.signal.Signal.{Signal}
+use Rattle.v_elaborate.specs.Constants.{scalar, width}
 
 abbrev pub same_name : List ℕ → List ℕ → Bool
 same_name = pointwise nat_eq
-
--- a port, a net or a register: what its declarations say of it together
-pub record Signal : Type 0 where
-  pub direction : Option Direction
-  pub kind : Option NetKind
-  pub signed : Bool
-  pub bounds : Option Bounds
 
 pub data Standing : Type 0 where
   signal : Signal → Standing

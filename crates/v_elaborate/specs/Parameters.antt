@@ -14,7 +14,8 @@ use Rattle.v_sizes.specs.Look.{Look}
 use Rattle.v_elaborate.specs.declared.error.ElabErr.{ElabErr}
 use Rattle.v_elaborate.specs.declared.error.ElabErr.TheVariants as fault
 use Rattle.v_elaborate.specs.Steps.{◌>>=◌, each}
-use Rattle.v_elaborate.specs.Constants.{constant_at, assigned, Bounds, bounds, down_from, width, bounds_if, site_of}
+use Rattle.v_elaborate.specs.declared.bounds.Bounds.{Bounds}
+use Rattle.v_elaborate.specs.Constants.{constant_at, assigned, bounds, down_from, width, bounds_if, site_of}
 use Rattle.v_elaborate.specs.Names.{Entry, Standing, constant, same_name, fresh, look_in}
 
 -- ---- types

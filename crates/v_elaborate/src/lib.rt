@@ -2,6 +2,16 @@
 //! 1364-2005, clause 12).
 #![tactic(auto)]
 
+mod bounds;
 mod error;
+mod instance;
+mod signal;
+mod standing;
+mod steps;
 
+pub use bounds::Bounds;
 pub use error::ElabErr;
+pub use instance::{Block, Child, Copied, Given, Instance, Instances, Port};
+pub use signal::Signal;
+pub use standing::{Entry, Standing};
+pub use steps::{Arm, Steps, Turn};
