@@ -8,3 +8,4 @@ pub mod Unrolled
 pub mod Items
 pub mod Instances
 pub mod Hierarchy
+pub mod Views
