@@ -1,7 +1,6 @@
 -- Worked examples of the definitions: which instances a text makes, under which parameters, and why one is refused.
 use Rattle.std.proofs.Common.{◌≡◌, ℕ, ◌+◌, List, [], ◌∷◌, refl}
-use Rattle.std.specs.Prelude.{Bool, true, false, ℤ, pos, Option, Some, None, Result, Ok, Err, codes, map}
-use Rattle.loc_base.specs.declared.span.Span.{Span}
+use Rattle.std.specs.Prelude.{true, false, pos, Option, Some, None, Result, Ok, Err, codes, map}
 use Rattle.v_lexer.specs.Bytes.{is_decimal}
 use Rattle.v_lexer.specs.Numbers.{is_sign, is_wild, is_hexadecimal}
 use Rattle.v_lexer.specs.Literals.{digit_value, base_of}
@@ -11,7 +10,6 @@ use Rattle.v_tree.specs.declared.item.Direction.TheVariants as direction
 use Rattle.v_tree.specs.declared.operator.Binary.TheVariants as binary
 use Rattle.v_tree.specs.Tree.{Tree, no_select}
 use Rattle.v_tree.specs.Tree as written
-use Rattle.v_tree.specs.PartTree.{PlainRange}
 use Rattle.v_tree.specs.StatementTree.{PlainHead}
 use Rattle.v_tree.specs.ItemTree.{PlainItem, genvar_item, instance_item, generate_item, loop_item, vector_type, several, no_items, more_items, named, ordered}
 use Rattle.v_tree.specs.ModuleTree.{PlainModule, declared_port, no_ports, declared_ports}
@@ -21,7 +19,6 @@ use Rattle.v_sizes.specs.Word.{word}
 use Rattle.v_elaborate.specs.declared.error.ElabErr.{ElabErr}
 use Rattle.v_elaborate.specs.declared.error.ElabErr.TheVariants as fault
 use Rattle.v_elaborate.specs.declared.bounds.Bounds.{Bounds}
-use Rattle.v_elaborate.specs.Headers.{Port}
 use Rattle.v_elaborate.specs.Instances.{Instance, instances}
 
 abbrev at : ℕ → Site

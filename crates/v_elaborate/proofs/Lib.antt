@@ -1,1 +1,3 @@
 pub mod Examples
+pub mod PathNames
+pub mod ItemSteps

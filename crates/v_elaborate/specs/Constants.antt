@@ -1,8 +1,7 @@
 -- Constants where a range, a parameter, a condition or the head of a loop wants one (IEEE 1364-2005, clause 5).
-use Rattle.std.specs.Prelude.{ℕ, ◌==◌, Bool, true, false, not, ◌&&◌, if◌then◌else◌, nat_le, int_lt, max, ℤ, pos, negsuc, ◌-ℤ◌, Option, Some, None, Result, Ok, Err}
+use Rattle.std.specs.Prelude.{ℕ, Bool, not, ◌&&◌, if◌then◌else◌, nat_le, int_lt, max, ℤ, pos, negsuc, ◌-ℤ◌, Option, Some, None, Result, Ok, Err}
 use Rattle.loc_base.specs.Bits.{width_of, value_of}
 use Rattle.loc_base.specs.Word.{extended}
-use Rattle.loc_base.specs.declared.span.Span.{Span}
 use Rattle.v_tree.specs.declared.site.Site.{Site}
 use Rattle.v_tree.specs.Tree.{Tree}
 use Rattle.v_tree.specs.Tree as written

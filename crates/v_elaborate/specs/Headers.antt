@@ -1,15 +1,11 @@
 -- The ports of a module (IEEE 1364-2005, 12.3): those that its header declares, and those that its header names and its items
 -- declare.
-use Rattle.std.specs.Prelude.{ℕ, Bool, true, false, ◌||◌, if◌then◌else◌, List, [], ◌∷◌, ◌++◌, map, Option, Some, None, Result, Ok, Err}
+use Rattle.std.specs.Prelude.{ℕ, false, if◌then◌else◌, List, [], ◌∷◌, ◌++◌, map, Option, Some, None, Result, Ok, Err}
 use Rattle.std.specs.List.{list_any}
 use Rattle.v_tree.specs.declared.declaration.Identifier.{Identifier}
-use Rattle.v_tree.specs.declared.item.Direction.{Direction}
-use Rattle.v_tree.specs.declared.item.NetKind.{NetKind}
 use Rattle.v_tree.specs.Tree.{Tree}
-use Rattle.v_tree.specs.PartTree.{PlainRange}
 use Rattle.v_tree.specs.ItemTree.{PlainItem, port_item, generate_item, Items, no_items, more_items, items_of}
 use Rattle.v_tree.specs.ModuleTree.{PlainPort, declared_port, same_port, PlainPorts, no_ports, name_ports, declared_ports, PlainModule}
-use Rattle.v_sizes.specs.Look.{Look}
 use Rattle.v_elaborate.specs.declared.error.ElabErr.{ElabErr}
 use Rattle.v_elaborate.specs.declared.error.ElabErr.TheVariants as fault
 use Rattle.v_elaborate.specs.Steps.{◌>>=◌, each}

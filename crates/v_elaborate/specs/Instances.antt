@@ -1,14 +1,12 @@
 -- The instances of a design (IEEE 1364-2005, clause 12): the top, then the children that each makes, depth first, in the order of
 -- their items.
-use Rattle.std.specs.Prelude.{ℕ, zero, suc, ◌-◌, if◌then◌else◌, List, [], ◌∷◌, ◌++◌, length, Option, Some, None, Result, Ok, Err}
-use Rattle.v_tree.specs.declared.declaration.Identifier.{Identifier}
+use Rattle.std.specs.Prelude.{ℕ, zero, suc, if◌then◌else◌, List, [], ◌∷◌, ◌++◌, length, Option, Some, None, Result, Ok, Err}
 use Rattle.v_tree.specs.ItemTree.{PlainConnections, ordered, items_of}
 use Rattle.v_tree.specs.ModuleTree.{PlainModule}
 use Rattle.v_elaborate.specs.declared.error.ElabErr.{ElabErr}
 use Rattle.v_elaborate.specs.declared.error.ElabErr.TheVariants as fault
-use Rattle.v_elaborate.specs.Steps.{◌>>=◌, each, Left, placed}
-use Rattle.v_elaborate.specs.Names.{Entry, same_name}
-use Rattle.v_elaborate.specs.Parameters.{Given, header_parameters, is_among}
+use Rattle.v_elaborate.specs.Steps.{◌>>=◌, each, Left}
+use Rattle.v_elaborate.specs.Parameters.{header_parameters, is_among}
 use Rattle.v_elaborate.specs.Headers.{Port, header_ports, ports_of}
 use Rattle.v_elaborate.specs.Items.{Child, Copied, written, always, child, inner, Block, scope, Copies, no_copy, copy, Place, Met, begins, items, module_named}
 

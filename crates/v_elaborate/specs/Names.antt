@@ -1,9 +1,8 @@
 -- What the names of a scope are declared as (IEEE 1364-2005, clause 4 and 12.3), and what they stand for while constants are
 -- wanted: nothing has a number yet.
-use Rattle.std.specs.Prelude.{⊤, ℕ, ◌==◌, Bool, true, false, not, ◌&&◌, ◌||◌, if◌then◌else◌, ℤ, pos, nat_eq, int_lt, is_some, List, [], ◌∷◌, ◌++◌, Option, Some, None, option_map, Result, Ok, Err}
+use Rattle.std.specs.Prelude.{⊤, ℕ, Bool, true, not, ◌&&◌, ◌||◌, if◌then◌else◌, ℤ, pos, nat_eq, int_lt, is_some, List, [], ◌∷◌, Option, Some, None, option_map, Result, Ok, Err}
 use Rattle.std.specs.Option.{option_or, option_map_or}
 use Rattle.std.specs.Cmp.Lexicographic.{pointwise}
-use Rattle.loc_base.specs.declared.span.Span.{Span}
 use Rattle.v_tree.specs.declared.declaration.Identifier.{Identifier}
 use Rattle.v_tree.specs.PartTree.{PlainRange}
 use Rattle.v_sizes.specs.declared.meaning.Meaning.{Meaning}

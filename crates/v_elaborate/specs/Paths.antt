@@ -1,17 +1,13 @@
 -- The paths of scopes and instances (IEEE 1364-2005, 12.5): parts joined by dots. A block without a label has its line instead,
 -- and a turn of a loop its variable's value in brackets.
-use Rattle.std.specs.Prelude.{ℕ, ◌+◌, ℤ, pos, negsuc, List, [], ◌∷◌, ◌++◌, Option, Some, None, decimal}
+use Rattle.std.specs.Prelude.{ℕ, ℤ, List, [], ◌∷◌, ◌++◌, Some, None, decimal}
+use Rattle.std.specs.Fmt.{signed_decimal}
 use Rattle.v_tree.specs.declared.site.Site.{Site}
-use Rattle.v_tree.specs.declared.declaration.Identifier.{Identifier}
 use Rattle.v_tree.specs.ItemTree.{PlainBlock, single, several}
 
 -- path.part
 abbrev pub below : List ℕ → List ℕ → List ℕ
 below path part = path ++ 46 ∷ part
-
-abbrev pub signed_decimal : ℤ → List ℕ
-signed_decimal (pos n) = decimal n
-signed_decimal (negsuc n) = 45 ∷ decimal (n + 1)
 
 -- @line
 abbrev pub line_part : Site → List ℕ

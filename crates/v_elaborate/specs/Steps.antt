@@ -1,6 +1,6 @@
 -- What comes after what: the first step that is refused ends the walk. Turns of loops and module instances are counted over the
 -- whole design, as many as may still be met.
-use Rattle.std.specs.Prelude.{ℕ, zero, suc, List, [], ◌∷◌, Option, Some, None, Result, Ok, Err}
+use Rattle.std.specs.Prelude.{ℕ, zero, suc, List, [], ◌∷◌, Result, Ok, Err}
 use Rattle.loc_base.specs.declared.span.Span.{Span}
 use Rattle.v_elaborate.specs.declared.error.ElabErr.{ElabErr}
 use Rattle.v_elaborate.specs.declared.error.ElabErr.TheVariants as fault

@@ -1,18 +1,17 @@
 -- Statements whose loops are unrolled (IEEE 1364-2005, 9.6): at each turn the variable is a constant.
-use Rattle.std.specs.Prelude.{⊤, ℕ, zero, suc, ◌==◌, Bool, true, false, not, if◌then◌else◌, pos, List, [], ◌∷◌, Option, Some, None, Result, Ok, Err}
+use Rattle.std.specs.Prelude.{⊤, ℕ, zero, suc, ◌==◌, Bool, true, false, not, if◌then◌else◌, pos, List, [], ◌∷◌, Some, None, Result, Ok, Err}
 use Rattle.loc_base.specs.Bits.{value_of}
 use Rattle.loc_base.specs.declared.span.Span.{Span}
 use Rattle.v_tree.specs.declared.declaration.Identifier.{Identifier}
-use Rattle.v_tree.specs.declared.site.Site.{Site}
 use Rattle.v_tree.specs.declared.statement.CaseKind.{CaseKind}
 use Rattle.v_tree.specs.Tree.{Tree}
-use Rattle.v_tree.specs.StatementTree.{PlainHead, PlainStatement, empty, block, delayed, if_then, if_else, choice, loop, assignment, Statements, no_statement, statement, PlainCaseItem, labelled, otherwise, CaseItems, no_item, item}
+use Rattle.v_tree.specs.StatementTree.{PlainHead, PlainStatement, empty, block, delayed, if_then, if_else, choice, loop, assignment, Statements, no_statement, statement, labelled, otherwise, CaseItems, no_item, item}
 use Rattle.v_sizes.specs.declared.meaning.Const.{Const}
 use Rattle.v_elaborate.specs.declared.error.ElabErr.{ElabErr}
 use Rattle.v_elaborate.specs.declared.error.ElabErr.TheVariants as fault
 use Rattle.v_elaborate.specs.Steps.{◌>>=◌, Left, turned}
 use Rattle.v_elaborate.specs.Constants.{constant_at, assigned, bounds}
-use Rattle.v_elaborate.specs.Names.{Entry, Standing, constant, integer, same_name, find_in, look_in}
+use Rattle.v_elaborate.specs.Names.{Entry, constant, integer, same_name, find_in, look_in}
 
 -- ---- heads of loops, those of generates too
 -- a value of a loop's variable, which is of 32 bits and signed

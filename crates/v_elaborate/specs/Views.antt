@@ -1,5 +1,5 @@
 -- What is elaborated, as the code has it, without where it lies in memory.
-use Rattle.std.specs.Prelude.{ℕ, List, [], ◌∷◌, map, Option, Some, None, option_map}
+use Rattle.std.specs.Prelude.{List, [], ◌∷◌, map, Option, Some, None, option_map}
 use Rattle.std.specs.Borrow.{Bor}
 use Rattle.v_tree.specs.Tree.{Tree, tree_of}
 use Rattle.v_tree.specs.PartTree.{range_of}

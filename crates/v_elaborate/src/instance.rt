@@ -42,7 +42,10 @@ pub enum Copied<'t> {
         sensitivity: &'t Sensitivity,
         body: Steps<'t>,
     },
-    Child { site: Site, child: Child<'t> },
+    Child {
+        site: Site,
+        child: Child<'t>,
+    },
     Inner(Block<'t>),
 }
 

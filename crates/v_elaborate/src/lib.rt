@@ -5,6 +5,7 @@
 mod bounds;
 mod error;
 mod instance;
+mod paths;
 mod signal;
 mod standing;
 mod steps;
