@@ -1,5 +1,6 @@
 -- What a simulator of a design holds, as contracts see it.
-use Rattle.std.specs.Prelude.{ℕ, ◌≡◌, ◌<◌, List, length, All}
+use Rattle.std.specs.Prelude.{ℕ, ◌≡◌, IsTrue, List, length, nat_lt}
+use Rattle.std.specs.List.{list_all}
 use Rattle.loc_base.specs.declared.bits.Bits.{Bits}
 use Rattle.design_core.specs.declared.design.Design.{Design}
 use Rattle.design_core.specs.Valuation.{Valuation}
@@ -22,7 +23,7 @@ pub record IsSimulable (d : Design) (order : List ℕ) : Type 0 where
 -- what can be simulated without a fault: the design's signals and assignments fit, and the numbers are some of its drivers'
 pub record CanSimulate (d : Design) (order : List ℕ) : Type 0 where
   pub can_run : CanRun d
-  pub numbers : All (λ i. i < length d.drivers.items) order
+  pub numbers : IsTrue (list_all (λ i. nat_lt i (length d.drivers.items)) order)
 
 -- the design and the order of its drivers, the values of the last step, and the states with which the next one begins
 pub record Simulated : Type 0 where

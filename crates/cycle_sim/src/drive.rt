@@ -1,6 +1,7 @@
 //! The drivers, carried out in place.
 
-ghost use Rattle.std.specs.Prelude.{◌≡◌, ◌<◌, ℕ, IsTrue, false, length, slice_get, Some, All};
+ghost use Rattle.std.specs.Prelude.{◌≡◌, ◌<◌, ℕ, IsTrue, false, length, nat_lt, slice_get, Some};
+ghost use Rattle.std.specs.List.{list_all};
 ghost use Rattle.loc_base.specs.Bits.{value_of};
 ghost use Rattle.design_core.specs.Words.{valuation_of, AreWordsOf, choice_of};
 ghost use Rattle.design_core.specs.WellFormed.{driver_fits};
@@ -119,7 +120,7 @@ pub(crate) fn drive_all(
     later: &mut [Bits],
 )
     requires design { CanRun design.now }
-    requires order { All (λ i. i < length design.now.drivers.items) order.now }
+    requires order { IsTrue (list_all (λ i. nat_lt i (length design.now.drivers.items)) order.now) }
     requires masks { AreDriverMasks design.now masks.now }
     requires chosen { AreChosen design.now freed.now chosen.now }
     requires values { AreWordsOf design.now.signals.items values.old }

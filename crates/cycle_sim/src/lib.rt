@@ -11,6 +11,8 @@ mod mask;
 mod miss;
 mod plan;
 mod sim;
+mod suited;
 
 pub use miss::Miss;
 pub use sim::Sim;
+pub use suited::can_simulate;

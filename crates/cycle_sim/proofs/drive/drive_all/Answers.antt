@@ -1,7 +1,15 @@
-use Rattle.std.proofs.Common.{◌∙◌}
+use Rattle.std.proofs.Common.{◌∙◌, ℕ, length}
+use Rattle.std.specs.Prelude.{nat_lt}
+use Rattle.std.proofs.lemmas.Bool.{ltb-true}
+use Rattle.cycle_sim.proofs.Collecting.{passes-at}
 use Rattle.design_core.specs.Words.{valuation_of, choice_of}
 use Rattle.cycle_sim.proofs.Driving.{drivers-next}
 use Rattle.cycle_sim.proofs.drive.drive_all.Goals as goal
+
+pub drive_one-requires-clause-number : goal.drive_one-requires-clause-number
+drive_one-requires-clause-number c =
+    let count : ℕ = length c.args.design.now.drivers.items in
+    ltb-true c.number_at.result count (passes-at (λ i. nat_lt i count) c.args.order.now c.loop-k.k c.number_at.result c.requires.order c.number_at.ensures)
 
 pub loop-k-preserved : goal.loop-k-preserved
 loop-k-preserved c =
