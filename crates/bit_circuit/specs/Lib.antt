@@ -1,0 +1,6 @@
+pub mod Wires
+pub mod Indexes
+pub mod Sources
+pub mod Nodes
+pub mod Circuits
+pub mod Fields
