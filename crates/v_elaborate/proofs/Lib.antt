@@ -1,3 +1,5 @@
 pub mod Examples
 pub mod PathNames
 pub mod ItemSteps
+pub mod FrameLaws
+pub mod Framed

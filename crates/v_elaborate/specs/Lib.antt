@@ -9,3 +9,5 @@ pub mod Items
 pub mod Instances
 pub mod Hierarchy
 pub mod Views
+pub mod Places
+pub mod Frames

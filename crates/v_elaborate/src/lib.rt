@@ -4,8 +4,10 @@
 
 mod bounds;
 mod error;
+mod frame;
 mod instance;
 mod paths;
+mod places;
 mod signal;
 mod standing;
 mod steps;
