@@ -2,7 +2,7 @@
 -- with each instance, every child that its text makes under its parameters.
 use Rattle.std.specs.Prelude.{◌≡◌, ℕ, List, [], ◌∷◌, slice_get, Some, Ok}
 use Rattle.v_tree.specs.ModuleTree.{PlainModule}
-use Rattle.v_elaborate.specs.Steps.{Left}
+use Rattle.v_elaborate.specs.declared.left.Left.{Left}
 use Rattle.v_elaborate.specs.Items.{Child, Met}
 use Rattle.v_elaborate.specs.Instances.{contents, children}
 

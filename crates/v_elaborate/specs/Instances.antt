@@ -5,7 +5,8 @@ use Rattle.v_tree.specs.ItemTree.{PlainConnections, ordered, items_of}
 use Rattle.v_tree.specs.ModuleTree.{PlainModule}
 use Rattle.v_elaborate.specs.declared.error.ElabErr.{ElabErr}
 use Rattle.v_elaborate.specs.declared.error.ElabErr.TheVariants as fault
-use Rattle.v_elaborate.specs.Steps.{◌>>=◌, each, Left}
+use Rattle.v_elaborate.specs.declared.left.Left.{Left}
+use Rattle.v_elaborate.specs.Steps.{◌>>=◌, each}
 use Rattle.v_elaborate.specs.Parameters.{header_parameters, is_among}
 use Rattle.v_elaborate.specs.Headers.{Port, header_ports, ports_of}
 use Rattle.v_elaborate.specs.Items.{Child, Copied, written, always, child, inner, Block, scope, Copies, no_copy, copy, Place, Met, begins, items, module_named}

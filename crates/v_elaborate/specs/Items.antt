@@ -14,7 +14,8 @@ use Rattle.v_tree.specs.ModuleTree.{PlainModule, PlainPorts}
 use Rattle.v_sizes.specs.declared.meaning.Const.{Const}
 use Rattle.v_elaborate.specs.declared.error.ElabErr.{ElabErr}
 use Rattle.v_elaborate.specs.declared.error.ElabErr.TheVariants as fault
-use Rattle.v_elaborate.specs.Steps.{◌>>=◌, each, Left, turned, placed}
+use Rattle.v_elaborate.specs.declared.left.Left.{Left}
+use Rattle.v_elaborate.specs.Steps.{◌>>=◌, each, turned, placed}
 use Rattle.v_elaborate.specs.Constants.{bounds_if, site_of}
 use Rattle.v_elaborate.specs.Constants as whole
 use Rattle.v_elaborate.specs.declared.signal.Signal.{Signal}

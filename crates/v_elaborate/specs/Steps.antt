@@ -4,6 +4,7 @@ use Rattle.std.specs.Prelude.{ℕ, zero, suc, List, [], ◌∷◌, Result, Ok, E
 use Rattle.loc_base.specs.declared.span.Span.{Span}
 use Rattle.v_elaborate.specs.declared.error.ElabErr.{ElabErr}
 use Rattle.v_elaborate.specs.declared.error.ElabErr.TheVariants as fault
+use Rattle.v_elaborate.specs.declared.left.Left.{Left}
 
 infixl 10 ◌>>=◌
 abbrev pub ◌>>=◌ : {A B : Type 0} → Result A ElabErr → (A → Result B ElabErr) → Result B ElabErr
@@ -14,11 +15,6 @@ abbrev pub ◌>>=◌ : {A B : Type 0} → Result A ElabErr → (A → Result B E
 abbrev pub each : {A S : Type 0} → (A → S → Result S ElabErr) → List A → S → Result S ElabErr
 each step [] met = Ok met
 each step (x ∷ xs) met = step x met >>= each step xs
-
--- how many turns of loops and how many module instances may still be met
-pub record Left : Type 0 where
-  pub turns : ℕ
-  pub instances : ℕ
 
 abbrev pub less_of : ℕ → Span → Result ℕ ElabErr
 less_of zero span = Err (fault.Turns span)

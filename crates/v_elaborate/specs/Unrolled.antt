@@ -9,7 +9,8 @@ use Rattle.v_tree.specs.StatementTree.{PlainHead, PlainStatement, empty, block, 
 use Rattle.v_sizes.specs.declared.meaning.Const.{Const}
 use Rattle.v_elaborate.specs.declared.error.ElabErr.{ElabErr}
 use Rattle.v_elaborate.specs.declared.error.ElabErr.TheVariants as fault
-use Rattle.v_elaborate.specs.Steps.{◌>>=◌, Left, turned}
+use Rattle.v_elaborate.specs.declared.left.Left.{Left}
+use Rattle.v_elaborate.specs.Steps.{◌>>=◌, turned}
 use Rattle.v_elaborate.specs.Constants.{constant_at, assigned, bounds}
 use Rattle.v_elaborate.specs.Names.{Entry, constant, integer, same_name, find_in, look_in}
 

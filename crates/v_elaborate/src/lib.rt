@@ -3,9 +3,11 @@
 #![tactic(auto)]
 
 mod bounds;
+mod constants;
 mod error;
 mod frame;
 mod instance;
+mod left;
 mod paths;
 mod places;
 mod signal;
