@@ -1,1 +1,6 @@
 pub mod Examples
+pub mod Bits
+pub mod Lengths
+pub mod UnaryLaws
+pub mod BinaryLaws
+pub mod WireLaws

@@ -3,4 +3,5 @@ pub mod Indexes
 pub mod Sources
 pub mod Nodes
 pub mod Circuits
+pub mod Meaning
 pub mod Fields
