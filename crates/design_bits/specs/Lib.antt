@@ -1,3 +1,4 @@
 pub mod Masks
 pub mod Regions
 pub mod Rows
+pub mod Operands
