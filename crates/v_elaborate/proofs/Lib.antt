@@ -3,3 +3,4 @@ pub mod PathNames
 pub mod ItemSteps
 pub mod FrameLaws
 pub mod Framed
+pub mod Indexes

@@ -6,6 +6,7 @@ mod bounds;
 mod constants;
 mod error;
 mod frame;
+mod index;
 mod instance;
 mod left;
 mod paths;
