@@ -4,3 +4,4 @@ pub mod Lengths
 pub mod UnaryLaws
 pub mod BinaryLaws
 pub mod WireLaws
+pub mod SourceLaws
