@@ -18,3 +18,4 @@ pub mod JoinSteps
 pub mod StoreSteps
 pub mod MergeSteps
 pub mod AssignSteps
+pub mod StatementSteps

@@ -7,3 +7,4 @@ pub mod Net
 pub mod Meaning
 pub mod Matches
 pub mod Lists
+pub mod Arms

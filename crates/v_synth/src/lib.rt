@@ -8,6 +8,7 @@ mod clocked;
 pub mod laws;
 mod merge;
 mod scene;
+mod statement;
 mod store;
 mod typed;
 

@@ -26,6 +26,7 @@ impl Drop for Maps {
 }
 
 /// The signals, and the maps of an arm that is merged into the other.
+#[derive(Clone, Copy, Drop)]
 pub(crate) struct Arms<'a> {
     pub signals: &'a [Signal],
     pub current: &'a [u32],
