@@ -17,7 +17,9 @@ fn values_of(
 ) -> Result<Vec<u128>, Fail> {
     let mut order = Order::new(alloc);
     for i in 0..design.drivers.len() {
-        order.push(i as u32)?;
+        if let Ok(number) = u32::try_from(i) {
+            order.push(number)?;
+        }
     }
     let mut freed = Vec::new(alloc);
     let mut words: Vec<Bits> = Vec::new(alloc);
