@@ -11,6 +11,7 @@ mod instance;
 mod left;
 mod paths;
 mod places;
+mod ranges;
 mod signal;
 mod standing;
 mod steps;
