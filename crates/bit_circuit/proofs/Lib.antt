@@ -5,3 +5,10 @@ pub mod UnaryLaws
 pub mod BinaryLaws
 pub mod WireLaws
 pub mod SourceLaws
+pub mod IndexLaws
+pub mod PickLaws
+pub mod OperationLaws
+pub mod CircuitLaws
+pub mod SourceSteps
+pub mod OperatorSteps
+pub mod WireSteps

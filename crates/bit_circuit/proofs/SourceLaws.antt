@@ -45,7 +45,7 @@ frees-mean (x ∷ xs) {e} {nodes} {done = done} f place b (suc count) so_far (mo
     let g : ℕ → Bool = λ i. if e.frees place then e.chosen 0 place i else f i in
     one_more done (g b) (bits_from g (b + 1) count) m.grown (frees-mean xs f place (b + 1) count (MeansAll-push (keep_all m.grown so_far) m.means) (keep_all m.grown mxs))
 
-all-gives : {e : Source} {nodes : List Node} {w : Word} (f : ℕ → Bool) (n : ℕ) → GivesAll e nodes w (bits_from f 0 n) → GivesOf e nodes w n (number n f)
+pub all-gives : {e : Source} {nodes : List Node} {w : Word} (f : ℕ → Bool) (n : ℕ) → GivesAll e nodes w (bits_from f 0 n) → GivesOf e nodes w n (number n f)
 all-gives f n g = record { grown = g.grown; is = of-bits f n g.means }
 
 pub input-gives : (e : WordSource) (nodes : List Node) (input width : ℕ) → e.inputs input < 2 ^ width

@@ -1,12 +1,15 @@
 -- What the literals of a circuit mean: the bits of the net's values.
-use Rattle.std.specs.Prelude.{ℕ, ◌≡◌, ◌<◌, ◌^◌, List, [], ◌∷◌, length, get_or, slice_get, Some}
+use Rattle.std.specs.Prelude.{ℕ, ◌≡◌, ◌≤◌, ◌<◌, ◌^◌, List, [], ◌∷◌, length, get_or, slice_get, Some}
 use Rattle.gate_base.specs.declared.literal.Literal.{Literal}
 use Rattle.gate_base.specs.declared.node.Node.{Node}
 use Rattle.gate_base.specs.Meaning.{Source, Grown}
 use Rattle.gate_base.specs.Nodes.{Word}
 use Rattle.bit_words.specs.Bits.{IsWord}
 use Rattle.design_core.specs.Valuation.{bit}
-use Rattle.word_net.specs.Values.{Source as WordSource}
+use Rattle.word_net.specs.Values.{Source as WordSource, net_values}
+use Rattle.word_net.specs.Fits.{widths_of}
+use Rattle.word_net.specs.Nets.{Net}
+use Rattle.bit_circuit.specs.Circuits.{circuit_of}
 use Rattle.word_net.specs.declared.node.Operation.{Operation}
 use Rattle.word_net.specs.declared.node.Operation.TheVariants.{Const, Input, State, Free, Unary, Binary, Choose, Join, Repeat, Resize, Slice, Pick, Is, Put, PutPick, Blend}
 use Rattle.word_net.specs.declared.node.WordNode.{WordNode}
@@ -57,4 +60,16 @@ pub record GivesOf (e : Source) (nodes : List Node) (w : Word) (width value : �
 pub record AreOf (e : Source) (nodes : List Node) (words : List (List Literal)) (widths known : List ℕ) : Type 0 where
   pub as_many : length words ≡ length widths
   pub as_known : length known ≡ length widths
+  pub some : (i width : ℕ) → slice_get widths i ≡ Some width → 1 ≤ width
   pub is : (i width : ℕ) → slice_get widths i ≡ Some width → IsOf e nodes (get_or words i []) width (get_or known i 0)
+
+-- a net, and what is given to it as words
+pub record GivenNet : Type 0 where
+  pub net : Net
+  pub source : WordSource
+
+-- literals of the circuit of a net, for nodes of the net: as many as the node's width, they mean the bits of its value
+abbrev pub MeanNodes : GivenNet → List ℕ → List (List Literal) → Type 0
+MeanNodes of numbers words =
+    (i n width : ℕ) → slice_get numbers i ≡ Some n → slice_get (widths_of of.net.nodes) n ≡ Some width
+    → IsOf (bits_of of.source) (circuit_of of.net).nodes (get_or words i []) width (get_or (net_values of.source of.net.nodes) n 0)

@@ -2,6 +2,11 @@
 //! states, and free bits.
 #![tactic(auto)]
 
+mod binary;
 mod circuit;
+pub mod laws;
+mod operators;
+mod sources;
+mod wires;
 
 pub use circuit::Circuit;

@@ -1,0 +1,17 @@
+//! What the circuit of a net means. The law is the contract of a function that does nothing.
+
+ghost use Rattle.gate_base.specs.Nodes.{AreOrdered};
+ghost use Rattle.word_net.specs.Nets.{IsNet};
+ghost use Rattle.bit_circuit.specs.Circuits.{circuit_of};
+ghost use Rattle.bit_circuit.specs.Meaning.{AreOfWidth, GivenNet, MeanNodes};
+
+/// The literals of the outputs and of the next states mean, bit by bit, the values of the net's nodes, for all inputs,
+/// states and choices; operands stand before the nodes that use them.
+pub fn circuit_means()
+    ghost of: { GivenNet }
+    requires net { IsNet of.net }
+    requires given { AreOfWidth of.source of.net.nodes }
+    ensures ordered { AreOrdered (circuit_of of.net).nodes }
+    ensures outputs { MeanNodes of of.net.outputs (circuit_of of.net).outputs }
+    ensures next { MeanNodes of of.net.next (circuit_of of.net).next }
+{}
