@@ -194,7 +194,7 @@ one-bit f = number-suc 0 f ∙ ap (λ n. n + (if f 0 then 2 ^ 0 else 0)) (number
     at false = refl
 
 -- a signal of one bit is there
-wide-there : (signals : List Signal) (s : ℕ) → width_at signals s ≡ 1 → s < length signals
+pub wide-there : (signals : List Signal) (s : ℕ) → width_at signals s ≡ 1 → s < length signals
 wide-there signals s one = at (cases_lt s (length signals))
   where
     at : (s < length signals) ⊎ (length signals ≤ s) → s < length signals
@@ -225,7 +225,7 @@ active-law {e} {nodes} {from} {E} signals r one shows = at r.level
         (ap (λ v. one_if (not (is_true v))) means.is ∙ ap (λ t. one_if (not t)) (true-one_if (E r.signal 0)))
 
 -- what a reset's signal and values are
-reset-parts : (d : Design) (r : Reset) → reset_fits d r ≡ true → (width_at d.signals.items r.signal ≡ 1) × (statement_fits d.signals.items d.places.items r.values ≡ true)
+pub reset-parts : (d : Design) (r : Reset) → reset_fits d r ≡ true → (width_at d.signals.items r.signal ≡ 1) × (statement_fits d.signals.items d.places.items r.values ≡ true)
 reset-parts d r fits =
     let listed : Bool = list_any (λ input. input == r.signal) d.inputs.items in
     let one : Bool = width_at d.signals.items r.signal == 1 in
@@ -235,7 +235,7 @@ reset-parts d r fits =
     (eqb-true (width_at d.signals.items r.signal) 1 (and_parts listed one g.0).1, f.1)
 
 -- what fits in a block
-block-parts : (d : Design) (block : Clocked) → clocked_fits d block ≡ true → (statement_fits d.signals.items d.places.items block.body ≡ true) × ((r : Reset) → block.reset ≡ Some r → reset_fits d r ≡ true)
+pub block-parts : (d : Design) (block : Clocked) → clocked_fits d block ≡ true → (statement_fits d.signals.items d.places.items block.body ≡ true) × ((r : Reset) → block.reset ≡ Some r → reset_fits d r ≡ true)
 block-parts d block fits =
     let f = and_parts (statement_fits d.signals.items d.places.items block.body) (option_map_or (reset_fits d) block.reset true) fits in
     (f.0, λ r is. sym (ap (λ o. option_map_or (reset_fits d) o true) is) ∙ f.1)

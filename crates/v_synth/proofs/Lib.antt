@@ -19,3 +19,6 @@ pub mod StoreSteps
 pub mod MergeSteps
 pub mod AssignSteps
 pub mod StatementSteps
+pub mod DriverSteps
+pub mod OwnSteps
+pub mod BeginSteps

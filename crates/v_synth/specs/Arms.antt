@@ -1,16 +1,21 @@
 -- Statements and case items as lists, and the arms of a case that were run, as code goes over them; only private contracts cite it.
-use Rattle.std.specs.Prelude.{ℕ, ◌≡◌, ◌&&◌, Bool, IsTrue, List, [], ◌∷◌, length}
+use Rattle.std.specs.Prelude.{ℕ, ◌≡◌, ◌&&◌, Bool, IsTrue, List, [], ◌∷◌, length, Option}
 use Rattle.std.specs.List.{list_all}
 use Rattle.design_core.specs.declared.signal.Signal.{Signal}
 use Rattle.design_core.specs.declared.place.Place.{Place}
+use Rattle.design_core.specs.declared.statement.Part.{Part}
 use Rattle.design_core.specs.declared.statement.CaseItem.{CaseItem}
 use Rattle.design_core.specs.declared.statement.Stmt.{Stmt}
-use Rattle.design_core.specs.WellFormed.{label_fits, statement_fits}
+use Rattle.design_core.specs.declared.driver.Driver.{Driver}
+use Rattle.design_core.specs.Store.{parts_width}
+use Rattle.design_core.specs.WellFormed.{label_fits, statement_fits, driver_fits}
 use Rattle.word_net.specs.declared.node.Operand.{Operand}
 use Rattle.word_net.specs.declared.node.WordNode.{WordNode}
 use Rattle.word_net.specs.Build.{Made}
 use Rattle.design_core.specs.declared.expression.Typed.{Typed}
-use Rattle.v_synth.specs.Expression.{truth_made, typed_made}
+use Rattle.v_synth.specs.Expression.{unsigned, truth_made, typed_made}
+use Rattle.v_synth.specs.Store.{Nodes, nodes_made, indexes_made, parts_stored}
+use Rattle.v_synth.specs.Driver.{assigned_made}
 use Rattle.v_synth.specs.Statement.{Maps, maps, statement_made, item_test, merged}
 use Rattle.v_synth.specs.declared.statement.Arm.{Arm}
 
@@ -58,3 +63,24 @@ closed signals (arm ∷ arms) m = merged signals arm.test (maps [] arm.left.curr
 pub record ArmFits (signals : List Signal) (arm : Arm) : Type 0 where
   pub current : length arm.left.current ≡ length signals
   pub later : length arm.left.later ≡ length signals
+
+-- a driver fits, beside some places
+pub record DriverFits (signals : List Signal) (driver : Driver) : Type 0 where
+  pub places : List Place
+  pub fits : IsTrue (driver_fits signals places driver)
+
+pub record DriversFit (signals : List Signal) (drivers : List Driver) : Type 0 where
+  pub places : List Place
+  pub fits : IsTrue (list_all (driver_fits signals places) drivers)
+
+-- a continuous assignment
+unfoldable pub continuous_made : List Signal → List WordNode → List ℕ → List Part → Typed → Option ℕ → Nodes
+continuous_made signals nodes nodes_of parts computed place =
+    let v = typed_made signals nodes_of nodes computed in
+    let a = assigned_made v.nodes place (parts_width signals parts) (unsigned v.node computed.width) in
+    let i = indexes_made signals nodes_of a.nodes [] parts in
+    parts_stored signals i.nodes nodes_of parts i.each a.operand
+
+-- a block: statements over the map that is read
+unfoldable pub block_made : List Signal → List WordNode → List ℕ → Stmt → Nodes
+block_made signals nodes nodes_of body = let m = statement_made signals (maps nodes nodes_of nodes_of) body in nodes_made m.nodes m.now

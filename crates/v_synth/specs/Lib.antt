@@ -8,3 +8,4 @@ pub mod Meaning
 pub mod Matches
 pub mod Lists
 pub mod Arms
+pub mod Owned

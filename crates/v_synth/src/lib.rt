@@ -4,7 +4,10 @@
 
 mod array_parts;
 mod assign;
+mod begin;
+mod block;
 mod clocked;
+mod driver;
 pub mod laws;
 mod merge;
 mod scene;

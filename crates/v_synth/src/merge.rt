@@ -25,6 +25,16 @@ impl Drop for Maps {
     }
 }
 
+impl Maps {
+    /// The map that is read.
+    pub(crate) fn into_current(self) -> Items<u32>
+        ensures { result ≡ self.current }
+    {
+        let Maps { current, later: _ } = self;
+        current
+    }
+}
+
 /// The signals, and the maps of an arm that is merged into the other.
 #[derive(Clone, Copy, Drop)]
 pub(crate) struct Arms<'a> {

@@ -44,7 +44,7 @@ impl Maps {
 
 impl Left<'_> {
     /// The node of an expression as a map lets it be read.
-    fn value(&self, nodes: &mut Nodes, map: &[u32], e: &Typed) -> Result<u32, NoMemory>
+    pub(crate) fn value(&self, nodes: &mut Nodes, map: &[u32], e: &Typed) -> Result<u32, NoMemory>
         requires few { length self.now.signals.now < 2 ^ 32 }
         requires each { length map.now ≡ length self.now.signals.now }
         requires fits { IsTrue (typed_fits self.now.signals.now e.now) }
