@@ -51,6 +51,16 @@ pub not-not : (b : Bool) → not (not b) ≡ b
 not-not true = refl
 not-not false = refl
 
+-- the opposite of what holds not
+pub not-false : (b : Bool) → not b ≡ false → b ≡ true
+not-false true is = refl
+not-false false is = absurd (true≢false is)
+
+-- and of what holds
+pub not-true : (b : Bool) → not b ≡ true → b ≡ false
+not-true true is = absurd (false≢true is)
+not-true false is = refl
+
 -- a choice whose test is true
 pub if-true : {A : Type 0} (b : Bool) (x y z : A) → b ≡ true → x ≡ z → (if b then x else y) ≡ z
 if-true true x y z test is = is

@@ -2,6 +2,10 @@
 use Rattle.std.proofs.Common.{◌≡◌, true, false, Option, Some, None, is_some, option_map, refl, sym}
 use Rattle.std.proofs.lemmas.Bool.{false≢true}
 
+-- two values that are there and are the same
+pub Some-same : {X : Type 0} {x y : X} → Some x ≡ Some y → x ≡ y
+Some-same is = cc
+
 -- the value where there is one
 pub is_some-true : {X : Type 0} (o : Option X) → is_some o ≡ true → (x : X) × (o ≡ Some x)
 is_some-true None some = absurd (false≢true some)
