@@ -1,0 +1,59 @@
+//! Ranges of declarations (IEEE 1364-2005, 4.3.1).
+ghost use Rattle.std.specs.Prelude.{◌≡◌, Ok, IfOk, IfErr};
+ghost use Rattle.v_tree.specs.Tree.{tree_of};
+ghost use Rattle.v_tree.specs.PartTree.{range_of};
+ghost use Rattle.v_sizes.specs.Scopes.{look_of};
+ghost use Rattle.v_hierarchy.specs.Constants.{site_of, index_at, bounds_at};
+ghost use Rattle.v_hierarchy.specs.Frames.{Refuses};
+
+use crate::bounds::{Bounds, count_between};
+use crate::constants::constant_at;
+use crate::error::ElabErr;
+use crate::index::index_of;
+use std::alloc::Global;
+use v_tree::{Expr, Range, Site};
+use v_widths::Scope;
+
+/// Where an expression stands.
+fn site_of(e: &Expr) -> Site
+    ensures { result ≡ site_of (tree_of e.now) }
+{
+    match e {
+        Expr::Number { site, .. }
+        | Expr::Wild { site, .. }
+        | Expr::Name { site, .. }
+        | Expr::Parens { site, .. }
+        | Expr::Concat { site, .. }
+        | Expr::Repeat { site, .. }
+        | Expr::System { site, .. }
+        | Expr::Unary { site, .. }
+        | Expr::Binary { site, .. }
+        | Expr::Conditional { site, .. } => *site,
+    }
+}
+
+/// The index that an expression is.
+fn index_at(alloc: Global, scope: &Scope<'_>, e: &Expr) -> Result<i32, ElabErr>
+    ensures ok { IfOk result (λ n. index_at (look_of scope.now) (tree_of e.now) ≡ Ok n) }
+    ensures err { IfErr result (λ fault. Refuses (index_at (look_of scope.now) (tree_of e.now)) fault) }
+{
+    let value = constant_at(alloc, scope, 0, e)?;
+    match index_of(value) {
+        Some(index) => Ok(index),
+        None => Err(ElabErr::Range(site_of(e).span)),
+    }
+}
+
+/// The bounds from the left, then 1 to 128 bits.
+pub(crate) fn bounds_at(alloc: Global, scope: &Scope<'_>, range: &Range) -> Result<Bounds, ElabErr>
+    ensures ok { IfOk result (λ b. bounds_at (look_of scope.now) (range_of range.now) ≡ Ok b) }
+    ensures err { IfErr result (λ fault. Refuses (bounds_at (look_of scope.now) (range_of range.now)) fault) }
+{
+    let left = index_at(alloc, scope, &range.left)?;
+    let right = index_at(alloc, scope, &range.right)?;
+    if count_between(left, right) <= 128 {
+        Ok(Bounds { left, right })
+    } else {
+        Err(ElabErr::Range(range.site.span))
+    }
+}
