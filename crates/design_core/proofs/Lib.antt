@@ -17,6 +17,7 @@ pub mod StoreOutside
 pub mod OrderLaws
 pub mod OrderExamples
 pub mod RunLaws
+pub mod CyclesBefore
 pub mod Examples
 pub mod CycleExamples
 pub mod CycleFound
