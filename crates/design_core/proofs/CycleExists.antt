@@ -7,6 +7,9 @@ use Rattle.std.specs.Option.{option_map_or}
 use Rattle.std.proofs.lemmas.Bool.{or_cases, or_parts, and_parts, and_from, cases_Bool, both_ways, eqb-true}
 use Rattle.std.proofs.lemmas.Option.{slice_get_within}
 use Rattle.loc_base.specs.declared.bits.Bits.{Bits}
+use Rattle.loc_base.proofs.ShelfBools.{not-true}
+use Rattle.loc_base.proofs.ShelfLists.{All-member, Contains-at, Contains-cons, Contains-empty, Contains-first, Contains-later, Contains-place, list_all-member, list_any-found, list_any-member}
+use Rattle.loc_base.proofs.ShelfOptions.{Some-same}
 use Rattle.design_core.specs.declared.signal.Signal.{Signal}
 use Rattle.design_core.specs.declared.signal.SignalKind.{SignalKind}
 use Rattle.design_core.specs.declared.signal.SignalKind.TheVariants.{Input, Net, Reg}
@@ -22,9 +25,8 @@ use Rattle.design_core.specs.WellFormed.{is_input, input_fits, driver_fits, cloc
 use Rattle.design_core.specs.Reads.{driver_reads, Depends, IsOrder}
 use Rattle.design_core.specs.DrivenOnce.{IsDrivenOnce}
 use Rattle.design_core.specs.Steps.{with_reset, with_resets, with_driver, with_drivers, with_body, with_bodies, kept, computed_now, computed_next}
-use Rattle.design_core.proofs.Lists.{Contains-first, Contains-later, Contains-cons, Contains-empty, All-member, All-later, AllPairs-first, AllPairs-later}
-use Rattle.design_core.proofs.Widened.{list_all-member}
-use Rattle.design_core.proofs.CycleLaws.{driven-agrees, list_any-found, list_any-alike, list_any-none, Contains-at, Contains-place, reset-listed}
+use Rattle.design_core.proofs.Lists.{All-later, AllPairs-first, AllPairs-later}
+use Rattle.design_core.proofs.CycleLaws.{driven-agrees, list_any-alike, list_any-none, reset-listed}
 
 -- ---- tests
 taken-where : (x y z a e : Bool) → (x && z) ≡ true → y ≡ true → (if x && (y && z) then a else e) ≡ a
@@ -51,17 +53,6 @@ list_any-all_fail test xs fail = at (cases_Bool (list_any test xs))
     at : (list_any test xs ≡ true) ⊎ (list_any test xs ≡ false) → list_any test xs ≡ false
     at (inl some) = let (x, member, passes) = list_any-found test xs some in absurd (fail x member passes)
     at (inr none) = none
-
--- an element that passes is a witness
-list_any-by : {X : Type 0} (test : X → Bool) (xs : List X) (x : X) → Contains xs x → test x ≡ true → list_any test xs ≡ true
-list_any-by test xs x member passes = at (cases_Bool (list_any test xs))
-  where
-    at : (list_any test xs ≡ true) ⊎ (list_any test xs ≡ false) → list_any test xs ≡ true
-    at (inl some) = some
-    at (inr none) = absurd (both_ways (test x) (list_any-none test xs x member none) passes)
-
-Some-same : {X : Type 0} {x y : X} → Some x ≡ Some y → x ≡ y
-Some-same e = cc
 
 -- ---- the drivers, one after another
 pub with_driver-at : (d : Design) (choice : Choice) (W : Valuation) (i : ℕ) (driver : Driver) (s b : ℕ) → slice_get d.drivers.items i ≡ Some driver
@@ -254,10 +245,6 @@ register-unlisted d well s b register = at (cases_Bool (is_listed d s))
 register-undriven : (d : Design) (s b : ℕ) → is_register_bit d s b ≡ true → is_driven d s b ≡ false
 register-undriven d s b register =
     not-true (is_driven d s b) (and_parts (option_map_or (λ signal. is_reg signal.kind) (slice_get d.signals.items s) false) (not (is_driven d s b)) register).1
-  where
-    not-true : (x : Bool) → not x ≡ true → x ≡ false
-    not-true true e = cc
-    not-true false e = refl
 
 listed-undriven : (d : Design) → IsDrivenOnce d → (s b : ℕ) → is_listed d s ≡ true → is_driven d s b ≡ false
 listed-undriven d once s b listed =
@@ -345,7 +332,7 @@ reset-now d order k samples state choice block r s b member is active drives reg
     ∙ with_resets-to d choice E d.clocked.items E s b (left_from d.signals.items choice block E r.values s b) register
     (λ other at passes. gives other (same-block d k.once block other s b member at register drives
     (and_parts (is_active E other) (block_drives d.signals.items s b other) passes).1))
-    (inr (list_any-by (λ block. is_active E block && block_drives d.signals.items s b block) d.clocked.items block member
+    (inr (list_any-member (λ block. is_active E block && block_drives d.signals.items s b block) d.clocked.items block member
     (and_from (is_active E block) (block_drives d.signals.items s b block) (sym (active-now d order k samples state choice block member) ∙ active) drives)))
   where
     E : Valuation
@@ -405,7 +392,7 @@ next-left d once state choice V block s b member inactive drives register =
     ∙ with_bodies-to d choice V d.clocked.items (kept d state) s b (left_from d.signals.items choice block V block.body s b) register
     (λ other at passes. ap (λ (c : Clocked). left_from d.signals.items choice c V c.body s b)
     (sym (same-block d once block other s b member at register drives (and_parts (not (is_active V other)) (block_drives d.signals.items s b other) passes).1)))
-    (inr (list_any-by (λ block. not (is_active V block) && block_drives d.signals.items s b block) d.clocked.items block member
+    (inr (list_any-member (λ block. not (is_active V block) && block_drives d.signals.items s b block) d.clocked.items block member
     (and_from (not (is_active V block)) (block_drives d.signals.items s b block) inactive drives)))
 
 next-kept : (d : Design) (state : Valuation) (choice : Choice) (V : Valuation) (s b : ℕ) → is_register_bit d s b ≡ true → is_clocked d s b ≡ false
@@ -426,10 +413,6 @@ next-other d state choice V s b none =
     other_of_two (is_register_bit d s b) (is_reset d V s b) (V s b) (with_bodies d choice V d.clocked.items (kept d state) s b) none
     ∙ with_bodies-other d choice V d.clocked.items (kept d state) s b none
     ∙ ap (λ t. t && state s b) none
-
-not-true : (x : Bool) → not x ≡ true → x ≡ false
-not-true true e = cc
-not-true false e = refl
 
 -- what is computed step by step is a cycle
 pub cycle-exists : (d : Design) (order : List ℕ) → IsWellFormed d → IsDrivenOnce d → IsOrder d order → (samples : List Bits) (state : Valuation) (choice : Choice)

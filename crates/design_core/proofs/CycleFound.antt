@@ -2,12 +2,12 @@
 use Rattle.std.proofs.Common.{◌≡◌, ℕ, [], ◌∷◌, ap, ◌∙◌, refl, subst, ◌⊎◌, inl, inr}
 use Rattle.std.specs.Prelude.{Bool, true, false, not, ◌&&◌, ◌||◌, ◌==◌, nat_lt, nat_le, if◌then◌else◌, Some, None, Contains}
 use Rattle.std.proofs.lemmas.Bool.{both_ways}
+use Rattle.loc_base.proofs.ShelfLists.{Contains-cons, Contains-empty}
 use Rattle.design_core.specs.declared.driver.Clocked.{Clocked}
 use Rattle.design_core.specs.Valuation.{Valuation}
 use Rattle.design_core.specs.After.{Choice}
 use Rattle.design_core.specs.Drives.{is_register_bit}
 use Rattle.design_core.specs.Cycle.{Cycle, left_from}
-use Rattle.design_core.proofs.Lists.{Contains-cons, Contains-empty}
 use Rattle.design_core.proofs.Examples.{Any}
 use Rattle.design_core.proofs.CycleExamples.{held, held_block}
 

@@ -4,9 +4,12 @@ use Rattle.std.specs.Prelude.{◌==◌, if◌then◌else◌, slice_get, Contains
 use Rattle.std.specs.List.{list_any}
 use Rattle.std.specs.Option.{option_map_or}
 use Rattle.std.proofs.Math.Path.{fun_ext}
-use Rattle.std.proofs.lemmas.Bool.{or_cases, or_from, or_parts, and_parts, cases_Bool, cases_order, not_from_false, both_ways}
-use Rattle.std.proofs.lemmas.Option.{slice_get_within, slice_get-get_or, get_or_from_slice_get}
+use Rattle.std.proofs.lemmas.Bool.{or_from, or_parts, and_parts, cases_Bool, cases_order, not_from_false, both_ways}
+use Rattle.std.proofs.lemmas.Option.{slice_get_within, get_or_from_slice_get}
 use Rattle.loc_base.specs.declared.bits.Bits.{Bits}
+use Rattle.loc_base.proofs.ShelfLists.{Contains-cons, Contains-empty, Contains-first, Contains-later, list_all-member}
+pub use Rattle.loc_base.proofs.ShelfLists.{Contains-at, Contains-place, list_any-found}
+use Rattle.loc_base.proofs.ShelfOptions.{Some-same}
 use Rattle.design_core.specs.declared.signal.Signal.{Signal}
 use Rattle.design_core.specs.declared.place.Place.{Place}
 use Rattle.design_core.specs.declared.statement.Stmt.{Stmt}
@@ -23,10 +26,9 @@ use Rattle.design_core.specs.Drives.{driver_drives, is_driven, block_drives, is_
 use Rattle.design_core.specs.Cycle.{before, without, cont_assigned, driven, left_from, is_active, is_reset, is_clocked, Cycle}
 use Rattle.design_core.specs.WellFormed.{driver_fits, statement_fits, is_reset_values, reset_fits, clocked_fits, IsWellFormed}
 use Rattle.design_core.specs.Reads.{AgreeOn, reads, part_reads, statement_reads, driver_reads, Depends, IsOrder}
-use Rattle.design_core.proofs.Lists.{Contains-cons, Contains-empty, Contains-first, Contains-later}
 use Rattle.design_core.proofs.ValueAgrees.{agree_left, agree_right, value-agrees}
 use Rattle.design_core.proofs.StatementAgrees.{store-agrees, after-agrees, after-agrees_later}
-use Rattle.design_core.proofs.Widened.{begun, list_all-member}
+use Rattle.design_core.proofs.Widened.{begun}
 
 -- a driver's own bits are 0 in what it starts from, and the others as they are
 without-own : (signals : List Signal) (driver : Driver) (V : Valuation) (s b : ℕ) → driver_drives signals s b driver ≡ true → without signals driver V s b ≡ false
@@ -70,16 +72,6 @@ left_from-agrees signals places choice block V W statement s b fits h same =
     after-agrees signals places choice statement (begun V) (begun W) s b fits h (inl same) in
     cc
 
--- an element that passes a test that some element passes
-pub list_any-found : {X : Type 0} (test : X → Bool) (xs : List X) → list_any test xs ≡ true → (x : X) × Contains xs x × (test x ≡ true)
-list_any-found test [] passes = absurd (both_ways false refl passes)
-list_any-found test (x ∷ xs) passes = at (or_cases (test x) (list_any test xs) passes) (λ later. list_any-found test xs later)
-  where
-    at : (test x ≡ true) ⊎ (list_any test xs ≡ true) → (list_any test xs ≡ true → (y : _) × Contains xs y × (test y ≡ true))
-        → (y : _) × Contains (x ∷ xs) y × (test y ≡ true)
-    at (inl here) behind = (x, Contains-first x xs, here)
-    at (inr later) behind = let (y, member, passes) = behind later in (y, Contains-later x xs y member, passes)
-
 -- two tests that all elements of a list answer alike
 pub list_any-alike : {X : Type 0} (p q : X → Bool) (xs : List X) → ((x : X) → Contains xs x → p x ≡ q x) → list_any p xs ≡ list_any q xs
 list_any-alike p q [] same = refl
@@ -87,13 +79,6 @@ list_any-alike p q (x ∷ xs) same =
     let here : p x ≡ q x = same x (Contains-first x xs) in
     let later : list_any p xs ≡ list_any q xs = list_any-alike p q xs (λ y member. same y (Contains-later x xs y member)) in
     cc
-
--- places of lists
-pub Contains-at : {X : Type 0} (xs : List X) (k : ℕ) (x : X) → slice_get xs k ≡ Some x → Contains xs x
-Contains-at xs k x at = (k, slice_get_within xs k x at, get_or_from_slice_get xs k x x at)
-
-pub Contains-place : {X : Type 0} (xs : List X) (x : X) → Contains xs x → (k : ℕ) × (slice_get xs k ≡ Some x)
-Contains-place xs x (k, below, at) = (k, slice_get-get_or xs k x below ∙ ap Some at)
 
 -- two cycles with the same samples, states and choice
 record Two (d : Design) (V W : Valuation) : Type 0 where
@@ -182,9 +167,6 @@ bit-same d V W well t s b by_driver = at (cases_Bool (is_listed d s)) (cases_Boo
 record SameBefore (d : Design) (order : List ℕ) (V W : Valuation) (k : ℕ) : Type 0 where
   same : (l i : ℕ) (driver : Driver) (s b : ℕ) → l < k → slice_get order l ≡ Some i → slice_get d.drivers.items i ≡ Some driver
       → driver_drives d.signals.items s b driver ≡ true → V s b ≡ W s b
-
-Some-same : {X : Type 0} {x y : X} → Some x ≡ Some y → x ≡ y
-Some-same e = cc
 
 -- a driver that another depends on stands before it
 pub earlier : (d : Design) (order : List ℕ) → IsOrder d order → (k l i j : ℕ) → slice_get order k ≡ Some i → slice_get order l ≡ Some j → Depends d i j → l < k

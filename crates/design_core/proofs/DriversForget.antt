@@ -4,6 +4,7 @@ use Rattle.std.specs.Prelude.{if◌then◌else◌, slice_get, Contains}
 use Rattle.std.proofs.Math.Path.{fun_ext}
 use Rattle.std.proofs.lemmas.Bool.{cases_Bool}
 use Rattle.std.proofs.lemmas.Option.{slice_get_within}
+use Rattle.loc_base.proofs.ShelfLists.{All-member, Contains-at, Contains-cons, Contains-empty, Contains-first, Contains-place, list_all-member, list_any-found}
 use Rattle.design_core.specs.declared.driver.Driver.{Driver}
 use Rattle.design_core.specs.declared.design.Design.{Design}
 use Rattle.design_core.specs.Valuation.{Valuation}
@@ -13,9 +14,8 @@ use Rattle.design_core.specs.Cycle.{driven}
 use Rattle.design_core.specs.WellFormed.{driver_fits, IsWellFormed}
 use Rattle.design_core.specs.Reads.{driver_reads, Depends, IsOrder}
 use Rattle.design_core.specs.Steps.{with_driver, with_drivers}
-use Rattle.design_core.proofs.Lists.{Contains-first, Contains-cons, Contains-empty, All-member, AllPairs-first}
-use Rattle.design_core.proofs.Widened.{list_all-member}
-use Rattle.design_core.proofs.CycleLaws.{driven-agrees, Contains-at, Contains-place, list_any-found}
+use Rattle.design_core.proofs.Lists.{AllPairs-first}
+use Rattle.design_core.proofs.CycleLaws.{driven-agrees}
 use Rattle.design_core.proofs.CycleExists.{IsSorted, sorted-later, with_driver-at, with_driver-other}
 
 -- two valuations that agree on the bits that none of them drives

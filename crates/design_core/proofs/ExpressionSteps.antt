@@ -1,17 +1,15 @@
 -- What the definitions over expressions say of each node as code makes it, one operand in its place.
-use Rattle.std.proofs.Common.{◌≡◌, ℕ, ◌+◌, ◌*◌, List, refl, length}
-use Rattle.std.specs.Prelude.{Bool, true, false, ◌&&◌, ◌==◌, ℤ, if◌then◌else◌}
-use Rattle.loc_base.specs.declared.bits.Bits.{Bits}
+use Rattle.std.proofs.Common.{◌≡◌, ℕ, ◌*◌, List, refl, length}
+use Rattle.std.specs.Prelude.{Bool, ◌&&◌, ◌==◌, ℤ, if◌then◌else◌}
 use denote.Hole.Carrier.{hidden}
 use Rattle.design_core.specs.declared.signal.Signal.{Signal}
 use Rattle.design_core.specs.declared.expression.UnaryOp.{UnaryOp}
 use Rattle.design_core.specs.declared.expression.BinaryOp.{BinaryOp}
 use Rattle.design_core.specs.declared.expression.Typed.{Typed}
-use Rattle.design_core.specs.declared.expression.Node.{Node}
 use Rattle.design_core.specs.declared.expression.Node.TheVariants as node
 use Rattle.design_core.specs.declared.expression.Node.TheBlock.{shape-the_row-Typed-0, hidden-the_row-Typed-0}
-use Rattle.design_core.specs.Valuation.{Valuation, number, width_at, word_at}
-use Rattle.design_core.specs.Operator.{is_true, integer_of, unary, binary, repeated, resized}
+use Rattle.design_core.specs.Valuation.{Valuation, number, word_at}
+use Rattle.design_core.specs.Operator.{is_true, unary, binary, repeated, resized}
 use Rattle.design_core.specs.Value.{node_value, value, index_value, picked, word_value}
 use Rattle.design_core.specs.Constant.{is_constant}
 use Rattle.design_core.specs.WellFormed.{is_width, is_signal, words_fit, unary_fits, binary_fits, signs_fit, same_widths, node_fits, typed_fits}

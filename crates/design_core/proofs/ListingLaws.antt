@@ -3,11 +3,12 @@ use Rattle.std.proofs.Common.{ℕ, ◌≡◌, ◌<◌, Bool, true, ◌&&◌, ◌
 use Rattle.std.proofs.lemmas.List.{append-nil}
 use Rattle.std.specs.Prelude.{IsTrue, ◌==◌, nat_lt, Contains}
 use Rattle.std.proofs.lemmas.Bool.{or_cases, and_parts, ltb-true, eqb-true}
+use Rattle.loc_base.proofs.ShelfLists.{All-member}
 use Rattle.design_core.specs.declared.design.Design.{Design}
 use Rattle.design_core.specs.declared.trace.Trace.{Trace}
 use Rattle.design_core.specs.Works.{Groups}
 use Rattle.design_core.specs.Listing.{is_lower, is_before, IsEntry, IsList, IsFront}
-use Rattle.design_core.proofs.Lists.{All-member, prefix_of}
+use Rattle.design_core.proofs.Lists.{prefix_of}
 
 -- a number below another, or the same and a fact of what follows
 below_or_same : (x y : ℕ) (t : Bool) → (nat_lt x y || ((x == y) && t)) ≡ true → (x < y) ⊎ ((x ≡ y) × (t ≡ true))

@@ -1,23 +1,7 @@
--- Members and pairs of lists; two lists in one strict order, where the one is the front of the other.
-use Rattle.std.proofs.Common.{zero, suc, ◌≡◌, List, [], ◌∷◌, ◌++◌, refl, sym, ◌∙◌, subst, arith, ◌⊎◌, inl, inr}
+-- Pairs of lists; two lists in one strict order, where the one is the front of the other.
+use Rattle.std.proofs.Common.{suc, ◌≡◌, List, [], ◌∷◌, ◌++◌, refl, sym, ◌∙◌, subst, arith, ◌⊎◌, inl, inr}
 use Rattle.std.specs.Prelude.{All, AllPairs, Contains}
-
--- the first element is a member, and so is each one behind it
-pub Contains-first : {X : Type 0} (x : X) (xs : List X) → Contains (x ∷ xs) x
-Contains-first x xs = (0, omega arith, refl)
-
-pub Contains-later : {X : Type 0} (x : X) (xs : List X) (y : X) → Contains xs y → Contains (x ∷ xs) y
-Contains-later x xs y (k, below, at) = (suc k, omega arith, at)
-
-pub Contains-cons : {X : Type 0} (x : X) (xs : List X) (y : X) → Contains (x ∷ xs) y → (x ≡ y) ⊎ Contains xs y
-Contains-cons x xs y (zero, below, at) = inl at
-Contains-cons x xs y (suc k, below, at) = inr (k, omega arith, at)
-
-pub Contains-empty : {X : Type 0} (x : X) → Contains [] x → ⊥
-Contains-empty x (k, below, at) = omega (arith, below)
-
-pub All-member : {X : Type 0} (P : X → Type 0) (xs : List X) (x : X) → All P xs → Contains xs x → P x
-All-member P xs x all (k, below, at) = subst P at (all k x below)
+pub use Rattle.loc_base.proofs.ShelfLists.{Contains-first, Contains-later, Contains-cons, Contains-empty, All-member}
 
 pub All-later : {X : Type 0} (P : X → Type 0) (x : X) (xs : List X) → All P (x ∷ xs) → All P xs
 All-later P x xs all k d below = all (suc k) d (omega arith)

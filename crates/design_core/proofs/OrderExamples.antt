@@ -1,18 +1,14 @@
 -- Worked examples of orders: two numbers, of which the first depends on the second, or neither on the other, or each on
 -- the other.
-use Rattle.std.proofs.Common.{ℕ, zero, suc, ◌≡◌, ◌<◌, [], ◌∷◌, refl, sym, subst, arith, ◌⊎◌, inl, inr, lit<}
+use Rattle.std.proofs.Common.{ℕ, ◌≡◌, [], ◌∷◌, refl, sym, subst, arith, ◌⊎◌, inl, inr, lit<}
 use Rattle.std.specs.Prelude.{Contains}
+use Rattle.loc_base.proofs.ShelfBools.{below_two}
+use Rattle.loc_base.proofs.ShelfLists.{Contains-cons, Contains-empty, Contains-first, Contains-later}
 use Rattle.design_core.specs.Order.{IsNext, IsLeastOrderOf, HasCircleOf}
-use Rattle.design_core.proofs.Lists.{Contains-first, Contains-later, Contains-cons, Contains-empty}
 
 both_there : (one other i : ℕ) → ((i ≡ one) ⊎ (i ≡ other)) → Contains (one ∷ other ∷ []) i
 both_there one other i (inl e) = subst (Contains (one ∷ other ∷ [])) (sym e) (Contains-first one (other ∷ []))
 both_there one other i (inr e) = subst (Contains (one ∷ other ∷ [])) (sym e) (Contains-later one (other ∷ []) other (Contains-first other []))
-
-below_two : (i : ℕ) → i < 2 → (i ≡ 0) ⊎ (i ≡ 1)
-below_two zero below = inl refl
-below_two (suc zero) below = inr refl
-below_two (suc (suc i)) below = absurd (omega (arith, below))
 
 -- 0 depends on 1: 1 is taken first
 abbrev pub On : ℕ → ℕ → Type 0

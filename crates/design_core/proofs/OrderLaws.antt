@@ -6,10 +6,10 @@ use Rattle.std.proofs.lemmas.Bool.{cases_order}
 use Rattle.std.proofs.lemmas.List.{append-nil, append_assoc}
 use Rattle.std.proofs.lemmas.List.Elements.{Contains-append_left, Contains-append_right, Contains-append_cases, All-nil, All-cons}
 use Rattle.std.proofs.lemmas.List.Kept.{AllPairs-cons}
+use Rattle.loc_base.proofs.ShelfLists.{Contains-cons, Contains-empty, Contains-first, Contains-later}
 use Rattle.design_core.specs.declared.design.Design.{Design}
 use Rattle.design_core.specs.Reads.{Depends, IsOrder}
 use Rattle.design_core.specs.Order.{IsReady, IsNext, AreNext, IsLeastOrderOf, Leads, HasCircleOf, IsLeastOrder}
-use Rattle.design_core.proofs.Lists.{Contains-first, Contains-later, Contains-cons, Contains-empty}
 
 -- what holds of each member
 All-from : {X : Type 0} (P : X → Type 0) (xs : List X) → ((x : X) → Contains xs x → P x) → All P xs

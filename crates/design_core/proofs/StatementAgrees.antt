@@ -14,7 +14,7 @@ use Rattle.design_core.specs.declared.statement.Stmt.{Stmt, Row_of-Stmt, end_of-
 use Rattle.design_core.specs.declared.statement.Stmt.TheVariants.{Nothing, Block', If', Case', Set}
 use Rattle.design_core.specs.Valuation.{Valuation, bit, width_at, position_at, word_at}
 use Rattle.design_core.specs.Operator.{is_true, integer_of}
-use Rattle.design_core.specs.Value.{node_value, value, index_value}
+use Rattle.design_core.specs.Value.{value, index_value}
 use Rattle.design_core.specs.Store.{parts_width, with_bits, with_bit, with_picked, with_word, store_part, store}
 use Rattle.design_core.specs.After.{Choice, assigned, Updates, matches, after_set, after, after_all, after_case}
 use Rattle.design_core.specs.Constant.{constant_of}

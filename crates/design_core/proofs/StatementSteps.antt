@@ -1,5 +1,5 @@
 -- What the definitions over statements say of each statement as code makes it, one statement in its place.
-use Rattle.std.proofs.Common.{◌≡◌, ℕ, List, refl}
+use Rattle.std.proofs.Common.{◌≡◌, List, refl}
 use Rattle.std.specs.Prelude.{Bool, ◌&&◌, ◌||◌, if◌then◌else◌}
 use denote.Hole.Carrier.{hidden}
 use Rattle.design_core.specs.declared.signal.Signal.{Signal}

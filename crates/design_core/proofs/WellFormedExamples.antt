@@ -18,6 +18,7 @@ use Rattle.design_core.specs.declared.place.PlaceKind.TheVariants as place_kind
 use Rattle.design_core.specs.declared.design.Design.{Design}
 use Rattle.design_core.specs.Valuation.{Valuation}
 use Rattle.design_core.specs.After.{Updates, after}
+use Rattle.design_core.specs.Drives.{block_drives}
 use Rattle.design_core.specs.WellFormed.{typed_fits, clocked_fits}
 use Rattle.design_core.specs.Works.{suspect_has, places_of}
 use Rattle.design_core.proofs.Examples.{Any, vec, declared, scalar, none_freed}
@@ -98,6 +99,22 @@ it_stores_nothing_there any V = refl
 pub a_reset_may_not_select_by_a_variable : (any : Any) → let index : Typed = record { width = 1; signed = false; node = node.Whole 1 } in
     clocked_fits (reset_of any index) (reset_block any index) ≡ false
 a_reset_may_not_select_by_a_variable any = refl
+
+-- ---- y[3] with the index carried from 3 bits to 32: a constant in a reset, and still no bit of y is told by it
+abbrev three : Typed
+three = constant 3 3 (lit≤ tt) (lit≤ tt) (lit< tt)
+
+abbrev carried : Typed
+carried = record { width = 32; signed = true; node = node.Resize' tt (more_of-Typed 3 true three.node end_of-Typed) }
+
+pub an_index_carried_to_another_width_is_a_constant : (any : Any) → clocked_fits (reset_of any carried) (reset_block any carried) ≡ true
+an_index_carried_to_another_width_is_a_constant any = refl
+
+-- it stores into bit 3 alone, and drives each bit, where the constant itself drives bit 3 alone
+pub but_it_drives_each_bit : (any : Any) → let signals = (reset_of any carried).signals.items in
+    (block_drives signals 2 0 (reset_block any carried) ≡ true) × (block_drives signals 2 3 (reset_block any carried) ≡ true)
+    × (block_drives signals 2 0 (reset_block any three) ≡ false) × (block_drives signals 2 3 (reset_block any three) ≡ true)
+but_it_drives_each_bit any = (refl, refl, refl, refl)
 
 -- ---- suspects are numbered from 1
 pub there_is_no_suspect_0 : (suspect_has ((0 ∷ []) ∷ []) 0 0 ≡ false) × (suspect_has ((0 ∷ []) ∷ []) 0 1 ≡ true) × (places_of ((0 ∷ []) ∷ []) (0 ∷ []) 0 ≡ false)

@@ -1,11 +1,13 @@
 -- A cycle stays one where more places are freed and the added ones are given what they compute in it.
-use Rattle.std.proofs.Common.{ℕ, ◌≡◌, ◌≤◌, Bool, true, ◌&&◌, List, [], ◌∷◌, refl, ap, sym, ◌∙◌, arith, ◌⊎◌, inl, inr, Some, None}
+use Rattle.std.proofs.Common.{ℕ, ◌≡◌, ◌≤◌, true, ◌&&◌, List, [], ◌∷◌, refl, ap, sym, ◌∙◌, arith, ◌⊎◌, inl, inr, Some, None}
 use Rattle.std.specs.Prelude.{◌==◌, nat_lt, if◌then◌else◌, sum_by, Contains}
-use Rattle.std.specs.List.{list_any, list_all}
+use Rattle.std.specs.List.{list_any}
 use Rattle.std.specs.Option.{option_map_or}
 use Rattle.std.proofs.lemmas.Bool.{and_parts, lt-ltb, le-ltb, eq-eqb, cond-true, cond-false}
 use Rattle.std.proofs.lemmas.List.Sums.{sum_by-cons}
 use Rattle.loc_base.specs.declared.bits.Bits.{Bits}
+use Rattle.loc_base.proofs.ShelfLists.{Contains-cons, Contains-empty}
+pub use Rattle.loc_base.proofs.ShelfLists.{list_all-member}
 use Rattle.design_core.specs.declared.signal.Signal.{Signal}
 use Rattle.design_core.specs.declared.place.Place.{Place}
 use Rattle.design_core.specs.declared.statement.Stmt.{Stmt}
@@ -20,7 +22,6 @@ use Rattle.design_core.specs.Store.{parts_width}
 use Rattle.design_core.specs.After.{Choice, assigned, Updates}
 use Rattle.design_core.specs.Cycle.{before, without, driven, left, left_from, Cycle}
 use Rattle.design_core.specs.WellFormed.{place_fits, assignment_fits, statement_fits, driver_fits, is_reset_values, reset_fits, clocked_fits, times_in, times_in_driver, times_in_clocked, times_in_design, IsWellFormed}
-use Rattle.design_core.proofs.Lists.{Contains-cons, Contains-empty}
 use Rattle.design_core.proofs.StoreBits.{store-bits}
 use Rattle.design_core.proofs.Computed.{computed, SamePlaces, place_fits-at, narrowed, after-wider}
 
@@ -56,15 +57,6 @@ first_of-none times values [] other none = refl
 first_of-none times values (x ∷ xs) other none =
     cond-false (nat_lt 0 (times x)) (values x) (first_of times values xs other) (le-ltb 0 (times x) (omega (arith, none, sum_by-cons times x xs)))
     ∙ first_of-none times values xs other (omega (arith, none, sum_by-cons times x xs))
-
--- a test that all elements pass
-pub list_all-member : {X : Type 0} (test : X → Bool) (xs : List X) (x : X) → list_all test xs ≡ true → Contains xs x → test x ≡ true
-list_all-member test [] x all member = absurd (Contains-empty x member)
-list_all-member test (y ∷ ys) x all member = at (Contains-cons y ys x member) (λ later. list_all-member test ys x (and_parts (test y) (list_all test ys) all).1 later)
-  where
-    at : (y ≡ x) ⊎ Contains ys x → (Contains ys x → test x ≡ true) → test x ≡ true
-    at (inl same) behind = sym (ap test same) ∙ (and_parts (test y) (list_all test ys) all).0
-    at (inr later) behind = behind later
 
 -- a statement begun with no later updates
 abbrev pub begun : Valuation → Updates

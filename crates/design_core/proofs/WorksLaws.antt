@@ -1,14 +1,15 @@
 -- A set that contains a working set works: the added places are given what they compute in the same run.
-use Rattle.std.proofs.Common.{ℕ, ◌+◌, ◌%◌, ◌^◌, ◌≡◌, ◌<◌, ◌≤◌, Bool, true, false, List, [], ◌∷◌, refl, ap, sym, ◌∙◌, subst, arith, ◌⊎◌, inl, inr, Some}
+use Rattle.std.proofs.Common.{ℕ, ◌+◌, ◌%◌, ◌^◌, ◌≡◌, ◌<◌, ◌≤◌, Bool, true, false, List, [], ◌∷◌, refl, ap, sym, subst, arith, ◌⊎◌, inl, inr, Some}
 use Rattle.std.specs.Prelude.{◌==◌, if◌then◌else◌, slice_get, All, Contains}
 use Rattle.std.specs.List.{list_any}
 use Rattle.std.specs.Option.{option_map_or}
 use Rattle.std.proofs.Math.Path.{fun_ext}
-use Rattle.std.proofs.lemmas.Bool.{or_left, or_right, or_cases, cond_both, eq-eqb, ne_eqb, cond-true, cond-false}
+use Rattle.std.proofs.lemmas.Bool.{or_cases, cond_both, eq-eqb, ne_eqb, cond-true, cond-false}
 use Rattle.std.proofs.lemmas.Nat.{pow_pos}
 use Rattle.std.proofs.lemmas.Option.{slice_get_within}
 use Rattle.std.proofs.Math.Nat.{mod-lt}
 use Rattle.loc_base.proofs.BitLaws.{bit_at-mod_low}
+use Rattle.loc_base.proofs.ShelfLists.{list_any-member}
 use Rattle.design_core.specs.declared.place.Place.{Place}
 use Rattle.design_core.specs.declared.design.Design.{Design}
 use Rattle.design_core.specs.declared.trace.Trace.{Trace}
@@ -17,7 +18,7 @@ use Rattle.design_core.specs.Cycle.{before, Cycle}
 use Rattle.design_core.specs.Run.{samples_at, choice_at, Choices, IsRunFrom, start_state}
 use Rattle.design_core.specs.Works.{Groups, suspect_has, places_of, AreOfWidth, Works, IsWithin}
 use Rattle.design_core.specs.WellFormed.{times_in_design, IsWellFormed}
-use Rattle.design_core.proofs.Lists.{Contains-cons, Contains-empty, All-later}
+use Rattle.design_core.proofs.Lists.{All-later}
 use Rattle.design_core.proofs.StoreBits.{SameBelow}
 use Rattle.design_core.proofs.Computed.{SamePlaces}
 use Rattle.design_core.proofs.Widened.{computed_cycle, cycle-wider}
@@ -99,15 +100,6 @@ run-wider d trace freed wider c well more widths t state (V ∷ rest) (lt, (next
         ),
       ),
     )
-
--- a test that a member passes is passed by some element
-list_any-member : {X : Type 0} (test : X → Bool) (xs : List X) (x : X) → Contains xs x → test x ≡ true → list_any test xs ≡ true
-list_any-member test [] x member passes = absurd (Contains-empty x member)
-list_any-member test (y ∷ ys) x member passes = at (Contains-cons y ys x member) (λ later. list_any-member test ys x later passes)
-  where
-    at : (y ≡ x) ⊎ Contains ys x → (Contains ys x → list_any test ys ≡ true) → list_any test (y ∷ ys) ≡ true
-    at (inl same) behind = or_left (test y) (list_any test ys) (ap test same ∙ passes)
-    at (inr later) behind = or_right (test y) (list_any test ys) (behind later)
 
 list_any-within : {X : Type 0} (test : X → Bool) (inner outer : List X) → All (Contains outer) inner → list_any test inner ≡ true → list_any test outer ≡ true
 list_any-within test [] outer within passes = cc

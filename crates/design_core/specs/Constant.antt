@@ -15,7 +15,8 @@ is_constant _ = false
 abbrev pub zeros : Valuation
 zeros s b = false
 
--- the value of an index that is a constant, where it is one
+-- the value of an index that is a constant of its own width; one that is carried to another width is a constant as well,
+-- but tells no bit: a part by it drives and reads as one by a variable index does
 abbrev pub constant_of : ℕ → Node → Option ℕ
 constant_of width (Const word) = if width_of word == width then Some (value_of word) else None
 constant_of width _ = None
