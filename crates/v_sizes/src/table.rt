@@ -1,23 +1,22 @@
-ghost use Rattle.std.specs.Prelude.{◌≡◌, ℕ, List, None, OnErr, IfOk, not};
-ghost use Rattle.std.specs.Bool.{OnTrue, OnFalse};
-ghost use Rattle.v_sizes.specs.Table.{meaning_in, is_in, with_meaning};
+ghost use Rattle.std.specs.Prelude.{◌≡◌, ℕ, List, None, OnErr, OnOk, IfOk, true};
+ghost use Rattle.v_sizes.specs.Table.{meaning_in, entry_in, is_in, with_entry};
 
 use crate::meaning::Meaning;
 use loc_base::NoMemory;
 use std::alloc::Global;
 use std::collections::HashMap;
 
-/// Meanings by name: at most one for each name. To find or to add one takes the time of its bytes, whatever the table
+/// Meanings by name: at most one for each name. To find or to put one takes the time of its bytes, whatever the table
 /// holds.
 #[derive(Drop)]
 pub(crate) struct Table<'a> {
-    by_name: HashMap<&'a [u8], Meaning>,
+    by_name: HashMap<&'a [u8], Option<Meaning>>,
 }
 
 impl<'a> Table<'a> {
-    /// The table in which no name has a meaning. It takes no memory.
+    /// The table in which no name has an entry. It takes no memory.
     pub(crate) fn new(alloc: Global) -> Table<'a>
-        ensures { (name : List ℕ) → meaning_in result name ≡ None }
+        ensures { (name : List ℕ) → entry_in result name ≡ None }
     {
         Table {
             by_name: HashMap::new(alloc),
@@ -28,21 +27,30 @@ impl<'a> Table<'a> {
     pub(crate) fn find(&self, name: &[u8]) -> Option<Meaning>
         ensures { result ≡ meaning_in self.now name.now }
     {
-        self.by_name.get(name).copied()
+        self.by_name.get(name).copied().flatten()
     }
 
-    /// Gives a name its meaning, and answers whether it had none before. A name that has one keeps it. Unchanged after
-    /// `NoMemory`.
-    pub(crate) fn add(&mut self, name: &'a [u8], meaning: Meaning) -> Result<bool, NoMemory>
-        ensures fresh { IfOk result (λ added. added ≡ not (is_in self.old name.now)) }
-        ensures added { IfOk result (λ added. OnTrue added ((other : List ℕ) → meaning_in self.new other ≡ with_meaning name.now meaning (meaning_in self.old) other)) }
-        ensures stays { IfOk result (λ added. OnFalse added (self.new ≡ self.old)) }
-        ensures err { OnErr result ((other : List ℕ) → meaning_in self.new other ≡ meaning_in self.old other) }
+    /// Gives a name a meaning in place of the one that it had, and answers that one. Unchanged after `NoMemory`.
+    pub(crate) fn put(
+        &mut self,
+        name: &'a [u8],
+        meaning: Meaning,
+    ) -> Result<Option<Meaning>, NoMemory>
+        ensures was { IfOk result (λ was. was ≡ meaning_in self.old name.now) }
+        ensures ok { OnOk result ((other : List ℕ) → entry_in self.new other ≡ with_entry name.now (Some meaning) (entry_in self.old) other) }
+        ensures err { OnErr result ((other : List ℕ) → entry_in self.new other ≡ entry_in self.old other) }
     {
-        if self.by_name.contains_key(name) {
-            return Ok(false);
+        let was = self.by_name.insert(name, Some(meaning))?;
+        Ok(was.flatten())
+    }
+
+    /// Changes the entry of a name that has one. It takes no memory.
+    pub(crate) fn set(&mut self, name: &[u8], meaning: Option<Meaning>)
+        requires { is_in self.old name.now ≡ true }
+        ensures { (other : List ℕ) → entry_in self.new other ≡ with_entry name.now meaning (entry_in self.old) other }
+    {
+        if let Some(place) = self.by_name.get_mut(name) {
+            *place = meaning;
         }
-        self.by_name.insert(name, meaning)?;
-        Ok(true)
     }
 }
