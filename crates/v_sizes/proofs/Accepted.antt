@@ -1,17 +1,12 @@
 -- What is known of an expression that isn't refused.
-use Rattle.std.proofs.Common.{◌≡◌, ℕ, zero, suc, ◌+◌, ◌*◌, ◌<◌, ◌≤◌, Bool, true, false, ◌&&◌, List, [], ◌∷◌, Option, Some, None, refl, ap, sym, subst, ◌∙◌, arith}
-use Rattle.std.specs.Prelude.{if◌then◌else◌, max, min, not, ◌||◌, ◌==◌, nat_lt, ℤ, pos, int_lt}
-use Rattle.std.specs.Option.{option_or, option_map_or}
-use Rattle.std.specs.List.{list_all}
-use Rattle.std.proofs.lemmas.Bool.{eqb-true, ltb-false, and_parts}
-use Rattle.std.proofs.Math.Nat.{max-le, le-max_left, le-max_right, max-eq_right, min-eq_left}
-use Rattle.loc_base.specs.Bits.{width_of}
-use Rattle.v_tree.specs.Tree.{Tree, Trees, no_tree, tree, Selections, no_select, select}
-use Rattle.v_tree.specs.Tree as written
+use Rattle.std.proofs.Common.{◌≡◌, ℕ, zero, suc, ◌≤◌, Bool, true, false, Option, Some, None, refl, arith}
+use Rattle.std.specs.Prelude.{max, ◌||◌, ◌==◌, nat_lt}
+use Rattle.std.specs.Option.{option_or}
+use Rattle.std.proofs.lemmas.Bool.{ltb-false}
+use Rattle.std.proofs.Math.Nat.{max-le, le-max_left}
 use Rattle.v_sizes.specs.declared.error.WidthErr.{WidthErr}
 use Rattle.v_sizes.specs.Refusals.{when, is_bad_width, first_of}
-use Rattle.v_sizes.specs.Literal.{limited}
-use Rattle.v_sizes.proofs.Meant.{Within, limited-within}
+use Rattle.v_sizes.proofs.Meant.{Within}
 
 pub or-none : (first second : Option WidthErr) → option_or first second ≡ None → (first ≡ None) × (second ≡ None)
 or-none None second h = (refl, h)

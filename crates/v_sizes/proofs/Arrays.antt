@@ -1,26 +1,22 @@
 -- What the nodes of words of arrays mean, and that they fit.
-use Rattle.std.proofs.Common.{◌≡◌, ℕ, zero, suc, ◌+◌, ◌-◌, ◌*◌, ◌^◌, ◌<◌, ◌≤◌, Bool, true, false, ◌&&◌, List, [], ◌∷◌, length, Option, Some, None, refl, ap, sym, subst, ◌∙◌, arith}
-use Rattle.std.specs.Prelude.{if◌then◌else◌, min, nat_le, nat_lt, ◌==◌, ℤ, pos, negsuc, ◌+ℤ◌, ◌<ℤ◌, ◌≤ℤ◌, take, drop, slice_get}
+use Rattle.std.proofs.Common.{◌≡◌, ℕ, zero, suc, ◌+◌, ◌-◌, ◌*◌, ◌^◌, ◌<◌, ◌≤◌, Bool, true, false, List, [], ◌∷◌, length, Option, Some, None, refl, ap, sym, subst, ◌∙◌, arith}
+use Rattle.std.specs.Prelude.{if◌then◌else◌, ◌==◌, ℤ, take, drop, slice_get}
 use Rattle.std.specs.List.{list_all}
-use Rattle.std.proofs.lemmas.Bool.{le-leb, lt-ltb, eq-eqb, ltb-true, ltb-false, and_from}
+use Rattle.std.proofs.lemmas.Bool.{le-leb, eq-eqb, and_from}
 use Rattle.std.proofs.lemmas.Option.{slice_get_within}
-use Rattle.std.proofs.lemmas.Int.{ints}
 use Rattle.std.proofs.lemmas.Nat.{pow-add}
 use Rattle.std.proofs.Math.Nat.{add-mul, mul_comm}
-use Rattle.std.proofs.Common.{inl, inr}
 use Rattle.design_core.specs.declared.signal.Signal.{Signal}
 use Rattle.design_core.specs.declared.expression.Typed.{Typed}
 use Rattle.design_core.specs.declared.expression.Node.TheVariants as node
-use Rattle.design_core.specs.Valuation.{Valuation, number, width_at, place_within, bit_or_zero, word_at}
-use Rattle.design_core.specs.Value.{value, word_value}
+use Rattle.design_core.specs.Valuation.{Valuation, number, width_at, word_at}
+use Rattle.design_core.specs.Value.{word_value}
 use Rattle.design_core.specs.WellFormed.{words_fit}
-use Rattle.design_core.proofs.NumberLaws.{number-same, number-zero, number-suc}
+use Rattle.design_core.proofs.NumberLaws.{number-zero, number-suc}
 use Rattle.design_core.proofs.ExpressionSteps.{value_word, fits_word}
-use Rattle.v_sizes.specs.Selected.{bits_below, bits_within, start_within}
 use Rattle.v_sizes.specs.Sizing.{Sizing, integer, word_bits}
 use Rattle.v_sizes.specs.Sized.{sized}
 use Rattle.v_sizes.specs.Context.{IsThere}
-use Rattle.v_sizes.proofs.Parts.{place-none}
 use Rattle.v_sizes.proofs.Steady.{number-none}
 use Rattle.v_sizes.proofs.Meant.{Within, Meant, is-width}
 use Rattle.v_sizes.proofs.Selects.{there-width, there-signal, index-means}

@@ -1,8 +1,7 @@
 -- Worked examples of the definitions: what an expression is by itself and in a context, and why it is refused.
-use Rattle.std.proofs.Common.{◌≡◌, ℕ, ◌+◌, List, [], ◌∷◌, refl}
-use Rattle.std.specs.Prelude.{Bool, true, false, ℤ, pos, negsuc, Option, Some, None, codes, nat_eq, if◌then◌else◌}
+use Rattle.std.proofs.Common.{◌≡◌, ℕ, ◌+◌, List, refl}
+use Rattle.std.specs.Prelude.{true, false, pos, negsuc, Option, Some, None, codes, nat_eq, if◌then◌else◌}
 use Rattle.std.specs.Cmp.Lexicographic.{pointwise}
-use Rattle.loc_base.specs.declared.span.Span.{Span}
 use Rattle.v_lexer.specs.Bytes.{is_decimal}
 use Rattle.v_lexer.specs.Numbers.{is_sign, is_wild, is_hexadecimal}
 use Rattle.v_lexer.specs.Literals.{digit_value, base_of}
@@ -19,7 +18,6 @@ use Rattle.design_core.specs.Valuation.{number}
 use Rattle.v_sizes.specs.declared.error.WidthErr.{WidthErr}
 use Rattle.v_sizes.specs.declared.error.WidthErr.TheVariants as fault
 use Rattle.v_sizes.specs.declared.meaning.Meaning.TheVariants as meaning
-use Rattle.v_sizes.specs.declared.meaning.Meaning.{Meaning}
 use Rattle.v_sizes.specs.Look.{Look}
 use Rattle.v_sizes.specs.Operations.{logarithm_from}
 use Rattle.v_sizes.specs.Sizing.{sizing, known}

@@ -1,12 +1,8 @@
 -- The law of sized expressions, whole.
 use Rattle.std.proofs.lemmas.Bool.{not-false}
-use Rattle.std.proofs.Common.{◌≡◌, ℕ, zero, suc, ◌+◌, ◌-◌, ◌*◌, ◌^◌, ◌<◌, ◌≤◌, Bool, true, false, ◌&&◌, List, [], ◌∷◌, Option, Some, None, refl, ap, sym, subst, ◌∙◌, arith, lit≤}
+use Rattle.std.proofs.Common.{◌≡◌, ℕ, zero, suc, ◌+◌, ◌*◌, ◌^◌, ◌<◌, ◌≤◌, Bool, true, false, ◌&&◌, List, Option, None, refl, ap, sym, subst, ◌∙◌, arith, lit≤}
 use Rattle.std.specs.Prelude.{min, if◌then◌else◌, max, not, ◌||◌, ◌==◌, nat_le, ℤ, int_lt, pos, negsuc}
-use Rattle.std.specs.Option.{option_or}
 use Rattle.std.proofs.Math.Nat.{le-max_left, le-max_right, add-mul}
-use Rattle.std.proofs.lemmas.Nat.{pow_pos}
-use Rattle.loc_base.specs.Word.{extended}
-use Rattle.loc_base.proofs.Modulo.{wider}
 use Rattle.loc_base.specs.declared.span.Span.{Span}
 use Rattle.v_tree.specs.declared.site.Site.{Site}
 use Rattle.v_tree.specs.declared.operator.Unary.{Unary}
@@ -16,27 +12,23 @@ use Rattle.v_tree.specs.declared.operator.SystemFunction.TheVariants as function
 use Rattle.v_tree.specs.Tree.{Tree, Trees, no_tree, tree, Selections, no_select, select}
 use Rattle.v_tree.specs.Tree as written
 use Rattle.design_core.specs.declared.signal.Signal.{Signal}
-use Rattle.design_core.specs.declared.expression.Typed.{Typed}
-use Rattle.design_core.specs.declared.expression.BinaryOp.TheVariants as binary_op
 use Rattle.design_core.specs.declared.expression.Node.TheVariants as node
-use Rattle.design_core.specs.Valuation.{Valuation}
 use Rattle.design_core.specs.Constant.{zeros}
 use Rattle.v_sizes.specs.declared.error.WidthErr.{WidthErr}
 use Rattle.v_sizes.specs.declared.error.WidthErr.TheVariants as fault
-use Rattle.v_sizes.specs.declared.meaning.Meaning.{Meaning}
 use Rattle.v_sizes.specs.Look.{Look}
-use Rattle.v_sizes.specs.Literal.{written_width, limited, literal_width}
+use Rattle.v_sizes.specs.Literal.{written_width}
 use Rattle.v_sizes.specs.Operations.{Class, by_context, shift, comparison, logical, quotient, remainder, power, class_of, keeps_width, is_below_0, logarithm_from, ceiling_of_logarithm}
 use Rattle.v_sizes.specs.Sizing.{Sizing, sizing, sizings, own, known, times_of, joined_width, chosen_of, class_sizing, unary_sizing, called, conditional}
-use Rattle.v_sizes.specs.Refusals.{refusal, parts_refusal, selects_refusal, when, is_bad_width, name_fault, first_of, division_fault, power_fault, concat_fault, repeat_fault, called_fault}
+use Rattle.v_sizes.specs.Refusals.{refusal, parts_refusal, selects_refusal, when, is_bad_width, name_fault, division_fault, power_fault, concat_fault, repeat_fault, called_fault}
 use Rattle.v_sizes.specs.Sized.{sized, constant, typed, typed_parts, selects_of, folded, with_sign, with_width}
-use Rattle.v_sizes.specs.Context.{IsScope, IsScopeOf, IsMeaning, IsAmong}
+use Rattle.v_sizes.specs.Context.{IsScope}
 use Rattle.v_sizes.proofs.Steady.{IsSteady, sizing-steady}
 use Rattle.v_sizes.proofs.Accepted.{or-none, or_false, first_of-none, when-none, good-width, max-within}
 use Rattle.v_sizes.proofs.Meant.{Within, Meant, folded-meant, with_sign-meant, with_width-meant}
 use Rattle.v_sizes.proofs.Joins.{MeantAll, choose-meant}
 use Rattle.v_sizes.proofs.Joins as parts
-use Rattle.v_sizes.proofs.Names.{limits, MeantSelect, one_index, two_indexes}
+use Rattle.v_sizes.proofs.Names.{limits, one_index, two_indexes}
 use Rattle.v_sizes.proofs.Meanings.{MeantSelects}
 use Rattle.v_sizes.proofs.Meanings as selects
 use Rattle.v_sizes.proofs.Operands.{class-fits}

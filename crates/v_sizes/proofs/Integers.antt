@@ -1,8 +1,7 @@
 -- The whole numbers that words mean: below 0 or not, and how far from it.
-use Rattle.std.proofs.Common.{◌≡◌, ℕ, suc, ◌+◌, ◌-◌, ◌^◌, ◌<◌, ◌≤◌, ◌/◌, ◌%◌, ap, arith, ◌∙◌, sym, refl, inl, inr}
-use Rattle.std.specs.Prelude.{Bool, true, false, ℤ, pos, negsuc, int_lt}
+use Rattle.std.proofs.Common.{◌≡◌, ℕ, suc, ◌+◌, ◌-◌, ◌^◌, ◌<◌, ◌/◌, ◌%◌, ap, arith, ◌∙◌, sym, refl, inl, inr}
+use Rattle.std.specs.Prelude.{Bool, true, false, pos}
 use Rattle.std.proofs.lemmas.Bool.{cases_lt, le-leb, lt-leb}
-use Rattle.std.proofs.lemmas.Nat.{pow_pos}
 use Rattle.std.proofs.Math.Nat.{div-zero, mod-zero}
 use Rattle.loc_base.specs.Word.{is_negative, signed_value}
 use Rattle.loc_base.proofs.WordLaws.{signed_value-low, signed_value-high}

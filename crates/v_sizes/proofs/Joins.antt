@@ -1,18 +1,18 @@
 -- What the nodes of concatenations, replications and words of arrays mean, and that they fit.
-use Rattle.std.proofs.Common.{◌≡◌, ℕ, zero, suc, ◌+◌, ◌-◌, ◌*◌, ◌^◌, ◌<◌, ◌≤◌, Bool, true, false, ◌&&◌, List, [], ◌∷◌, ◌++◌, length, Option, Some, None, refl, ap, sym, subst, ◌∙◌, arith}
-use Rattle.std.specs.Prelude.{if◌then◌else◌, max, min, nat_le, nat_lt, ◌==◌, ℤ, pos, negsuc, ◌+ℤ◌, sum_by}
+use Rattle.std.proofs.Common.{◌≡◌, ℕ, ◌+◌, ◌*◌, ◌^◌, Bool, true, ◌&&◌, List, [], ◌∷◌, refl, ap, sym, ◌∙◌}
+use Rattle.std.specs.Prelude.{if◌then◌else◌, ◌==◌}
 use Rattle.std.specs.List.{list_all}
-use Rattle.std.proofs.lemmas.Bool.{le-leb, leb-true, lt-ltb, ltb-true, ltb-false, eq-eqb, and_parts, and_from}
+use Rattle.std.proofs.lemmas.Bool.{eq-eqb, and_from}
 use Rattle.std.proofs.lemmas.List.Sums.{sum_by-cons}
 use Rattle.design_core.specs.declared.signal.Signal.{Signal}
 use Rattle.design_core.specs.declared.expression.Typed.{Typed}
-use Rattle.design_core.specs.declared.expression.Node.{Node, Row_of-Typed, end_of-Typed, more_of-Typed, items-the_row-Typed, items_hidden-the_row-Typed-1}
+use Rattle.design_core.specs.declared.expression.Node.{Row_of-Typed, end_of-Typed, more_of-Typed, items-the_row-Typed, items_hidden-the_row-Typed-1}
 use Rattle.design_core.specs.declared.expression.Node.TheVariants as node
 use Rattle.design_core.specs.declared.expression.Node.TheBlock.{hidden-the_row-Typed-1}
-use Rattle.design_core.specs.Valuation.{Valuation, number}
+use Rattle.design_core.specs.Valuation.{Valuation}
 use Rattle.design_core.specs.Operator.{repeated, is_true}
 use Rattle.design_core.specs.Value.{value, node_value, joined}
-use Rattle.design_core.specs.WellFormed.{is_width, typed_fits, node_fits, joined_width, parts_fit, same_widths}
+use Rattle.design_core.specs.WellFormed.{is_width, typed_fits, node_fits, joined_width, parts_fit}
 use Rattle.design_core.proofs.ExpressionSteps.{value_repeat, fits_repeat, value_choose, fits_choose}
 use Rattle.v_sizes.specs.Sizing.{Sizing, own, joined_value}
 use Rattle.v_sizes.specs.Sizing as sizing

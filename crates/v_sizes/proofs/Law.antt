@@ -1,42 +1,30 @@
 -- A sized expression means what the expression means in its context, and fits it.
-use Rattle.std.proofs.Common.{◌≡◌, ℕ, zero, suc, ◌+◌, ◌-◌, ◌*◌, ◌/◌, ◌%◌, ◌^◌, ◌<◌, ◌≤◌, Bool, true, false, ◌&&◌, List, [], ◌∷◌, Option, Some, None, refl, ap, sym, subst, ◌∙◌, arith, lit≤}
-use Rattle.std.specs.Prelude.{if◌then◌else◌, min, max, not, ◌||◌, ◌==◌, ℤ, pos, negsuc, ◌+ℤ◌}
+use Rattle.std.proofs.Common.{◌≡◌, ℕ, ◌+◌, ◌-◌, ◌^◌, ◌<◌, ◌≤◌, Bool, true, false, ◌&&◌, List, [], ◌∷◌, Option, Some, None, refl, ap, sym, subst, ◌∙◌, arith}
+use Rattle.std.specs.Prelude.{if◌then◌else◌, ◌+ℤ◌}
 use Rattle.std.specs.List.{list_all}
-use Rattle.std.specs.Option.{option_or, option_map_or}
-use Rattle.std.proofs.lemmas.Bool.{and_parts, eq-eqb}
 use Rattle.std.proofs.lemmas.Nat.{pow_pos}
-use Rattle.std.proofs.Math.Nat.{mod-lt, mod-eq_of_lt, le-max_left, le-max_right}
 use Rattle.loc_base.specs.declared.span.Span.{Span}
 use Rattle.loc_base.specs.Bits.{width_of, value_of}
 use Rattle.loc_base.specs.Word.{extended, is_negative}
 use Rattle.loc_base.proofs.Modulo.{wider}
-use Rattle.v_tree.specs.declared.operator.Unary.{Unary}
-use Rattle.v_tree.specs.declared.operator.Unary.TheVariants as unary
-use Rattle.v_tree.specs.declared.operator.Binary.{Binary}
-use Rattle.v_tree.specs.declared.operator.Binary.TheVariants as binary
 use Rattle.design_core.specs.declared.signal.Signal.{Signal}
 use Rattle.design_core.specs.declared.expression.Typed.{Typed}
-use Rattle.design_core.specs.declared.expression.Node.{Node}
 use Rattle.design_core.specs.declared.expression.Node.TheVariants as node
 use Rattle.design_core.specs.Valuation.{Valuation, number, bit, word_at}
 use Rattle.design_core.specs.Constant.{zeros}
-use Rattle.design_core.specs.WellFormed.{unary_fits, binary_fits, signs_fit, same_sign}
 use Rattle.design_core.proofs.NumberLaws.{number-below}
-use Rattle.v_sizes.specs.declared.error.WidthErr.{WidthErr}
 use Rattle.v_sizes.specs.declared.meaning.Meaning.{Meaning}
 use Rattle.v_sizes.specs.declared.meaning.Meaning.TheVariants as meaning
-use Rattle.v_sizes.specs.Selected.{bit_at_index, descends, part_number, part_offset, base_index}
-use Rattle.v_sizes.specs.Operations.{unary_of, Class, by_context, shift, comparison, logical, quotient, remainder, power, class_of, keeps_width}
-use Rattle.v_sizes.specs.Sizing.{Sizing, own, integer, known, Word, Chosen, one_bit, some_bits, chosen_width, chosen_value, is_chosen_by_constants, names_no_bit, is_none, word_bits, word_sizing, meaning_sizing, name_sizing}
+use Rattle.v_sizes.specs.Selected.{bit_at_index, descends, part_offset, base_index}
+use Rattle.v_sizes.specs.Sizing.{Sizing, own, integer, known, Word, Chosen, one_bit, some_bits, chosen_width, chosen_value, is_chosen_by_constants, names_no_bit, is_none, word_bits, word_sizing, meaning_sizing}
 use Rattle.v_sizes.specs.Refusals.{word_fault, name_fault}
-use Rattle.v_sizes.specs.Sized.{sized, constant, carried, folded, Select, bit_select, part_select, signal_node, word_node, meaning_node, name_node}
-use Rattle.v_sizes.specs.Context.{HasRange, IsMeaning, IsThere, IsAmong}
+use Rattle.v_sizes.specs.Sized.{constant, carried, folded, Select, signal_node, word_node, meaning_node}
+use Rattle.v_sizes.specs.Context.{IsMeaning, IsAmong}
 use Rattle.v_sizes.proofs.Steady.{IsSteady}
 use Rattle.v_sizes.proofs.Meant.{Within, Meant, constant-meant}
 use Rattle.v_sizes.proofs.Selects.{whole-meant}
-use Rattle.v_sizes.proofs.Names.{MeantSelect, one_index, two_indexes}
+use Rattle.v_sizes.proofs.Names.{one_index, two_indexes}
 use Rattle.v_sizes.proofs.Meanings.{MeantSelects, none, more, within-range, chosen-known, signal-meant, ArrayOf, array_word, fixed-word, variable-word}
-use Rattle.v_sizes.proofs.Names.{chosen-within}
 
 -- ---- names
 -- a constant where the expression is one, else what its parts make

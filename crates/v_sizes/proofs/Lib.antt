@@ -20,3 +20,4 @@ pub mod Law
 pub mod Sound
 pub mod Whole
 pub mod Expressions
+pub mod Tokens

@@ -1,38 +1,31 @@
 -- What the nodes of names mean, by what the names stand for.
-use Rattle.std.proofs.Common.{◌≡◌, ℕ, zero, suc, ◌+◌, ◌-◌, ◌*◌, ◌^◌, ◌<◌, ◌≤◌, Bool, true, false, ◌&&◌, List, [], ◌∷◌, Option, Some, None, refl, ap, sym, subst, ◌∙◌, arith, lit≤}
-use Rattle.std.specs.Prelude.{if◌then◌else◌, min, max, not, ◌||◌, ◌==◌, nat_lt, ℤ, pos, negsuc, ◌+ℤ◌, ◌-ℤ◌}
-use Rattle.std.specs.List.{list_all}
-use Rattle.std.specs.Option.{option_and_then, option_map_or}
+use Rattle.std.proofs.Common.{◌≡◌, ℕ, ◌+◌, ◌<◌, ◌≤◌, Bool, true, false, ◌&&◌, List, [], ◌∷◌, Option, Some, None, refl, ap, sym, subst, ◌∙◌, arith}
+use Rattle.std.specs.Prelude.{if◌then◌else◌, not, ◌||◌, nat_lt, ℤ, pos, negsuc, ◌+ℤ◌, ◌-ℤ◌}
+use Rattle.std.specs.Option.{option_and_then}
 use Rattle.std.proofs.lemmas.Bool.{and_parts, ltb-true, not-false}
 use Rattle.std.proofs.lemmas.Int.{ints}
-use Rattle.loc_base.specs.Bits.{width_of, value_of}
 use Rattle.loc_base.specs.Word.{extended}
 use Rattle.loc_base.specs.declared.span.Span.{Span}
-use Rattle.v_tree.specs.declared.expression.PartKind.{PartKind}
 use Rattle.design_core.specs.declared.signal.Signal.{Signal}
 use Rattle.design_core.specs.declared.expression.Typed.{Typed}
 use Rattle.design_core.specs.declared.expression.Node.{Node}
 use Rattle.design_core.specs.declared.expression.Node.TheVariants as node
-use Rattle.design_core.specs.Valuation.{Valuation, number, bit, distance_of, place_within, bit_or_zero, word_at}
+use Rattle.design_core.specs.Valuation.{Valuation, number, distance_of, place_within, bit_or_zero, word_at}
 use Rattle.design_core.proofs.NumberLaws.{number-zero, number-suc, number-same}
-use Rattle.v_sizes.specs.declared.error.WidthErr.{WidthErr}
-use Rattle.v_sizes.specs.declared.meaning.Meaning.{Meaning}
-use Rattle.v_sizes.specs.declared.meaning.Meaning.TheVariants as meaning
-use Rattle.v_sizes.specs.Selected.{part_count, bit_at_index, part_number, part_distance, part_offset, base_index, descends, bits_within}
-use Rattle.v_sizes.specs.Literal.{limited}
-use Rattle.v_sizes.specs.Sizing.{Sizing, own, integer, known, Word, Chosen, one_bit, some_bits, chosen_width, chosen_value, is_chosen_by_constants, has_no_bit, names_no_bit, is_none, word_bits, word_sizing, meaning_sizing, has_known_size}
+use Rattle.v_sizes.specs.Selected.{bit_at_index, part_number, part_distance, part_offset, base_index, descends, bits_within}
+use Rattle.v_sizes.specs.Sizing.{Sizing, own, integer, known, Word, Chosen, one_bit, some_bits, chosen_width, chosen_value, is_chosen_by_constants, has_no_bit, names_no_bit, word_bits, word_sizing, has_known_size}
 use Rattle.v_sizes.specs.declared.error.WidthErr.TheVariants as fault
-use Rattle.v_sizes.specs.Refusals.{when, chosen_fault, word_fault, name_fault, is_bad_part}
-use Rattle.v_sizes.specs.Sized.{sized, carried, Select, bit_select, part_select, signal_node, word_node, word_part, meaning_node}
-use Rattle.v_sizes.specs.Context.{HasRange, IsMeaning, IsThere, IsAmong}
+use Rattle.v_sizes.specs.Refusals.{when, chosen_fault, word_fault, is_bad_part}
+use Rattle.v_sizes.specs.Sized.{sized, carried, Select, signal_node, word_node, word_part}
+use Rattle.v_sizes.specs.Context.{HasRange, IsThere}
 use Rattle.v_sizes.proofs.Parts.{distance-step}
 use Rattle.v_sizes.proofs.Steady.{IsSteady, integer-steady}
 use Rattle.v_sizes.proofs.Accepted.{when-none, or_false, not_zero}
 use Rattle.v_sizes.proofs.Meant.{Within, Meant, carried-meant}
-use Rattle.v_sizes.proofs.Selects.{whole-meant, slice-meant}
+use Rattle.v_sizes.proofs.Selects.{slice-meant}
 use Rattle.v_sizes.proofs.Arrays.{word-meant}
 use Rattle.v_sizes.proofs.WordParts.{Addressed, addressed_bits, word_part-meant}
-use Rattle.v_sizes.proofs.Names.{MeantSelect, one_index, two_indexes, selected-meant, limits, chosen-within}
+use Rattle.v_sizes.proofs.Names.{MeantSelect, one_index, two_indexes, selected-meant, chosen-within}
 
 -- all selects of a name
 pub data MeantSelects (signals : List Signal) : List Select → List Chosen → Type 0 where

@@ -1,13 +1,10 @@
 -- What the nodes of a sized expression mean, and that they fit, by what their operands mean.
-use Rattle.std.proofs.Common.{◌≡◌, ℕ, zero, suc, ◌+◌, ◌-◌, ◌*◌, ◌/◌, ◌%◌, ◌^◌, ◌<◌, ◌≤◌, Bool, true, false, ◌&&◌, List, [], ◌∷◌, Option, Some, None, refl, ap, sym, subst, ◌∙◌, arith}
-use Rattle.std.specs.Prelude.{if◌then◌else◌, max, min, nat_le, ◌==◌, ℤ, pos}
-use Rattle.std.proofs.lemmas.Bool.{le-leb, eq-eqb, eqb-true, and_parts, and_from}
-use Rattle.std.proofs.lemmas.Nat.{pow_pos}
-use Rattle.std.proofs.Math.Nat.{mod-lt, mod-eq_of_lt, max-eq_right, min-eq_left, le-max_left, le-max_right, max-le}
-use Rattle.loc_base.specs.declared.bits.Bits.{Bits}
+use Rattle.std.proofs.Common.{◌≡◌, ℕ, ◌+◌, ◌-◌, ◌%◌, ◌^◌, ◌<◌, ◌≤◌, Bool, true, false, ◌&&◌, List, refl, ap, sym, subst, ◌∙◌, arith}
+use Rattle.std.specs.Prelude.{if◌then◌else◌, max, ◌==◌}
+use Rattle.std.proofs.lemmas.Bool.{le-leb, eq-eqb, eqb-true, and_from}
+use Rattle.std.proofs.Math.Nat.{mod-eq_of_lt, max-eq_right, min-eq_left}
 use Rattle.loc_base.specs.Bits.{width_of, value_of}
 use Rattle.loc_base.specs.Word.{extended, is_negative}
-use Rattle.loc_base.proofs.Modulo.{wider}
 use Rattle.design_core.specs.declared.signal.Signal.{Signal}
 use Rattle.design_core.specs.declared.expression.Typed.{Typed}
 use Rattle.design_core.specs.declared.expression.Node.{Node}
@@ -18,13 +15,13 @@ use Rattle.design_core.specs.Valuation.{Valuation}
 use Rattle.design_core.specs.Constant.{zeros}
 use Rattle.design_core.specs.Operator.{is_true, resized}
 use Rattle.design_core.specs.Operator as operator
-use Rattle.design_core.specs.Value.{value, node_value}
-use Rattle.design_core.specs.WellFormed.{is_width, typed_fits, node_fits, unary_fits, binary_fits, signs_fit, same_sign, same_widths}
-use Rattle.design_core.proofs.ExpressionSteps.{value_unary, value_binary, value_choose, value_repeat, value_resize, fits_unary, fits_binary, fits_choose, fits_repeat, fits_resize}
+use Rattle.design_core.specs.Value.{value}
+use Rattle.design_core.specs.WellFormed.{is_width, typed_fits, unary_fits, binary_fits, signs_fit, same_sign}
+use Rattle.design_core.proofs.ExpressionSteps.{value_unary, value_binary, value_resize, fits_unary, fits_binary, fits_resize}
 use Rattle.design_core.proofs.ValueRange.{value-in_range}
 use Rattle.v_sizes.specs.Word.{word}
 use Rattle.v_sizes.specs.Literal.{limited}
-use Rattle.v_sizes.specs.Sizing.{Sizing, by_itself}
+use Rattle.v_sizes.specs.Sizing.{Sizing}
 use Rattle.v_sizes.specs.Sized.{sized, constant, with_sign, with_width, carried, folded}
 use Rattle.v_sizes.proofs.Steady.{IsSteady}
 

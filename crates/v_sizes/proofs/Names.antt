@@ -1,23 +1,19 @@
 -- What the nodes of names with their selects mean, and that they fit.
-use Rattle.std.proofs.Common.{◌≡◌, ℕ, zero, suc, ◌+◌, ◌-◌, ◌*◌, ◌^◌, ◌<◌, ◌≤◌, Bool, true, false, ◌&&◌, List, [], ◌∷◌, Option, Some, None, refl, ap, sym, subst, ◌∙◌, arith}
-use Rattle.std.specs.Prelude.{if◌then◌else◌, min, max, not, ◌||◌, ◌==◌, ℤ, pos, negsuc, ◌+ℤ◌}
-use Rattle.std.proofs.lemmas.Bool.{and_parts}
+use Rattle.std.proofs.Common.{◌≡◌, ℕ, ◌+◌, ◌≤◌, Bool, true, false, List, ◌∷◌, Option, Some, None, refl, ap, sym, ◌∙◌, arith}
+use Rattle.std.specs.Prelude.{if◌then◌else◌, min, ℤ, pos, ◌+ℤ◌}
 use Rattle.std.proofs.lemmas.Int.{ints}
 use Rattle.std.proofs.Math.Nat.{max-le, le-max_left, min-le_right}
 use Rattle.std.proofs.Common.{lit≤}
-use Rattle.loc_base.specs.declared.span.Span.{Span}
 use Rattle.v_tree.specs.declared.expression.PartKind.{PartKind}
 use Rattle.v_tree.specs.declared.expression.PartKind.TheVariants as kind
 use Rattle.design_core.specs.declared.signal.Signal.{Signal}
 use Rattle.design_core.specs.declared.expression.Typed.{Typed}
 use Rattle.design_core.specs.declared.expression.Node.{Node}
-use Rattle.design_core.specs.declared.expression.Node.TheVariants as node
 use Rattle.design_core.specs.Valuation.{Valuation, number, distance_of}
 use Rattle.design_core.proofs.NumberLaws.{number-zero, number-suc}
 use Rattle.v_sizes.specs.Selected.{part_count, bit_at_index, part_number, part_distance, part_offset, base_index, descends}
 use Rattle.v_sizes.specs.Literal.{limited}
 use Rattle.v_sizes.specs.Sizing.{Sizing, own, integer, known, Word, Chosen, one_bit, some_bits, chosen_width, chosen_value, has_known_size}
-use Rattle.v_sizes.specs.Refusals.{chosen_fault, word_fault}
 use Rattle.v_sizes.specs.Sized.{sized, start_of, signal_part, Select, bit_select, part_select, base_of, signal_node}
 use Rattle.v_sizes.specs.Context.{IsThere}
 use Rattle.v_sizes.proofs.Steady.{IsSteady, integer-steady}

@@ -1,6 +1,6 @@
 -- A word is the one that its width and its value make.
-use Rattle.std.proofs.Common.{◌≡◌, ℕ, ◌%◌, ◌^◌, ◌≤◌, ◌<◌, ap, sym, ◌∙◌, arith, refl}
-use Rattle.std.specs.Prelude.{min, max}
+use Rattle.std.proofs.Common.{◌≡◌, ℕ, ◌%◌, ◌^◌, ◌≤◌, ◌<◌, ap, sym, ◌∙◌, refl}
+use Rattle.std.specs.Prelude.{max}
 use Rattle.std.proofs.Props.{props}
 use Rattle.std.proofs.Math.Nat.{mod-eq_of_lt, mod-mod, min-eq_left, max-eq_right}
 use mathlib.Core.HLevel.{is_prop→PathP}

@@ -1,24 +1,23 @@
 -- What the nodes of names and their selects mean, and that they fit.
-use Rattle.std.proofs.Common.{◌≡◌, ℕ, zero, suc, ◌+◌, ◌-◌, ◌*◌, ◌^◌, ◌<◌, ◌≤◌, Bool, true, false, ◌&&◌, List, [], ◌∷◌, ◌++◌, length, Option, Some, None, refl, ap, sym, subst, ◌∙◌, arith, length-append}
+use Rattle.std.proofs.Common.{◌≡◌, ℕ, zero, suc, ◌+◌, ◌<◌, ◌≤◌, Bool, true, false, List, [], ◌∷◌, ◌++◌, length, Some, None, refl, ap, sym, subst, ◌∙◌, arith, length-append}
 use Rattle.std.proofs.lemmas.Option.{slice_get_within}
-use Rattle.std.specs.Prelude.{if◌then◌else◌, max, min, nat_le, nat_lt, ◌==◌, ℤ, pos, negsuc, ◌+ℤ◌, slice_get}
+use Rattle.std.specs.Prelude.{if◌then◌else◌, nat_le, nat_lt, ℤ, pos, negsuc, ◌+ℤ◌, slice_get}
 use Rattle.std.specs.Option.{option_and_then, option_map_or}
-use Rattle.std.proofs.lemmas.Bool.{le-leb, leb-true, lt-ltb, ltb-true, ltb-false, eq-eqb, and_parts, and_from}
+use Rattle.std.proofs.lemmas.Bool.{le-leb, leb-true, lt-ltb, ltb-true, ltb-false, eq-eqb, and_from}
 use Rattle.std.proofs.lemmas.Int.{ints}
 use Rattle.design_core.specs.declared.signal.Signal.{Signal}
 use Rattle.design_core.specs.declared.expression.Typed.{Typed}
-use Rattle.design_core.specs.declared.expression.Node.{Node}
 use Rattle.design_core.specs.declared.expression.Node.TheVariants as node
-use Rattle.design_core.specs.Valuation.{Valuation, number, width_at, position_at, distance_of, place_within, bit_or_zero, word_at}
+use Rattle.design_core.specs.Valuation.{Valuation, number, width_at, position_at, distance_of, place_within, bit_or_zero}
 use Rattle.design_core.specs.Operator.{integer_of}
-use Rattle.design_core.specs.Value.{value, index_value, picked, word_value}
-use Rattle.design_core.specs.WellFormed.{is_width, is_signal, typed_fits, node_fits, slice_fits, words_fit}
+use Rattle.design_core.specs.Value.{value, index_value, picked}
+use Rattle.design_core.specs.WellFormed.{is_signal}
 use Rattle.design_core.proofs.NumberLaws.{number-same, number-zero, number-suc}
-use Rattle.design_core.proofs.ExpressionSteps.{value_pick, value_word, fits_pick, fits_word}
+use Rattle.design_core.proofs.ExpressionSteps.{value_pick, fits_pick}
 use Rattle.v_tree.specs.declared.expression.PartKind.{PartKind}
 use Rattle.v_sizes.specs.Selected.{bit_at_index, part_number, part_distance, part_offset, base_index, descends}
-use Rattle.v_sizes.specs.Sizing.{Sizing, integer, known}
-use Rattle.v_sizes.specs.Sized.{sized, offsets_to, start_of, signal_part}
+use Rattle.v_sizes.specs.Sizing.{Sizing, integer}
+use Rattle.v_sizes.specs.Sized.{sized, offsets_to, start_of}
 use Rattle.v_sizes.specs.Context.{IsThere}
 use Rattle.v_sizes.proofs.Parts.{distance-step}
 use Rattle.v_sizes.proofs.Meant.{Within, Meant, is-width}

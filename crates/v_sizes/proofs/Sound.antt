@@ -1,10 +1,6 @@
 -- Every expression that isn't refused: its sized expression means what it means in its context, and fits it.
-use Rattle.std.proofs.Common.{◌≡◌, ℕ, zero, suc, ◌+◌, ◌-◌, ◌*◌, ◌%◌, ◌^◌, ◌<◌, ◌≤◌, Bool, true, false, ◌&&◌, List, [], ◌∷◌, Option, Some, None, refl, ap, sym, subst, ◌∙◌, arith, lit≤}
-use Rattle.std.specs.Prelude.{if◌then◌else◌, max, min, not, ◌||◌, ◌==◌, ℤ, int_lt, pos}
-use Rattle.std.specs.Option.{option_or}
-use Rattle.std.proofs.Math.Nat.{mod-lt, mod-eq_of_lt, le-max_left, le-max_right, max-eq_right, min-eq_left}
-use Rattle.std.proofs.lemmas.Nat.{pow_pos}
-use Rattle.loc_base.specs.Word.{extended}
+use Rattle.std.proofs.Common.{◌≡◌, ℕ, ◌*◌, Bool, true, false, ◌&&◌, List, [], ◌∷◌, Option, Some, None, refl, lit≤}
+use Rattle.std.specs.Prelude.{if◌then◌else◌, max}
 use Rattle.loc_base.specs.declared.span.Span.{Span}
 use Rattle.v_tree.specs.declared.site.Site.{Site}
 use Rattle.v_tree.specs.declared.operator.Unary.{Unary}
@@ -12,33 +8,24 @@ use Rattle.v_tree.specs.declared.operator.Binary.{Binary}
 use Rattle.design_core.specs.declared.expression.BinaryOp.TheVariants as binary_op
 use Rattle.v_tree.specs.declared.operator.SystemFunction.{SystemFunction}
 use Rattle.v_tree.specs.declared.operator.SystemFunction.TheVariants as function
-use Rattle.v_tree.specs.declared.expression.PartKind.{PartKind}
 use Rattle.v_tree.specs.Tree.{Tree, Trees, no_tree, tree, Selections, no_select, select}
 use Rattle.v_tree.specs.Tree as written
-use Rattle.design_core.specs.declared.signal.Signal.{Signal}
-use Rattle.design_core.specs.declared.expression.Typed.{Typed}
-use Rattle.design_core.specs.declared.expression.Node.TheVariants as node
-use Rattle.design_core.specs.Valuation.{Valuation}
 use Rattle.design_core.specs.Constant.{zeros}
 use Rattle.design_core.specs.Operator as operator
 use Rattle.v_sizes.specs.declared.error.WidthErr.{WidthErr}
-use Rattle.v_sizes.specs.declared.error.WidthErr.TheVariants as fault
 use Rattle.v_sizes.specs.declared.meaning.Meaning.{Meaning}
 use Rattle.v_sizes.specs.declared.meaning.Meaning.TheVariants as meaning
 use Rattle.v_sizes.specs.Look.{Look}
-use Rattle.v_sizes.specs.Literal.{limited, literal_width, written_width, literal_signed, literal_value}
+use Rattle.v_sizes.specs.Literal.{written_width}
 use Rattle.v_sizes.specs.Operations.{unary_of, Class, by_context, shift, comparison, logical, quotient, remainder, power, class_of, keeps_width}
-use Rattle.v_sizes.specs.Sizing.{Sizing, sizing, sizings, own, known, times_of, joined_width, joined_value, Chosen, one_bit, some_bits, chosen_of, meaning_sizing, name_sizing, class_sizing, unary_sizing, called, by_itself}
-use Rattle.v_sizes.specs.Refusals.{refusal, parts_refusal, selects_refusal, when, is_bad_width, name_fault, first_of, division_fault, power_fault, concat_fault, repeat_fault, called_fault}
-use Rattle.v_sizes.specs.Sized.{sized, typed, typed_parts, selects_of, carried, folded, with_sign, with_width, meaning_node, name_node}
-use Rattle.v_sizes.specs.Context.{IsScope, IsScopeOf, IsMeaning}
-use Rattle.v_sizes.proofs.Steady.{IsSteady, sizing-steady}
-use Rattle.v_sizes.proofs.Accepted.{or-none, first_of-none, when-none, good-width, max-within}
-use Rattle.v_sizes.proofs.Meant.{Within, limited-within, Meant, constant-meant}
+use Rattle.v_sizes.specs.Sizing.{Sizing, sizing, sizings, own, known, times_of, joined_width, Chosen, one_bit, some_bits, chosen_of, name_sizing, class_sizing, unary_sizing, called, by_itself}
+use Rattle.v_sizes.specs.Refusals.{refusal, first_of, division_fault, power_fault}
+use Rattle.v_sizes.specs.Context.{IsScope, IsMeaning}
+use Rattle.v_sizes.proofs.Accepted.{max-within}
+use Rattle.v_sizes.proofs.Meant.{Within}
 use Rattle.v_sizes.proofs.Names.{limits}
 use Rattle.v_sizes.proofs.Meanings.{within-range}
 use Rattle.v_sizes.proofs.Names.{chosen-within}
-use Rattle.v_sizes.proofs.Operands.{keeps-fits, bit-fits, class-fits}
 
 -- the refusal of a binary operator, by its class
 abbrev pub class_refusal : Look → Span → Class → Tree → Tree → ℕ → Bool → Option WidthErr

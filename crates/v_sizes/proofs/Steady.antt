@@ -1,6 +1,6 @@
 -- What is a constant has one value, whatever the signals' bits are.
-use Rattle.std.proofs.Common.{◌≡◌, ℕ, zero, suc, ◌+◌, ◌*◌, ◌%◌, ◌^◌, ◌-◌, Bool, true, false, ◌&&◌, List, [], ◌∷◌, Option, Some, None, refl, ap, sym, subst, ◌∙◌, ◌<◌, arith}
-use Rattle.std.specs.Prelude.{if◌then◌else◌, max, ℤ, pos, negsuc, ◌+ℤ◌, ◌==◌, not}
+use Rattle.std.proofs.Common.{◌≡◌, ℕ, zero, suc, ◌+◌, ◌*◌, ◌%◌, ◌^◌, Bool, true, false, ◌&&◌, List, [], ◌∷◌, Option, Some, None, refl, ap, sym, ◌∙◌, ◌<◌, arith}
+use Rattle.std.specs.Prelude.{if◌then◌else◌, max, ℤ, pos, ◌+ℤ◌}
 use Rattle.std.specs.List.{list_all}
 use Rattle.std.proofs.lemmas.Bool.{and_parts, eqb-true}
 use Rattle.std.proofs.lemmas.Int.{ints}
@@ -14,7 +14,6 @@ use Rattle.design_core.specs.Operator.{is_true, integer_of, repeated}
 use Rattle.design_core.specs.Operator as operator
 use Rattle.loc_base.specs.Bits.{width_of, value_of}
 use Rattle.v_sizes.specs.Operations.{class_of, Class, by_context, shift, comparison, logical, quotient, remainder, power, unary_of, keeps_width, quotient_of, remainder_of, power_of, ceiling_of_logarithm}
-use Rattle.v_tree.specs.declared.expression.PartKind.{PartKind}
 use Rattle.v_tree.specs.Tree.{Tree, Trees, no_tree, tree, Selections, no_select, select}
 use Rattle.v_tree.specs.Tree as written
 use Rattle.design_core.specs.Valuation.{number, bit, word_at, distance_of, place_within, bit_or_zero}
@@ -26,7 +25,7 @@ use Rattle.v_sizes.specs.Literal.{literal_width, literal_signed, literal_value, 
 use Rattle.v_sizes.specs.Selected.{base_index, part_offset, part_number, bit_at_index, descends}
 use Rattle.v_sizes.proofs.Parts.{distance-step, none-within}
 use Rattle.v_sizes.specs.Selected.{part_distance, bits_within}
-use Rattle.v_sizes.specs.Sizing.{Word, Chosen, one_bit, some_bits, chosen_width, chosen_value, is_chosen_by_constants, has_no_bit, names_no_bit, is_none, word_bits, word_sizing, meaning_sizing, name_sizing, literal, sizing, sizings, chosen_of}
+use Rattle.v_sizes.specs.Sizing.{Word, Chosen, one_bit, some_bits, chosen_width, chosen_value, is_chosen_by_constants, has_no_bit, names_no_bit, is_none, word_bits, word_sizing, meaning_sizing, name_sizing, sizing, sizings, chosen_of}
 use Rattle.v_sizes.specs.Sizing.{Sizing, own, integer, known, by_itself, called, unary_sizing, class_sizing, conditional, joined, joined_value, joined_width, are_constant, replicated, times_of}
 
 abbrev pub IsSteady : Sizing → Type 0

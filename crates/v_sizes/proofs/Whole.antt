@@ -1,47 +1,33 @@
 -- The law of sized expressions, by the expression.
-use Rattle.std.proofs.Common.{◌≡◌, ℕ, zero, suc, ◌+◌, ◌-◌, ◌*◌, ◌%◌, ◌^◌, ◌<◌, ◌≤◌, Bool, true, false, ◌&&◌, List, [], ◌∷◌, Option, Some, None, refl, ap, sym, subst, ◌∙◌, arith, lit≤}
-use Rattle.std.specs.Prelude.{if◌then◌else◌, max, min, not, ◌||◌, ◌==◌, ℤ, int_lt, pos}
-use Rattle.std.specs.Option.{option_or}
-use Rattle.std.proofs.Math.Nat.{mod-lt, mod-eq_of_lt, le-max_left, le-max_right}
+use Rattle.std.proofs.Common.{◌≡◌, ℕ, ◌-◌, ◌*◌, ◌%◌, ◌^◌, ◌<◌, ◌≤◌, Bool, true, false, ◌&&◌, List, Option, Some, None, refl, ap, sym, subst, ◌∙◌, lit≤}
+use Rattle.std.specs.Prelude.{if◌then◌else◌, max}
+use Rattle.std.proofs.Math.Nat.{mod-lt, mod-eq_of_lt}
 use Rattle.std.proofs.lemmas.Nat.{pow_pos}
 use Rattle.loc_base.specs.Word.{extended}
 use Rattle.loc_base.specs.declared.span.Span.{Span}
-use Rattle.v_tree.specs.declared.site.Site.{Site}
 use Rattle.v_tree.specs.declared.operator.Unary.{Unary}
-use Rattle.v_tree.specs.declared.operator.Binary.{Binary}
-use Rattle.v_tree.specs.declared.operator.SystemFunction.{SystemFunction}
-use Rattle.v_tree.specs.declared.operator.SystemFunction.TheVariants as function
-use Rattle.v_tree.specs.Tree.{Tree, Trees, no_tree, tree, Selections, no_select, select}
-use Rattle.v_tree.specs.Tree as written
+use Rattle.v_tree.specs.Tree.{Tree}
 use Rattle.design_core.specs.declared.signal.Signal.{Signal}
 use Rattle.design_core.specs.declared.expression.Typed.{Typed}
-use Rattle.design_core.specs.declared.expression.BinaryOp.{BinaryOp}
 use Rattle.design_core.specs.declared.expression.Node.TheVariants as node
 use Rattle.design_core.specs.Valuation.{Valuation}
 use Rattle.design_core.specs.Constant.{zeros}
 use Rattle.design_core.specs.Operator as operator
 use Rattle.design_core.specs.Operator.{is_true}
-use Rattle.v_sizes.specs.declared.error.WidthErr.{WidthErr}
-use Rattle.v_sizes.specs.declared.error.WidthErr.TheVariants as fault
 use Rattle.v_sizes.specs.declared.meaning.Meaning.{Meaning}
 use Rattle.v_sizes.specs.Look.{Look}
-use Rattle.v_sizes.specs.Literal.{limited, literal_width, literal_signed, literal_value}
-use Rattle.v_sizes.specs.Operations.{unary_of, Class, by_context, shift, comparison, logical, quotient, remainder, power, class_of, keeps_width, quotient_of, remainder_of, power_of, word_of, is_below_0, magnitude, ceiling_of_logarithm}
-use Rattle.v_sizes.specs.Sizing.{Sizing, sizing, sizings, own, known, times_of, joined_width, joined_value, Chosen, chosen_of, meaning_sizing, name_sizing, class_sizing, unary_sizing, called, conditional, by_itself, joined, replicated}
-use Rattle.v_sizes.specs.Refusals.{refusal, parts_refusal, selects_refusal, when, is_bad_width, name_fault, first_of, division_fault, power_fault, concat_fault, repeat_fault, called_fault}
-use Rattle.v_sizes.specs.Sized.{sized, constant, typed, typed_parts, selects_of, carried, folded, with_sign, with_width, meaning_node, name_node}
+use Rattle.v_sizes.specs.Literal.{limited, literal_width, literal_value}
+use Rattle.v_sizes.specs.Operations.{unary_of, Class, by_context, shift, comparison, logical, quotient, remainder, power, keeps_width, word_of}
+use Rattle.v_sizes.specs.Sizing.{Sizing, sizing, own, known, times_of, joined_width, joined_value, Chosen, meaning_sizing, name_sizing, class_sizing, unary_sizing, by_itself, joined, replicated}
+use Rattle.v_sizes.specs.Refusals.{name_fault}
+use Rattle.v_sizes.specs.Sized.{sized, constant, typed, carried, folded, meaning_node, name_node}
 use Rattle.v_sizes.specs.Context.{IsScope, IsScopeOf, IsMeaning, IsAmong}
-use Rattle.v_sizes.proofs.Steady.{IsSteady, sizing-steady}
-use Rattle.v_sizes.proofs.Accepted.{or-none, first_of-none, when-none, good-width, max-within}
-use Rattle.v_sizes.proofs.Meant.{Within, limited-within, Meant, constant-meant, folded-meant, below, with_sign-meant, with_width-meant, carried-meant, unary-meant, Operands, binary-meant}
-use Rattle.v_sizes.proofs.Joins.{MeantAll, join-meant, repeat-meant, choose-meant}
-use Rattle.v_sizes.proofs.Joins as parts
-use Rattle.v_sizes.proofs.Names.{MeantSelect, one_index, two_indexes, limits}
+use Rattle.v_sizes.proofs.Steady.{IsSteady}
+use Rattle.v_sizes.proofs.Meant.{Within, limited-within, Meant, constant-meant, folded-meant, below, carried-meant, unary-meant, Operands, binary-meant}
+use Rattle.v_sizes.proofs.Joins.{MeantAll, join-meant, repeat-meant}
 use Rattle.v_sizes.proofs.Meanings.{MeantSelects}
-use Rattle.v_sizes.proofs.Meanings as selects
-use Rattle.v_sizes.proofs.Operands.{keeps-fits, bit-fits, Fits, class-fits}
+use Rattle.v_sizes.proofs.Operands.{keeps-fits, bit-fits, Fits}
 use Rattle.v_sizes.proofs.Law.{folded-by, extended-below, meaning-below, meaning-meant}
-use Rattle.v_sizes.proofs.Sound.{width-within, class_refusal, binary-refusal}
 
 -- a design with the scope of its names
 pub record Standing (signals : List Signal) (look : Look) : Type 0 where

@@ -1,6 +1,6 @@
 -- What some bits of a word at a variable address mean where the word hasn't all of them: the others are 0.
-use Rattle.std.proofs.Common.{◌≡◌, ℕ, zero, suc, ◌+◌, ◌-◌, ◌*◌, ◌^◌, ◌<◌, ◌≤◌, Bool, true, false, List, [], ◌∷◌, Option, Some, None, refl, ap, sym, subst, ◌∙◌, arith, ◌⊎◌, inl, inr}
-use Rattle.std.specs.Prelude.{if◌then◌else◌, min, max, nat_lt, nat_le, ◌==◌, ℤ, pos, negsuc, ◌+ℤ◌, ◌<ℤ◌, ◌≤ℤ◌, sum_by}
+use Rattle.std.proofs.Common.{◌≡◌, ℕ, suc, ◌+◌, ◌-◌, ◌*◌, ◌^◌, ◌<◌, ◌≤◌, Bool, true, false, List, [], ◌∷◌, Some, None, refl, ap, sym, subst, ◌∙◌, arith, ◌⊎◌, inl, inr}
+use Rattle.std.specs.Prelude.{if◌then◌else◌, min, ◌==◌, ℤ, pos, negsuc, ◌+ℤ◌, ◌<ℤ◌, ◌≤ℤ◌}
 use Rattle.std.proofs.lemmas.Bool.{lt-ltb, eqb-true}
 use Rattle.std.proofs.lemmas.Int.{ints}
 use Rattle.std.proofs.lemmas.Nat.{pow_pos}
@@ -11,7 +11,7 @@ use Rattle.design_core.specs.declared.expression.Node.TheVariants as node
 use Rattle.design_core.specs.Valuation.{Valuation, number, place_within, bit_or_zero, word_at}
 use Rattle.design_core.specs.Value.{node_value}
 use Rattle.design_core.specs.WellFormed.{node_fits}
-use Rattle.design_core.proofs.NumberLaws.{number-same, number-zero}
+use Rattle.design_core.proofs.NumberLaws.{number-same}
 use Rattle.v_sizes.specs.Selected.{bits_below, bits_within, start_within}
 use Rattle.v_sizes.specs.Sizing.{Sizing, integer, word_bits, joined_value}
 use Rattle.v_sizes.specs.Sizing as sizing

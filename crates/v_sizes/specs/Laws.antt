@@ -1,5 +1,7 @@
 -- Laws of the definitions: a sized expression means what the expression means in its context, and fits it.
 use Rattle.std.specs.Prelude.{ℕ, ◌≡◌, Bool, true, false, List, None}
+use Rattle.loc_base.specs.declared.span.Span.{Span}
+use Rattle.v_lexer.specs.declared.types.token.TokenKind.{TokenKind}
 use Rattle.v_tree.specs.Tree.{Tree}
 use Rattle.design_core.specs.declared.signal.Signal.{Signal}
 use Rattle.design_core.specs.WellFormed.{typed_fits}
@@ -28,3 +30,9 @@ pub record InContext : Type 0 where
   pub e : Tree
   pub width : ℕ
   pub signed : Bool
+
+-- the text of a number, and where it stands
+pub record Numeral : Type 0 where
+  pub span : Span
+  pub text : List ℕ
+  pub kind : TokenKind

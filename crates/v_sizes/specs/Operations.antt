@@ -1,6 +1,6 @@
 -- Operators of the text: those of sized expressions (IEEE 1364-2005, 5.1), and those that stand in constants alone: division,
 -- remainder, power and the ceiling of the logarithm.
-use Rattle.std.specs.Prelude.{ℕ, zero, suc, ◌+◌, ◌-◌, ◌*◌, ◌/◌, ◌%◌, ◌^◌, ◌==◌, Bool, true, false, not, ◌&&◌, if◌then◌else◌, nat_lt, nat_le, int_lt, ℤ, pos, negsuc, ◌-ℤ◌, Option, Some, None}
+use Rattle.std.specs.Prelude.{ℕ, zero, suc, ◌+◌, ◌-◌, ◌/◌, ◌%◌, ◌^◌, Bool, true, false, not, if◌then◌else◌, nat_le, int_lt, ℤ, pos, negsuc}
 use Rattle.v_tree.specs.declared.operator.Unary.{Unary}
 use Rattle.v_tree.specs.declared.operator.Unary.TheVariants as unary
 use Rattle.v_tree.specs.declared.operator.Binary.{Binary}

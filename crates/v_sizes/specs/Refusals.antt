@@ -1,11 +1,9 @@
 -- Which part of an expression is refused, and why. A part is wrong by itself only where none of its own parts is; of several
 -- that are, the leftmost counts, and of one part's faults the first in the order unknown name, no constant, division by
 -- zero, range (IEEE 1364-2005, clause 5; the bounds of 128 bits are this project's own).
-use Rattle.std.specs.Prelude.{ℕ, ◌+◌, ◌*◌, ◌==◌, Bool, true, false, not, ◌&&◌, ◌||◌, if◌then◌else◌, max, nat_lt, int_lt, ℤ, pos, List, [], ◌∷◌, Option, Some, None}
+use Rattle.std.specs.Prelude.{ℕ, ◌*◌, ◌==◌, Bool, true, false, not, ◌&&◌, ◌||◌, if◌then◌else◌, max, nat_lt, int_lt, pos, List, [], ◌∷◌, Option, Some, None}
 use Rattle.std.specs.Option.{option_or}
 use Rattle.loc_base.specs.declared.span.Span.{Span}
-use Rattle.v_tree.specs.declared.expression.PartKind.{PartKind}
-use Rattle.v_tree.specs.declared.expression.PartKind.TheVariants as kind
 use Rattle.v_tree.specs.declared.operator.SystemFunction.{SystemFunction}
 use Rattle.v_tree.specs.declared.operator.SystemFunction.TheVariants as function
 use Rattle.v_tree.specs.Tree.{Tree, Trees, no_tree, tree, Selections, no_select, select}
@@ -18,7 +16,7 @@ use Rattle.v_sizes.specs.declared.meaning.Meaning.TheVariants as meaning
 use Rattle.v_sizes.specs.Look.{Look}
 use Rattle.v_sizes.specs.Literal.{written_width}
 use Rattle.v_sizes.specs.Selected.{part_count, runs_along, descends}
-use Rattle.v_sizes.specs.Operations.{Class, by_context, shift, comparison, logical, quotient, remainder, power, class_of, keeps_width, is_below_0}
+use Rattle.v_sizes.specs.Operations.{by_context, shift, comparison, logical, quotient, remainder, power, class_of, keeps_width, is_below_0}
 use Rattle.v_sizes.specs.Sizing.{Sizing, sizing, sizings, Chosen, one_bit, some_bits, chosen_of, joined_width, known, times_of, has_known_size, is_chosen_by_constants}
 
 -- the fault where its condition holds, else what the rest says

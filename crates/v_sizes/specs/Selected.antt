@@ -1,7 +1,6 @@
 -- Which bits a select names (IEEE 1364-2005, 5.2.1): how many, and how far the index of each lies from the index that is
 -- written. Bit 0 is the one nearest the right end of the declared range.
-use Rattle.std.specs.Prelude.{ℕ, zero, suc, ◌+◌, ◌-◌, ◌==◌, Bool, true, false, not, ◌&&◌, if◌then◌else◌, min, int_lt, ℤ, pos, negsuc, ◌+ℤ◌, ◌-ℤ◌, Option}
-use Rattle.std.specs.Option.{option_map_or}
+use Rattle.std.specs.Prelude.{ℕ, suc, ◌+◌, ◌-◌, Bool, true, false, not, if◌then◌else◌, min, int_lt, ℤ, pos, negsuc, ◌+ℤ◌, ◌-ℤ◌}
 use Rattle.v_tree.specs.declared.expression.PartKind.{PartKind}
 use Rattle.v_tree.specs.declared.expression.PartKind.TheVariants as kind
 use Rattle.design_core.specs.Valuation.{number, distance_of, place_within, bit_or_zero}

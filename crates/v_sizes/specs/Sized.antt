@@ -1,8 +1,7 @@
 -- The sized expression of an expression in its context (IEEE 1364-2005, 5.4 and 5.5). Parentheses make no node; a node of
 -- another width, or of another sign where the sign counts, stands below a `Resize`; what reads no signal is a `Const`.
 -- A constant select within its word is a `Slice`, a bare name `Whole`, any other select a `Pick`.
-use Rattle.std.specs.Prelude.{ℕ, zero, suc, ◌+◌, ◌-◌, ◌==◌, ◌≡◌, Bool, true, false, ◌&&◌, if◌then◌else◌, max, nat_le, ℤ, pos, negsuc, ◌+ℤ◌, List, [], ◌∷◌, ◌++◌, Option, Some, None}
-use Rattle.loc_base.specs.declared.bits.Bits.{Bits}
+use Rattle.std.specs.Prelude.{ℕ, zero, suc, ◌+◌, ◌-◌, ◌==◌, Bool, false, ◌&&◌, if◌then◌else◌, max, nat_le, ℤ, pos, negsuc, List, [], ◌∷◌, ◌++◌, Option, Some, None}
 use Rattle.v_tree.specs.declared.expression.PartKind.{PartKind}
 use Rattle.v_tree.specs.declared.expression.PartKind.TheVariants as kind
 use Rattle.v_tree.specs.Tree.{Tree, Trees, no_tree, tree, Selections, no_select, select}
@@ -17,10 +16,9 @@ use Rattle.v_sizes.specs.declared.meaning.Meaning.{Meaning}
 use Rattle.v_sizes.specs.declared.meaning.Meaning.TheVariants as meaning
 use Rattle.v_sizes.specs.Look.{Look}
 use Rattle.v_sizes.specs.Word.{word}
-use Rattle.v_sizes.specs.Selected.{part_count, base_index, part_offset, part_distance, descends, bits_below, bits_within, start_within}
-use Rattle.v_sizes.specs.Operations.{unary_of, Class, by_context, shift, comparison, logical, quotient, remainder, power, class_of, keeps_width}
-use Rattle.v_sizes.specs.Literal.{limited}
-use Rattle.v_sizes.specs.Sizing.{Sizing, sizing, sizings, Chosen, one_bit, some_bits, chosen_of, chosen_width, joined_width, known, times_of}
+use Rattle.v_sizes.specs.Selected.{part_offset, part_distance, descends, bits_below, bits_within, start_within}
+use Rattle.v_sizes.specs.Operations.{unary_of, by_context, shift, comparison, logical, quotient, remainder, power, class_of, keeps_width}
+use Rattle.v_sizes.specs.Sizing.{Sizing, sizing, sizings, some_bits, chosen_width, joined_width, known, times_of}
 
 abbrev pub sized : ℕ → Bool → Node → Typed
 sized width signed n = record { width = width; signed = signed; node = n }

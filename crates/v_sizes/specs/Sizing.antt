@@ -3,13 +3,12 @@
 -- down to the operands that it sizes (5.5.2) and every other operand is taken by itself.
 -- Each is given for every expression. Where a part is refused, an unknown name counts as 1 bit, a width above 128 as 128,
 -- and a count that is none as 1.
-use Rattle.std.specs.Prelude.{ℕ, zero, suc, ◌+◌, ◌*◌, ◌%◌, ◌^◌, ◌==◌, Bool, true, false, not, ◌&&◌, ◌||◌, if◌then◌else◌, min, max, ℤ, pos, negsuc, ◌+ℤ◌, List, [], ◌∷◌, Option, Some, None, sum_by}
+use Rattle.std.specs.Prelude.{ℕ, ◌+◌, ◌*◌, ◌%◌, ◌^◌, ◌==◌, Bool, true, false, ◌&&◌, if◌then◌else◌, min, max, ℤ, pos, negsuc, List, [], ◌∷◌, Option, Some, None, sum_by}
 use Rattle.std.specs.Option.{option_map_or}
 use Rattle.std.specs.List.{list_all}
 use Rattle.loc_base.specs.Bits.{width_of, value_of}
 use Rattle.loc_base.specs.Word.{extended}
 use Rattle.v_tree.specs.declared.operator.Unary.{Unary}
-use Rattle.v_tree.specs.declared.operator.Binary.{Binary}
 use Rattle.v_tree.specs.declared.operator.SystemFunction.{SystemFunction}
 use Rattle.v_tree.specs.declared.operator.SystemFunction.TheVariants as function
 use Rattle.v_tree.specs.declared.expression.PartKind.{PartKind}

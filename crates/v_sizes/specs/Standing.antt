@@ -1,5 +1,5 @@
 -- That every name of a scope stands for something is one fact: it holds in one way.
-use Rattle.std.specs.Prelude.{ℕ, ◌≡◌, ◌+◌, ◌≤◌, List, ℤ, Option, Some}
+use Rattle.std.specs.Prelude.{ℕ, ℤ}
 use Rattle.std.proofs.Props.{props}
 use Rattle.v_sizes.specs.declared.meaning.Meaning.{Meaning}
 use Rattle.v_sizes.specs.declared.meaning.Meaning.TheVariants as meaning

@@ -1,6 +1,6 @@
 -- The word of a width that has the lowest bits of a number; a width below 1 counts as 1, and one above 128 as 128.
-use Rattle.std.proofs.Common.{ℕ, ◌%◌, ◌^◌, ◌≤◌, lit≤}
-use Rattle.std.specs.Prelude.{min, max}
+use Rattle.std.proofs.Common.{ℕ, ◌%◌, ◌^◌, lit≤}
+use Rattle.std.specs.Prelude.{min}
 use Rattle.std.proofs.lemmas.Nat.{pow_pos}
 use Rattle.std.proofs.Math.Nat.{mod-lt, max-le, le-max_left, min-le_right}
 use Rattle.loc_base.specs.declared.bits.Bits.{Bits}

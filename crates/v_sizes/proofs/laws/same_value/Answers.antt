@@ -1,4 +1,4 @@
-use Rattle.std.proofs.Common.{◌≤◌, arith}
+use Rattle.std.proofs.Common.{arith}
 use Rattle.v_sizes.proofs.Meant.{Within}
 use Rattle.v_sizes.proofs.Sound.{width-within}
 use Rattle.v_sizes.proofs.Expressions.{law}
