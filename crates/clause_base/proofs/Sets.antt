@@ -4,27 +4,10 @@ use Rattle.std.proofs.lemmas.Bool.{false≢true, both_ways, eqb-true, eqb-false,
 use Rattle.std.proofs.lemmas.List.Elements.{All-head, All-tail}
 use Rattle.std.proofs.lemmas.List.{take_more, drop_more, take-append-drop}
 use Rattle.std.specs.Bool.{Decides, beq}
+use Rattle.loc_base.proofs.ShelfBools.{and-false, not-not, or-assoc, or-false}
 use Rattle.clause_base.specs.declared.literal.Lit.{Lit}
 use Rattle.clause_base.specs.Literal.{positive, negative, opposite, same_sign, same_lit, has, has_variable, has_distinct_variables}
 use Rattle.clause_base.specs.Progress.{IsConsistent}
-
-or-false : (b : Bool) → (b || false) ≡ b
-or-false true = refl
-or-false false = refl
-
-and_false : (b : Bool) → (b && false) ≡ false
-and_false true = refl
-and_false false = refl
-
-or_comm : (a b : Bool) → (a || b) ≡ (b || a)
-or_comm true true = refl
-or_comm true false = refl
-or_comm false true = refl
-or_comm false false = refl
-
-or_assoc : (a b c : Bool) → ((a || b) || c) ≡ (a || (b || c))
-or_assoc true b c = refl
-or_assoc false b c = refl
 
 or_both : (a b : Bool) → a ≡ false → b ≡ false → (a || b) ≡ false
 or_both a b p q = ap (λ c. c || b) p ∙ q
@@ -36,13 +19,13 @@ other_sign true false h = refl
 other_sign false true h = refl
 other_sign false false h = sym h
 
-same_sign-true : (a b : Bool) → same_sign a b ≡ true → a ≡ b
+pub same_sign-true : (a b : Bool) → same_sign a b ≡ true → a ≡ b
 same_sign-true true true h = refl
 same_sign-true false false h = refl
 same_sign-true true false h = sym h
 same_sign-true false true h = h
 
-same_sign_itself : (a : Bool) → same_sign a a ≡ true
+pub same_sign_itself : (a : Bool) → same_sign a a ≡ true
 same_sign_itself true = refl
 same_sign_itself false = refl
 
@@ -68,22 +51,18 @@ pub same_lit_itself : (a : Lit) → same_lit a a ≡ true
 same_lit_itself a = and_from (eqb a.var a.var) (same_sign a.negated a.negated) (eq-eqb a.var a.var refl) (same_sign_itself a.negated)
 
 pub same_lit_opposite : (a : Lit) → same_lit a (opposite a) ≡ false
-same_lit_opposite a = ap (λ b. eqb a.var a.var && b) (same_sign_not a.negated) ∙ and_false (eqb a.var a.var)
-
-not_not : (b : Bool) → not (not b) ≡ b
-not_not true = refl
-not_not false = refl
+same_lit_opposite a = ap (λ b. eqb a.var a.var && b) (same_sign_not a.negated) ∙ and-false (eqb a.var a.var)
 
 pub opposite-opposite : (l : Lit) → opposite (opposite l) ≡ l
-opposite-opposite l = same_variables l.var l.var (not (not l.negated)) l.negated refl (not_not l.negated)
+opposite-opposite l = same_variables l.var l.var (not (not l.negated)) l.negated refl (not-not l.negated)
 
 pub has-append : (xs ys : List Lit) (l : Lit) → has (xs ++ ys) l ≡ (has xs l || has ys l)
 has-append [] ys l = refl
-has-append (x ∷ xs) ys l = ap (λ b. same_lit x l || b) (has-append xs ys l) ∙ sym (or_assoc (same_lit x l) (has xs l) (has ys l))
+has-append (x ∷ xs) ys l = ap (λ b. same_lit x l || b) (has-append xs ys l) ∙ sym (or-assoc (same_lit x l) (has xs l) (has ys l))
 
 pub has_variable-append : (xs ys : List Lit) (v : ℕ) → has_variable (xs ++ ys) v ≡ (has_variable xs v || has_variable ys v)
 has_variable-append [] ys v = refl
-has_variable-append (x ∷ xs) ys v = ap (λ b. eqb x.var v || b) (has_variable-append xs ys v) ∙ sym (or_assoc (eqb x.var v) (has_variable xs v) (has_variable ys v))
+has_variable-append (x ∷ xs) ys v = ap (λ b. eqb x.var v || b) (has_variable-append xs ys v) ∙ sym (or-assoc (eqb x.var v) (has_variable xs v) (has_variable ys v))
 
 -- one more literal
 pub has-push : (xs : List Lit) (x l : Lit) → has (xs ++ x ∷ []) l ≡ (has xs l || same_lit x l)

@@ -2,6 +2,7 @@
 use Rattle.std.proofs.Common.{◌≡◌, ◌≢◌, ℕ, ◌+◌, ◌-◌, ◌<◌, ◌≤◌, zero, suc, Bool, true, false, cond, not, ◌&&◌, ◌||◌, eqb, List, [], ◌∷◌, ◌++◌, length, get_or, take, map, refl, ap, sym, ◌∙◌, subst, ◌⊎◌, inl, inr, ⊎_elim, arith, IsTrue, All}
 use Rattle.std.proofs.lemmas.Bool.{false≢true, both_ways, eqb-true, eqb-false, eq-eqb, ne_eqb, and_parts, or_cases, or_parts, and_from, or_left, or_right, or_from, cases_Bool, not-true, not-false, not_from_false, false_from_ne_true}
 use Rattle.std.proofs.lemmas.List.Elements.{All-head, All-tail, All-nil, All-cons, All-get_or, All-map, All-append, All-weaker}
+use Rattle.loc_base.proofs.ShelfBools.{or-comm}
 use Rattle.clause_base.specs.declared.literal.Lit.{Lit}
 use Rattle.clause_base.specs.Literal.{positive, negative, opposite, same_lit, has, has_distinct_variables, AllDistinct}
 use Rattle.clause_base.specs.Satisfaction.{value_of, is_satisfied, SatisfiesClause, Satisfies}
@@ -14,16 +15,10 @@ use Rattle.clause_base.proofs.Sets.{lit_ext, same_lit-true, same_lit_itself, opp
 abbrev pub Holds : (ℕ → Bool) → (Lit → Bool) → Type 0
 Holds assignment set = (l : Lit) × (set l ≡ true) × (value_of assignment l ≡ true)
 
-or_swap : (a b : Bool) → (a || b) ≡ (b || a)
-or_swap true true = refl
-or_swap true false = refl
-or_swap false true = refl
-or_swap false false = refl
-
 clashes_signed : (a b : Lit → Bool) (v : ℕ) (s : Bool)
     → clashes a b v ≡ ((a (record { var = v; negated = s }) && b (record { var = v; negated = not s })) || (a (record { var = v; negated = not s }) && b (record { var = v; negated = s })))
 clashes_signed a b v false = refl
-clashes_signed a b v true = or_swap (a (positive v) && b (negative v)) (a (negative v) && b (positive v))
+clashes_signed a b v true = or-comm (a (positive v) && b (negative v)) (a (negative v) && b (positive v))
 
 -- a clash by a literal of the variable
 pub clashes_at : (a b : Lit → Bool) (l : Lit) → clashes a b l.var ≡ ((a l && b (opposite l)) || (a (opposite l) && b l))
