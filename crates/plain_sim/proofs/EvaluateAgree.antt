@@ -4,11 +4,12 @@ use Rattle.std.specs.Prelude.{Bool, IsTrue}
 use Rattle.std.proofs.lemmas.Bool.{cases_lt, cases_order}
 use Rattle.loc_base.specs.declared.bits.Bits.{Bits}
 use Rattle.loc_base.specs.Bits.{width_of}
+use Rattle.loc_base.proofs.ShelfLists.{slice_get-at}
 use Rattle.design_core.specs.declared.signal.Signal.{Signal}
 use Rattle.design_core.specs.Valuation.{width_at}
 use Rattle.design_core.specs.Words.{valuation_of, AreWordsOf}
 use Rattle.design_core.specs.Reads.{AgreeOn}
-use Rattle.plain_values.proofs.EvaluateWords.{slice_get_at, word-width, words-length}
+use Rattle.plain_values.proofs.EvaluateWords.{word-width, words-length}
 use Rattle.plain_sim.proofs.EvaluateSweep.{valuation-past, valuation-high}
 
 pub bits-next : (test one other : ℕ → Bool) (k : ℕ) → ((b : ℕ) → b < k → IsTrue (test b) → one b ≡ other b) → (IsTrue (test k) → one k ≡ other k)
@@ -30,7 +31,7 @@ pub signals-next : (signals : List Signal) (test : ℕ → ℕ → Bool) (one ot
 signals-next signals test one other k word one_fit other_fit within is before here s b h passes = at (cases_order s k)
   where
     width : width_of word ≡ width_at signals k
-    width = word-width signals one k word one_fit (slice_get_at one k word within is)
+    width = word-width signals one k word one_fit (slice_get-at one k word within is)
 
     all : (b : ℕ) → IsTrue (test k b) → (b < width_of word) ⊎ (width_of word ≤ b) → valuation_of one k b ≡ valuation_of other k b
     all b passes (inl low) = here b low passes

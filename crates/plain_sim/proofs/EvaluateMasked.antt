@@ -4,6 +4,7 @@ use Rattle.std.specs.Prelude.{bit_xor}
 use Rattle.std.specs.Int.{bit_at}
 use Rattle.std.proofs.lemmas.Nat.Bits.{bit_at_and, bit_at_xor, bit_at-zero, bit_at-lt, same_from_bits}
 use Rattle.std.proofs.lemmas.Grind.{common_steps}
+use Rattle.loc_base.proofs.ShelfBools.{below_two}
 
 -- two bits are the same where they do not differ
 pub bits_same : (x y m : ℕ) → x < 2 → y < 2 → min ((x + y) % 2) m ≡ 0 → m ≡ 1 → (x == 1) ≡ (y == 1)
@@ -25,12 +26,8 @@ masked-same a e m b z h =
     (ap (λ k. min k (bit_at m b)) (sym (bit_at_xor a e b)) ∙ sym (bit_at_and (bit_xor a e) m b) ∙ ap (λ n. bit_at n b) z ∙ bit_at-zero b)
     (grind (arith, common_steps))
 
-two_cases : (n : ℕ) → n < 2 → (n ≡ 0) ⊎ (n ≡ 1)
-two_cases zero h = inl refl
-two_cases (suc n) h = inr (omega (arith, h))
-
 pub bits_alike : (x y m : ℕ) → x < 2 → y < 2 → m < 2 → ((m == 1) ≡ true → (x == 1) ≡ (y == 1)) → min ((x + y) % 2) m ≡ 0
-bits_alike x y m hx hy hm same = by_mask (two_cases m hm)
+bits_alike x y m hx hy hm same = by_mask (below_two m hm)
   where
     by_bits : (x ≡ 0) ⊎ (x ≡ 1) → (y ≡ 0) ⊎ (y ≡ 1) → (x == 1) ≡ (y == 1) → min ((x + y) % 2) 1 ≡ 0
     by_bits (inl p) (inl q) e = rw (p, q) refl
@@ -40,7 +37,7 @@ bits_alike x y m hx hy hm same = by_mask (two_cases m hm)
 
     by_mask : (m ≡ 0) ⊎ (m ≡ 1) → min ((x + y) % 2) m ≡ 0
     by_mask (inl p) = rw p (omega arith)
-    by_mask (inr p) = rw p (by_bits (two_cases x hx) (two_cases y hy) (same (rw p refl)))
+    by_mask (inr p) = rw p (by_bits (below_two x hx) (below_two y hy) (same (rw p refl)))
 
 pub masked-zero : (a e m : ℕ) → ((b : ℕ) → (bit_at m b == 1) ≡ true → (bit_at a b == 1) ≡ (bit_at e b == 1)) → bit_and (bit_xor a e) m ≡ 0
 masked-zero a e m same =

@@ -3,7 +3,6 @@ use Rattle.std.proofs.Common.{◌≡◌, ◌≢◌, ℕ, zero, suc, ◌+◌, ◌
 use Rattle.std.specs.Prelude.{IsTrue, slice_get, Some, bit_and}
 use Rattle.std.specs.Option.{option_map_or}
 use Rattle.std.proofs.lemmas.Option.{slice_get_within, get_or_from_slice_get}
-use Rattle.std.proofs.lemmas.Grind.{common_steps}
 use Rattle.loc_base.specs.declared.bits.Bits.{Bits}
 use Rattle.loc_base.specs.Bits.{width_of, value_of, bit_of}
 use Rattle.design_core.specs.declared.signal.Signal.{Signal}
@@ -14,9 +13,11 @@ use Rattle.design_core.specs.Words.{valuation_of, AreWordsOf}
 use Rattle.design_core.specs.TraceFits.{expected_fit}
 use Rattle.design_core.specs.Run.{IsRight}
 use Rattle.std.proofs.lemmas.Bool.{and_parts}
-use Rattle.plain_values.proofs.EvaluateWords.{slice_get_at, word-width, words-length}
+use Rattle.loc_base.proofs.ShelfBools.{equal-true}
+use Rattle.loc_base.proofs.ShelfLists.{slice_get-at}
+use Rattle.loc_base.proofs.ShelfOptions.{Some-same}
+use Rattle.plain_values.proofs.EvaluateWords.{word-width, words-length}
 use Rattle.plain_sim.specs.EvaluateCycle.{IsRightWord}
-use Rattle.plain_sim.proofs.EvaluateHolds.{Some-same}
 use Rattle.plain_sim.proofs.EvaluateSamples.{width-signal}
 
 same_or_not : (m n : ℕ) → (m ≡ n) ⊎ (m ≢ n)
@@ -34,9 +35,6 @@ AreRightBefore d expected words count =
     (i output : ℕ) (checked : Checked) (b : ℕ) → i < count → slice_get d.outputs.items i ≡ Some output → slice_get expected i ≡ Some checked
     → IsTrue (bit_of checked.mask b) → valuation_of words output b ≡ bit_of checked.value b
 
-eq_test : (m n : ℕ) → (m == n) ≡ true → m ≡ n
-eq_test m n h = grind (arith, common_steps)
-
 -- an entry fits its output
 pub record EntryFits (signals : List Signal) (outputs : List ℕ) (expected : List Checked) (i : ℕ) : Type 0 where
   pub within : i < length outputs
@@ -53,7 +51,7 @@ entry-fits signals (s ∷ outputs) (e ∷ expected) zero h l =
     let three : _ × _ = and_parts ((width_of e.value == width_at signals s && width_of e.mask == width_at signals s) && bit_and (value_of e.value) (value_of e.mask) == value_of e.value) (expected_fit signals outputs expected) h in
     let two : _ × _ = and_parts (width_of e.value == width_at signals s && width_of e.mask == width_at signals s) (bit_and (value_of e.value) (value_of e.mask) == value_of e.value) three.0 in
     let one : _ × _ = and_parts (width_of e.value == width_at signals s) (width_of e.mask == width_at signals s) two.0 in
-    record { within = omega arith; value = λ x. eq_test _ _ one.0; mask = λ x. eq_test _ _ one.1 }
+    record { within = omega arith; value = λ x. equal-true _ _ one.0; mask = λ x. equal-true _ _ one.1 }
 entry-fits signals (s ∷ outputs) (e ∷ expected) (suc i) h l =
     later (entry-fits signals outputs expected i (and_parts ((width_of e.value == width_at signals s && width_of e.mask == width_at signals s) && bit_and (value_of e.value) (value_of e.mask) == value_of e.value) (expected_fit signals outputs expected) h).1 (omega (arith, l)))
   where
@@ -86,7 +84,7 @@ output-at d words expected i output checked a h l at is =
     }
   where
     listed : slice_get d.outputs.items i ≡ Some output
-    listed = slice_get_at d.outputs.items i output (outputs-listed d expected i h l) is
+    listed = slice_get-at d.outputs.items i output (outputs-listed d expected i h l) is
 
 -- one more output is right
 pub right-next : (d : Design) (expected : List Checked) (words : List Bits) (i output : ℕ) (word : Bits) (checked : Checked) → AreRightBefore d expected words i → At d words expected i output
@@ -96,21 +94,21 @@ right-next d expected words i output word checked before at at_word at_checked r
     by_place : (j ≡ i) ⊎ (j ≢ i) → valuation_of words other b ≡ bit_of entry.value b
     by_place (inr apart) = before j other entry b (omega (arith, h, apart)) o e m
     by_place (inl same) =
-        word-bit words other word b (ap (slice_get words) which ∙ slice_get_at words output word at.within at_word)
+        word-bit words other word b (ap (slice_get words) which ∙ slice_get-at words output word at.within at_word)
         ∙ right b (subst (λ x. IsTrue (bit_of x.mask b)) entry_is m) ∙ sym (ap (λ x. bit_of x.value b) entry_is)
       where
         entry_is : entry ≡ checked
-        entry_is = Some-same entry checked (sym e ∙ ap (slice_get expected) same ∙ slice_get_at expected i checked at.entry at_checked)
+        entry_is = Some-same (sym e ∙ ap (slice_get expected) same ∙ slice_get-at expected i checked at.entry at_checked)
 
         which : other ≡ output
-        which = Some-same other output (sym o ∙ ap (slice_get d.outputs.items) same ∙ at.is_output)
+        which = Some-same (sym o ∙ ap (slice_get d.outputs.items) same ∙ at.is_output)
 
 -- where the outputs are right, each is
 pub right-at : (d : Design) (expected : List Checked) (words : List Bits) (i output : ℕ) (word : Bits) (checked : Checked) → At d words expected i output
     → word ≡ get_or words output word → checked ≡ get_or expected i checked → IsRight d expected (valuation_of words) → IsRightWord word checked
 right-at d expected words i output word checked at at_word at_checked right b m =
-    sym (word-bit words output word b (slice_get_at words output word at.within at_word))
-    ∙ right i output checked b at.is_output (slice_get_at expected i checked at.entry at_checked) m
+    sym (word-bit words output word b (slice_get-at words output word at.within at_word))
+    ∙ right i output checked b at.is_output (slice_get-at expected i checked at.entry at_checked) m
 
 -- the widths that are compared are the output's
 pub entry-widths : (d : Design) (words : List Bits) (expected : List Checked) (i output : ℕ) (word : Bits) (checked : Checked) → AreWordsOf d.signals.items words
@@ -128,7 +126,7 @@ entry-widths d words expected i output word checked a h at at_word at_checked = 
     which = ap (width_at d.signals.items) (some-index d.outputs.items i output at.is_output)
 
     wide : width_of word ≡ width_at d.signals.items output
-    wide = word-width d.signals.items words output word a (slice_get_at words output word at.within at_word)
+    wide = word-width d.signals.items words output word a (slice_get-at words output word at.within at_word)
 
 pub all-right : (d : Design) (expected : List Checked) (words : List Bits) (count : ℕ) → length expected ≤ count → AreRightBefore d expected words count → IsRight d expected (valuation_of words)
 all-right d expected words count h before i output checked b o e m =

@@ -9,6 +9,7 @@ use Rattle.std.proofs.Math.Nat.{mul-le-mul_right}
 use Rattle.std.proofs.lemmas.Option.{slice_get-map}
 use Rattle.loc_base.specs.declared.bits.Bits.{Bits}
 use Rattle.loc_base.specs.Bits.{bit_of, width_of}
+use Rattle.loc_base.proofs.ShelfOptions.{Some-same}
 use Rattle.design_core.specs.declared.design.Design.{Design}
 use Rattle.design_core.specs.declared.trace.Trace.{Trace}
 use Rattle.design_core.specs.declared.signal.Signal.{Signal}
@@ -23,7 +24,6 @@ use Rattle.design_core.specs.WellFormed.{is_width, spans, signal_fits, IsWellFor
 use Rattle.design_core.specs.Reads.{IsOrder}
 use Rattle.plain_sim.specs.EvaluateCycle.{is_in, blended, MeetsFrom}
 use Rattle.design_core.specs.Given.{CanRun, row, freed_of, choices_of}
-use Rattle.plain_sim.proofs.EvaluateHolds.{Some-same}
 use Rattle.design_core.proofs.CycleLaws.{cycle-unique}
 use Rattle.plain_sim.proofs.EvaluateSteps.{kept-bit}
 
@@ -56,7 +56,7 @@ meets-next d trace freed c t state V next h cycle right (run, is_run, rest) = (V
     at : (j : ℕ) (W : Valuation) → slice_get (V ∷ run) j ≡ Some W → IsRight d (expected_at d trace (t + j)) W
     at zero W e =
         subst (λ n. IsRight d (expected_at d trace n) W) (none t)
-        (subst (λ (U : Valuation). IsRight d (expected_at d trace t) U) (Some-same V W e) right)
+        (subst (λ (U : Valuation). IsRight d (expected_at d trace t) U) (Some-same e) right)
     at (suc j) W e = subst (λ n. IsRight d (expected_at d trace n) W) (shift t j) (rest j W e)
 
 -- where the cycles from t on are right, there is a cycle now, it is right, and those behind it are right

@@ -1,10 +1,12 @@
 -- The steps of computing a cycle on words.
-use Rattle.std.proofs.Common.{◌≡◌, ℕ, zero, suc, ◌+◌, ◌<◌, ◌≤◌, List, [], ◌∷◌, length, drop, ap, ◌∙◌, sym, refl, arith}
+use Rattle.std.proofs.Common.{◌≡◌, ℕ, zero, suc, ◌+◌, ◌<◌, ◌≤◌, List, [], ◌∷◌, length, drop, ap, ◌∙◌, sym, refl}
 use Rattle.std.specs.Prelude.{Bool, true, false, not, ◌&&◌, if◌then◌else◌, slice_get, Some, None}
 use Rattle.std.specs.Option.{option_map_or}
 use Rattle.std.proofs.Math.Path.{fun_ext}
 use Rattle.std.proofs.lemmas.Bool.{both_ways}
 use Rattle.std.proofs.lemmas.Option.{slice_get_past}
+use Rattle.loc_base.proofs.ShelfBools.{suc-add_one}
+pub use Rattle.loc_base.proofs.ShelfLists.{slice_get-some as slice-at}
 use Rattle.design_core.specs.declared.driver.Driver.{Driver}
 use Rattle.design_core.specs.declared.driver.Reset.{Reset}
 use Rattle.design_core.specs.declared.driver.Clocked.{Clocked}
@@ -19,18 +21,10 @@ use Rattle.plain_sim.specs.EvaluateCycle.{is_in, blended}
 use Rattle.design_core.specs.Steps.{with_reset, with_driver, with_body, with_bodies, kept, computed_next}
 
 -- ---- places of lists
-pub slice-at : {X : Type 0} (xs : List X) (i : ℕ) → i < length xs → (x : X) × (slice_get xs i ≡ Some x)
-slice-at [] i h = absurd (omega (arith, h))
-slice-at (x ∷ xs) zero h = (x, refl)
-slice-at (x ∷ xs) (suc i) h = slice-at xs i (omega (arith, h))
-
-one-more : (i : ℕ) → suc (i + 1) ≡ suc i + 1
-one-more i = omega arith
-
 pub drop-some : {X : Type 0} (xs : List X) (i : ℕ) (x : X) → slice_get xs i ≡ Some x → drop i xs ≡ x ∷ drop (i + 1) xs
 drop-some [] i x e = cc
 drop-some (y ∷ xs) zero x e = cc
-drop-some (y ∷ xs) (suc i) x e = drop-some xs i x e ∙ ap (λ n. x ∷ drop n (y ∷ xs)) (one-more i)
+drop-some (y ∷ xs) (suc i) x e = drop-some xs i x e ∙ ap (λ n. x ∷ drop n (y ∷ xs)) (suc-add_one i)
 
 -- ---- a choice by three tests
 pub if-all : (x y z a e : Bool) → x ≡ true → y ≡ true → z ≡ true → (if x && (y && z) then a else e) ≡ a

@@ -10,13 +10,13 @@ use Rattle.std.proofs.lemmas.Option.{slice_get_past}
 use Rattle.std.proofs.lemmas.Nat.Bits.{bit_at-zero, bit_at_cat_low, bit_at_cat_high}
 use Rattle.loc_base.specs.declared.bits.Bits.{Bits}
 use Rattle.loc_base.specs.Bits.{bit_of, width_of, value_of, value_of-range}
+use Rattle.loc_base.proofs.ShelfLists.{slice_get-at, slice_get-set_other, slice_get-set_same}
 use Rattle.design_core.specs.declared.signal.Signal.{Signal}
 use Rattle.design_core.specs.Valuation.{Valuation, bit, number, width_at}
 use Rattle.design_core.specs.Words.{valuation_of, AreWordsOf}
 use Rattle.plain_sim.specs.EvaluateCycle.{either_bit, blended}
 use Rattle.design_core.proofs.NumberLaws.{number-suc, number-below}
-use Rattle.plain_values.proofs.EvaluateWords.{slice_get_at, valuation-bit, word-width, words-length}
-use Rattle.loc_base.proofs.ShelfLists.{slice_get-set_same, slice_get-set_other}
+use Rattle.plain_values.proofs.EvaluateWords.{valuation-bit, word-width, words-length}
 use Rattle.plain_values.proofs.EvaluateWrite.{bit-high}
 
 -- ---- the bits of a number that some bits mean
@@ -99,7 +99,7 @@ swept-all F old words i all h past = fun_ext (λ s. fun_ext (λ b. at s b (cases
 pub swept-here : (F : Valuation) (old words : List Bits) (i b : ℕ) (word : Bits) → Swept F old words i → i < length words → word ≡ get_or words i word
     → bit (value_of word) b ≡ valuation_of old i b
 swept-here F old words i b word before within is =
-    sym (valuation-bit words i b word (slice_get_at words i word within is)) ∙ ap (λ o. option_map_or (λ w. bit_of w b) o false) (before.rest i (omega arith))
+    sym (valuation-bit words i b word (slice_get-at words i word within is)) ∙ ap (λ o. option_map_or (λ w. bit_of w b) o false) (before.rest i (omega arith))
 
 pub bit-zero : (b : ℕ) → bit 0 b ≡ false
 bit-zero b = ap (λ n. n == 1) (bit_at-zero b)
@@ -151,10 +151,10 @@ taken-next signals test from old words i one other new from_fit old_fit before w
     words_fit = record { widths = before.widths ∙ old_fit.widths }
 
     one_at : slice_get from i ≡ Some one
-    one_at = slice_get_at from i one (omega (arith, within, words-length signals words words_fit, words-length signals from from_fit)) one_is
+    one_at = slice_get-at from i one (omega (arith, within, words-length signals words words_fit, words-length signals from from_fit)) one_is
 
     same : width_of one ≡ width_of other
-    same = word-width signals from i one from_fit one_at ∙ sym (word-width signals words i other words_fit (slice_get_at words i other within other_is))
+    same = word-width signals from i one from_fit one_at ∙ sym (word-width signals words i other words_fit (slice_get-at words i other within other_is))
 
 pub taken-all : (signals : List Signal) (test : ℕ → ℕ → Bool) (from old words : List Bits) (i : ℕ) → AreWordsOf signals from → AreWordsOf signals old
     → Swept (blended test (valuation_of from) (valuation_of old)) old words i → length words ≤ i

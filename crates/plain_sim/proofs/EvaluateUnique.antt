@@ -8,6 +8,8 @@ use Rattle.std.proofs.Math.Seq.{drop-length}
 use Rattle.std.proofs.lemmas.Bool.{both_ways, or_cases, and_parts, and_from, cases_Bool, cases_order, not_from_false}
 use Rattle.std.proofs.lemmas.Option.{slice_get_within, get_or_from_slice_get}
 use Rattle.loc_base.specs.declared.bits.Bits.{Bits}
+use Rattle.loc_base.proofs.ShelfLists.{Contains-at, Contains-first, Contains-later, Contains-place, list_all-member, list_any-found, slice_get-some}
+use Rattle.loc_base.proofs.ShelfOptions.{Some-same}
 use Rattle.design_core.specs.declared.driver.Driver.{Driver}
 use Rattle.design_core.specs.declared.driver.Reset.{Reset}
 use Rattle.design_core.specs.declared.driver.Clocked.{Clocked}
@@ -19,11 +21,8 @@ use Rattle.design_core.specs.Cycle.{Cycle, sampled, before, driven, left_from, i
 use Rattle.design_core.specs.WellFormed.{driver_fits, clocked_fits, IsWellFormed}
 use Rattle.design_core.specs.Reads.{driver_reads, IsOrder}
 use Rattle.design_core.specs.Steps.{with_reset, with_resets, with_driver, with_drivers, with_body, with_bodies, kept, computed_now, computed_next}
-use Rattle.design_core.proofs.Lists.{Contains-first, Contains-later}
-use Rattle.design_core.proofs.Widened.{list_all-member}
-use Rattle.plain_sim.proofs.EvaluateHolds.{Some-same}
-use Rattle.plain_sim.proofs.EvaluateSteps.{slice-at, drop-some, if-all, if-second, if-both}
-use Rattle.design_core.proofs.CycleLaws.{driven-agrees, list_any-found, list_any-alike, list_any-none, Contains-at, Contains-place, reset-listed, active-reset, earlier}
+use Rattle.plain_sim.proofs.EvaluateSteps.{drop-some, if-all, if-second, if-both}
+use Rattle.design_core.proofs.CycleLaws.{driven-agrees, list_any-alike, list_any-none, reset-listed, active-reset, earlier}
 
 -- a cycle of a design whose drivers stand in an order
 record Known (d : Design) (samples : List Bits) (state : Valuation) (choice : Choice) (V next : Valuation) : Type 0 where
@@ -205,8 +204,8 @@ agrees-next d order samples state choice V next h known W k i driver at_k at_i g
     at l j source s b below at_l at_j drives (inr none) (inr (inl low)) = other s b none ∙ g.before l j source s b low at_l at_j drives
     at l j source s b below at_l at_j drives (inr none) (inr (inr high)) = absurd (omega (arith, below, high))
     at l j source s b below at_l at_j drives (inr none) (inl e) =
-        let which : j ≡ i = Some-same j i (sym at_l ∙ ap (slice_get order) e ∙ at_k) in
-        let same : source ≡ driver = Some-same source driver (sym at_j ∙ ap (slice_get d.drivers.items) which ∙ at_i) in
+        let which : j ≡ i = Some-same (sym at_l ∙ ap (slice_get order) e ∙ at_k) in
+        let same : source ≡ driver = Some-same (sym at_j ∙ ap (slice_get d.drivers.items) which ∙ at_i) in
         absurd (both_ways (driver_drives d.signals.items s b driver) none (sym (ap (driver_drives d.signals.items s b) same) ∙ drives))
 
 agrees-all : (d : Design) (order : List ℕ) (samples : List Bits) (state : Valuation) (choice : Choice) (V next : Valuation) → IsOrder d order → Known d samples state choice V next
@@ -216,9 +215,9 @@ agrees-all d order samples state choice V next h known zero k W e g =
     subst (λ xs. Agrees d order V (with_drivers d choice xs W) (length order)) (sym (ap (λ n. drop n order) all ∙ drop-length order))
     (subst (λ n. Agrees d order V W n) all g)
 agrees-all d order samples state choice V next h known (suc n) k W e g =
-    let (i, at_k) = slice-at order k (omega (arith, e)) in
+    let (i, at_k) = slice_get-some order k (omega (arith, e)) in
     let within : i < length d.drivers.items = subst (λ j. j < length d.drivers.items) (get_or_from_slice_get order k i 0 at_k) (h.numbers k 0 (slice_get_within order k i at_k)) in
-    let (driver, at_i) = slice-at d.drivers.items i within in
+    let (driver, at_i) = slice_get-some d.drivers.items i within in
     subst (λ xs. Agrees d order V (with_drivers d choice xs W) (length order)) (sym (drop-some order k i at_k))
     (agrees-all d order samples state choice V next h known n (k + 1) (with_driver d choice i W) (omega (arith, e)) (agrees-next d order samples state choice V next h known W k i driver at_k at_i g))
 

@@ -2,18 +2,25 @@
 use Rattle.std.proofs.Common.{◌≡◌, ℕ, ◌+◌, ◌/◌, ◌%◌, ◌^◌, ◌<◌, List, length, get_or, ap, ◌∙◌, sym, refl}
 use Rattle.std.specs.Prelude.{false, slice_get, Option, Some, None, option_map}
 use Rattle.std.specs.Option.{option_map_or}
-use Rattle.std.proofs.lemmas.Option.{slice_get_read, slice_get-map}
+use Rattle.std.proofs.lemmas.Option.{slice_get-map}
 use Rattle.std.proofs.lemmas.List.{length-map}
 use Rattle.std.proofs.Math.Nat.{mod-eq_of_lt}
 use Rattle.loc_base.specs.declared.bits.Bits.{Bits}
 use Rattle.loc_base.specs.Bits.{bit_of, width_of, value_of, value_of-range}
+use Rattle.loc_base.proofs.ShelfLists.{slice_get-at}
+use Rattle.loc_base.proofs.ShelfOptions.{Some-same}
 use Rattle.design_core.specs.declared.signal.Signal.{Signal}
 use Rattle.design_core.specs.Valuation.{bit, number, width_at}
 use Rattle.design_core.specs.Words.{valuation_of, AreWordsOf}
 use Rattle.design_core.proofs.NumberLaws.{number-same, number-bit, number-part}
 
+-- the element that is read at a place is the one there: the shelf's law, under a name that tactics can cite
 pub slice_get_at : {X : Type 0} (xs : List X) (i : ℕ) (x : X) → i < length xs → x ≡ get_or xs i x → slice_get xs i ≡ Some x
-slice_get_at xs i x h e = slice_get_read xs (length xs) i x refl h e
+slice_get_at xs i x h e = slice_get-at xs i x h e
+
+-- and no other is there
+pub slice_get_same : {X : Type 0} (xs : List X) (i : ℕ) (x y : X) → i < length xs → x ≡ get_or xs i x → slice_get xs i ≡ Some y → x ≡ y
+slice_get_same xs i x y h e is = Some-same (sym (slice_get-at xs i x h e) ∙ is)
 
 -- a bit of a signal's word
 pub valuation-bit : (words : List Bits) (s b : ℕ) (word : Bits) → slice_get words s ≡ Some word → valuation_of words s b ≡ bit (value_of word) b

@@ -8,7 +8,7 @@ ghost use Rattle.plain_values.specs.Evaluate.{is_select, join_parts, parts_sum};
 
 use crate::operator::{binary, repeated, resized, unary};
 use crate::select::{array_word, picked};
-use crate::words::{is_true, word_at, zero};
+use crate::words::{is_true, word_at};
 use design_core::{Node, Signal, Typed};
 use loc_base::Bits;
 
@@ -78,7 +78,7 @@ fn selected(signals: &[Signal], words: &[Bits], e: &Typed) -> Bits
             let at = value(signals, words, index);
             match array_word(*first, *count, *low, at, index.signed) {
                 Some(signal) => word_at(words, signal).part(*from, *width),
-                None => zero(*width),
+                None => Bits::zero(*width),
             }
         }
         _ => unreachable!(),

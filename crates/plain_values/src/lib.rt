@@ -18,4 +18,4 @@ pub use select::{bit_of, distance_of, position_from, with_next};
 pub use signals::{is_listed, signal_at, width_at};
 pub use statement::{assigned, run_statement};
 pub use store::assign;
-pub use words::{word_at, zero};
+pub use words::word_at;

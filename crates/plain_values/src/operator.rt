@@ -4,7 +4,7 @@ ghost use Rattle.design_core.specs.Operator.{one_if, unary, binary, is_less, rep
 ghost use Rattle.design_core.specs.WellFormed.{unary_fits, binary_fits};
 ghost use Rattle.plain_values.specs.Evaluate.{takes};
 
-use crate::words::{flag, is_full, is_true, zero};
+use crate::words::{is_full, is_true};
 use design_core::{BinaryOp, UnaryOp};
 use loc_base::Bits;
 
@@ -22,15 +22,15 @@ pub(crate) fn unary(op: UnaryOp, word: Bits) -> Bits
 {
     match op {
         UnaryOp::Plus => word,
-        UnaryOp::Minus => zero(word.width()).sub(word),
-        UnaryOp::LogicalNot => flag(!is_true(word)),
+        UnaryOp::Minus => Bits::zero(word.width()).sub(word),
+        UnaryOp::LogicalNot => Bits::from_bool(!is_true(word)),
         UnaryOp::Not => word.not(),
-        UnaryOp::ReduceAnd => flag(is_full(word)),
-        UnaryOp::ReduceNand => flag(!is_full(word)),
-        UnaryOp::ReduceOr => flag(is_true(word)),
-        UnaryOp::ReduceNor => flag(!is_true(word)),
-        UnaryOp::ReduceXor => flag(is_odd(word)),
-        UnaryOp::ReduceXnor => flag(!is_odd(word)),
+        UnaryOp::ReduceAnd => Bits::from_bool(is_full(word)),
+        UnaryOp::ReduceNand => Bits::from_bool(!is_full(word)),
+        UnaryOp::ReduceOr => Bits::from_bool(is_true(word)),
+        UnaryOp::ReduceNor => Bits::from_bool(!is_true(word)),
+        UnaryOp::ReduceXor => Bits::from_bool(is_odd(word)),
+        UnaryOp::ReduceXnor => Bits::from_bool(!is_odd(word)),
     }
 }
 
@@ -76,14 +76,14 @@ pub(crate) fn binary(
                 left.shift_right(right.value())
             }
         }
-        BinaryOp::Less => flag(is_less(signed, left, right)),
-        BinaryOp::LessEqual => flag(!is_less(signed, right, left)),
-        BinaryOp::Greater => flag(is_less(signed, right, left)),
-        BinaryOp::GreaterEqual => flag(!is_less(signed, left, right)),
-        BinaryOp::Equal => flag(left.value() == right.value()),
-        BinaryOp::NotEqual => flag(left.value() != right.value()),
-        BinaryOp::LogicalAnd => flag(is_true(left) && is_true(right)),
-        BinaryOp::LogicalOr => flag(is_true(left) || is_true(right)),
+        BinaryOp::Less => Bits::from_bool(is_less(signed, left, right)),
+        BinaryOp::LessEqual => Bits::from_bool(!is_less(signed, right, left)),
+        BinaryOp::Greater => Bits::from_bool(is_less(signed, right, left)),
+        BinaryOp::GreaterEqual => Bits::from_bool(!is_less(signed, left, right)),
+        BinaryOp::Equal => Bits::from_bool(left.value() == right.value()),
+        BinaryOp::NotEqual => Bits::from_bool(left.value() != right.value()),
+        BinaryOp::LogicalAnd => Bits::from_bool(is_true(left) && is_true(right)),
+        BinaryOp::LogicalOr => Bits::from_bool(is_true(left) || is_true(right)),
     }
 }
 

@@ -1,4 +1,4 @@
-ghost use Rattle.std.specs.Prelude.{◌≡◌, ◌==◌, ◌<◌, length, find, slice_get, IfSome, IsTrue, Option};
+ghost use Rattle.std.specs.Prelude.{◌≡◌, ◌==◌, ◌<◌, length, find, slice_get, Some, true, false, IfSome, IsTrue, Option};
 ghost use Rattle.std.specs.List.{list_all, list_any};
 ghost use Rattle.std.specs.Option.{option_and_then};
 ghost use Rattle.loc_base.specs.Bits.{width_of, value_of};
@@ -13,17 +13,19 @@ use crate::words::is_true;
 use design_core::{CaseItem, Design, Label, Signal, Stmt};
 use loc_base::Bits;
 
-/// What a place assigns: the value that is chosen for it where it is freed, else the computed one.
+/// What a place assigns: the word that is chosen for it where it is freed, else the computed one, in its own width.
+#[tactic(auto, using(crate::proofs::EvaluateWords::slice_get_at, crate::proofs::EvaluateWords::slice_get_same))]
 pub fn assigned(freed: &[bool], chosen: &[Bits], place: u32, computed: Bits) -> Bits
     requires freed { place < length freed.now }
     requires chosen { place < length chosen.now }
-    ensures { value_of result ≡ assigned (choice_of freed.now chosen.now) place (value_of computed) }
+    ensures value { value_of result ≡ assigned (choice_of freed.now chosen.now) place (value_of computed) }
+    ensures freed { slice_get freed.now place ≡ Some true → slice_get chosen.now place ≡ Some result }
+    ensures computed { slice_get freed.now place ≡ Some false → result ≡ computed }
 {
-    if freed[place as usize] {
-        chosen[place as usize]
-    } else {
-        computed
+    if !freed[place as usize] {
+        return computed;
     }
+    chosen[place as usize]
 }
 
 /// Whether a label is equal to the subject outside its wild bits (IEEE 1364-2005, 9.5).

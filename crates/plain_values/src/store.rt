@@ -12,7 +12,6 @@ ghost use Rattle.plain_values.specs.Evaluate.{part_index, as_index};
 use crate::expression::value;
 use crate::select::{array_word, position_from};
 use crate::signals::signal_at;
-use crate::words::zero;
 use crate::write::write;
 use design_core::{Part, Signal};
 use loc_base::Bits;
@@ -37,7 +36,7 @@ fn part_index(signals: &[Signal], words: &[Bits], part: &Part) -> Bits
 {
     match part {
         Part::Pick { index, .. } | Part::Word { index, .. } => value(signals, words, index),
-        _ => zero(1),
+        _ => Bits::zero(1),
     }
 }
 

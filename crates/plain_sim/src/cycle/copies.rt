@@ -4,7 +4,6 @@ ghost use Rattle.design_core.specs.Constant.{zeros};
 
 use design_core::Design;
 use loc_base::{Bits, NoMemory};
-use plain_values::zero;
 use std::alloc::Global;
 
 /// A copy of some words.
@@ -21,7 +20,7 @@ fn clear(design: &Design, words: &mut [Bits])
     ensures value { valuation_of words.new ≡ zeros }
 {
     for i in 0..words.len() {
-        words[i] = zero(words[i].width());
+        words[i] = Bits::zero(words[i].width());
     }
 }
 

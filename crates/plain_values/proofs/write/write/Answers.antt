@@ -1,8 +1,8 @@
 use Rattle.std.proofs.Common.{◌∙◌, ap}
 use Rattle.loc_base.specs.Bits.{width_of, value_of}
 use Rattle.std.proofs.Math.Seq.{map-set_same}
+use Rattle.loc_base.proofs.ShelfLists.{slice_get-at}
 use Rattle.design_core.specs.Valuation.{bit}
-use Rattle.plain_values.proofs.EvaluateWords.{slice_get_at}
 use Rattle.plain_values.proofs.EvaluateWrite.{written}
 use Rattle.plain_values.proofs.write.write.Goals as goal
 
@@ -13,4 +13,4 @@ returns-clause-widths c =
 pub returns-clause-words : goal.returns-clause-words
 returns-clause-words c =
     written c.args.words.now c.args.signal c.index-words-signal.result c.replaced.result c.args.from c.args.width (bit (value_of c.args.value)) c.requires.signal
-    (slice_get_at c.args.words.now c.args.signal c.index-words-signal.result c.requires.signal c.index-words-signal.is) c.replaced.ensures.bits
+    (slice_get-at c.args.words.now c.args.signal c.index-words-signal.result c.requires.signal c.index-words-signal.is) c.replaced.ensures.bits
