@@ -1,5 +1,5 @@
 -- What binary operators on words mean.
-use Rattle.std.proofs.Common.{◌≡◌, ℕ, zero, suc, ◌+◌, ◌-◌, ◌*◌, ◌/◌, ◌%◌, ◌^◌, ◌==◌, ◌≤◌, ◌<◌, Bool, true, false, not, ◌&&◌, ◌||◌, if◌then◌else◌, List, [], ◌∷◌, length, map, refl, sym, ◌∙◌, ap, ap₂, subst, arith, zero-add, bit_and, bit_or, bit_xor}
+use Rattle.std.proofs.Common.{◌≡◌, ℕ, ◌+◌, ◌-◌, ◌*◌, ◌/◌, ◌%◌, ◌^◌, ◌==◌, ◌≤◌, Bool, true, false, ◌&&◌, ◌||◌, if◌then◌else◌, List, [], length, map, refl, sym, ◌∙◌, ap, ap₂, subst, arith, zero-add}
 use Rattle.std.specs.Prelude.{IsTrue, int_lt}
 use Rattle.std.proofs.lemmas.Grind.{common_steps}
 use Rattle.std.proofs.lemmas.List.{length-map}
@@ -8,7 +8,7 @@ use Rattle.gate_base.specs.declared.literal.Literal.{Literal}
 use Rattle.gate_base.specs.declared.literal.Literal.TheVariants.{Known}
 use Rattle.gate_base.specs.declared.node.Node.{Node}
 use Rattle.gate_base.specs.Literals.{opposite}
-use Rattle.gate_base.specs.Nodes.{Made, Word, word, and_made, or_made}
+use Rattle.gate_base.specs.Nodes.{Word}
 use Rattle.gate_base.specs.Meaning.{Source, Means, Gives}
 use Rattle.gate_base.proofs.Meaning.{known-means, keep, grown-then, and-means, or-means}
 use Rattle.design_core.specs.declared.expression.BinaryOp.{BinaryOp}
@@ -19,7 +19,7 @@ use Rattle.bit_words.specs.declared.bitwise.Bitwise.{Bitwise}
 use Rattle.bit_words.specs.declared.bitwise.Bitwise.TheVariants as bitwise
 use Rattle.bit_words.specs.declared.shift.Direction.{Direction}
 use Rattle.bit_words.specs.declared.shift.Direction.TheVariants.{Left, Right}
-use Rattle.bit_words.specs.Bits.{one_if, integer_of, IsWord, GivesWord}
+use Rattle.bit_words.specs.Bits.{integer_of, IsWord, GivesWord}
 use Rattle.bit_words.specs.Add.{sum_made, difference_made}
 use Rattle.bit_words.specs.Bitwise.{bitwise_made, bitwise_number}
 use Rattle.bit_words.specs.Equal.{equal_made}
@@ -30,7 +30,7 @@ use Rattle.bit_words.proofs.WordLaws.{sum-law, bitwise-law, equal-law, less-law,
 use Rattle.bit_words.proofs.ProductLaws.{keep_word, product-law}
 use Rattle.bit_words.proofs.ShiftLaws.{shift-law, top-word}
 use Rattle.bit_circuit.specs.Wires.{sign_bit}
-use Rattle.bit_circuit.specs.Nodes.{one_bit, one_opposite, both_true_made, one_true_made, binary_made}
+use Rattle.bit_circuit.specs.Nodes.{both_true_made, one_true_made, binary_made}
 use Rattle.bit_circuit.specs.Meaning.{IsOf, GivesOf}
 use Rattle.bit_circuit.proofs.Lengths.{length-sum, length-bitwise, length-product, length-shift}
 use Rattle.bit_circuit.proofs.UnaryLaws.{one-gives, opposite-gives, truth-means, as-value, as-width}

@@ -1,11 +1,11 @@
 -- What the literals of a whole net mean.
-use Rattle.std.proofs.Common.{◌≡◌, ℕ, zero, suc, ◌+◌, ◌≤◌, ◌<◌, Bool, true, false, List, [], ◌∷◌, ◌++◌, length, map, get_or, Option, Some, None, refl, sym, ◌∙◌, ap, ap₂, subst, arith, ◌⊎◌, inl, inr, length-append, append_assoc, append-nil}
+use Rattle.std.proofs.Common.{◌≡◌, ℕ, zero, suc, ◌≤◌, List, [], ◌∷◌, ◌++◌, length, get_or, Some, refl, sym, ◌∙◌, ap, subst, arith, ◌⊎◌, inl, inr, length-append, append_assoc, append-nil}
 use Rattle.std.specs.Prelude.{IsTrue, slice_get}
 use Rattle.std.proofs.lemmas.Grind.{common_steps}
 use Rattle.std.proofs.lemmas.Option.{slice_get_within}
 use Rattle.std.proofs.lemmas.List.{get_or_append_left}
-use Rattle.std.specs.Option.{option_map_or}
 use Rattle.std.proofs.Math.Seq.{get_or-append_seam}
+use Rattle.loc_base.proofs.ShelfOptions.{Some-same}
 use Rattle.gate_base.specs.declared.literal.Literal.{Literal}
 use Rattle.gate_base.specs.declared.node.Node.{Node}
 use Rattle.gate_base.specs.Nodes.{Word, AreOrdered}
@@ -13,21 +13,18 @@ use Rattle.gate_base.specs.Meaning.{Source, Grown}
 use Rattle.gate_base.proofs.Meaning.{grown-none, grown-then}
 use Rattle.design_core.specs.WellFormed.{is_width}
 use Rattle.word_net.specs.declared.node.WordNode.{WordNode}
-use Rattle.word_net.specs.Values.{Source as WordSource, values, word_value, operation_value, net_values}
+use Rattle.word_net.specs.Values.{Source as WordSource, values, word_value, net_values}
 use Rattle.word_net.specs.Fits.{AllFit, widths_of}
-use Rattle.word_net.specs.Nets.{Net, IsNet}
+use Rattle.word_net.specs.Nets.{IsNet}
 use Rattle.bit_circuit.specs.Nodes.{literals_made}
 use Rattle.bit_circuit.specs.Circuits.{Expanded, expanded, words_at, circuit_of}
 use Rattle.bit_circuit.specs.Meaning.{bits_of, AreOfWidth, IsOf, GivesOf, AreOf, GivenNet, MeanNodes}
 use Rattle.bit_circuit.proofs.PickLaws.{keep-of}
 use Rattle.bit_circuit.proofs.OperationLaws.{operation-means}
 
-some-same : (x y : ℕ) → Some x ≡ Some y → x ≡ y
-some-same x y is = ap (λ o. option_map_or (λ n. n) o 0) is
-
 -- an entry is one of those before, or the last
 last-or : (xs : List ℕ) (x i y : ℕ) → slice_get (xs ++ x ∷ []) i ≡ Some y → (slice_get xs i ≡ Some y) ⊎ ((i ≡ length xs) × (x ≡ y))
-last-or [] x zero y is = inr (refl, some-same x y is)
+last-or [] x zero y is = inr (refl, Some-same is)
 last-or [] x (suc i) y is = absurd (omega (arith, slice_get_within (x ∷ []) (suc i) y is))
 last-or (z ∷ xs) x zero y is = inl is
 last-or (z ∷ xs) x (suc i) y is = elim (last-or xs x i y is) [ inl p ↦ inl p | inr p ↦ inr (ap suc p.0, p.1) ]
@@ -60,7 +57,7 @@ push-are {e} {nodes} {words} {widths} {known} {w} width v are some g = record {
         (rw (ap (λ k. get_or (known ++ v ∷ []) k 0) (at ∙ sym are.as_known) ∙ get_or-append_seam known v [] 0)
         (subst (λ k. IsOf e w.nodes w.bits k v) same g.is))
 
-some-width : (w : ℕ) → IsTrue (is_width w) → 1 ≤ w
+pub some-width : (w : ℕ) → IsTrue (is_width w) → 1 ≤ w
 some-width w is = grind (arith, common_steps)
 
 -- the nodes grow, and each node's literals mean its value
@@ -104,7 +101,7 @@ circuit-ordered of net given = (net-means of net given).grown.ordered tt
 
 picked_word : (words : List (List Literal)) (numbers : List ℕ) (i n : ℕ) → slice_get numbers i ≡ Some n → get_or (words_at words numbers) i [] ≡ get_or words n []
 picked_word words [] i n is = absurd (omega (arith, slice_get_within [] i n is))
-picked_word words (m ∷ numbers) zero n is = ap (λ k. get_or words k []) (some-same m n is)
+picked_word words (m ∷ numbers) zero n is = ap (λ k. get_or words k []) (Some-same is)
 picked_word words (m ∷ numbers) (suc i) n is = picked_word words numbers i n is
 
 words-mean : (of : GivenNet) → IsNet of.net → AreOfWidth of.source of.net.nodes → (numbers : List ℕ) → MeanNodes of numbers (words_at (expanded [] [] of.net.nodes).words numbers)

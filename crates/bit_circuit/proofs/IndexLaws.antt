@@ -1,24 +1,20 @@
 -- What bits by a variable index mean: a number of the index names the bit that the index has by its sign.
-use Rattle.std.proofs.Common.{◌≡◌, ℕ, zero, suc, ◌+◌, ◌-◌, ◌*◌, ◌^◌, ◌==◌, ◌≤◌, ◌<◌, Bool, true, false, ◌&&◌, ◌||◌, if◌then◌else◌, leb, ltb, List, [], ◌∷◌, ◌++◌, length, map, Option, Some, None, refl, sym, ◌∙◌, ap, ap₂, subst, arith, add-zero, zero-add, inl, inr}
-use Rattle.std.specs.Prelude.{ℤ, pos, negsuc, ◌+ℤ◌, ◌-ℤ◌, int_lt, slice_get}
-use Rattle.std.specs.Option.{option_and_then, option_map_or}
+use Rattle.std.proofs.Common.{◌≡◌, ℕ, zero, suc, ◌+◌, ◌-◌, ◌^◌, ◌==◌, ◌≤◌, ◌<◌, Bool, true, false, ◌&&◌, ◌||◌, if◌then◌else◌, leb, ltb, List, [], ◌∷◌, length, map, refl, sym, ◌∙◌, ap, ap₂, arith, add-zero, zero-add, inl, inr}
+use Rattle.std.specs.Prelude.{ℤ, pos, negsuc, ◌+ℤ◌, ◌-ℤ◌, int_lt}
 use Rattle.std.specs.Ordering.{int_eq}
 use Rattle.std.specs.Bool.{Decides, one_answer}
 use Rattle.std.proofs.lemmas.Int.{ints}
 use Rattle.std.proofs.lemmas.Grind.{common_steps}
 use Rattle.std.proofs.lemmas.Bool.{cases_lt, true≢false}
 use Rattle.std.proofs.lemmas.Bool.Decides.{Decides-int_eq, Decides-eqb, Decides-like}
-use Rattle.loc_base.specs.Word.{signed_value}
 use Rattle.loc_base.proofs.BitLaws.{double_of}
 use Rattle.loc_base.proofs.WordLaws.{signed_value-low, signed_value-high}
 use Rattle.loc_base.proofs.ShelfBools.{or-assoc, or-false}
-use Rattle.gate_base.specs.declared.literal.Literal.{Literal}
-use Rattle.gate_base.specs.declared.node.Node.{Node}
-use Rattle.design_core.specs.Valuation.{bit, number, place_within, distance_of, bit_or_zero}
-use Rattle.bit_words.specs.Bits.{integer_of, IsWord}
+use Rattle.design_core.specs.Valuation.{place_within, distance_of, bit_or_zero}
+use Rattle.bit_words.specs.Bits.{integer_of}
 use Rattle.bit_words.specs.Index.{is_named, picked, put, NameFits, NamesFit}
 use Rattle.word_net.specs.declared.node.Select.{Select}
-use Rattle.word_net.specs.Selects.{Range, position_in, picked_bit, put_bits, put_bit, put_picked}
+use Rattle.word_net.specs.Selects.{put_bits, put_bit, put_picked}
 use Rattle.bit_circuit.specs.Indexes.{name_of, index_at, name_at, names_from}
 use Rattle.bit_circuit.proofs.Bits.{bits_from}
 

@@ -1,20 +1,19 @@
 -- How many bits the operators make.
-use Rattle.std.proofs.Common.{◌≡◌, ℕ, zero, suc, ◌+◌, ◌-◌, ◌≤◌, ◌<◌, Bool, true, false, List, [], ◌∷◌, ◌++◌, length, map, take, drop, replicate, refl, sym, ◌∙◌, ap, subst, arith, length-append, length-take, length-drop, inl, inr}
-use Rattle.std.proofs.lemmas.List.{length-map, length-replicate}
+use Rattle.std.proofs.Common.{◌≡◌, ℕ, ◌+◌, ◌-◌, ◌≤◌, Bool, false, List, [], ◌∷◌, ◌++◌, length, take, replicate, ◌∙◌, ap, arith, length-append, length-take, inl, inr}
+use Rattle.std.proofs.lemmas.List.{length-replicate}
 use Rattle.std.proofs.lemmas.Bool.{cases_lt}
 use Rattle.gate_base.specs.declared.literal.Literal.{Literal}
 use Rattle.gate_base.specs.declared.literal.Literal.TheVariants.{Known}
 use Rattle.gate_base.specs.declared.node.Node.{Node}
-use Rattle.gate_base.specs.Nodes.{Word, or_all_made, and_made, mux_made}
+use Rattle.gate_base.specs.Nodes.{or_all_made, and_made, mux_made}
 use Rattle.bit_words.specs.declared.bitwise.Bitwise.{Bitwise}
 use Rattle.bit_words.specs.declared.shift.Direction.{Direction}
-use Rattle.bit_words.specs.declared.shift.Direction.TheVariants.{Left, Right}
 use Rattle.bit_words.specs.Bits.{have_more}
 use Rattle.bit_words.specs.Add.{zeros, column_made, sum_made}
 use Rattle.bit_words.specs.Bitwise.{bit_made, bitwise_made}
 use Rattle.bit_words.specs.Choose.{choice_made}
 use Rattle.bit_words.specs.Multiply.{row_made, row_added, rows_added, product_made}
-use Rattle.bit_words.specs.Shift.{moved, stage_made, past_made, stages_made, shift_made}
+use Rattle.bit_words.specs.Shift.{stage_made, past_made, stages_made}
 use Rattle.bit_words.proofs.ShiftSteps.{length-stage, stages-less, stages-past, is-less, is-past}
 
 length-column : (nodes : List Node) (bits : List Literal) (follows : Bool) (a b carry : Literal) → length (column_made nodes bits follows a b carry).bits ≡ length bits + 1

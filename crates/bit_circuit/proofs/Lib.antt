@@ -12,3 +12,10 @@ pub mod CircuitLaws
 pub mod SourceSteps
 pub mod OperatorSteps
 pub mod WireSteps
+pub mod NameSteps
+pub mod SelectSteps
+pub mod NodeSteps
+pub mod Added
+pub mod ExpandSteps
+pub mod Kept
+pub mod CircuitKept

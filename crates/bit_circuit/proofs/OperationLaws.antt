@@ -1,16 +1,11 @@
 -- What the literals of a node mean: the bits of its value.
-use Rattle.std.proofs.Common.{◌≡◌, ℕ, zero, suc, ◌+◌, ◌-◌, ◌*◌, ◌%◌, ◌^◌, ◌==◌, ◌≤◌, ◌<◌, Bool, true, false, not, leb, if◌then◌else◌, List, [], ◌∷◌, ◌++◌, length, map, take, drop, get_or, Option, Some, None, refl, sym, ◌∙◌, ap, ap₂, subst, arith, add-zero, zero-add, ◌⊎◌, inl, inr, length-append, append_assoc}
-use Rattle.std.specs.Prelude.{IsTrue, slice_get}
-use Rattle.std.specs.Ordering.{int_eq}
+use Rattle.std.proofs.Common.{◌≡◌, ℕ, ◌^◌, ◌≤◌, leb, if◌then◌else◌, List, [], length, refl, sym, ◌∙◌, ap, subst, arith, zero-add}
 use Rattle.std.proofs.lemmas.Grind.{common_steps}
 use Rattle.gate_base.specs.declared.literal.Literal.{Literal}
-use Rattle.gate_base.specs.declared.literal.Literal.TheVariants.{Known}
 use Rattle.gate_base.specs.declared.node.Node.{Node}
-use Rattle.gate_base.specs.Nodes.{Word, word}
-use Rattle.gate_base.specs.Meaning.{Source, Means, Gives}
-use Rattle.design_core.specs.WellFormed.{is_width}
+use Rattle.gate_base.specs.Meaning.{Source, Means}
 use Rattle.design_core.specs.Operator.{is_true}
-use Rattle.bit_words.specs.Bits.{one_if, number_of, IsWord}
+use Rattle.bit_words.specs.Bits.{number_of}
 use Rattle.bit_words.specs.Choose.{choice_made}
 use Rattle.bit_words.specs.Index.{NameFits}
 use Rattle.bit_words.proofs.Meaning.{means-as}
@@ -26,7 +21,7 @@ use Rattle.bit_circuit.specs.Indexes.{name_of}
 use Rattle.bit_circuit.specs.Nodes.{first_bit, bits_at, operation_made}
 use Rattle.bit_circuit.specs.Meaning.{bits_of, IsOfWidth, IsOf, GivesOf, AreOf}
 use Rattle.bit_circuit.proofs.Lengths.{length-choice}
-use Rattle.bit_circuit.proofs.UnaryLaws.{one-gives, unary-means, as-width, as-value}
+use Rattle.bit_circuit.proofs.UnaryLaws.{one-gives, unary-means, as-width}
 use Rattle.bit_circuit.proofs.BinaryLaws.{gives-of, of-width, binary-means}
 use Rattle.bit_circuit.proofs.WireLaws.{wires, constant-of, join-of, repeat-of, resize-of, slice-of, put-of, blend-of}
 use Rattle.bit_circuit.proofs.SourceLaws.{input-gives, state-gives, free-gives}

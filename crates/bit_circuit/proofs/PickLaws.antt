@@ -1,15 +1,14 @@
 -- What reads and stores of words by a variable index mean.
-use Rattle.std.proofs.Common.{◌≡◌, ℕ, zero, suc, ◌+◌, ◌-◌, ◌^◌, ◌≤◌, ◌<◌, Bool, true, false, List, [], ◌∷◌, ◌++◌, length, map, drop, Option, Some, None, refl, sym, ◌∙◌, ap, ap₂, subst, arith, add-zero, zero-add}
+use Rattle.std.proofs.Common.{◌≡◌, ℕ, zero, suc, ◌+◌, ◌-◌, ◌^◌, ◌≤◌, ◌<◌, Bool, false, List, [], ◌∷◌, ◌++◌, length, map, drop, Some, refl, sym, ◌∙◌, ap, ap₂, subst, arith, add-zero, zero-add}
 use Rattle.std.specs.Prelude.{ℤ, slice_get}
 use Rattle.std.specs.Option.{option_and_then}
 use Rattle.gate_base.specs.declared.literal.Literal.{Literal}
-use Rattle.gate_base.specs.declared.literal.Literal.TheVariants.{Known}
 use Rattle.gate_base.specs.declared.node.Node.{Node}
-use Rattle.gate_base.specs.Meaning.{Source, Means, MeansAll, GivesAll, Grown, none, more}
+use Rattle.gate_base.specs.Meaning.{Source, MeansAll, GivesAll, Grown, none, more}
 use Rattle.gate_base.proofs.Meaning.{known-means, keep_all}
 use Rattle.design_core.specs.Valuation.{bit, number, place_within, bit_or_zero}
-use Rattle.bit_words.specs.Bits.{integer_of, number_of, IsWord}
-use Rattle.bit_words.specs.Index.{picked, put, NamesFit}
+use Rattle.bit_words.specs.Bits.{integer_of, number_of}
+use Rattle.bit_words.specs.Index.{picked, NamesFit}
 use Rattle.bit_words.proofs.Meaning.{means-as, all-as, MeansAll-push, ends, one_more}
 use Rattle.bit_words.proofs.Numbers.{number_of-below}
 use Rattle.bit_words.proofs.WordLaws.{MeansAll-length}
@@ -20,7 +19,7 @@ use Rattle.word_net.specs.Selects.{Range, picked_bit, put_picked}
 use Rattle.bit_circuit.specs.Indexes.{name_at, names_from, picks_made, puts_made}
 use Rattle.bit_circuit.specs.Meaning.{IsOf, GivesOf}
 use Rattle.bit_circuit.proofs.Bits.{bits_from, bits-same}
-use Rattle.bit_circuit.proofs.WireLaws.{of-bits, bits-of, rest-bits}
+use Rattle.bit_circuit.proofs.WireLaws.{bits-of, rest-bits}
 use Rattle.bit_circuit.proofs.SourceLaws.{all-gives}
 use Rattle.bit_circuit.proofs.IndexLaws.{away, picked-is, names-fit, put-is, put-names-fit}
 

@@ -1,10 +1,10 @@
 -- What the bits of inputs, of states and of places mean.
-use Rattle.std.proofs.Common.{◌≡◌, ℕ, zero, suc, ◌+◌, ◌*◌, ◌%◌, ◌^◌, ◌==◌, ◌≤◌, ◌<◌, Bool, true, false, if◌then◌else◌, List, [], ◌∷◌, ◌++◌, length, take, refl, sym, ◌∙◌, ap, arith, zero-add}
+use Rattle.std.proofs.Common.{◌≡◌, ℕ, zero, suc, ◌+◌, ◌^◌, ◌≤◌, ◌<◌, Bool, true, false, if◌then◌else◌, List, [], ◌∷◌, ◌++◌, take, refl, ◌∙◌}
 use Rattle.std.proofs.Math.Nat.{mod-eq_of_lt}
 use Rattle.gate_base.specs.declared.literal.Literal.{Literal}
 use Rattle.gate_base.specs.declared.node.Node.{Node}
 use Rattle.gate_base.specs.Nodes.{Word}
-use Rattle.gate_base.specs.Meaning.{Source, Means, MeansAll, GivesAll, none, more}
+use Rattle.gate_base.specs.Meaning.{Source, MeansAll, GivesAll, none, more}
 use Rattle.gate_base.proofs.Meaning.{keep_all, input-means, state-means, free-means}
 use Rattle.design_core.specs.Valuation.{bit, number}
 use Rattle.design_core.specs.After.{assigned}

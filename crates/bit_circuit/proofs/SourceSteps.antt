@@ -1,12 +1,12 @@
 -- Steps of the loops over the bits of inputs, states and places.
-use Rattle.std.proofs.Common.{◌≡◌, ℕ, zero, suc, ◌+◌, ◌-◌, ◌≤◌, ◌<◌, false, List, [], ◌∷◌, ◌++◌, length, get_or, drop, refl, sym, ◌∙◌, ap, arith}
+use Rattle.std.proofs.Common.{◌≡◌, ℕ, suc, ◌+◌, ◌-◌, ◌≤◌, ◌<◌, false, List, [], ◌∷◌, ◌++◌, length, get_or, drop, refl, ap, arith}
 use Rattle.gate_base.specs.declared.literal.Literal.{Literal}
 use Rattle.gate_base.specs.declared.node.Node.{Node}
 use Rattle.gate_base.specs.declared.node.Node.TheVariants.{Input, State}
 use Rattle.std.proofs.lemmas.List.{drop_all}
 use Rattle.gate_base.specs.declared.literal.Literal.TheVariants.{Known}
-use Rattle.gate_base.specs.Nodes.{Word, word, input_made, state_made, free_made, sources_in, counted, pushed, AddsCounted}
-use Rattle.gate_base.proofs.Counts.{sources_in-push, refused-more, adds-none, adds-then, adds-counted, free-adds}
+use Rattle.gate_base.specs.Nodes.{word, input_made, state_made, free_made, sources_in, counted, pushed}
+use Rattle.gate_base.proofs.Counts.{sources_in-push, refused-more, counted-free}
 use Rattle.gate_base.proofs.Chains.{drop-literal}
 use Rattle.bit_circuit.specs.Sources.{inputs_made, states_made, frees_made}
 
@@ -48,11 +48,13 @@ pub state-sources : (nodes : List Node) (state b : ℕ) → sources_in (state_ma
 unfolding state_made pushed
 state-sources nodes state b = sources_in-push nodes (State state b) refl
 
-frees-adds : (nodes : List Node) (bits : List Literal) (place b : ℕ) (xs : List Literal) → AddsCounted nodes (frees_made nodes bits place b xs).nodes
+pub counted-frees : (nodes : List Node) (bits : List Literal) (place b : ℕ) (xs : List Literal)
+    → counted nodes ≤ counted (frees_made nodes bits place b xs).nodes
 unfolding frees_made
-frees-adds nodes bits place b [] = adds-none nodes
-frees-adds nodes bits place b (x ∷ xs) =
-    let m = free_made nodes 0 place b x in adds-then (free-adds nodes 0 place b x) (frees-adds m.nodes (bits ++ m.bit ∷ []) place (b + 1) xs)
+counted-frees nodes bits place b [] = omega arith
+counted-frees nodes bits place b (x ∷ xs) =
+    let m = free_made nodes 0 place b x in
+    omega (arith, counted-free nodes 0 place b x, counted-frees m.nodes (bits ++ m.bit ∷ []) place (b + 1) xs)
 
 pub frees-more : (nodes : List Node) (bits : List Literal) (place b : ℕ) (xs : List Literal) (i : ℕ) → i < length xs
     → frees_made nodes bits place b (drop i xs)
@@ -68,7 +70,7 @@ pub counted-frees_more : (nodes : List Node) (bits : List Literal) (place b : �
     → counted (free_made nodes 0 place b (get_or xs i (Known false))).nodes ≤ counted (frees_made nodes bits place b (drop i xs)).nodes
 counted-frees_more nodes bits place b xs i within =
     let m = free_made nodes 0 place b (get_or xs i (Known false)) in
-    rw (frees-more nodes bits place b xs i within) (adds-counted (frees-adds m.nodes (bits ++ m.bit ∷ []) place (b + 1) (drop (i + 1) xs)))
+    rw (frees-more nodes bits place b xs i within) (counted-frees m.nodes (bits ++ m.bit ∷ []) place (b + 1) (drop (i + 1) xs))
 
 pub ruleset frees = (frees-more, frees-end, counted-frees_more, refused-more)
 

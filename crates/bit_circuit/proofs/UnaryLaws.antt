@@ -1,5 +1,5 @@
 -- What unary operators on words mean.
-use Rattle.std.proofs.Common.{◌≡◌, ℕ, zero, suc, ◌+◌, ◌-◌, ◌*◌, ◌/◌, ◌%◌, ◌^◌, ◌==◌, ◌≤◌, ◌<◌, Bool, true, false, not, ◌&&◌, ◌||◌, if◌then◌else◌, List, [], ◌∷◌, length, map, replicate, refl, sym, ◌∙◌, ap, ap₂, subst, arith, zero-add, count_ones}
+use Rattle.std.proofs.Common.{◌≡◌, ℕ, suc, ◌+◌, ◌-◌, ◌*◌, ◌/◌, ◌%◌, ◌^◌, ◌==◌, ◌<◌, Bool, true, false, not, ◌&&◌, ◌||◌, List, [], ◌∷◌, length, map, refl, sym, ◌∙◌, ap, ap₂, arith, zero-add, count_ones}
 use Rattle.std.specs.Prelude.{IsTrue}
 use Rattle.std.proofs.lemmas.Grind.{common_steps}
 use Rattle.std.proofs.lemmas.List.{length-map, length-replicate}
@@ -9,15 +9,15 @@ use Rattle.gate_base.specs.declared.literal.Literal.{Literal}
 use Rattle.gate_base.specs.declared.literal.Literal.TheVariants.{Known}
 use Rattle.gate_base.specs.declared.node.Node.{Node}
 use Rattle.gate_base.specs.Literals.{opposite}
-use Rattle.gate_base.specs.Nodes.{Made, Word, word, and_all_made, or_all_made, xor_all_made}
-use Rattle.gate_base.specs.Meaning.{Source, Means, Gives, MeansAll, none, more, all_of, some_of, odd_of, differ}
-use Rattle.gate_base.proofs.Meaning.{opposite-means, known-means, grown-none, chain-and, chain-or, chain-xor}
+use Rattle.gate_base.specs.Nodes.{Made, Word, word, and_all_made, or_all_made}
+use Rattle.gate_base.specs.Meaning.{Source, Means, Gives, none, more, all_of, some_of, odd_of, differ}
+use Rattle.gate_base.proofs.Meaning.{opposite-means, grown-none, chain-and, chain-or, chain-xor}
 use Rattle.design_core.specs.declared.expression.UnaryOp.{UnaryOp}
 use Rattle.design_core.specs.declared.expression.UnaryOp.TheVariants as unary_op
 use Rattle.design_core.specs.Operator.{is_true, all_ones, unary}
 use Rattle.design_core.specs.WellFormed.{unary_fits}
-use Rattle.bit_words.specs.Bits.{one_if, number_of, IsWord, GivesWord}
-use Rattle.bit_words.specs.Add.{minus_made, sum_made, zeros}
+use Rattle.bit_words.specs.Bits.{one_if, number_of, IsWord}
+use Rattle.bit_words.specs.Add.{minus_made, zeros}
 use Rattle.bit_words.proofs.Meaning.{means-as}
 use Rattle.bit_words.proofs.Numbers.{double, number_of-below}
 use Rattle.bit_words.proofs.WordLaws.{MeansAll-length, opposite-word, minus-law}

@@ -1,5 +1,5 @@
 -- What words mean that make no nodes.
-use Rattle.std.proofs.Common.{◌≡◌, ℕ, zero, suc, ◌+◌, ◌-◌, ◌*◌, ◌/◌, ◌%◌, ◌^◌, ◌==◌, ◌≤◌, ◌<◌, Bool, true, false, ◌&&◌, if◌then◌else◌, leb, ltb, List, [], ◌∷◌, ◌++◌, length, take, drop, replicate, refl, sym, ◌∙◌, ap, ap₂, subst, arith, add-zero, zero-add, length-append, length-take, length-drop, inl, inr, ◌⊎◌}
+use Rattle.std.proofs.Common.{◌≡◌, ℕ, zero, suc, ◌+◌, ◌-◌, ◌*◌, ◌/◌, ◌%◌, ◌^◌, ◌==◌, ◌≤◌, ◌<◌, Bool, true, false, ◌&&◌, if◌then◌else◌, leb, ltb, List, [], ◌∷◌, ◌++◌, length, take, drop, replicate, refl, sym, ◌∙◌, ap, ap₂, arith, add-zero, zero-add, length-append, inl, inr}
 use Rattle.std.proofs.lemmas.Grind.{common_steps}
 use Rattle.std.proofs.lemmas.List.{length-replicate}
 use Rattle.std.proofs.lemmas.Bool.{cases_lt}
@@ -7,19 +7,17 @@ use Rattle.std.proofs.lemmas.Nat.{pow-add}
 use Rattle.std.proofs.lemmas.Nat.Bits.{bit_at_lowest}
 use Rattle.loc_base.proofs.BitLaws.{bit_at-shr}
 use Rattle.design_core.proofs.NumberLaws.{number-bit}
-use Rattle.loc_base.specs.Word.{is_negative, extended}
 use Rattle.gate_base.specs.declared.literal.Literal.{Literal}
-use Rattle.gate_base.specs.declared.literal.Literal.TheVariants.{Known}
 use Rattle.gate_base.specs.declared.node.Node.{Node}
 use Rattle.gate_base.specs.Nodes.{word}
 use Rattle.gate_base.specs.Meaning.{Source, Means, MeansAll, none, more}
 use Rattle.gate_base.proofs.Meaning.{known-means, grown-none}
 use Rattle.design_core.specs.Valuation.{bit, number}
 use Rattle.design_core.specs.Operator.{repeated, resized}
-use Rattle.bit_words.specs.Bits.{one_if, number_of, IsWord}
+use Rattle.bit_words.specs.Bits.{one_if, number_of}
 use Rattle.bit_words.proofs.Meaning.{means-as, MeansAll-append, all-as}
-use Rattle.bit_words.proofs.Numbers.{double, number_of-below, number_of-not, number_of-zeros}
-use Rattle.bit_words.proofs.PartNumbers.{number_of-append, number_of-take}
+use Rattle.bit_words.proofs.Numbers.{double, number_of-zeros}
+use Rattle.bit_words.proofs.PartNumbers.{number_of-append}
 use Rattle.bit_words.proofs.WordLaws.{MeansAll-length}
 use Rattle.bit_words.proofs.ProductLaws.{MeansAll-take}
 use Rattle.word_net.specs.Selects.{put_bits}

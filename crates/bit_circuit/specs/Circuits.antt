@@ -5,9 +5,11 @@ use Rattle.loc_base.specs.declared.bits.Bits.{Bits}
 use Rattle.loc_base.specs.Bits.{width_of}
 use Rattle.gate_base.specs.declared.literal.Literal.{Literal}
 use Rattle.gate_base.specs.declared.node.Node.{Node}
-use Rattle.gate_base.specs.declared.node.Node.TheVariants.{State}
+use Rattle.gate_base.specs.declared.node.Node.TheVariants.{State, Free}
 use Rattle.gate_base.specs.Literals.{IsBelow}
 use Rattle.gate_base.specs.Nodes.{AreOrdered}
+use Rattle.word_net.specs.declared.node.Operand.{Operand}
+use Rattle.word_net.specs.declared.node.Operation.TheVariants as operation
 use Rattle.word_net.specs.declared.node.WordNode.{WordNode}
 use Rattle.word_net.specs.Nets.{Net}
 use Rattle.bit_circuit.specs.Nodes.{literals_made}
@@ -54,6 +56,15 @@ pub record HasNext (circuit : BitNet) (state bit : ℕ) : Type 0 where
   pub is_start : slice_get circuit.start state ≡ Some start
   pub in_start : bit < width_of start
 
+-- a free bit is one of a free node of the net
+pub record HasFree (net : List WordNode) (p b : ℕ) : Type 0 where
+  pub at : ℕ
+  pub node : WordNode
+  pub there : slice_get net at ≡ Some node
+  pub computed : Operand
+  pub is : node.operation ≡ operation.Free p computed
+  pub within : b < node.width
+
 -- what a circuit keeps
 pub record IsCircuit (circuit : BitNet) : Type 0 where
   -- operands of a node are of nodes before it, those of an AND of two different ones
@@ -63,3 +74,6 @@ pub record IsCircuit (circuit : BitNet) : Type 0 where
   pub next : AreThere circuit.nodes circuit.next
   -- each bit of a state that is read has its next state and its start
   pub states : (i state bit : ℕ) → slice_get circuit.nodes i ≡ Some (State state bit) → HasNext circuit state bit
+  -- a bit of a place is free in one node at most
+  pub frees : (i j moment other place bit : ℕ) (one two : Literal) → slice_get circuit.nodes i ≡ Some (Free moment place bit one)
+      → slice_get circuit.nodes j ≡ Some (Free other place bit two) → i ≡ j

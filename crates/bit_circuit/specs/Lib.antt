@@ -4,4 +4,5 @@ pub mod Sources
 pub mod Nodes
 pub mod Circuits
 pub mod Meaning
+pub mod Limits
 pub mod Fields

@@ -37,6 +37,24 @@ impl Drop for Circuit {
 }
 
 impl Circuit {
+    /// The circuit of these nodes, outputs, next states and start values.
+    pub(crate) fn new(
+        nodes: Vec<Node>,
+        outputs: Rows<Literal>,
+        next: Rows<Literal>,
+        start: Vec<Bits>,
+    ) -> Circuit
+        requires { IsCircuit (record { nodes = nodes.items; outputs = outputs; next = next; start = start.items }) }
+        ensures { result ≡ record { nodes = nodes.items; outputs = outputs; next = next; start = start.items } }
+    {
+        Circuit {
+            nodes,
+            outputs,
+            next,
+            start,
+        }
+    }
+
     /// The nodes.
     pub fn nodes(&self) -> &[Node]
         ensures value { result.now ≡ self.now.nodes }

@@ -4,9 +4,16 @@
 
 mod binary;
 mod circuit;
+mod error;
+mod expand;
+mod index;
 pub mod laws;
+mod literals;
+mod names;
 mod operators;
 mod sources;
 mod wires;
 
 pub use circuit::Circuit;
+pub use error::BlastErr;
+pub use expand::blast;

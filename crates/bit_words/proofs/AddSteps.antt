@@ -3,7 +3,7 @@ use Rattle.std.proofs.Common.{◌≡◌, ℕ, suc, ◌+◌, ◌-◌, ◌≤◌, 
 use Rattle.gate_base.specs.declared.literal.Literal.{Literal}
 use Rattle.gate_base.specs.declared.literal.Literal.TheVariants.{Known}
 use Rattle.gate_base.specs.declared.node.Node.{Node}
-use Rattle.gate_base.specs.Nodes.{word, counted, and_made, xor_made, AddsCounted}
+use Rattle.gate_base.specs.Nodes.{word, counted, and_made, xor_made, AddsAnds}
 use Rattle.gate_base.proofs.Counts.{refused-more, adds-none, adds-then, adds-counted, and-adds, or-adds, xor-adds, mux-adds, counted-and, counted-or, counted-xor, counted-mux}
 use Rattle.gate_base.proofs.Chains.{drop-literal}
 use Rattle.std.proofs.lemmas.List.{get_or-map, length-map}
@@ -24,14 +24,14 @@ both-within m n = grind (arith, common_steps)
 left-of : (m n i : ℕ) → ltb 0 (min (m - (i + 1)) (n - (i + 1))) ≡ ltb (i + 1) (min m n)
 left-of m n i = grind (arith, common_steps)
 
-pub carry-adds : (nodes : List Node) (a b carry one : Literal) → AddsCounted nodes (carry_made nodes a b carry one).nodes
+pub carry-adds : (nodes : List Node) (a b carry one : Literal) → AddsAnds nodes (carry_made nodes a b carry one).nodes
 unfolding carry_made
 carry-adds nodes a b carry one =
     let p = and_made nodes a b in
     let q = and_made p.nodes carry one in
     adds-then (and-adds nodes a b) (adds-then (and-adds p.nodes carry one) (or-adds q.nodes p.bit q.bit))
 
-pub carry_if-adds : (follows : Bool) (nodes : List Node) (a b carry one : Literal) → AddsCounted nodes (carry_if follows nodes a b carry one).nodes
+pub carry_if-adds : (follows : Bool) (nodes : List Node) (a b carry one : Literal) → AddsAnds nodes (carry_if follows nodes a b carry one).nodes
 unfolding carry_if
 carry_if-adds true nodes a b carry one = carry-adds nodes a b carry one
 carry_if-adds false nodes a b carry one = adds-none nodes
@@ -39,14 +39,14 @@ carry_if-adds false nodes a b carry one = adds-none nodes
 pub counted-carry_if : (follows : Bool) (nodes : List Node) (a b carry one : Literal) → counted nodes ≤ counted (carry_if follows nodes a b carry one).nodes
 counted-carry_if follows nodes a b carry one = adds-counted (carry_if-adds follows nodes a b carry one)
 
-pub column-adds : (nodes : List Node) (bits : List Literal) (follows : Bool) (a b carry : Literal) → AddsCounted nodes (column_made nodes bits follows a b carry).nodes
+pub column-adds : (nodes : List Node) (bits : List Literal) (follows : Bool) (a b carry : Literal) → AddsAnds nodes (column_made nodes bits follows a b carry).nodes
 unfolding column_made
 column-adds nodes bits follows a b carry =
     let one = xor_made nodes a b in
     let sum = xor_made one.nodes one.bit carry in
     adds-then (xor-adds nodes a b) (adds-then (xor-adds one.nodes one.bit carry) (carry_if-adds follows sum.nodes a b carry one.bit))
 
-pub sum-adds : (nodes : List Node) (bits xs ys : List Literal) (carry : Literal) → AddsCounted nodes (sum_made nodes bits xs ys carry).nodes
+pub sum-adds : (nodes : List Node) (bits xs ys : List Literal) (carry : Literal) → AddsAnds nodes (sum_made nodes bits xs ys carry).nodes
 unfolding sum_made
 sum-adds nodes bits [] ys carry = adds-none nodes
 sum-adds nodes bits (x ∷ xs) [] carry = adds-none nodes

@@ -3,7 +3,7 @@ use Rattle.std.proofs.Common.{◌≡◌, ℕ, ◌+◌, ◌≤◌, ◌<◌, min, 
 use Rattle.gate_base.specs.declared.literal.Literal.{Literal}
 use Rattle.gate_base.specs.declared.literal.Literal.TheVariants.{Known}
 use Rattle.gate_base.specs.declared.node.Node.{Node}
-use Rattle.gate_base.specs.Nodes.{word, counted, AddsCounted}
+use Rattle.gate_base.specs.Nodes.{word, counted, AddsAnds}
 use Rattle.gate_base.proofs.Counts.{refused-more, adds-none, adds-then, adds-counted, and-adds, or-adds, xor-adds, mux-adds, counted-and, counted-or, counted-xor, counted-mux}
 use Rattle.gate_base.proofs.Chains.{drop-literal}
 use Rattle.bit_words.specs.declared.bitwise.Bitwise.{Bitwise}
@@ -11,14 +11,14 @@ use Rattle.bit_words.specs.declared.bitwise.Bitwise.TheVariants as bitwise
 use Rattle.bit_words.specs.Bitwise.{bit_made, bitwise_made}
 use Rattle.bit_words.proofs.Steps.{ended}
 
-pub bit-adds : (operator : Bitwise) (nodes : List Node) (x y : Literal) → AddsCounted nodes (bit_made operator nodes x y).nodes
+pub bit-adds : (operator : Bitwise) (nodes : List Node) (x y : Literal) → AddsAnds nodes (bit_made operator nodes x y).nodes
 unfolding bit_made
 bit-adds bitwise.And nodes x y = and-adds nodes x y
 bit-adds bitwise.Or nodes x y = or-adds nodes x y
 bit-adds bitwise.Xor nodes x y = xor-adds nodes x y
 bit-adds bitwise.Xnor nodes x y = xor-adds nodes x y
 
-pub bitwise-adds : (operator : Bitwise) (nodes : List Node) (bits xs ys : List Literal) → AddsCounted nodes (bitwise_made operator nodes bits xs ys).nodes
+pub bitwise-adds : (operator : Bitwise) (nodes : List Node) (bits xs ys : List Literal) → AddsAnds nodes (bitwise_made operator nodes bits xs ys).nodes
 unfolding bitwise_made
 bitwise-adds operator nodes bits [] ys = adds-none nodes
 bitwise-adds operator nodes bits (x ∷ xs) [] = adds-none nodes

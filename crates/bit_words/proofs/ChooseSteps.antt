@@ -3,13 +3,13 @@ use Rattle.std.proofs.Common.{◌≡◌, ℕ, ◌+◌, ◌≤◌, ◌<◌, min, 
 use Rattle.gate_base.specs.declared.literal.Literal.{Literal}
 use Rattle.gate_base.specs.declared.literal.Literal.TheVariants.{Known}
 use Rattle.gate_base.specs.declared.node.Node.{Node}
-use Rattle.gate_base.specs.Nodes.{word, counted, mux_made, AddsCounted}
+use Rattle.gate_base.specs.Nodes.{word, counted, mux_made, AddsAnds}
 use Rattle.gate_base.proofs.Counts.{refused-more, adds-none, adds-then, adds-counted, and-adds, or-adds, xor-adds, mux-adds, counted-and, counted-or, counted-xor, counted-mux}
 use Rattle.gate_base.proofs.Chains.{drop-literal}
 use Rattle.bit_words.specs.Choose.{choice_made}
 use Rattle.bit_words.proofs.Steps.{ended}
 
-pub choice-adds : (nodes : List Node) (bits : List Literal) (c : Literal) (xs ys : List Literal) → AddsCounted nodes (choice_made nodes bits c xs ys).nodes
+pub choice-adds : (nodes : List Node) (bits : List Literal) (c : Literal) (xs ys : List Literal) → AddsAnds nodes (choice_made nodes bits c xs ys).nodes
 unfolding choice_made
 choice-adds nodes bits c [] ys = adds-none nodes
 choice-adds nodes bits c (x ∷ xs) [] = adds-none nodes

@@ -4,13 +4,13 @@ use Rattle.gate_base.specs.declared.literal.Literal.{Literal}
 use Rattle.gate_base.specs.declared.literal.Literal.TheVariants.{Known}
 use Rattle.gate_base.specs.declared.node.Node.{Node}
 use Rattle.gate_base.specs.Literals.{opposite}
-use Rattle.gate_base.specs.Nodes.{made, counted, and_made, xor_made, AddsCounted}
+use Rattle.gate_base.specs.Nodes.{made, counted, and_made, xor_made, AddsAnds}
 use Rattle.gate_base.proofs.Counts.{refused-more, adds-none, adds-then, adds-counted, and-adds, or-adds, xor-adds, mux-adds, counted-and, counted-or, counted-xor, counted-mux}
 use Rattle.gate_base.proofs.Chains.{drop-literal}
 use Rattle.bit_words.specs.Equal.{equal_made}
 use Rattle.bit_words.proofs.Steps.{ended}
 
-pub equal-adds : (nodes : List Node) (so_far : Literal) (xs ys : List Literal) → AddsCounted nodes (equal_made nodes so_far xs ys).nodes
+pub equal-adds : (nodes : List Node) (so_far : Literal) (xs ys : List Literal) → AddsAnds nodes (equal_made nodes so_far xs ys).nodes
 unfolding equal_made
 equal-adds nodes so_far [] ys = adds-none nodes
 equal-adds nodes so_far (x ∷ xs) [] = adds-none nodes

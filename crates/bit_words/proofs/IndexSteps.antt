@@ -4,14 +4,14 @@ use Rattle.std.proofs.lemmas.List.{drop_all}
 use Rattle.gate_base.specs.declared.literal.Literal.{Literal}
 use Rattle.gate_base.specs.declared.literal.Literal.TheVariants.{Known}
 use Rattle.gate_base.specs.declared.node.Node.{Node}
-use Rattle.gate_base.specs.Nodes.{made, counted, and_made, or_made, mux_made, AddsCounted}
+use Rattle.gate_base.specs.Nodes.{made, counted, and_made, or_made, mux_made, AddsAnds}
 use Rattle.gate_base.proofs.Counts.{refused-more, adds-none, adds-then, adds-counted, and-adds, or-adds, mux-adds}
 use Rattle.gate_base.proofs.Chains.{drop-literal}
 use Rattle.bit_words.specs.Bits.{turned}
 use Rattle.bit_words.specs.Index.{number_made, match_made, pick_made, put_made}
 use Rattle.std.proofs.lemmas.Grind.{common_steps}
 
-number-adds : (nodes : List Node) (so_far : Literal) (xs : List Literal) (number : ℕ) → AddsCounted nodes (number_made nodes so_far xs number).nodes
+number-adds : (nodes : List Node) (so_far : Literal) (xs : List Literal) (number : ℕ) → AddsAnds nodes (number_made nodes so_far xs number).nodes
 unfolding number_made
 number-adds nodes so_far [] number = adds-none nodes
 number-adds nodes so_far (x ∷ xs) number =
@@ -35,7 +35,7 @@ counted-number_more nodes so_far xs number i within =
 
 pub ruleset numbers = (number-more, number-end, counted-number_more, refused-more)
 
-match-adds : (nodes : List Node) (index : List Literal) (name : Option ℕ) → AddsCounted nodes (match_made nodes index name).nodes
+pub match-adds : (nodes : List Node) (index : List Literal) (name : Option ℕ) → AddsAnds nodes (match_made nodes index name).nodes
 unfolding match_made
 match-adds nodes index None = adds-none nodes
 match-adds nodes index (Some number) = number-adds nodes (Known true) index number
@@ -52,7 +52,7 @@ past xs ys i end =
     one-of : (m n i : ℕ) → min m n ≤ i → (m ≤ i) ⊎ (n ≤ i)
     one-of m n i end = grind (arith, common_steps)
 
-pick-adds : (nodes : List Node) (so_far : Literal) (index xs : List Literal) (names : List (Option ℕ)) → AddsCounted nodes (pick_made nodes so_far index xs names).nodes
+pub pick-adds : (nodes : List Node) (so_far : Literal) (index xs : List Literal) (names : List (Option ℕ)) → AddsAnds nodes (pick_made nodes so_far index xs names).nodes
 unfolding pick_made
 pick-adds nodes so_far index [] names = adds-none nodes
 pick-adds nodes so_far index (x ∷ xs) [] = adds-none nodes
@@ -94,7 +94,7 @@ module _ (nodes : List Node) (so_far : Literal) (index xs : List Literal) (names
 
 pub ruleset picks = (pick-more, pick-end, counted-pick_more, counted-pick_second, counted-pick_first, refused-more)
 
-put-adds : (nodes : List Node) (so_far : Literal) (index xs : List Literal) (names : List (Option ℕ)) → AddsCounted nodes (put_made nodes so_far index xs names).nodes
+pub put-adds : (nodes : List Node) (so_far : Literal) (index xs : List Literal) (names : List (Option ℕ)) → AddsAnds nodes (put_made nodes so_far index xs names).nodes
 unfolding put_made
 put-adds nodes so_far index [] names = adds-none nodes
 put-adds nodes so_far index (x ∷ xs) [] = adds-none nodes

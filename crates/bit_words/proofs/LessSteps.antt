@@ -5,7 +5,7 @@ use Rattle.gate_base.specs.declared.literal.Literal.{Literal}
 use Rattle.gate_base.specs.declared.literal.Literal.TheVariants.{Known}
 use Rattle.gate_base.specs.declared.node.Node.{Node}
 use Rattle.gate_base.specs.Literals.{opposite}
-use Rattle.gate_base.specs.Nodes.{made, counted, xor_made, AddsCounted}
+use Rattle.gate_base.specs.Nodes.{made, counted, xor_made, AddsAnds}
 use Rattle.gate_base.proofs.Counts.{refused-more, adds-none, adds-then, adds-counted, and-adds, or-adds, xor-adds, mux-adds, counted-and, counted-or, counted-xor, counted-mux}
 use Rattle.gate_base.proofs.Chains.{drop-literal}
 use Rattle.std.proofs.lemmas.List.{get_or-map, length-map}
@@ -37,7 +37,7 @@ with_top-below signed (x ∷ y ∷ ys) (suc i) within below =
 
 pub ruleset tops = (with_top-last, with_top-below)
 
-carries-adds : (nodes : List Node) (carry : Literal) (xs ys : List Literal) → AddsCounted nodes (carries_made nodes carry xs ys).nodes
+pub carries-adds : (nodes : List Node) (carry : Literal) (xs ys : List Literal) → AddsAnds nodes (carries_made nodes carry xs ys).nodes
 unfolding carries_made
 carries-adds nodes carry [] ys = adds-none nodes
 carries-adds nodes carry (x ∷ xs) [] = adds-none nodes

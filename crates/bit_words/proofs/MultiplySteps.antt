@@ -4,14 +4,14 @@ use Rattle.std.proofs.lemmas.List.{drop_all}
 use Rattle.gate_base.specs.declared.literal.Literal.{Literal}
 use Rattle.gate_base.specs.declared.literal.Literal.TheVariants.{Known}
 use Rattle.gate_base.specs.declared.node.Node.{Node}
-use Rattle.gate_base.specs.Nodes.{word, counted, and_made, AddsCounted}
+use Rattle.gate_base.specs.Nodes.{word, counted, and_made, AddsAnds}
 use Rattle.gate_base.proofs.Counts.{refused-more, adds-none, adds-then, adds-counted, and-adds, or_all-adds, counted-or_all}
 use Rattle.gate_base.proofs.Chains.{drop-literal}
 use Rattle.bit_words.specs.Add.{sum_made, zeros}
 use Rattle.bit_words.specs.Multiply.{row_made, row_added, rows_added}
 use Rattle.bit_words.proofs.AddSteps.{sum-adds}
 
-row-adds : (nodes : List Node) (bits xs : List Literal) (b : Literal) → AddsCounted nodes (row_made nodes bits xs b).nodes
+row-adds : (nodes : List Node) (bits xs : List Literal) (b : Literal) → AddsAnds nodes (row_made nodes bits xs b).nodes
 unfolding row_made
 row-adds nodes bits [] b = adds-none nodes
 row-adds nodes bits (x ∷ xs) b = let m = and_made nodes x b in adds-then (and-adds nodes x b) (row-adds m.nodes (bits ++ m.bit ∷ []) xs b)
@@ -39,13 +39,13 @@ counted-sum nodes bits xs ys carry = adds-counted (sum-adds nodes bits xs ys car
 
 pub ruleset added = (counted-sum, refused-more)
 
-row_added-adds : (nodes : List Node) (so_far xs : List Literal) (place : ℕ) (b : Literal) → AddsCounted nodes (row_added nodes so_far xs place b).nodes
+row_added-adds : (nodes : List Node) (so_far xs : List Literal) (place : ℕ) (b : Literal) → AddsAnds nodes (row_added nodes so_far xs place b).nodes
 unfolding row_added
 row_added-adds nodes so_far xs place b =
     let row = row_made nodes (zeros place) (take (length xs - place) xs) b in
     adds-then (row-adds nodes (zeros place) (take (length xs - place) xs) b) (sum-adds row.nodes [] so_far row.bits (Known false))
 
-rows_added-adds : (nodes : List Node) (so_far xs : List Literal) (place : ℕ) (ys : List Literal) → AddsCounted nodes (rows_added nodes so_far xs place ys).nodes
+pub rows_added-adds : (nodes : List Node) (so_far xs : List Literal) (place : ℕ) (ys : List Literal) → AddsAnds nodes (rows_added nodes so_far xs place ys).nodes
 unfolding rows_added
 rows_added-adds nodes so_far xs place [] = adds-none nodes
 rows_added-adds nodes so_far xs place (y ∷ ys) =

@@ -5,7 +5,7 @@ use Rattle.std.proofs.lemmas.Grind.{common_steps}
 use Rattle.gate_base.specs.declared.literal.Literal.{Literal}
 use Rattle.gate_base.specs.declared.literal.Literal.TheVariants.{Known}
 use Rattle.gate_base.specs.declared.node.Node.{Node}
-use Rattle.gate_base.specs.Nodes.{counted, mux_made, or_all_made, AddsCounted}
+use Rattle.gate_base.specs.Nodes.{counted, mux_made, or_all_made, AddsAnds}
 use Rattle.gate_base.proofs.Counts.{refused-more, adds-none, adds-then, adds-counted, and-adds, or_all-adds, counted-or_all}
 use Rattle.gate_base.proofs.Chains.{drop-literal}
 use Rattle.bit_words.specs.declared.shift.Direction.{Direction}
@@ -46,22 +46,22 @@ unfolding stage_made
 length-stage nodes direction fill places b xs within =
     omega (arith, length-choice nodes [] b (moved direction fill places xs) xs (length-moved direction fill places xs (omega (arith, within))))
 
-stage-adds : (nodes : List Node) (direction : Direction) (fill : Literal) (places : ℕ) (b : Literal) (xs : List Literal) → AddsCounted nodes (stage_made nodes direction fill places b xs).nodes
+stage-adds : (nodes : List Node) (direction : Direction) (fill : Literal) (places : ℕ) (b : Literal) (xs : List Literal) → AddsAnds nodes (stage_made nodes direction fill places b xs).nodes
 unfolding stage_made
 stage-adds nodes direction fill places b xs = choice-adds nodes [] b (moved direction fill places xs) xs
 
-past-adds : (nodes : List Node) (fill : Literal) (ys xs : List Literal) → AddsCounted nodes (past_made nodes fill ys xs).nodes
+past-adds : (nodes : List Node) (fill : Literal) (ys xs : List Literal) → AddsAnds nodes (past_made nodes fill ys xs).nodes
 unfolding past_made
 past-adds nodes fill ys xs =
     let past = or_all_made nodes (Known false) ys in
     adds-then (or_all-adds nodes (Known false) ys) (choice-adds past.nodes [] past.bit (replicate (length xs) fill) xs)
 
-stages-adds : (nodes : List Node) (direction : Direction) (fill : Literal) (places : ℕ) (ys xs : List Literal) → AddsCounted nodes (stages_made nodes direction fill places ys xs).nodes
+pub stages-adds : (nodes : List Node) (direction : Direction) (fill : Literal) (places : ℕ) (ys xs : List Literal) → AddsAnds nodes (stages_made nodes direction fill places ys xs).nodes
 unfolding stages_made
 stages-adds nodes direction fill places [] xs = past-adds nodes fill [] xs
 stages-adds nodes direction fill places (y ∷ ys) xs =
     let m = stage_made nodes direction fill places y xs in
-    elim (ltb places (length xs)) as (λ less. AddsCounted nodes (if less then stages_made m.nodes direction fill (places + places) ys m.bits else past_made nodes fill (y ∷ ys) xs).nodes) [
+    elim (ltb places (length xs)) as (λ less. AddsAnds nodes (if less then stages_made m.nodes direction fill (places + places) ys m.bits else past_made nodes fill (y ∷ ys) xs).nodes) [
       | true ↦ adds-then (stage-adds nodes direction fill places y xs) (stages-adds m.nodes direction fill (places + places) ys m.bits)
       | false ↦ past-adds nodes fill (y ∷ ys) xs
     ]

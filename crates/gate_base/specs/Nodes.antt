@@ -94,11 +94,20 @@ unfoldable pub sources_in : List Node → ℕ
 sources_in [] = 0
 sources_in (node ∷ nodes) = if is_counted node then sources_in nodes else suc (sources_in nodes)
 
--- the nodes grow by AND and free nodes alone
-pub record AddsCounted (before after : List Node) : Type 0 where
+-- how many are bits of places
+unfoldable pub frees_in : List Node → ℕ
+frees_in [] = 0
+frees_in (Input input bit ∷ nodes) = frees_in nodes
+frees_in (State state bit ∷ nodes) = frees_in nodes
+frees_in (And left right ∷ nodes) = frees_in nodes
+frees_in (Free moment place bit computed ∷ nodes) = suc (frees_in nodes)
+
+-- the nodes grow by AND nodes alone
+pub record AddsAnds (before after : List Node) : Type 0 where
   pub more : List Node
   pub is : after ≡ before ++ more
   pub no_sources : sources_in more ≡ 0
+  pub no_frees : frees_in more ≡ 0
 
 -- whether the operands of a node are of nodes with smaller numbers, and those of an AND of two different ones
 abbrev pub NodeFits : ℕ → Node → Type 0
