@@ -4,7 +4,7 @@ use Rattle.std.specs.List.Sorted.{IsStrictlyIncreasing}
 use Rattle.std.proofs.lemmas.Bool.{cases_lt}
 use Rattle.std.proofs.lemmas.List.{get_or_append_left, get_or_push, get_or_at, length_push, length-map, map-append, map_push, length-append}
 use Rattle.clause_base.specs.declared.literal.Lit.{Lit}
-use Rattle.proof_check.specs.Words.{last_variable}
+use Rattle.proof_check.specs.LineWords.{last_variable}
 
 abbrev pub variables : List Lit → List ℕ
 variables ls = map (λ (l : Lit). l.var) ls

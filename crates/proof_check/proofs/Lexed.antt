@@ -9,10 +9,11 @@ use Rattle.std.proofs.lemmas.Fmt.{decimal_is_IsNumeral, decimal_nonempty}
 use Rattle.std.proofs.lemmas.Str.Parse.{digit_at}
 use Rattle.std.specs.Int.{IsInRange}
 use Rattle.std.proofs.lemmas.Slice.Eq.{bytes_eq-Decides}
+use Rattle.loc_base.proofs.ShelfOptions.{option_map-some}
 use Rattle.clause_base.specs.declared.literal.Lit.{Lit}
 use Rattle.clause_base.specs.Literal.{positive, negative}
 use Rattle.proof_check.specs.Text.{IsUpTo, most_variable, literal_text}
-use Rattle.proof_check.specs.Words.{read_number, read_literal}
+use Rattle.proof_check.specs.LineWords.{read_number, read_literal}
 
 none_is : {A : Type 0} (read : Option A) → ((x : A) → read ≡ Some x → ⊥) → None ≡ read
 none_is None h = refl
@@ -69,10 +70,6 @@ literal_text-read v false up =
 pub read_literal-text : (l : Lit) → IsUpTo most_variable l.var → read_literal (literal_text l) ≡ Some l
 read_literal-text l up = literal_text-read l.var l.negated up
 
-map_some : {A B : Type 0} (f : A → B) (o : Option A) (y : B) → option_map f o ≡ Some y → (x : A) × (o ≡ Some x) × (f x ≡ y)
-map_some f None y h = cc
-map_some f (Some x) y h = (x, refl, cc)
-
 cond_cases : {A : Type 0} (b : Bool) (x y z : A) → cond b x y ≡ z → ((b ≡ true) × (x ≡ z)) ⊎ ((b ≡ false) × (y ≡ z))
 cond_cases true x y z h = inl (refl, h)
 cond_cases false x y z h = inr (refl, h)
@@ -82,13 +79,13 @@ pub read_literal-some : (word : List ℕ) (l : Lit) → read_literal word ≡ So
 read_literal-some [] l h = cc
 read_literal-some (c ∷ rest) l h = ⊎_elim
     (λ minus.
-    let found = map_some negative (read_number most_variable rest) l minus.1 in
+    let found = option_map-some negative (read_number most_variable rest) l minus.1 in
     let number = read_number-some most_variable found.0 rest found.1 in
     let P : Lit → Type 0 = λ m. IsUpTo most_variable m.var × (c ∷ rest ≡ literal_text m) in
     let whole : c ∷ rest ≡ 45 ∷ decimal found.0 = ap (λ (d : ℕ). d ∷ rest) (eqb-true c 45 minus.0) ∙ ap (λ (ds : List ℕ). 45 ∷ ds) number.1 in
     subst P found.2 (number.0, whole))
     (λ plain.
-    let found = map_some positive (read_number most_variable (c ∷ rest)) l plain.1 in
+    let found = option_map-some positive (read_number most_variable (c ∷ rest)) l plain.1 in
     let number = read_number-some most_variable found.0 (c ∷ rest) found.1 in
     let P : Lit → Type 0 = λ m. IsUpTo most_variable m.var × (c ∷ rest ≡ literal_text m) in
     subst P found.2 number)

@@ -2,6 +2,7 @@
 use Rattle.std.proofs.Common.{◌≡◌, ℕ, Bool, true, false, not, ◌&&◌, ◌||◌, eqb, Option, Some, None, List, [], ◌∷◌, ◌++◌, refl, ap, sym, ◌∙◌, subst, ⊎_elim}
 use Rattle.std.specs.Prelude.{MatchOption, IsSome}
 use Rattle.std.proofs.lemmas.Bool.{false≢true, both_ways, eqb-true, eqb-false, ne_eqb, and_parts, and_from, or_cases, or_left, or_right, cases_Bool}
+use Rattle.loc_base.proofs.ShelfBools.{or-false}
 use Rattle.clause_base.specs.declared.literal.Lit.{Lit}
 use Rattle.clause_base.specs.Literal.{positive, negative, opposite, same_sign, same_lit, has, has_variable}
 use Rattle.clause_base.specs.Resolution.{clashes, IsOnlyClash}
@@ -44,10 +45,6 @@ clashed false false true true f g = refl
 clashed false false true false f g = absurd (false≢true (sym (g refl)))
 clashed false false false t f g = refl
 
-or_false : (b : Bool) → (b || false) ≡ b
-or_false true = refl
-or_false false = refl
-
 or_none : (p q : Bool) → p ≡ false → q ≡ false → (p || q) ≡ false
 or_none p q e f = ap (λ b. b || q) e ∙ f
 
@@ -65,8 +62,8 @@ apart l m e = and_none_left (eqb l.var m.var) (same_sign l.negated m.negated) e
 -- elsewhere one more literal changes no clash
 clashes_elsewhere : (a : Lit → Bool) (seen : List Lit) (l : Lit) (w : ℕ) → eqb l.var w ≡ false → clashes a (has (seen ++ l ∷ [])) w ≡ clashes a (has seen) w
 clashes_elsewhere a seen l w e =
-    let at_negative : has (seen ++ l ∷ []) (negative w) ≡ has seen (negative w) = has-push seen l (negative w) ∙ ap (λ b. has seen (negative w) || b) (apart l (negative w) e) ∙ or_false (has seen (negative w)) in
-    let at_positive : has (seen ++ l ∷ []) (positive w) ≡ has seen (positive w) = has-push seen l (positive w) ∙ ap (λ b. has seen (positive w) || b) (apart l (positive w) e) ∙ or_false (has seen (positive w)) in
+    let at_negative : has (seen ++ l ∷ []) (negative w) ≡ has seen (negative w) = has-push seen l (negative w) ∙ ap (λ b. has seen (negative w) || b) (apart l (negative w) e) ∙ or-false (has seen (negative w)) in
+    let at_positive : has (seen ++ l ∷ []) (positive w) ≡ has seen (positive w) = has-push seen l (positive w) ∙ ap (λ b. has seen (positive w) || b) (apart l (positive w) e) ∙ or-false (has seen (positive w)) in
     ap (λ b. (a (positive w) && b) || (a (negative w) && has (seen ++ l ∷ []) (positive w))) at_negative
     ∙ ap (λ b. (a (positive w) && has seen (negative w)) || (a (negative w) && b)) at_positive
 
@@ -111,7 +108,7 @@ clash_same a seen l (Some u) same is = (same u ∙ is.0, λ w h. is.1 w (sym (sa
 
 now_absent : (a : Lit → Bool) (seen : List Lit) (clash : Option ℕ) (now : Lit → Bool) (l : Lit) → Merging a seen clash now → has_variable seen l.var ≡ false → now l ≡ a l
 now_absent a seen clash now l m new =
-    m.now_is l ∙ ap (λ b. a l || b) (and_none_left (has seen l) (not (is_at clash l.var)) (absent seen l new)) ∙ or_false (a l)
+    m.now_is l ∙ ap (λ b. a l || b) (and_none_left (has seen l) (not (is_at clash l.var)) (absent seen l new)) ∙ or-false (a l)
 
 merging_adds : (a : Lit → Bool) (seen : List Lit) (clash : Option ℕ) (now : Lit → Bool) (l : Lit) (next : Lit → Bool) → Merging a seen clash now → has_variable seen l.var ≡ false
     → Adds now l next → Merging a (seen ++ l ∷ []) clash next
@@ -172,7 +169,7 @@ no_clash_with_none a w = or_none (a (positive w) && false) (a (negative w) && fa
 
 pub merging-start : (a : Lit → Bool) → Merging a [] None a
 merging-start a = record {
-  now_is = λ l. sym (or_false (a l));
+  now_is = λ l. sym (or-false (a l));
   clash_is = λ w. no_clash_with_none a w;
 }
 

@@ -8,13 +8,14 @@ use Rattle.std.proofs.lemmas.Bool.{false≢true, and_parts, cases_Bool, cond-tru
 use Rattle.std.proofs.lemmas.List.{append-nil, map_push}
 use Rattle.std.proofs.lemmas.List.Elements.{All-nil, All-push}
 use Rattle.std.proofs.lemmas.Slice.Eq.{bytes_eq-Decides}
+use Rattle.loc_base.proofs.ShelfOptions.{Some-same}
 use Rattle.clause_base.specs.declared.literal.Lit.{Lit}
 use Rattle.clause_base.specs.declared.log.Step.{Step}
 use Rattle.clause_base.specs.declared.log.StepKind.{StepKind}
 use Rattle.clause_base.specs.declared.log.StepKind.TheVariants.{Block, Learned, Derived}
 use Rattle.clause_base.specs.Literal.{has_variable, has_distinct_variables}
 use Rattle.proof_check.specs.Text.{IsUpTo, most_variable, most_number, literal_text, words_of, CanBeWritten}
-use Rattle.proof_check.specs.Words.{Words, no_words, take_word, take_words, with_literal, with_number, with_colon, read_number, read_literal, fits, fits_kind, last_variable, step_of}
+use Rattle.proof_check.specs.LineWords.{LineWords, no_words, take_word, take_words, with_literal, with_number, with_colon, read_number, read_literal, fits, fits_kind, last_variable, step_of}
 use Rattle.proof_check.proofs.Lexed.{read_number-some, read_literal-some}
 use Rattle.proof_check.proofs.Seen.{distinct_more}
 use Rattle.proof_check.proofs.Increasing.{variables, increasing_more}
@@ -28,13 +29,13 @@ colon_words false chain = []
 colon_words true chain = colon ∷ map decimal chain
 
 -- a block's literals are negations of ascending variables, and it has no colon
-abbrev Kept : StepKind → Words → Type 0
+abbrev Kept : StepKind → LineWords → Type 0
 Kept Block w = All (λ l. l.negated ≡ true) w.literals × IsStrictlyIncreasing (variables w.literals) × (w.in_chain ≡ false)
 Kept Learned w = Unit {0}
 Kept Derived w = Unit {0}
 
 -- the words so far are those of what they gave
-record Taken (kind : StepKind) (seen : List (List ℕ)) (w : Words) : Type 0 where
+record Taken (kind : StepKind) (seen : List (List ℕ)) (w : LineWords) : Type 0 where
   words : seen ≡ map literal_text w.literals ++ colon_words w.in_chain w.chain
   in_range : All (λ l. IsUpTo most_variable l.var) w.literals
   numbers : All (IsUpTo most_number) w.chain
@@ -62,7 +63,7 @@ cond_some true x y h = (refl, cc)
 cond_some false x y h = cc
 
 -- a number of the chain
-kept_number : (kind : StepKind) (w : Words) (n : ℕ) → Kept kind w → Kept kind (record w { chain = w.chain ++ n ∷ [] })
+kept_number : (kind : StepKind) (w : LineWords) (n : ℕ) → Kept kind w → Kept kind (record w { chain = w.chain ++ n ∷ [] })
 kept_number Block w n k = k
 kept_number Learned w n k = tt
 kept_number Derived w n k = tt
@@ -74,15 +75,12 @@ number_words literals true chain n seen on e =
     ∙ ap (λ (ws : List (List ℕ)). map literal_text literals ++ colon ∷ ws) (sym (map_push decimal chain n))
 number_words literals false chain n seen on e = absurd (false≢true on)
 
-some_same : {A : Type 0} (x y : A) → Some x ≡ Some y → x ≡ y
-some_same x y e = cc
-
-numbers_taken : (kind : StepKind) (w : Words) (seen : List (List ℕ)) (word : List ℕ) (next : Words) (read : Option ℕ) → w.in_chain ≡ true → Taken kind seen w → read_number most_number word ≡ read → with_number w read ≡ Some next → Taken kind (seen ++ word ∷ []) next
+numbers_taken : (kind : StepKind) (w : LineWords) (seen : List (List ℕ)) (word : List ℕ) (next : LineWords) (read : Option ℕ) → w.in_chain ≡ true → Taken kind seen w → read_number most_number word ≡ read → with_number w read ≡ Some next → Taken kind (seen ++ word ∷ []) next
 numbers_taken kind w seen word next None on taken e h = cc
 numbers_taken kind w seen word next (Some n) on taken e h =
     let found = read_number-some most_number n word e in
-    let T : Words → Type 0 = λ v. Taken kind (seen ++ word ∷ []) v in
-    subst T (some_same (record w { chain = w.chain ++ n ∷ [] }) next h) (record {
+    let T : LineWords → Type 0 = λ v. Taken kind (seen ++ word ∷ []) v in
+    subst T (Some-same h) (record {
       words = ap (λ (d : List ℕ). seen ++ d ∷ []) found.1 ∙ number_words w.literals w.in_chain w.chain n seen on taken.words;
       in_range = taken.in_range;
       numbers = All-push (IsUpTo most_number) w.chain n taken.numbers found.0;
@@ -98,7 +96,7 @@ colon_word literals true chain seen off none e = absurd (false≢true (sym off))
 colon_word literals false chain seen off none e =
     ap (λ (ws : List (List ℕ)). ws ++ colon ∷ []) (e ∙ append-nil (map literal_text literals)) ∙ ap (λ (ns : List ℕ). map literal_text literals ++ colon ∷ map decimal ns) (sym none)
 
-open_words : (w : Words) (seen : List (List ℕ)) (word : List ℕ) → w.in_chain ≡ false → word ≡ colon → (kind : StepKind) → Taken kind seen w → Kept kind (record w { in_chain = true }) → Taken kind (seen ++ word ∷ []) (record w { in_chain = true })
+open_words : (w : LineWords) (seen : List (List ℕ)) (word : List ℕ) → w.in_chain ≡ false → word ≡ colon → (kind : StepKind) → Taken kind seen w → Kept kind (record w { in_chain = true }) → Taken kind (seen ++ word ∷ []) (record w { in_chain = true })
 open_words w seen word off is kind taken kept_now = record {
   words = ap (λ (c : List ℕ). seen ++ c ∷ []) is ∙ colon_word w.literals w.in_chain w.chain seen off (taken.no_chain off) taken.words;
   in_range = taken.in_range;
@@ -108,12 +106,12 @@ open_words w seen word off is kind taken kept_now = record {
   kept = kept_now;
 }
 
-colon_taken : (kind : StepKind) (w : Words) (seen : List (List ℕ)) (word : List ℕ) (next : Words) → w.in_chain ≡ false → word ≡ colon → Taken kind seen w → with_colon kind w ≡ Some next → Taken kind (seen ++ word ∷ []) next
+colon_taken : (kind : StepKind) (w : LineWords) (seen : List (List ℕ)) (word : List ℕ) (next : LineWords) → w.in_chain ≡ false → word ≡ colon → Taken kind seen w → with_colon kind w ≡ Some next → Taken kind (seen ++ word ∷ []) next
 colon_taken Block w seen word next off is taken h = cc
 colon_taken Learned w seen word next off is taken h =
-    subst (λ v. Taken Learned (seen ++ word ∷ []) v) (some_same (record w { in_chain = true }) next h) (open_words w seen word off is Learned taken tt)
+    subst (λ v. Taken Learned (seen ++ word ∷ []) v) (Some-same h) (open_words w seen word off is Learned taken tt)
 colon_taken Derived w seen word next off is taken h =
-    subst (λ v. Taken Derived (seen ++ word ∷ []) v) (some_same (record w { in_chain = true }) next h) (open_words w seen word off is Derived taken tt)
+    subst (λ v. Taken Derived (seen ++ word ∷ []) v) (Some-same h) (open_words w seen word off is Derived taken tt)
 
 -- a literal
 literal_word : (literals : List Lit) (in_chain : Bool) (chain : List ℕ) (l : Lit) (seen : List (List ℕ)) → in_chain ≡ false → seen ≡ map literal_text literals ++ colon_words in_chain chain
@@ -123,14 +121,14 @@ literal_word literals false chain l seen off e =
     ap (λ (ws : List (List ℕ)). ws ++ literal_text l ∷ []) (e ∙ append-nil (map literal_text literals))
     ∙ sym (map_push literal_text literals l) ∙ sym (append-nil (map literal_text (literals ++ l ∷ [])))
 
-kept_literal : (kind : StepKind) (w : Words) (l : Lit) → fits_kind kind w.literals l ≡ true → Kept kind w → Kept kind (record w { literals = w.literals ++ l ∷ [] })
+kept_literal : (kind : StepKind) (w : LineWords) (l : Lit) → fits_kind kind w.literals l ≡ true → Kept kind w → Kept kind (record w { literals = w.literals ++ l ∷ [] })
 kept_literal Block w l fits_it k =
     let parts = and_parts l.negated (ltb (last_variable w.literals) l.var) fits_it in
     (All-push (λ m. m.negated ≡ true) w.literals l k.0 parts.0, increasing_more w.literals l k.1 (ltb-true (last_variable w.literals) l.var parts.1), k.2)
 kept_literal Learned w l fits_it k = tt
 kept_literal Derived w l fits_it k = tt
 
-literal_taken : (kind : StepKind) (w : Words) (seen : List (List ℕ)) (word : List ℕ) (next : Words) (read : Option Lit) → w.in_chain ≡ false → Taken kind seen w → read_literal word ≡ read → with_literal kind w read ≡ Some next → Taken kind (seen ++ word ∷ []) next
+literal_taken : (kind : StepKind) (w : LineWords) (seen : List (List ℕ)) (word : List ℕ) (next : LineWords) (read : Option Lit) → w.in_chain ≡ false → Taken kind seen w → read_literal word ≡ read → with_literal kind w read ≡ Some next → Taken kind (seen ++ word ∷ []) next
 literal_taken kind w seen word next None off taken e h = cc
 literal_taken kind w seen word next (Some l) off taken e h =
     let found = read_literal-some word l e in
@@ -146,7 +144,7 @@ literal_taken kind w seen word next (Some l) off taken e h =
     })
 
 -- any word
-word_taken : (kind : StepKind) (w : Words) (seen : List (List ℕ)) (word : List ℕ) (next : Words) → Taken kind seen w → take_word kind w word ≡ Some next → Taken kind (seen ++ word ∷ []) next
+word_taken : (kind : StepKind) (w : LineWords) (seen : List (List ℕ)) (word : List ℕ) (next : LineWords) → Taken kind seen w → take_word kind w word ≡ Some next → Taken kind (seen ++ word ∷ []) next
 word_taken kind w seen word next taken h = ⊎_elim
     (λ on. numbers_taken kind w seen word next (read_number most_number word) on taken refl
     (sym (cond-true w.in_chain (with_number w (read_number most_number word)) (cond (bytes_eq word colon) (with_colon kind w) (with_literal kind w (read_literal word))) on) ∙ h))
@@ -163,8 +161,8 @@ and_then_some : {A B : Type 0} (f : A → Option B) (o : Option A) (y : B) → o
 and_then_some f None y h = cc
 and_then_some f (Some x) y h = (x, refl, h)
 
-words_taken : (kind : StepKind) (w : Words) (seen words : List (List ℕ)) (final : Words) → Taken kind seen w → take_words kind w words ≡ Some final → Taken kind (seen ++ words) final
-words_taken kind w seen [] final taken h = subst (λ (ws : List (List ℕ)). Taken kind ws final) (sym (append-nil seen)) (subst (λ v. Taken kind seen v) (some_same w final h) taken)
+words_taken : (kind : StepKind) (w : LineWords) (seen words : List (List ℕ)) (final : LineWords) → Taken kind seen w → take_words kind w words ≡ Some final → Taken kind (seen ++ words) final
+words_taken kind w seen [] final taken h = subst (λ (ws : List (List ℕ)). Taken kind ws final) (sym (append-nil seen)) (subst (λ v. Taken kind seen v) (Some-same h) taken)
 words_taken kind w seen (word ∷ words) final taken h =
     let found = and_then_some (λ next. take_words kind next words) (take_word kind w word) final h in
     let one = word_taken kind w seen word found.0 taken found.1 in
@@ -190,9 +188,9 @@ pub record Gave (kind : StepKind) (step : Step) (words : List (List ℕ)) : Type
   pub distinct : IsTrue (has_distinct_variables step.clause)
   pub spelled : words ≡ words_of step
 
-gave : (kind : StepKind) (w : Words) (words : List (List ℕ)) (step : Step) → Taken kind words w → step_of kind w ≡ Some step → Gave kind step words
+gave : (kind : StepKind) (w : LineWords) (words : List (List ℕ)) (step : Step) → Taken kind words w → step_of kind w ≡ Some step → Gave kind step words
 gave Block w words step taken h =
-    let parts = some_same (record { kind = Block; clause = w.literals; chain = w.chain }) step h in
+    let parts = Some-same h in
     subst (λ s. Gave Block s words) parts (record {
       kind_is = refl;
       can = record { has_form = (taken.kept.0, taken.kept.1, taken.no_chain taken.kept.2); variables = taken.in_range; numbers = taken.numbers };

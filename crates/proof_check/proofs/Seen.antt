@@ -4,34 +4,23 @@ use Rattle.std.proofs.lemmas.Bool.{false≢true, eqb-true, eqb-false, cases_Bool
 use Rattle.std.proofs.lemmas.List.{get_or-set_same, get_or-set_other, get_or_past, drop_more, drop_all}
 use Rattle.clause_base.specs.declared.literal.Lit.{Lit}
 use Rattle.std.specs.Prelude.{slice_get}
+use Rattle.loc_base.proofs.ShelfBools.{and-false, and-true, or-false}
 use Rattle.clause_base.specs.Literal.{has_variable, has_distinct_variables}
 use Rattle.clause_base.proofs.Sets.{has_variable-push}
-use Rattle.proof_check.specs.Words.{last_variable}
-
-or_false : (b : Bool) → (b || false) ≡ b
-or_false true = refl
-or_false false = refl
-
-and_true : (b : Bool) → (b && true) ≡ b
-and_true true = refl
-and_true false = refl
-
-and_false : (b : Bool) → (b && false) ≡ false
-and_false true = refl
-and_false false = refl
+use Rattle.proof_check.specs.LineWords.{last_variable}
 
 pub unset_within : (seen : List Bool) (var : ℕ) → var < length seen → (v : ℕ) → get_or (set seen var false) v false ≡ (get_or seen v false && not (eqb v var))
 unset_within seen var within v = ⊎_elim
     (λ here. let e : v ≡ var = eqb-true v var here in
-    ap (λ w. get_or (set seen var false) w false) e ∙ get_or-set_same seen var false false within ∙ sym (ap (λ b. get_or seen v false && not b) here ∙ and_false (get_or seen v false)))
-    (λ other. get_or-set_other seen var v false false (eqb-false v var other) ∙ sym (ap (λ b. get_or seen v false && not b) other ∙ and_true (get_or seen v false)))
+    ap (λ w. get_or (set seen var false) w false) e ∙ get_or-set_same seen var false false within ∙ sym (ap (λ b. get_or seen v false && not b) here ∙ and-false (get_or seen v false)))
+    (λ other. get_or-set_other seen var v false false (eqb-false v var other) ∙ sym (ap (λ b. get_or seen v false && not b) other ∙ and-true (get_or seen v false)))
     (cases_Bool (eqb v var))
 
 pub unset_past : (seen : List Bool) (var : ℕ) → length seen ≤ var → (v : ℕ) → get_or seen v false ≡ (get_or seen v false && not (eqb v var))
 unset_past seen var past v = ⊎_elim
     (λ here. let e : v ≡ var = eqb-true v var here in
-    get_or_past seen v false (omega arith) ∙ sym (ap (λ b. get_or seen v false && not b) here ∙ and_false (get_or seen v false)))
-    (λ other. sym (ap (λ b. get_or seen v false && not b) other ∙ and_true (get_or seen v false)))
+    get_or_past seen v false (omega arith) ∙ sym (ap (λ b. get_or seen v false && not b) here ∙ and-false (get_or seen v false)))
+    (λ other. sym (ap (λ b. get_or seen v false && not b) other ∙ and-true (get_or seen v false)))
     (cases_Bool (eqb v var))
 
 pub forget_more : (seen next : List Bool) (literals : List Lit) (i : ℕ) (d : Lit) → i < length literals → ((v : ℕ) → get_or seen v false ≡ true → has_variable (drop i literals) v ≡ true)
@@ -62,7 +51,7 @@ see_more seen made literals x same is within v = ⊎_elim
     ap (λ w. get_or (set made x.var true) w false) e ∙ get_or-set_same made x.var true false within
     ∙ sym (has_variable-push literals x v ∙ or_right (has_variable literals v) (eqb x.var v) here))
     (λ other. get_or-set_other made x.var v true false (λ e. eqb-false x.var v other (sym e)) ∙ same v ∙ is v
-    ∙ sym (has_variable-push literals x v ∙ ap (λ b. has_variable literals v || b) other ∙ or_false (has_variable literals v)))
+    ∙ sym (has_variable-push literals x v ∙ ap (λ b. has_variable literals v || b) other ∙ or-false (has_variable literals v)))
     (cases_Bool (eqb x.var v))
 
 -- a literal of a new variable leaves the variables distinct

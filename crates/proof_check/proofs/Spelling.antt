@@ -13,6 +13,7 @@ use Rattle.std.proofs.lemmas.List.{append-nil}
 use Rattle.std.proofs.lemmas.List.Elements.{All-nil, All-cons, All-head, All-tail, All-append, All-from_get_or, All-map, All-weaker}
 use Rattle.std.proofs.lemmas.List.Splits.{slice_split_at, slice_split_none, join_with_byte-slice_split}
 use Rattle.std.proofs.lemmas.Slice.Eq.{bytes_eq-Decides}
+use Rattle.loc_base.proofs.ShelfOptions.{Some-same}
 use Rattle.clause_base.specs.declared.literal.Lit.{Lit}
 use Rattle.clause_base.specs.declared.log.Step.{Step}
 use Rattle.clause_base.specs.declared.log.StepKind.{StepKind}
@@ -20,7 +21,7 @@ use Rattle.clause_base.specs.declared.log.StepKind.TheVariants.{Block, Learned, 
 use Rattle.clause_base.specs.Literal.{has_variable, has_distinct_variables}
 use Rattle.clause_base.proofs.Sets.{distinct_parts}
 use Rattle.proof_check.specs.Text.{IsUpTo, most_variable, most_number, literal_text, chain_words, words_of, spaced, letter, step_line, CanBeWritten, HasFormOf}
-use Rattle.proof_check.specs.Words.{Words, no_words, take_word, take_words, with_literal, with_number, with_colon, read_literal, fits, fits_kind, last_variable, step_of, kind_of, read_pieces, read_line}
+use Rattle.proof_check.specs.LineWords.{LineWords, no_words, take_word, take_words, with_literal, with_number, with_colon, read_literal, fits, fits_kind, last_variable, step_of, kind_of, read_pieces, read_line}
 use Rattle.proof_check.proofs.Lexed.{read_number-decimal, read_literal-text}
 use Rattle.proof_check.proofs.Increasing.{variables, increasing_at}
 use Rattle.proof_check.proofs.Reading.{words_give}
@@ -58,7 +59,7 @@ not_colon word all = false_from_ne_true (bytes_eq word (58 ∷ [])) (λ is.
 
 -- ---- the words are taken
 
-abbrev state : List Lit → List ℕ → Bool → Words
+abbrev state : List Lit → List ℕ → Bool → LineWords
 state literals chain in_chain = record { literals = literals; chain = chain; in_chain = in_chain }
 
 -- a block's literals are negations of ascending variables
@@ -187,16 +188,13 @@ cond_cases : {A : Type 0} (b : Bool) (x y z : A) → cond b x y ≡ z → ((b �
 cond_cases true x y z h = inl (refl, h)
 cond_cases false x y z h = inr (refl, h)
 
-some_same : {A : Type 0} (x y : A) → Some x ≡ Some y → x ≡ y
-some_same x y e = cc
-
 letter_of_kind : (word : List ℕ) (kind : StepKind) → kind_of word ≡ Some kind → word ≡ letter kind ∷ []
 letter_of_kind word kind h = ⊎_elim
-    (λ b. (bytes_eq-Decides word (98 ∷ [])).0 b.0 ∙ ap (λ k. letter k ∷ []) (some_same Block kind b.1))
+    (λ b. (bytes_eq-Decides word (98 ∷ [])).0 b.0 ∙ ap (λ k. letter k ∷ []) (Some-same b.1))
     (λ not_b. ⊎_elim
-    (λ l. (bytes_eq-Decides word (108 ∷ [])).0 l.0 ∙ ap (λ k. letter k ∷ []) (some_same Learned kind l.1))
+    (λ l. (bytes_eq-Decides word (108 ∷ [])).0 l.0 ∙ ap (λ k. letter k ∷ []) (Some-same l.1))
     (λ not_l. ⊎_elim
-    (λ d. (bytes_eq-Decides word (100 ∷ [])).0 d.0 ∙ ap (λ k. letter k ∷ []) (some_same Derived kind d.1))
+    (λ d. (bytes_eq-Decides word (100 ∷ [])).0 d.0 ∙ ap (λ k. letter k ∷ []) (Some-same d.1))
     (λ none. let e = none.1 in cc)
     (cond_cases (bytes_eq word (100 ∷ [])) (Some Derived) None (Some kind) not_l.1))
     (cond_cases (bytes_eq word (108 ∷ [])) (Some Learned) (cond (bytes_eq word (100 ∷ [])) (Some Derived) None) (Some kind) not_b.1))

@@ -13,7 +13,7 @@ use Rattle.clause_base.specs.declared.log.StepKind.{StepKind}
 use Rattle.clause_base.specs.Literal.{has_distinct_variables}
 use Rattle.clause_base.specs.Steps.{no_step}
 use Rattle.proof_check.specs.Text.{CanBeWritten, step_line, pieces}
-use Rattle.proof_check.specs.Words.{Words, take_word, take_words, read_line}
+use Rattle.proof_check.specs.LineWords.{LineWords, take_word, take_words, read_line}
 use Rattle.proof_check.specs.Took.{Took}
 use Rattle.proof_check.specs.Pieces.{pieces_after}
 use Rattle.proof_check.specs.Lines.{IsStepLine, Appended, IsFirstBadStep}
@@ -21,24 +21,24 @@ use Rattle.proof_check.proofs.Spelling.{read_line-some, read_line-step_line}
 
 -- ---- words taken one by one
 
-pub took_none : (meaning : Option Words) (new : Words) (taken : Bool) → taken ≡ false → Took meaning new taken → meaning ≡ None
+pub took_none : (meaning : Option LineWords) (new : LineWords) (taken : Bool) → taken ≡ false → Took meaning new taken → meaning ≡ None
 took_none None new taken e took = refl
 took_none (Some next) new taken e took = absurd (false≢true (sym e ∙ took.0))
 
-pub took_some : (meaning : Option Words) (new : Words) (taken : Bool) → taken ≡ true → Took meaning new taken → meaning ≡ Some new
+pub took_some : (meaning : Option LineWords) (new : LineWords) (taken : Bool) → taken ≡ true → Took meaning new taken → meaning ≡ Some new
 took_some None new taken e took = absurd (false≢true (sym took ∙ e))
 took_some (Some next) new taken e took = ap Some (sym took.1)
 
-pub words_next : (kind : StepKind) (w : Words) (rest : Option (Bor (List ℕ))) (text : Bor (List ℕ)) (word : List ℕ) (after : List (List ℕ)) → rest ≡ Some text → slice_split (λ b. eqb b 32) text.now ≡ word ∷ after
+pub words_next : (kind : StepKind) (w : LineWords) (rest : Option (Bor (List ℕ))) (text : Bor (List ℕ)) (word : List ℕ) (after : List (List ℕ)) → rest ≡ Some text → slice_split (λ b. eqb b 32) text.now ≡ word ∷ after
     → take_words kind w (pieces_after 32 rest) ≡ option_and_then (λ next. take_words kind next after) (take_word kind w word)
 words_next kind w rest text word after is split = ap (λ r. take_words kind w (pieces_after 32 r)) is ∙ ap (take_words kind w) split
 
-pub words_stop : (kind : StepKind) (w : Words) (rest : Option (Bor (List ℕ))) (text : Bor (List ℕ)) (word : List ℕ) (after : List (List ℕ)) (new : Words) (taken : Bool) → rest ≡ Some text → slice_split (λ b. eqb b 32) text.now ≡ word ∷ after
+pub words_stop : (kind : StepKind) (w : LineWords) (rest : Option (Bor (List ℕ))) (text : Bor (List ℕ)) (word : List ℕ) (after : List (List ℕ)) (new : LineWords) (taken : Bool) → rest ≡ Some text → slice_split (λ b. eqb b 32) text.now ≡ word ∷ after
     → taken ≡ false → Took (take_word kind w word) new taken → take_words kind w (pieces_after 32 rest) ≡ None
 words_stop kind w rest text word after new taken is split no_more took =
     words_next kind w rest text word after is split ∙ ap (option_and_then (λ next. take_words kind next after)) (took_none (take_word kind w word) new taken no_more took)
 
-pub words_go_on : (kind : StepKind) (w : Words) (rest : Option (Bor (List ℕ))) (text : Bor (List ℕ)) (word : List ℕ) (after : List (List ℕ)) (new : Words) (taken : Bool) → rest ≡ Some text → slice_split (λ b. eqb b 32) text.now ≡ word ∷ after
+pub words_go_on : (kind : StepKind) (w : LineWords) (rest : Option (Bor (List ℕ))) (text : Bor (List ℕ)) (word : List ℕ) (after : List (List ℕ)) (new : LineWords) (taken : Bool) → rest ≡ Some text → slice_split (λ b. eqb b 32) text.now ≡ word ∷ after
     → taken ≡ true → Took (take_word kind w word) new taken → take_words kind w (pieces_after 32 rest) ≡ take_words kind new after
 words_go_on kind w rest text word after new taken is split more took =
     words_next kind w rest text word after is split ∙ ap (option_and_then (λ next. take_words kind next after)) (took_some (take_word kind w word) new taken more took)

@@ -4,6 +4,7 @@ use Rattle.std.proofs.lemmas.List.Sums.{sum_by-cons}
 use Rattle.std.proofs.lemmas.Bool.{false≢true, both_ways, eqb-true, eqb-false, eq-eqb, ne_eqb, and_parts, and_from, or_cases, or_left, or_right, cases_Bool, not-true, not_from_false, false_from_ne_true}
 use Rattle.std.proofs.lemmas.List.{take_more, drop_more, take-append-drop}
 use Rattle.std.proofs.lemmas.List.Elements.{All-head, All-tail}
+use Rattle.loc_base.proofs.ShelfBools.{and-true}
 use Rattle.clause_base.specs.declared.literal.Lit.{Lit}
 use Rattle.clause_base.specs.Literal.{positive, opposite, same_sign, same_lit, has, has_variable, has_distinct_variables}
 use Rattle.clause_base.specs.Progress.{IsConsistent}
@@ -15,10 +16,6 @@ use Rattle.proof_check.specs.Marks.{blank, marked, held, AreStampedUpTo}
 pub record Striking (a : Lit → Bool) (seen : List Lit) (now : Lit → Bool) : Type 0 where
   pub now_is : (l : Lit) → now l ≡ (a l && not (has_variable seen l.var))
   pub all_in : (l : Lit) → has seen l ≡ true → a l ≡ true
-
-and-true : (b : Bool) → (b && true) ≡ b
-and-true true = refl
-and-true false = refl
 
 pub striking-start : (a : Lit → Bool) → Striking a [] a
 striking-start a = record { now_is = λ l. sym (and-true (a l)); all_in = λ l h. absurd (false≢true h) }

@@ -14,7 +14,7 @@ use Rattle.clause_base.specs.Literal.{has_distinct_variables}
 use Rattle.clause_base.specs.Steps.{no_step}
 use Rattle.proof_check.specs.declared.types.LogText.{LogText}
 use Rattle.proof_check.specs.Text.{CanBeWritten, IsDigest, IsLogText, IsLine, IsFirstBadPiece, IsFirstBadLine, step_line, head_line, inputs_line, lines_of, text_of, pieces}
-use Rattle.proof_check.specs.Words.{read_line}
+use Rattle.proof_check.specs.LineWords.{read_line}
 use Rattle.proof_check.specs.Lines.{IsStepLine, AreStepLines, IsFirstBadStep, LacksLine}
 use Rattle.proof_check.proofs.Spelling.{read_line-step_line, step_line-lacks}
 use Rattle.std.specs.Prelude.{IsErrAnd}

@@ -2,9 +2,9 @@ pub mod Marks
 pub mod Merging
 pub mod Chain
 pub mod Text
-pub mod Words
+pub mod LineWords
 pub mod Pieces
-pub mod Room
+pub mod LineReader
 pub mod Took
 pub mod Lines
 pub mod Errors

@@ -12,8 +12,8 @@ ghost use Rattle.proof_check.specs.declared.types.LogText.{LogText};
 
 mod cut;
 mod inputs;
+mod line_reader;
 mod number;
-mod room;
 mod seen;
 mod steps;
 mod words;

@@ -1,6 +1,6 @@
 ghost use Rattle.std.specs.Prelude.{◌≡◌, IfOk, IsTrue, MatchOption, map};
 ghost use Rattle.clause_base.specs.Literal.{has_distinct_variables};
-ghost use Rattle.proof_check.specs.Words.{read_literal, take_word, kind_of, is_whole};
+ghost use Rattle.proof_check.specs.LineWords.{read_literal, take_word, kind_of, is_whole};
 
 use crate::text::number::number_of;
 use clause_base::{Lit, StepKind};

@@ -1,15 +1,15 @@
-use Rattle.std.proofs.Common.{◌≡◌, ◌≢◌, ◌+◌, length, take, sym, ap, ◌∙◌, subst, arith}
+use Rattle.std.proofs.Common.{◌≡◌, ◌≢◌, ◌+◌, length, get_or, take, sym, ap, ◌∙◌, subst, arith}
 use Rattle.std.specs.Str.Parse.{digits_value, AllDigits}
 use Rattle.std.proofs.lemmas.Bool.{eqb-true, eqb-false}
 use Rattle.std.proofs.lemmas.List.{take_all}
 use Rattle.proof_check.proofs.Decimals.{empty-no_number, zero-no_number, other-no_number, more-no_number, digits-step, digits-number}
 use Rattle.proof_check.proofs.text.number.number_of.Goals as goal
-use Rattle.proof_check.proofs.text.number.number_of.Goals.{then-is_empty-via-then-is_empty, then-is_empty-via-else-is_empty+then-word-eq48}
+use Rattle.proof_check.proofs.text.number.number_of.Goals.{then-is_empty-via-then-is_empty, then-is_empty-via-else-is_empty+then-begins_with_zero}
 
 pub returns-then-is_empty : goal.returns-then-is_empty
 returns-then-is_empty c = elim c.then-is_empty.branch [
   | then-is_empty-via-then-is_empty w ↦ empty-no_number c.args.word.now c.args.most (omega arith) (eqb-true (length c.args.word.now) 0 (sym c.is_empty.ensures ∙ w.if-is_empty.true))
-  | then-is_empty-via-else-is_empty+then-word-eq48 w ↦ zero-no_number c.args.word.now c.args.most (omega arith) w.if-word-eq48.true
+  | then-is_empty-via-else-is_empty+then-begins_with_zero w ↦ zero-no_number c.args.word.now c.args.most (omega arith) (eqb-true (get_or c.args.word.now 0 0) 48 (sym w.begins_with_zero.ensures ∙ w.if-begins_with_zero.true))
 ]
 
 pub returns-then-not-is_ascii_digit : goal.returns-then-not-is_ascii_digit
@@ -36,5 +36,5 @@ returns c =
     let value : c.loop-digit.value ≡ digits_value 10 c.args.word.now = c.loop-digit.invariant.value ∙ ap (digits_value 10) all in
     let digits : AllDigits 10 c.args.word.now = subst (AllDigits 10) all c.loop-digit.invariant.digits in
     let some : length c.args.word.now ≢ 0 = eqb-false (length c.args.word.now) 0 (sym c.is_empty.ensures ∙ c.if-is_empty.false) in
-    let number = digits-number c.args.word.now c.args.most (omega arith) digits (omega arith) c.if-word-eq48.false (omega (arith, value, c.loop-digit.invariant.small)) in
+    let number = digits-number c.args.word.now c.args.most (omega arith) digits (omega arith) (eqb-false (get_or c.args.word.now 0 0) 48 (sym c.begins_with_zero.ensures ∙ c.if-begins_with_zero.false)) (omega (arith, value, c.loop-digit.invariant.small)) in
     rw value number

@@ -4,7 +4,7 @@ use Rattle.std.proofs.lemmas.Bool.{eqb-false}
 use Rattle.std.proofs.lemmas.List.{length_push}
 use Rattle.clause_base.specs.declared.log.Step.{Step}
 use Rattle.proof_check.specs.Text.{pieces}
-use Rattle.proof_check.specs.Words.{read_line}
+use Rattle.proof_check.specs.LineWords.{read_line}
 use Rattle.proof_check.specs.Pieces.{pieces_after}
 use Rattle.proof_check.proofs.StepLines.{Split, appended_none, appended_some, bad_line, bad_end, split_more, split_length, few_pieces, some_after, numbered_from_three}
 use Rattle.proof_check.proofs.text.steps.read_steps.Goals as goal

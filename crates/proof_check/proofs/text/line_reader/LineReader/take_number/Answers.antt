@@ -1,8 +1,8 @@
 use Rattle.std.proofs.Common.{◌≡◌, Some, refl, ap, ◌∙◌, lit<}
 use Rattle.proof_check.specs.Text.{most_number}
-use Rattle.proof_check.specs.Words.{read_number}
+use Rattle.proof_check.specs.LineWords.{read_number}
 use Rattle.proof_check.proofs.Lexed.{read_number-decimal}
-use Rattle.proof_check.proofs.text.room.Room.take_number.Goals as goal
+use Rattle.proof_check.proofs.text.line_reader.LineReader.take_number.Goals as goal
 
 pub returns : goal.returns
 returns c =

@@ -24,13 +24,13 @@ read_literal (c ∷ rest) =
     cond (c == 45) (option_map negative (read_number most_variable rest)) (option_map positive (read_number most_variable (c ∷ rest)))
 
 -- what the words so far have given
-pub record Words : Type 0 where
+pub record LineWords : Type 0 where
   pub literals : List Lit
   pub chain : List ℕ
   pub in_chain : Bool
 
 -- nothing so far
-abbrev pub no_words : Words
+abbrev pub no_words : LineWords
 no_words = record { literals = []; chain = []; in_chain = false }
 
 -- the variable of the last literal
@@ -49,38 +49,38 @@ fits_kind Derived literals l = true
 abbrev pub fits : StepKind → List Lit → Lit → Bool
 fits kind literals l = not (has_variable literals l.var) && fits_kind kind literals l
 
-abbrev pub with_literal : StepKind → Words → Option Lit → Option Words
+abbrev pub with_literal : StepKind → LineWords → Option Lit → Option LineWords
 with_literal kind words None = None
 with_literal kind words (Some l) = cond (fits kind words.literals l) (Some (record words { literals = words.literals ++ l ∷ [] })) None
 
-abbrev pub with_number : Words → Option ℕ → Option Words
+abbrev pub with_number : LineWords → Option ℕ → Option LineWords
 with_number words None = None
 with_number words (Some number) = Some (record words { chain = words.chain ++ number ∷ [] })
 
 -- a block has no chain
-abbrev pub with_colon : StepKind → Words → Option Words
+abbrev pub with_colon : StepKind → LineWords → Option LineWords
 with_colon Block words = None
 with_colon Learned words = Some (record words { in_chain = true })
 with_colon Derived words = Some (record words { in_chain = true })
 
 -- one more word: a number of the chain, the colon before it, or a literal
-abbrev pub take_word : StepKind → Words → List ℕ → Option Words
+abbrev pub take_word : StepKind → LineWords → List ℕ → Option LineWords
 take_word kind words word =
     cond words.in_chain (with_number words (read_number most_number word))
     (cond (bytes_eq word (58 ∷ [])) (with_colon kind words) (with_literal kind words (read_literal word)))
 
 -- all the words
-abbrev pub take_words : StepKind → Words → List (List ℕ) → Option Words
+abbrev pub take_words : StepKind → LineWords → List (List ℕ) → Option LineWords
 take_words kind words [] = Some words
 take_words kind words (word ∷ more) = option_and_then (λ next. take_words kind next more) (take_word kind words word)
 
 -- nothing is lacking at the line's end
-abbrev pub is_whole : StepKind → Words → Bool
+abbrev pub is_whole : StepKind → LineWords → Bool
 is_whole Block words = true
 is_whole Learned words = nat_lt 0 (length words.chain)
 is_whole Derived words = nat_lt 0 (length words.chain)
 
-abbrev pub step_of : StepKind → Words → Option Step
+abbrev pub step_of : StepKind → LineWords → Option Step
 step_of kind words = cond (is_whole kind words) (Some (record { kind = kind; clause = words.literals; chain = words.chain })) None
 
 -- the kind with that letter

@@ -1,7 +1,7 @@
 use Rattle.std.proofs.Common.{◌≡◌, ◌∷◌, ◌++◌, [], ℕ, Bool, List, true, false, get_or, set, sym, ap, ◌∙◌}
 use Rattle.clause_base.specs.Literal.{has_variable}
 use Rattle.proof_check.proofs.Seen.{see_more, distinct_more}
-use Rattle.proof_check.proofs.text.room.Room.take_literal.Goals as goal
+use Rattle.proof_check.proofs.text.line_reader.LineReader.take_literal.Goals as goal
 
 pub invariant_of-self-2 : goal.invariant_of-self-2
 invariant_of-self-2 c =

@@ -1,7 +1,7 @@
 ghost use Rattle.std.specs.Prelude.{◌≡◌, IsTrue, IfOk};
 ghost use Rattle.clause_base.specs.Literal.{has_distinct_variables};
 ghost use Rattle.proof_check.specs.Text.{most_number};
-ghost use Rattle.proof_check.specs.Words.{no_words, is_whole, take_word, with_literal, with_number, with_colon, read_literal, read_number, fits_kind, last_variable};
+ghost use Rattle.proof_check.specs.LineWords.{no_words, is_whole, take_word, with_literal, with_number, with_colon, read_literal, read_number, fits_kind, last_variable};
 ghost use Rattle.proof_check.specs.Took.{Took};
 
 use crate::text::number::number_of;
@@ -12,9 +12,9 @@ use loc_base::NoMemory;
 use std::alloc::Global;
 use std::marker::Model;
 
-/// What the words of a line have given so far. Contracts see the literals, the chain, and whether the colon came.
+/// Reads a line, word by word, and holds what its words have given so far. Contracts see the literals, the chain, and whether the colon came.
 #[derive(Drop)]
-pub(crate) struct Room {
+pub(crate) struct LineReader {
     literals: Vec<Lit>,
     chain: Vec<u32>,
     in_chain: bool,
@@ -22,24 +22,24 @@ pub(crate) struct Room {
     seen: Vec<bool>,
 }
 
-impl Model for Room {
-    ghost use Rattle.proof_check.specs.Words.{Words};
+impl Model for LineReader {
+    ghost use Rattle.proof_check.specs.LineWords.{LineWords};
 
-    ghost Value = { Words };
+    ghost Value = { LineWords };
 
-    ghost use Rattle.proof_check.specs.Room.{words_in, IsRoom};
+    ghost use Rattle.proof_check.specs.LineReader.{words_in, IsLineReader};
 
     ghost view = { words_in };
 
-    ghost invariant = { IsRoom };
+    ghost invariant = { IsLineReader };
 }
 
-impl Room {
-    /// Room for the words of a line. It takes no memory.
-    pub(crate) fn new(alloc: Global) -> Room
+impl LineReader {
+    /// A reader that has read no word. It takes no memory.
+    pub(crate) fn new(alloc: Global) -> LineReader
         ensures { result ≡ no_words }
     {
-        Room {
+        LineReader {
             literals: Vec::new(alloc),
             chain: Vec::new(alloc),
             in_chain: false,
