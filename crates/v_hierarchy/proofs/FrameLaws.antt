@@ -23,16 +23,16 @@ suc-some None k e = absurd (none-some k e)
 suc-some (Some j) k e = let same : suc j ≡ k = cc in record { place = j; is = refl; next = same }
 
 -- ---- declared, as these
-abbrev behind : Entry → Result (List Entry) ElabErr → Result (List Entry) ElabErr
+abbrev pub behind : Entry → Result (List Entry) ElabErr → Result (List Entry) ElabErr
 behind old (Ok more) = Ok (old ∷ more)
 behind old (Err e) = Err e
 
-abbrev joined : Entry → Entry → List Entry → Option Standing → Result (List Entry) ElabErr
-joined old new rest (Some both) = Ok (record { name = old.name; standing = both } ∷ rest)
-joined old new rest None = Err (fault.DoubleName new.name.site.span)
+abbrev pub both_of : Entry → Entry → List Entry → Option Standing → Result (List Entry) ElabErr
+both_of old new rest (Some both) = Ok (record { name = old.name; standing = both } ∷ rest)
+both_of old new rest None = Err (fault.DoubleName new.name.site.span)
 
-declared-is : (new old : Entry) (rest : List Entry)
-    → declared new (old ∷ rest) ≡ (if same_name old.name.name new.name.name then joined old new rest (again old.standing new.standing) else behind old (declared new rest))
+pub declared-is : (new old : Entry) (rest : List Entry)
+    → declared new (old ∷ rest) ≡ (if same_name old.name.name new.name.name then both_of old new rest (again old.standing new.standing) else behind old (declared new rest))
 declared-is new old rest = cases (same_name old.name.name new.name.name) (again old.standing new.standing) (declared new rest)
   where
     cases : (same : Bool) (both : Option Standing) (more : Result (List Entry) ElabErr)
@@ -42,7 +42,7 @@ declared-is new old rest = cases (same_name old.name.name new.name.name) (again 
         ] else elim more [
           | Ok more ↦ Ok (old ∷ more)
           | Err e ↦ Err e
-        ]) ≡ (if same then joined old new rest both else behind old more)
+        ]) ≡ (if same then both_of old new rest both else behind old more)
     cases true None more = refl
     cases true (Some both) more = refl
     cases false both (Ok more) = refl
@@ -55,7 +55,7 @@ declared-new new (old ∷ rest) none = declared-is new old rest ∙ step (same_n
   where
     step : (same : Bool) → (if same then Some 0 else option_map suc (place_of new.name.name rest)) ≡ None
         → (place_of new.name.name rest ≡ None → declared new rest ≡ Ok (rest ++ new ∷ []))
-        → (if same then joined old new rest (again old.standing new.standing) else behind old (declared new rest)) ≡ Ok (old ∷ rest ++ new ∷ [])
+        → (if same then both_of old new rest (again old.standing new.standing) else behind old (declared new rest)) ≡ Ok (old ∷ rest ++ new ∷ [])
     step true e more = absurd (none-some 0 (sym e))
     step false e more = ap (behind old) (more (suc-none (place_of new.name.name rest) e))
 
@@ -64,7 +64,7 @@ abbrev pub put : List Entry → ℕ → Entry → Entry → Option Standing → 
 put es k old new (Some both) = Ok (slice_set es k (record { name = old.name; standing = both }))
 put es k old new None = Err (fault.DoubleName new.name.site.span)
 
-put-first : (old new : Entry) (rest : List Entry) (both : Option Standing) → joined old new rest both ≡ put (old ∷ rest) 0 old new both
+put-first : (old new : Entry) (rest : List Entry) (both : Option Standing) → both_of old new rest both ≡ put (old ∷ rest) 0 old new both
 put-first old new rest None = refl
 put-first old new rest (Some both) = refl
 
@@ -77,8 +77,8 @@ pub declared-met : (new old : Entry) (es : List Entry) (k : ℕ) → place_of ne
 declared-met new old [] k e at = absurd (none-some k e)
 declared-met new old (first ∷ rest) k e at = declared-is new first rest ∙ step (same_name first.name.name new.name.name) k e at (declared-met new old rest)
   where
-    head : (first ≡ old) → joined first new rest (again first.standing new.standing) ≡ put (first ∷ rest) 0 old new (again old.standing new.standing)
-    head same = subst (λ (x : Entry). joined first new rest (again first.standing new.standing) ≡ put (first ∷ rest) 0 x new (again x.standing new.standing)) same (put-first first new rest (again first.standing new.standing))
+    head : (first ≡ old) → both_of first new rest (again first.standing new.standing) ≡ put (first ∷ rest) 0 old new (again old.standing new.standing)
+    head same = subst (λ (x : Entry). both_of first new rest (again first.standing new.standing) ≡ put (first ∷ rest) 0 x new (again x.standing new.standing)) same (put-first first new rest (again first.standing new.standing))
 
     tail : (j k : ℕ) → suc j ≡ k → declared new rest ≡ put rest j old new (again old.standing new.standing)
         → behind first (declared new rest) ≡ put (first ∷ rest) k old new (again old.standing new.standing)
@@ -88,7 +88,7 @@ declared-met new old (first ∷ rest) k e at = declared-is new first rest ∙ st
 
     step : (same : Bool) (k : ℕ) → (if same then Some 0 else option_map suc (place_of new.name.name rest)) ≡ Some k → slice_get (first ∷ rest) k ≡ Some old
         → ((j : ℕ) → place_of new.name.name rest ≡ Some j → slice_get rest j ≡ Some old → declared new rest ≡ put rest j old new (again old.standing new.standing))
-        → (if same then joined first new rest (again first.standing new.standing) else behind first (declared new rest)) ≡ put (first ∷ rest) k old new (again old.standing new.standing)
+        → (if same then both_of first new rest (again first.standing new.standing) else behind first (declared new rest)) ≡ put (first ∷ rest) k old new (again old.standing new.standing)
     step true zero e at more = let same : first ≡ old = cc in head same
     step true (suc k) e at more = let same : 0 ≡ suc k = cc in absurd (omega (arith, same))
     step false k e at more =
@@ -153,3 +153,16 @@ find-some name (x ∷ es) k found e at = step (same_name x.name.name name) k e a
     step false k e at more =
         let b = suc-some (place_of name es) k e in
         more b.place b.is (subst (λ i. slice_get (x ∷ es) i ≡ Some found) (sym b.next) at)
+
+-- a name that isn't found has no place
+pub place-none : (name : List ℕ) (es : List Entry) → find name es ≡ None → place_of name es ≡ None
+place-none name [] e = refl
+place-none name (x ∷ es) e = step (same_name x.name.name name) e (place-none name es)
+  where
+    step : (same : Bool) → (if same then Some x.standing else find name es) ≡ None → (find name es ≡ None → place_of name es ≡ None)
+        → (if same then Some 0 else option_map suc (place_of name es)) ≡ None
+    step true e more = absurd (none-some x.standing (sym e))
+    step false e more = ap (option_map suc) (more e)
+
+pub declared-fresh : (new : Entry) (es : List Entry) → find new.name.name es ≡ None → declared new es ≡ Ok (es ++ new ∷ [])
+declared-fresh new es none = declared-new new es (place-none new.name.name es none)

@@ -8,10 +8,13 @@ use Rattle.loc_base.proofs.ShelfLists.{slice_get-at}
 use Rattle.v_hierarchy.specs.declared.error.ElabErr.TheVariants as fault
 use Rattle.v_hierarchy.specs.declared.standing.Standing.{Standing}
 use Rattle.v_hierarchy.specs.declared.standing.Entry.{Entry}
-use Rattle.v_hierarchy.specs.Names.{again, declared, find}
+use Rattle.v_sizes.specs.Context.{IsMeaning}
+use Rattle.v_hierarchy.specs.Names.{again, declared, find, meaning_of}
+use Rattle.v_hierarchy.specs.Stands.{Stands}
 use Rattle.v_hierarchy.specs.Places.{place_of, with_place}
 use Rattle.v_hierarchy.specs.Views.{entry_of, standing_of}
-use Rattle.v_hierarchy.proofs.FrameLaws.{declared-met, find-some, place-push, place-set, place-within, put}
+use Rattle.v_hierarchy.proofs.FrameLaws.{declared-met, declared-fresh, find-some, place-push, place-set, place-within, put}
+use Rattle.v_hierarchy.proofs.DeclaredLaws.{stands-declared}
 
 get-map : {X Y : Type 0} (f : X → Y) (xs : List X) (k : ℕ) (x : X) → slice_get xs k ≡ Some x → slice_get (map f xs) k ≡ Some (f x)
 get-map f [] k x e = absurd (none-some x e)
@@ -66,3 +69,10 @@ module _ (es : List Entry) (k : ℕ) (old : Entry) (within : k < length es) (is 
   still-tells both places tells q =
       tells q ∙ sym (place-set q (entry_of old) (standing_of both) (map entry_of es) k at)
       ∙ ap (place_of q) (sym (set-map entry_of es k (record { name = old.name; standing = both })))
+
+-- every name stands for something after a new name
+pub pushed-stands : (es after : List Entry) (e : Entry) → after ≡ es ++ e ∷ [] → find e.name.now.name (map entry_of es) ≡ None
+    → IsMeaning (meaning_of (standing_of e.standing)) → Stands (map entry_of es) → Stands (map entry_of after)
+pushed-stands es after e is none one all =
+    stands-declared (entry_of e) (map entry_of es) (map entry_of after) one all
+    (declared-fresh (entry_of e) (map entry_of es) none ∙ ap Ok (sym (map-append entry_of es (e ∷ []))) ∙ ap (λ l. Ok (map entry_of l)) (sym is))

@@ -4,3 +4,6 @@ pub mod ItemSteps
 pub mod FrameLaws
 pub mod Framed
 pub mod Indexes
+pub mod DeclaredLaws
+pub mod RangeLaws
+pub mod AssignedLaws

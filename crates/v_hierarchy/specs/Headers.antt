@@ -1,6 +1,6 @@
 -- The ports of a module (IEEE 1364-2005, 12.3): those that its header declares, and those that its header names and its items
 -- declare.
-use Rattle.std.specs.Prelude.{ℕ, false, if◌then◌else◌, List, [], ◌∷◌, ◌++◌, map, Option, Some, None, Result, Ok, Err}
+use Rattle.std.specs.Prelude.{⊤, ℕ, false, if◌then◌else◌, List, [], ◌∷◌, ◌++◌, map, Option, Some, None, Result, Ok, Err}
 use Rattle.std.specs.List.{list_any}
 use Rattle.v_tree.specs.declared.declaration.Identifier.{Identifier}
 use Rattle.v_tree.specs.Tree.{Tree}
@@ -38,6 +38,9 @@ port_name directed name seen =
     else if list_any (same_name name.name) directed then Ok (seen ++ name.name ∷ [])
     else Err (fault.PortName name.site.span)
 
+abbrev pub port_names_fit : List (List ℕ) → List Identifier → Result ⊤ ElabErr
+port_names_fit directed names = each (port_name directed) names [] >>= λ _. Ok tt
+
 -- ---- declarations in the header
 -- the port before, and the names so far
 pub record Porting : Type 0 where
@@ -57,12 +60,15 @@ port_at (same_port _ name _) met = ported name met.before met.names
 abbrev pub nothing_before : Signal
 nothing_before = record { direction = None; kind = None; signed = false; bounds = None }
 
+abbrev pub declared_ports_of : List PlainPort → List Entry → Result (List Entry) ElabErr
+declared_ports_of list names = each port_at list (record { before = nothing_before; names = names }) >>= λ met. Ok met.names
+
 -- the names that a header adds to those of its parameters
 abbrev pub header_ports : PlainModule → List Entry → Result (List Entry) ElabErr
 header_ports m names = elim m.ports [
   | no_ports ↦ Ok names
-  | name_ports list ↦ each (port_name (directed_in_all (items_of m.items))) list [] >>= λ _. Ok names
-  | declared_ports list ↦ each port_at list (record { before = nothing_before; names = names }) >>= λ met. Ok met.names
+  | name_ports list ↦ port_names_fit (directed_in_all (items_of m.items)) list >>= λ _. Ok names
+  | declared_ports list ↦ declared_ports_of list names
 ]
 
 -- ---- the list of the ports, once all of the module is declared

@@ -9,7 +9,7 @@ use Rattle.v_hierarchy.specs.declared.left.Left.{Left}
 use Rattle.v_hierarchy.specs.Steps.{◌>>=◌, each}
 use Rattle.v_hierarchy.specs.Parameters.{header_parameters, is_among}
 use Rattle.v_hierarchy.specs.Headers.{Port, header_ports, ports_of}
-use Rattle.v_hierarchy.specs.Items.{Child, Copied, written, always, child, inner, Block, scope, Copies, no_copy, copy, Place, Met, begins, items, module_named}
+use Rattle.v_hierarchy.specs.Items.{Child, Copied, written, always, child, inner, turn, Block, scope, Copies, no_copy, copy, Place, Met, begins, items, module_named}
 
 pub record Instance : Type 0 where
   pub path : List ℕ
@@ -47,6 +47,7 @@ abbrev mutual
   made_by (always _ _ _) = []
   made_by (child _ c) = c ∷ []
   made_by (inner (scope _ _ copies)) = children copies
+  made_by (turn _ _ (scope _ _ copies)) = children copies
 
 -- ---- the walk
 pub record Found : Type 0 where

@@ -19,8 +19,9 @@ use Rattle.v_hierarchy.specs.Steps.{◌>>=◌, each, turned, placed}
 use Rattle.v_hierarchy.specs.Constants.{bounds_if, site_of}
 use Rattle.v_hierarchy.specs.Constants as whole
 use Rattle.v_hierarchy.specs.declared.signal.Signal.{Signal}
+use Rattle.v_hierarchy.specs.declared.kind.Kind.{Kind}
 use Rattle.v_hierarchy.specs.Names.{Entry, Standing, signal, array, integer, genvar, same_name, declared, find_in, look_in}
-use Rattle.v_hierarchy.specs.Parameters.{Given, given, given_at, kind_at, Kind, parameter, is_among}
+use Rattle.v_hierarchy.specs.Parameters.{Given, given, given_at, kind_at, parameter, is_among}
 use Rattle.v_hierarchy.specs.Headers.{port_names}
 use Rattle.v_hierarchy.specs.Paths.{below, block_part, turn_part}
 use Rattle.v_hierarchy.specs.Unrolled.{Steps, unrolled, at_turn, holds_at, begun, stepped, turns, most_turns}
@@ -39,8 +40,11 @@ mutual
     written : PlainItem → Copied
     -- an always block with its loops unrolled
     always : Site → PlainSensitivity → Steps → Copied
+    -- of the item that makes it
     child : Site → Child → Copied
     inner : Block → Copied
+    -- a turn of a generate loop, with its variable's value
+    turn : Identifier → Const → Block → Copied
 
   -- a scope: its path, its names in the order of their declarations, and what its items make
   pub data Block : Type 0 where
@@ -134,11 +138,11 @@ abbrev pub not_deeper : ℕ → Span → Result ⊤ ElabErr
 not_deeper zero span = Err (fault.Depth span)
 not_deeper (suc levels) span = Ok tt
 
-abbrev pub instance_of : Place → PlainModule → List Given → PlainInstance → Met → Result Met ElabErr
-instance_of place m values i met =
+abbrev pub instance_of : Place → Site → PlainModule → List Given → PlainInstance → Met → Result Met ElabErr
+instance_of place s m values i met =
     not_deeper place.levels i.name.site.span >>= λ _. placed i.name.site.span met.left >>= λ left. connections_fit i.site.span m i.connections >>= λ _.
     Ok (with_copy (record { names = met.names; copies = met.copies; left = left })
-    (child i.site (record { «module» = m; values = values; path = below place.path i.name.name; connections = i.connections })))
+    (child s (record { «module» = m; values = values; path = below place.path i.name.name; connections = i.connections })))
 
 abbrev pub unit_of : Place → Identifier → Result PlainModule ElabErr
 unit_of place name = elim (module_named name.name place.units) [
@@ -166,9 +170,13 @@ within place part scopes = record { units = place.units; levels = place.levels; 
 abbrev pub begins : List Entry → Left → Met
 begins names left = record { names = names; copies = no_copy; left = left }
 
+-- the scope that ends
+abbrev pub scope_of : Place → Met → Block
+scope_of place own = scope place.path own.names own.copies
+
 -- a scope that ends becomes a part of the one around it
-abbrev pub ends : Met → Place → Met → Met
-ends met place own = with_copy (record { names = met.names; copies = met.copies; left = own.left }) (inner (scope place.path own.names own.copies))
+abbrev pub ends : Met → Met → Copied → Met
+ends met own x = with_copy (record { names = met.names; copies = met.copies; left = own.left }) x
 
 abbrev pub chosen : Bool → (Met → Result Met ElabErr) → (Met → Result Met ElabErr) → Met → Result Met ElabErr
 chosen holds one other met = if holds then one met else other met
@@ -177,13 +185,13 @@ chosen holds one other met = if holds then one met else other met
 abbrev pub block_of : (Place → Met → Result Met ElabErr) → Place → PlainBlock → Met → Result Met ElabErr
 block_of body place block met =
     let own = within place (block_part block) (frames place met) in
-    body own (begins [] met.left) >>= λ x. Ok (ends met own x)
+    body own (begins [] met.left) >>= λ x. Ok (ends met x (inner (scope_of own x)))
 
 -- a loop's block at one turn
 abbrev pub turn_of : (Place → Met → Result Met ElabErr) → Place → Identifier → PlainBlock → List (List Entry) → Const → Met → Result Met ElabErr
 turn_of body place variable block scopes value met =
     let own = within place (turn_part block (whole.integer value)) (at_turn variable value scopes) in
-    body own (begins [] met.left) >>= λ x. Ok (ends met own x)
+    body own (begins [] met.left) >>= λ x. Ok (ends met x (turn variable value (scope_of own x)))
 
 -- ---- items
 abbrev mutual
@@ -196,7 +204,8 @@ abbrev mutual
       bounds_if (look_in (frames place met)) range >>= λ b.
       each (net_of (record { direction = None; kind = Some kind; signed = signed; bounds = b })) names met.names >>= λ more.
       Ok (with_copy (with_names met more) (written (net_item s kind signed range delay names)))
-  item place (integer_item _ names) met = each (named_as integer) names met.names >>= λ more. Ok (with_names met more)
+  item place (integer_item s names) met =
+      each (named_as integer) names met.names >>= λ more. Ok (with_copy (with_names met more) (written (integer_item s names)))
   item place (genvar_item _ names) met = each (named_as genvar) names met.names >>= λ more. Ok (with_names met more)
   item place (parameter_item _ own type_of values) met =
       kind_at (look_in (frames place met)) type_of >>= λ kind. each (parameter_of place own kind) values met.names >>= λ more. Ok (with_names met more)
@@ -206,8 +215,8 @@ abbrev mutual
   item place (always_item s events body) met =
       unrolled (frames place met) body met.left >>= λ x.
       Ok (with_copy (record { names = met.names; copies = met.copies; left = x.1 }) (always s events x.0))
-  item place (instance_item _ name parameters instances) met =
-      unit_of place name >>= λ m. given_at (look_in (frames place met)) m parameters >>= λ values. each (instance_of place m values) instances met
+  item place (instance_item s name parameters instances) met =
+      unit_of place name >>= λ m. given_at (look_in (frames place met)) m parameters >>= λ values. each (instance_of place s m values) instances met
   item place (generate_item _ list) met = items place list met
   item place (loop_item s head body) met =
       loop_genvar (frames place met) head.variable >>= λ _. begun (frames place met) head >>= λ first.

@@ -11,3 +11,4 @@ pub mod Hierarchy
 pub mod Views
 pub mod Places
 pub mod Frames
+pub mod Stands

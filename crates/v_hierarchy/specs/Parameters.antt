@@ -1,5 +1,5 @@
 -- Parameters (IEEE 1364-2005, 4.10 and 12.2): their types, their values, and the values that an instance gives them.
-use Rattle.std.specs.Prelude.{ℕ, Bool, true, false, not, ◌&&◌, ◌||◌, if◌then◌else◌, pos, is_some, List, [], ◌∷◌, ◌++◌, Option, Some, None, Result, Ok, Err}
+use Rattle.std.specs.Prelude.{⊤, ℕ, Bool, true, false, not, ◌&&◌, ◌||◌, if◌then◌else◌, pos, is_some, List, [], ◌∷◌, ◌++◌, Option, Some, None, Result, Ok, Err}
 use Rattle.std.specs.List.{list_any}
 use Rattle.loc_base.specs.Bits.{width_of}
 use Rattle.v_tree.specs.declared.declaration.Identifier.{Identifier}
@@ -15,22 +15,20 @@ use Rattle.v_hierarchy.specs.declared.error.ElabErr.{ElabErr}
 use Rattle.v_hierarchy.specs.declared.error.ElabErr.TheVariants as fault
 use Rattle.v_hierarchy.specs.Steps.{◌>>=◌, each}
 use Rattle.v_hierarchy.specs.declared.bounds.Bounds.{Bounds}
+use Rattle.v_hierarchy.specs.declared.kind.Kind.{Kind}
+use Rattle.v_hierarchy.specs.declared.kind.Kind.TheVariants as kind_case
 use Rattle.v_hierarchy.specs.Constants.{constant_at, assigned, bounds, down_from, width, bounds_if, site_of}
 use Rattle.v_hierarchy.specs.Names.{Entry, Standing, constant, same_name, fresh, look_in}
 
 -- ---- types
--- that of the value, or a sign with or without a range
-pub data Kind : Type 0 where
-  as_value : Kind
-  typed : Bool → Option Bounds → Kind
-
+-- that of the value where nothing is written, else a sign with or without a range
 abbrev pub kind_of : Bool → Option Bounds → Kind
-kind_of false None = as_value
-kind_of signed range = typed signed range
+kind_of false None = kind_case.AsValue
+kind_of signed range = kind_case.Typed signed range
 
 abbrev pub kind_at : Look → PlainParameterType → Result Kind ElabErr
 kind_at look (vector_type signed range) = bounds_if look range >>= λ b. Ok (kind_of signed b)
-kind_at look integer_type = Ok (typed true (Some (bounds (pos 31) (pos 0))))
+kind_at look integer_type = Ok (kind_case.Typed true (Some (bounds (pos 31) (pos 0))))
 
 -- whether anything is written of a type
 abbrev pub is_written : PlainParameterType → Bool
@@ -40,13 +38,13 @@ is_written integer_type = true
 -- ---- values
 -- a value of a type, with the range from which bits are selected
 abbrev pub valued : Kind → Const → Standing
-valued as_value c = constant c (down_from (width_of c.bits))
-valued (typed signed None) c = constant (record { bits = c.bits; signed = signed }) (down_from (width_of c.bits))
-valued (typed signed (Some b)) c = constant (assigned (width b) signed c) b
+valued kind_case.AsValue c = constant c (down_from (width_of c.bits))
+valued (kind_case.Typed signed None) c = constant (record { bits = c.bits; signed = signed }) (down_from (width_of c.bits))
+valued (kind_case.Typed signed (Some b)) c = constant (assigned (width b) signed c) b
 
 -- the width to which a value of a type is assigned, 0 for none
 abbrev pub context_of : Kind → ℕ
-context_of (typed _ (Some b)) = width b
+context_of (kind_case.Typed _ (Some b)) = width b
 context_of _ = 0
 
 -- a value that an instance gives to a parameter
@@ -85,7 +83,7 @@ header_parameter values p met =
     Ok (record { kind = kind; names = names })
 
 abbrev pub header_parameters : List Given → List PlainHeaderParameter → Result (List Entry) ElabErr
-header_parameters values ps = each (header_parameter values) ps (record { kind = as_value; names = [] }) >>= λ met. Ok met.names
+header_parameters values ps = each (header_parameter values) ps (record { kind = kind_case.AsValue; names = [] }) >>= λ met. Ok met.names
 
 -- ---- what may be given from outside: the header's parameters, then those of the module's own items
 abbrev pub parameter_names : ParameterKind → List PlainNamed → List (List ℕ)
@@ -110,11 +108,15 @@ header_names (p ∷ ps) = p.name.name ∷ header_names ps
 abbrev pub open_names : PlainModule → List (List ℕ)
 open_names m = header_names m.parameters ++ open_in_all (items_of m.items)
 
+-- no value stands beyond the names
+abbrev pub no_value : Option Tree → Result ⊤ ElabErr
+no_value None = Ok tt
+no_value (Some e) = Err (fault.Parameter (site_of e).span)
+
 -- by order; one that is left out keeps its own value
 abbrev pub given_by_order : Look → List (List ℕ) → List (Option Tree) → Result (List Given) ElabErr
 given_by_order look names [] = Ok []
-given_by_order look [] (None ∷ rest) = given_by_order look [] rest
-given_by_order look [] (Some e ∷ rest) = Err (fault.Parameter (site_of e).span)
+given_by_order look [] (value ∷ rest) = no_value value >>= λ _. given_by_order look [] rest
 given_by_order look (name ∷ names) (None ∷ rest) = given_by_order look names rest
 given_by_order look (name ∷ names) (Some e ∷ rest) =
     constant_at look 0 e >>= λ c. given_by_order look names rest >>= λ more. Ok (record { name = name; value = c } ∷ more)
@@ -138,8 +140,11 @@ given_by_name look names c met =
     then (given_value look c.name.name c.value met.done >>= λ done. Ok (record { seen = met.seen ++ c.name.name ∷ []; done = done }))
     else Err (fault.Parameter c.name.site.span)
 
+abbrev pub given_by_names : Look → List (List ℕ) → List PlainConnection → Result (List Given) ElabErr
+given_by_names look names values = each (given_by_name look names) values (record { seen = []; done = [] }) >>= λ met. Ok met.done
+
 -- the values that an instance of a module gives
 abbrev pub given_at : Look → PlainModule → Option PlainConnections → Result (List Given) ElabErr
 given_at look m None = Ok []
 given_at look m (Some (ordered values)) = given_by_order look (open_names m) values
-given_at look m (Some (named values)) = each (given_by_name look (open_names m)) values (record { seen = []; done = [] }) >>= λ met. Ok met.done
+given_at look m (Some (named values)) = given_by_names look (open_names m) values

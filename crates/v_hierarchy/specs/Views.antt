@@ -114,6 +114,7 @@ copied_step (Copied-F.Written item) = items.written (item_of item.now)
 copied_step (Copied-F.Always s sensitivity body) = items.always s (sensitivity_of sensitivity.now) (steps_of body)
 copied_step (Copied-F.Child s child) = items.child s (child_of child)
 copied_step (Copied-F.Inner block) = items.inner block
+copied_step (Copied-F.Turn variable value block) = items.turn variable.now value block
 
 abbrev pub block_step : Block-F items.Copied items.Block → items.Block
 block_step b = items.scope b.path (map entry_of b.names) (copies_of b.copies)

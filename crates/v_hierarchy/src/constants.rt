@@ -24,7 +24,7 @@ fn fault_of(fault: WidthErr) -> ElabErr
 }
 
 /// The constant that an expression is in an assignment of a width, 0 for none.
-pub(crate) fn constant_at(
+pub fn constant_at(
     alloc: Global,
     scope: &Scope<'_>,
     context: u8,

@@ -7,7 +7,7 @@ use v_widths::Const;
 
 /// The whole number that a constant means, where it is an index: one of 32 bits.
 #[tactic(auto, using(crate::proofs::Indexes::index_laws))]
-pub(crate) fn index_of(value: Const) -> Option<i32>
+pub fn index_of(value: Const) -> Option<i32>
     ensures { result ≡ (if is_index (integer value) then Some (integer value) else None) }
 {
     let distance = magnitude(value.bits, value.signed);

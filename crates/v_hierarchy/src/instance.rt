@@ -1,8 +1,12 @@
 //! The instances of a design, as they borrow the tree of its text.
+ghost use Rattle.std.specs.Prelude.{◌≡◌, IfOk};
+ghost use Rattle.v_hierarchy.specs.Views.{child_of};
+
 use crate::signal::Signal;
 use crate::standing::Entry;
 use crate::steps::Steps;
-use loc_base::{Items, Name};
+use loc_base::{Items, Name, NoMemory};
+use std::alloc::Global;
 use v_sizes::Const;
 use v_tree::{Connections, Expr, Identifier, Item, Module, Sensitivity, Site};
 
@@ -42,11 +46,18 @@ pub enum Copied<'t> {
         sensitivity: &'t Sensitivity,
         body: Steps<'t>,
     },
+    /// A module instance, with the site of its item.
     Child {
         site: Site,
         child: Child<'t>,
     },
     Inner(Block<'t>),
+    /// A turn of a generate loop, with its variable's value.
+    Turn {
+        variable: &'t Identifier,
+        value: Const,
+        block: Block<'t>,
+    },
 }
 
 /// A scope: its path, its names in the order of their declarations, and what its items make.
@@ -63,7 +74,7 @@ pub struct Instance<'t> {
     pub path: Name,
     pub module: &'t Module,
     /// The number of the instance that it stands in; nothing for the top.
-    pub parent: Option<u32>,
+    pub parent: Option<usize>,
     /// Nothing for the top.
     pub connections: Option<&'t Connections>,
     /// In the order of the header.
@@ -105,5 +116,21 @@ impl<'t> Drop for Instance<'t> {
 impl<'t> Drop for Instances<'t> {
     fn drop(self) {
         let Instances { list: _ } = self;
+    }
+}
+
+impl<'t> Child<'t> {
+    /// A copy.
+    pub fn copied(&self, alloc: Global) -> Result<Child<'t>, NoMemory>
+        ensures { IfOk result (λ copy. child_of copy ≡ child_of self.now) }
+    {
+        let values = Items::copy_of(alloc, self.values.as_slice())?;
+        let path = self.path.copied(alloc)?;
+        Ok(Child {
+            module: self.module,
+            values,
+            path,
+            connections: self.connections,
+        })
     }
 }

@@ -7,9 +7,9 @@ use loc_base::Span;
 
 /// How many turns of loops and how many module instances may still be met.
 #[derive(Clone, Copy, Debug, PartialEq, Eq)]
-pub(crate) struct Left {
-    pub(crate) turns: u32,
-    pub(crate) instances: u32,
+pub struct Left {
+    pub turns: u32,
+    pub instances: u32,
 }
 
 /// One less, where one is left.
@@ -24,7 +24,7 @@ fn less_of(left: u32, span: Span) -> Result<u32, ElabErr>
 
 impl Left {
     /// What is left behind one turn more.
-    pub(crate) fn turned(self, span: Span) -> Result<Left, ElabErr>
+    pub fn turned(self, span: Span) -> Result<Left, ElabErr>
         ensures { result ≡ turned span self }
     {
         let turns = less_of(self.turns, span)?;
@@ -35,7 +35,7 @@ impl Left {
     }
 
     /// What is left behind one instance more.
-    pub(crate) fn placed(self, span: Span) -> Result<Left, ElabErr>
+    pub fn placed(self, span: Span) -> Result<Left, ElabErr>
         ensures { result ≡ placed span self }
     {
         let instances = less_of(self.instances, span)?;

@@ -20,7 +20,7 @@ fn name_of(alloc: Global, text: &[u8]) -> Result<Name, NoMemory>
 
 /// `path.part`
 #[tactic(auto, using(crate::proofs::PathNames::joined_name))]
-pub(crate) fn below(alloc: Global, path: &Name, part: &Name) -> Result<Name, NoMemory>
+pub fn below(alloc: Global, path: &Name, part: &Name) -> Result<Name, NoMemory>
     ensures { IfOk result (λ n. n ≡ below path.now part.now) }
 {
     let mut text = Bytes::copy_of(alloc, path.as_bytes())?;
@@ -43,7 +43,7 @@ fn line_part(alloc: Global, site: Site) -> Result<Name, NoMemory>
 
 /// The part of a path that a generate block is: its label, else its line.
 #[tactic(auto, using(crate::proofs::ItemSteps::block_steps))]
-pub(crate) fn block_part(alloc: Global, block: &GenerateBlock) -> Result<Name, NoMemory>
+pub fn block_part(alloc: Global, block: &GenerateBlock) -> Result<Name, NoMemory>
     ensures { IfOk result (λ n. n ≡ block_part (block_of block.now)) }
 {
     match block {
@@ -61,7 +61,7 @@ pub(crate) fn block_part(alloc: Global, block: &GenerateBlock) -> Result<Name, N
 
 /// `part[turn]`
 #[tactic(auto, using(crate::proofs::PathNames::turn_name))]
-pub(crate) fn turn_part(alloc: Global, block: &GenerateBlock, turn: i32) -> Result<Name, NoMemory>
+pub fn turn_part(alloc: Global, block: &GenerateBlock, turn: i32) -> Result<Name, NoMemory>
     ensures { IfOk result (λ n. n ≡ turn_part (block_of block.now) turn) }
 {
     let part = block_part(alloc, block)?;

@@ -7,7 +7,7 @@ use std::collections::HashMap;
 
 /// Places by name: at most one for each name. To find or to put one takes the time of its bytes, whatever the table
 /// holds.
-pub(crate) struct Places<'t> {
+pub struct Places<'t> {
     by_name: HashMap<&'t [u8], usize>,
 }
 
@@ -20,7 +20,7 @@ impl<'t> Drop for Places<'t> {
 
 impl<'t> Places<'t> {
     /// The table in which no name has a place. It takes no memory.
-    pub(crate) fn new(alloc: Global) -> Places<'t>
+    pub fn new(alloc: Global) -> Places<'t>
         ensures { (name : List ℕ) → place_in result name ≡ None }
     {
         Places {
@@ -29,14 +29,14 @@ impl<'t> Places<'t> {
     }
 
     /// The place of a name, where it has one.
-    pub(crate) fn find(&self, name: &[u8]) -> Option<usize>
+    pub fn find(&self, name: &[u8]) -> Option<usize>
         ensures { result ≡ place_in self.now name.now }
     {
         self.by_name.get(name).copied()
     }
 
     /// Gives a name a place. Unchanged after `NoMemory`.
-    pub(crate) fn put(&mut self, name: &'t [u8], place: usize) -> Result<(), NoMemory>
+    pub fn put(&mut self, name: &'t [u8], place: usize) -> Result<(), NoMemory>
         ensures put { OnOk result ((other : List ℕ) → place_in self.new other ≡ with_place name.now place (place_in self.old) other) }
         ensures err { OnErr result ((other : List ℕ) → place_in self.new other ≡ place_in self.old other) }
     {

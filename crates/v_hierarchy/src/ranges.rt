@@ -1,10 +1,11 @@
 //! Ranges of declarations (IEEE 1364-2005, 4.3.1).
-ghost use Rattle.std.specs.Prelude.{◌≡◌, Ok, IfOk, IfErr};
+ghost use Rattle.std.specs.Prelude.{◌≡◌, Ok, IfOk, IfErr, option_map};
 ghost use Rattle.v_tree.specs.Tree.{tree_of};
 ghost use Rattle.v_tree.specs.PartTree.{range_of};
 ghost use Rattle.v_sizes.specs.Scopes.{look_of};
-ghost use Rattle.v_hierarchy.specs.Constants.{site_of, index_at, bounds_at};
+ghost use Rattle.v_hierarchy.specs.Constants.{site_of, index_at, bounds_at, bounds_if};
 ghost use Rattle.v_hierarchy.specs.Frames.{Refuses};
+ghost use Rattle.v_hierarchy.specs.Stands.{IsRange, IsRangeIf};
 
 use crate::bounds::{Bounds, count_between};
 use crate::constants::constant_at;
@@ -15,7 +16,7 @@ use v_tree::{Expr, Range, Site};
 use v_widths::Scope;
 
 /// Where an expression stands.
-fn site_of(e: &Expr) -> Site
+pub fn site_of(e: &Expr) -> Site
     ensures { result ≡ site_of (tree_of e.now) }
 {
     match e {
@@ -45,9 +46,11 @@ fn index_at(alloc: Global, scope: &Scope<'_>, e: &Expr) -> Result<i32, ElabErr>
 }
 
 /// The bounds from the left, then 1 to 128 bits.
-pub(crate) fn bounds_at(alloc: Global, scope: &Scope<'_>, range: &Range) -> Result<Bounds, ElabErr>
+#[tactic(auto, using(crate::proofs::RangeLaws::range_laws))]
+fn bounds_at(alloc: Global, scope: &Scope<'_>, range: &Range) -> Result<Bounds, ElabErr>
     ensures ok { IfOk result (λ b. bounds_at (look_of scope.now) (range_of range.now) ≡ Ok b) }
     ensures err { IfErr result (λ fault. Refuses (bounds_at (look_of scope.now) (range_of range.now)) fault) }
+    ensures fits { IfOk result IsRange }
 {
     let left = index_at(alloc, scope, &range.left)?;
     let right = index_at(alloc, scope, &range.right)?;
@@ -55,5 +58,25 @@ pub(crate) fn bounds_at(alloc: Global, scope: &Scope<'_>, range: &Range) -> Resu
         Ok(Bounds { left, right })
     } else {
         Err(ElabErr::Range(range.site.span))
+    }
+}
+
+/// The bounds of a range that may be left out.
+#[tactic(auto, using(crate::proofs::RangeLaws::scalar_range))]
+pub fn bounds_if(
+    alloc: Global,
+    scope: &Scope<'_>,
+    range: &Option<Range>,
+) -> Result<Option<Bounds>, ElabErr>
+    ensures ok { IfOk result (λ b. bounds_if (look_of scope.now) (option_map range_of range.now) ≡ Ok b) }
+    ensures err { IfErr result (λ fault. Refuses (bounds_if (look_of scope.now) (option_map range_of range.now)) fault) }
+    ensures fits { IfOk result IsRangeIf }
+{
+    match range {
+        Some(range) => {
+            let bounds = bounds_at(alloc, scope, range)?;
+            Ok(Some(bounds))
+        }
+        None => Ok(None),
     }
 }

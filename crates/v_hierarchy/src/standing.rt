@@ -63,7 +63,7 @@ fn array_of(signed: bool, bounds: Bounds) -> Meaning
 
 impl<'t> Standing<'t> {
     /// What it stands for while constants are wanted: nothing has a number yet.
-    pub(crate) fn meaning(&self) -> Meaning
+    pub fn meaning(&self) -> Meaning
         requires { IsMeaning (meaning_of (standing_of self.now)) }
         ensures { result ≡ meaning_of (standing_of self.now) }
     {
