@@ -1,11 +1,12 @@
 -- The decisions of a trail as the trail changes.
-use Rattle.std.proofs.Common.{◌≡◌, ℕ, ◌+◌, ◌-◌, ◌<◌, ◌≤◌, zero, suc, true, not, leb, List, [], ◌∷◌, ◌++◌, length, get_or, take, drop, Option, Some, None, refl, sym, ap, ◌∙◌, subst, arith, inl, inr, ⊎_elim}
+use Rattle.std.proofs.Common.{◌≡◌, ℕ, ◌+◌, ◌-◌, ◌<◌, ◌≤◌, zero, suc, true, not, leb, List, [], ◌∷◌, ◌++◌, length, get_or, take, drop, Option, Some, None, sym, ap, ◌∙◌, subst, arith, inl, inr, ⊎_elim}
 use Rattle.std.specs.Prelude.{is_some, is_none}
 use Rattle.std.specs.List.{filter}
 use Rattle.std.proofs.lemmas.Bool.{false≢true, cases_Bool, cases_lt, leb-true, lt-leb}
 use Rattle.std.proofs.lemmas.List.{get_or_append_left, get_or_push, get_or-take, get_or-drop, length_push, length-take-le, length-drop, take-append-drop, take_all, append-nil, get_or_default}
 use Rattle.std.proofs.lemmas.List.Elements.{filter_passes, filter-append}
 use Rattle.std.proofs.lemmas.List.Sums.{count_by_more_yes, count_by_more_no, count_by-le-length}
+use Rattle.loc_base.proofs.ShelfOptions.{is_some-split}
 use Rattle.clause_base.specs.declared.literal.Lit.{Lit}
 use Rattle.trail_core.specs.declared.entry.Entry.{Entry}
 use Rattle.trail_core.specs.TrailState.{TrailState, IsTrail, Propagates, with_decision, back_at, values_of, up_to, is_decision, decisions}
@@ -145,14 +146,10 @@ last_decision es (suc n) l h =
     record { place = r.place; under = omega (arith, r.under); decision = r.decision; count = r.count ∙ sym whole })
     (cases_Bool (is_decision (get_or es n no_entry)))
 
-split_some : {X : Type 0} (o : Option X) → is_some o ≡ true → (P : Type 0) → ((x : X) → o ≡ Some x → P) → P
-split_some None h P f = absurd (false≢true h)
-split_some (Some x) h P f = f x refl
-
 -- what was passed by the entries up to a level is passed
 passed_up : (t : TrailState) (assume : List Lit) (preferred : List ℕ) (k place : ℕ) → IsTrail t → IsPassed (values_of (up_to k t.entries)) assume preferred place → IsPassed (values_of t.entries) assume preferred place
 passed_up t assume preferred k place h p = record {
-  valued = split_some (values_of (up_to k t.entries) (choice_at assume preferred place).var) p.valued (is_some (values_of t.entries (choice_at assume preferred place).var) ≡ true) (λ b s. ap is_some (values-up_to_some t.entries k (choice_at assume preferred place).var b h.leveled s));
+  valued = is_some-split (values_of (up_to k t.entries) (choice_at assume preferred place).var) p.valued (is_some (values_of t.entries (choice_at assume preferred place).var) ≡ true) (λ b s. ap is_some (values-up_to_some t.entries k (choice_at assume preferred place).var b h.leveled s));
   assumed = λ l. values-up_to_some t.entries k (choice_at assume preferred place).var (not (choice_at assume preferred place).negated) h.leveled (p.assumed l);
 }
 

@@ -5,6 +5,7 @@ use Rattle.std.specs.Option.{option_and_then}
 use Rattle.std.proofs.lemmas.Bool.{false≢true, both_ways, cases_eq, cases_lt, eqb-false, eq-eqb, ne_eqb, and_parts, and_from, or_cases, or_left, or_right, false_from_ne_true, not_from_false, not-true}
 use Rattle.std.proofs.lemmas.List.{take_more, take_all, map_push, append_assoc, append-nil, get_or-take, length-take-le}
 use Rattle.std.proofs.lemmas.List.Elements.{All-cons, All-head, All-tail, All-map, filter-append}
+use Rattle.loc_base.proofs.ShelfBools.{and-false, and-true, or-false}
 use Rattle.clause_base.specs.declared.literal.Lit.{Lit}
 use Rattle.clause_base.specs.Literal.{positive, negative, opposite, same_lit, has, has_variable, has_distinct_variables}
 use Rattle.clause_base.specs.Resolution.{clashes, resolvent, Gives}
@@ -34,14 +35,6 @@ with_head head a l = has head l || a l
 lacking : (c : List Lit) (l : Lit) → has_variable c l.var ≡ false → has c l ≡ false
 lacking c l h = false_from_ne_true (has c l) (λ y. both_ways (has_variable c l.var) h (has_variable-has c l y))
 
-or_false : (b : Bool) → (b || false) ≡ b
-or_false true = refl
-or_false false = refl
-
-and_false : (b : Bool) → (b && false) ≡ false
-and_false true = refl
-and_false false = refl
-
 -- a literal of the head doesn't clash
 half_clash : (head : List Lit) (a : Lit → Bool) (c : List Lit) (l m : Lit) → m.var ≡ l.var → ((x : Lit) → has head x ≡ true → has_variable c x.var ≡ false) → (with_head head a l && has c m) ≡ (a l && has c m)
 half_clash head a c l m e h = at (has head l) refl
@@ -49,7 +42,7 @@ half_clash head a c l m e h = at (has head l) refl
     at : (b : Bool) → has head l ≡ b → ((has head l || a l) && has c m) ≡ (a l && has c m)
     at true q =
         let none : has c m ≡ false = lacking c m (ap (has_variable c) e ∙ h l q) in
-        rw none (and_false (has head l || a l) ∙ sym (and_false (a l)))
+        rw none (and-false (has head l || a l) ∙ sym (and-false (a l)))
     at false q = rw q refl
 
 head_clash : (head : List Lit) (a : Lit → Bool) (c : List Lit) (v : ℕ) → ((x : Lit) → has head x ≡ true → has_variable c x.var ≡ false) → clashes (with_head head a) (has c) v ≡ clashes a (has c) v
@@ -267,10 +260,6 @@ Denies-from t head literals marks after chain next h s r e =
 marks_of : (t : TrailState) (marks after : List Bool) (clause : List Lit) (skip v : ℕ) → length marks ≡ t.vars → IsClean marks → MarksOthers marks after clause skip → IsVariable t.vars v → marked after v ≡ (has_variable clause v && not (eqb v skip))
 marks_of t marks after clause skip v size c m i = m.each v i.above (omega (arith, i.within, size)) ∙ ap (λ b. b || (has_variable clause v && not (eqb v skip))) (c v)
 
-and_true : (b : Bool) → (b && true) ≡ b
-and_true true = refl
-and_true false = refl
-
 -- a clause whose literals are all false
 pub Starts-falsified : (t : TrailState) (marks after : List Bool) (head : List Lit) (chain : List ℕ) (n : ℕ) → IsTrail t → length marks ≡ t.vars → IsClean marks → IsNumber t.clauses n → IsFalsified (values_of t.entries) (numbered t.clauses n) → MarksOthers marks after (numbered t.clauses n) 0 → head ≡ [] → chain ≡ n ∷ [] → Starts t head after chain
 Starts-falsified t marks after head chain n h size c k f m z e = subst (λ ls. Starts t ls after chain) (sym z) record {
@@ -286,7 +275,7 @@ Starts-falsified t marks after head chain n h size c k f m z e = subst (λ ls. S
     on v b s =
         let i = valued_variable t v b h s in
         marks_of t marks after (numbered t.clauses n) 0 v size c m i
-        ∙ (ap (λ x. has_variable (numbered t.clauses n) v && not x) (ne_eqb v 0 (λ q. absurd (omega (arith, q, i.above)))) ∙ and_true (has_variable (numbered t.clauses n) v))
+        ∙ (ap (λ x. has_variable (numbered t.clauses n) v && not x) (ne_eqb v 0 (λ q. absurd (omega (arith, q, i.above)))) ∙ and-true (has_variable (numbered t.clauses n) v))
 
 -- the reason of a true literal, with the literal as the head
 pub Starts-reason : (t : TrailState) (marks after : List Bool) (head : List Lit) (chain : List ℕ) (l : Lit) (n : ℕ) → IsTrail t → length marks ≡ t.vars → IsClean marks → IsTrueIn (values_of t.entries) l → reason_in t.entries l.var ≡ Some n → MarksOthers marks after (numbered t.clauses n) l.var → head ≡ l ∷ [] → chain ≡ n ∷ [] → Starts t head after chain
@@ -294,8 +283,8 @@ Starts-reason t marks after head chain l n h size c v r m z e = subst (λ ls. St
   clause = n;
   is = e;
   number = f.0;
-  set = λ x. whole x ∙ ap (λ b. b || set_of after (values_of t.entries) x) (sym (or_false (same_lit l x)));
-  past = λ x p. past_at x (same_lit-true l x (sym (or_false (same_lit l x)) ∙ p));
+  set = λ x. whole x ∙ ap (λ b. b || set_of after (values_of t.entries) x) (sym (or-false (same_lit l x)));
+  past = λ x p. past_at x (same_lit-true l x (sym (or-false (same_lit l x)) ∙ p));
   distinct = refl;
 }
   where
@@ -335,7 +324,7 @@ Starts-reason t marks after head chain l n h size c v r m z e = subst (λ ls. St
         off i d k (inl q) low =
             let y : (get_or t.entries i d).lit.var ≡ l.var = ap (λ j. (get_or t.entries j d).lit.var) q ∙ ap (λ (y : Lit). y.var) (lit_is d) in
             marks_of t marks after (numbered t.clauses n) l.var (get_or t.entries i d).lit.var size c m (h.justified i d k).variable
-            ∙ (ap (λ b. has_variable (numbered t.clauses n) (get_or t.entries i d).lit.var && not b) (eq-eqb (get_or t.entries i d).lit.var l.var y) ∙ and_false (has_variable (numbered t.clauses n) (get_or t.entries i d).lit.var))
+            ∙ (ap (λ b. has_variable (numbered t.clauses n) (get_or t.entries i d).lit.var && not b) (eq-eqb (get_or t.entries i d).lit.var l.var y) ∙ and-false (has_variable (numbered t.clauses n) (get_or t.entries i d).lit.var))
         off i d k (inr o) low =
             marks_of t marks after (numbered t.clauses n) l.var (get_or t.entries i d).lit.var size c m (h.justified i d k).variable
             ∙ ap (λ b. b && not (eqb (get_or t.entries i d).lit.var l.var)) (reason_before t a.place i d n h a.within (reason d) (after_place i low o) k)

@@ -1,11 +1,12 @@
 -- A trail with no unassigned variable gives the lexicographically greatest values of the preferred variables.
-use Rattle.std.proofs.Common.{◌≡◌, ℕ, ◌+◌, ◌-◌, ◌<◌, ◌≤◌, Bool, true, false, not, cond, eqb, leb, List, length, get_or, take, Option, Some, None, refl, sym, ap, ◌∙◌, subst, arith, inl, inr}
+use Rattle.std.proofs.Common.{◌≡◌, ℕ, ◌+◌, ◌-◌, ◌<◌, ◌≤◌, Bool, true, false, not, cond, eqb, leb, List, length, get_or, take, Some, sym, ap, ◌∙◌, subst, arith, inl, inr}
 use Rattle.std.specs.Prelude.{is_some}
 use Rattle.std.specs.Option.{option_map}
 use Rattle.std.proofs.lemmas.Option.{same_Some}
 use Rattle.std.proofs.lemmas.Bool.{false≢true, cases_lt, leb-true}
 use Rattle.std.proofs.lemmas.List.Elements.{filter_passes}
 use Rattle.std.proofs.lemmas.List.Sums.{count_by_more_yes}
+use Rattle.loc_base.proofs.ShelfOptions.{is_some-split}
 use Rattle.clause_base.specs.declared.literal.Lit.{Lit}
 use Rattle.clause_base.specs.Literal.{positive}
 use Rattle.clause_base.specs.Satisfaction.{value_of, is_satisfied}
@@ -36,10 +37,6 @@ pub record IsRival (t : TrailState) (assume : List Lit) (preferred : List ℕ) (
   pub assumed : (k : ℕ) (c : Lit) → k < length assume → value_of other (get_or assume k c) ≡ true
   pub same : (j : ℕ) → j < i → values_of t.entries (get_or preferred j 0) ≡ Some (other (get_or preferred j 0))
 
-some_split : {X : Type 0} (o : Option X) → is_some o ≡ true → (P : Type 0) → ((x : X) → o ≡ Some x → P) → P
-some_split None h P f = absurd (false≢true h)
-some_split (Some x) h P f = f x refl
-
 -- the decisions up to the entry of a false preferred variable hold in a rival
 decisions_hold : (t : TrailState) (assume : List Lit) (preferred chosen : List ℕ) (other : ℕ → Bool) (i place : ℕ) → IsTrail t → AreChosen t assume preferred chosen → IsRival t assume preferred other i → i < length preferred → place < length t.entries → values_of t.entries (get_or preferred i 0) ≡ Some false → ((d : Entry) → level_in t.entries (get_or preferred i 0) ≡ Some (get_or t.entries place d).decision_level) → (q : ℕ) (d : Entry) → q < place + 1 → is_decision (get_or t.entries q d) ≡ true → value_of other (get_or t.entries q d).lit ≡ true
 decisions_hold t assume preferred chosen other i place h a r l k f s q d low y =
@@ -61,7 +58,7 @@ decisions_hold t assume preferred chosen other i place h a r l k f s q d low y =
     too_late b =
         let p : length assume + i - length assume ≡ i = omega arith in
         let var : choice_at assume preferred (length assume + i) ≡ positive (get_or preferred i 0) = choice_prefer assume preferred (length assume + i) (omega arith) ∙ ap (λ n. positive (get_or preferred n 0)) p in
-        some_split (values_of (up_to ((get_or t.entries q d).decision_level - 1) t.entries) (get_or preferred i 0))
+        is_some-split (values_of (up_to ((get_or t.entries q d).decision_level - 1) t.entries) (get_or preferred i 0))
         (subst (λ (c : Lit). is_some (values_of (up_to ((get_or t.entries q d).decision_level - 1) t.entries) c.var) ≡ true) var (a.before ((get_or t.entries q d).decision_level - 1) (length assume + i) number b).valued) ⊥
         (λ v w. let z = level_up_to t ((get_or t.entries q d).decision_level - 1) (get_or preferred i 0) v h w in
         let same : z.0 ≡ (get_or t.entries place d).decision_level = same_Some z.0 (get_or t.entries place d).decision_level (sym z.1 ∙ s d) in

@@ -6,6 +6,7 @@ use Rattle.std.specs.Option.{option_map}
 use Rattle.std.proofs.lemmas.Bool.{false≢true, both_ways, cases_Bool, cases_eq, cases_lt, eq-eqb, ne_eqb, le-leb, and_parts, and_from, false_from_ne_true, not-true}
 use Rattle.std.proofs.lemmas.Option.{same_Some, slice_get-get_or}
 use Rattle.std.proofs.lemmas.List.Sums.{sum_by-cons, count_by_more_yes, get_or-le-sum_by, sum_by-take-le}
+use Rattle.loc_base.proofs.ShelfBools.{and-false, and-true, count-true, or-false}
 use Rattle.clause_base.specs.declared.literal.Lit.{Lit}
 use Rattle.clause_base.specs.Literal.{opposite, same_lit, has, has_variable, IsWithin}
 use Rattle.clause_base.specs.Acceptance.{numbered}
@@ -20,7 +21,7 @@ use Rattle.trail_core.proofs.Looks.{has_at}
 use Rattle.sat_core.specs.Derivation.{is_false, marked, set_of, has_level, is_present, counts, MarksOthers, Tracks, Resolved, IsOnlyPresent, Derives, IsClean, Learns}
 use Rattle.sat_core.proofs.Sets.{is_false-true, is_false_from, not_both, falsified_set, Derives-start, Derives-done}
 use Rattle.sat_core.proofs.Tracking.{IsEntryAt, entry_at, false_same, same_lit_other, distinct_push, has_level-true}
-use Rattle.sat_core.proofs.Resolving.{valued_variable, kept_variable, weight_one, no_entry, true_at, level_is_present, last_level, place_left}
+use Rattle.sat_core.proofs.Resolving.{valued_variable, kept_variable, no_entry, true_at, level_is_present, last_level, place_left}
 
 -- what is found and passes a test is found among those that pass it
 pub find-filter : {X : Type 0} (p q : X → Bool) (xs : List X) (y : X) → find p xs ≡ Some y → q y ≡ true → find p (filter q xs) ≡ Some y
@@ -62,18 +63,6 @@ Tracks-clean t marks present size c z = record {
         let off : weight (counts t marks e) ≡ 0 = ap weight (ap (λ b. b && eqb e.decision_level t.level) (c e.lit.var)) in
         omega (arith, off, sum_by-cons (λ x. cond (counts t marks x) 1 0) e es, none es)
 
-or_false : (b : Bool) → (b || false) ≡ b
-or_false true = refl
-or_false false = refl
-
-and_true : (b : Bool) → (b && true) ≡ b
-and_true true = refl
-and_true false = refl
-
-and_false : (b : Bool) → (b && false) ≡ false
-and_false true = refl
-and_false false = refl
-
 -- a variable with a value has a level
 level_of_valued : (t : TrailState) (v : ℕ) (b : Bool) → values_of t.entries v ≡ Some b → IsMapped (λ (x : Entry). not x.lit.negated) (entry_of t.entries v) b
 level_of_valued t v b h = mapped (λ (x : Entry). not x.lit.negated) (entry_of t.entries v) b h
@@ -98,7 +87,7 @@ counted t marks v s y =
     let m = mapped (λ (x : Entry). x.decision_level) (entry_of t.entries v) t.level s in
     let a = entry_at t v m.value m.is in
     let one : counts t marks (get_or t.entries a.place m.value) ≡ true = rw (a.is m.value) (and_from (marked marks m.value.lit.var) (eqb m.value.decision_level t.level) (ap (marked marks) a.variable ∙ y) (eq-eqb m.value.decision_level t.level m.gives)) in
-    omega (arith, weight_one (counts t marks (get_or t.entries a.place m.value)) one, get_or-le-sum_by (λ x. cond (counts t marks x) 1 0) t.entries a.place m.value a.within)
+    omega (arith, count-true (counts t marks (get_or t.entries a.place m.value)) one, get_or-le-sum_by (λ x. cond (counts t marks x) 1 0) t.entries a.place m.value a.within)
 
 -- the analysis of the falsified clause begins
 pub Resolved-start : (t : TrailState) (marks after : List Bool) (literals : List Lit) (chain : List ℕ) (present n : ℕ) → IsTrail t → 1 ≤ t.level → IsNumber t.clauses n → IsFalsified (values_of t.entries) (numbered t.clauses n) → length marks ≡ t.vars → IsClean marks → MarksOthers marks after (numbered t.clauses n) 0 → Tracks t after literals present → chain ≡ n ∷ [] → Resolved t after literals chain present (length t.entries)
@@ -112,7 +101,7 @@ Resolved-start t marks after literals chain present n h p k f size c m r q = rec
   where
     on_variable : (v : ℕ) → IsVariable t.vars v → marked after v ≡ has_variable (numbered t.clauses n) v
     on_variable v i = m.each v i.above (omega (arith, i.within, size)) ∙ (ap (λ b. b || (has_variable (numbered t.clauses n) v && not (eqb v 0))) (c v)
-        ∙ (ap (λ b. has_variable (numbered t.clauses n) v && not b) (ne_eqb v 0 (λ e. absurd (omega (arith, e, i.above)))) ∙ and_true (has_variable (numbered t.clauses n) v)))
+        ∙ (ap (λ b. has_variable (numbered t.clauses n) v && not b) (ne_eqb v 0 (λ e. absurd (omega (arith, e, i.above)))) ∙ and-true (has_variable (numbered t.clauses n) v)))
 
     on : (v : ℕ) (b : Bool) → values_of t.entries v ≡ Some b → marked after v ≡ has_variable (numbered t.clauses n) v
     on v b s = on_variable v (valued_variable t v b h s)
@@ -168,14 +157,14 @@ finished_set t marks literals present l r o m = at (cases_eq m.var l.var) (cases
 
     at : ((m.var ≡ l.var) ⊎ (m.var ≡ l.var → ⊥)) → ((is_present t m.var ≡ true) ⊎ (is_present t m.var ≡ false)) → set_of marks (values_of t.entries) m ≡ (has literals m || same_lit (opposite l) m)
     at (inl e) c =
-        let none : has literals m ≡ false = r.members m ∙ (ap (λ b. set_of marks (values_of t.entries) m && not b) (ap (is_present t) e ∙ here) ∙ and_false (set_of marks (values_of t.entries) m)) in
+        let none : has literals m ≡ false = r.members m ∙ (ap (λ b. set_of marks (values_of t.entries) m && not b) (ap (is_present t) e ∙ here) ∙ and-false (set_of marks (values_of t.entries) m)) in
         ap (λ b. b && is_false (values_of t.entries) m) (ap (marked marks) e ∙ o.is_marked) ∙ (false_same (values_of t.entries) (opposite l) m o.is_true e ∙ sym (ap (λ b. b || same_lit (opposite l) m) none))
     at (inr n) (inl y) =
         let off : set_of marks (values_of t.entries) m ≡ false = false_from_ne_true (set_of marks (values_of t.entries) m) (λ s. n (o.only m.var (and_parts (marked marks m.var) (is_false (values_of t.entries) m) s).0 (present_level t m.var y))) in
         let none : has literals m ≡ false = r.members m ∙ ap (λ b. b && not (is_present t m.var)) off in
         off ∙ sym (ap (λ b. b || same_lit (opposite l) m) none ∙ same_lit_other (opposite l) m n)
     at (inr n) (inr y) =
-        sym (ap (λ b. has literals m || b) (same_lit_other (opposite l) m n) ∙ (or_false (has literals m) ∙ (r.members m ∙ (ap (λ b. set_of marks (values_of t.entries) m && not b) y ∙ and_true (set_of marks (values_of t.entries) m)))))
+        sym (ap (λ b. has literals m || b) (same_lit_other (opposite l) m n) ∙ (or-false (has literals m) ∙ (r.members m ∙ (ap (λ b. set_of marks (values_of t.entries) m && not b) y ∙ and-true (set_of marks (values_of t.entries) m)))))
 
 -- literals whose variables have values are the trail's
 pub within_from : (t : TrailState) (literals : List Lit) → IsTrail t → ((l : Lit) → has literals l ≡ true → IsFalseIn (values_of t.entries) l) → IsWithin t.vars literals

@@ -4,6 +4,7 @@ use Rattle.std.specs.List.{count_by}
 use Rattle.std.proofs.lemmas.Bool.{cases_Bool, cases_eq, eqb-true, eq-eqb, ne_eqb}
 use Rattle.std.proofs.lemmas.List.{get_or-set_same, get_or-set_other, length-set, take_more, take_all}
 use Rattle.std.proofs.lemmas.List.Sums.{sum_by-cons}
+use Rattle.loc_base.proofs.ShelfBools.{and-or, count-false, count-true, or-assoc, or-false, or-true}
 use Rattle.clause_base.specs.declared.literal.Lit.{Lit}
 use Rattle.clause_base.specs.Literal.{has_variable}
 use Rattle.clause_base.proofs.Sets.{has_variable-push}
@@ -18,44 +19,25 @@ marked-set_same marks v b h = let low : v - 1 < length marks = omega (arith, h.a
 pub marked-set_other : (marks : List Bool) (v w : ℕ) (b : Bool) → 1 ≤ v → 1 ≤ w → (w ≡ v → ⊥) → marked (set marks (v - 1) b) w ≡ marked marks w
 marked-set_other marks v w b p q n = get_or-set_other marks (v - 1) (w - 1) b false (λ e. n (omega arith))
 
-or_false : (b : Bool) → (b || false) ≡ b
-or_false true = refl
-or_false false = refl
-
-or_assoc : (a b c : Bool) → ((a || b) || c) ≡ (a || (b || c))
-or_assoc true b c = refl
-or_assoc false b c = refl
-
-or_true : (b : Bool) → (b || true) ≡ true
-or_true true = refl
-or_true false = refl
-
-and_or : (a b c : Bool) → ((a || b) && c) ≡ ((a && c) || (b && c))
-and_or true true true = refl
-and_or true true false = refl
-and_or true false true = refl
-and_or true false false = refl
-and_or false b c = refl
-
 -- no literal gone over
 pub MarksOthers-none : (marks : List Bool) (skip : ℕ) → MarksOthers marks marks [] skip
-MarksOthers-none marks skip = record { size = refl; each = λ v l m. sym (or_false (marked marks v)) }
+MarksOthers-none marks skip = record { size = refl; each = λ v l m. sym (or-false (marked marks v)) }
 
 -- a literal more, of the skipped variable or of one marked already
 pub MarksOthers-kept : (old new : List Bool) (part : List Lit) (x : Lit) (skip : ℕ) → MarksOthers old new part skip → ((eqb x.var skip ≡ true) ⊎ (marked new x.var ≡ true)) → MarksOthers old new (part ++ x ∷ []) skip
 MarksOthers-kept old new part x skip h c = record {
   size = h.size;
-  each = λ v l m. h.each v l m ∙ sym (ap (λ b. marked old v || (b && not (eqb v skip))) (has_variable-push part x v) ∙ (ap (λ b. marked old v || b) (and_or (has_variable part v) (eqb x.var v) (not (eqb v skip))) ∙ (sym (or_assoc (marked old v) (has_variable part v && not (eqb v skip)) (eqb x.var v && not (eqb v skip))) ∙ nothing v l m)));
+  each = λ v l m. h.each v l m ∙ sym (ap (λ b. marked old v || (b && not (eqb v skip))) (has_variable-push part x v) ∙ (ap (λ b. marked old v || b) (and-or (has_variable part v) (eqb x.var v) (not (eqb v skip))) ∙ (sym (or-assoc (marked old v) (has_variable part v && not (eqb v skip)) (eqb x.var v && not (eqb v skip))) ∙ nothing v l m)));
 }
   where
     nothing : (v : ℕ) → 1 ≤ v → v ≤ length old → ((marked old v || (has_variable part v && not (eqb v skip))) || (eqb x.var v && not (eqb v skip))) ≡ (marked old v || (has_variable part v && not (eqb v skip)))
     nothing v l m = ⊎_elim
         (λ yes. let e = eqb-true x.var v yes in ⊎_elim
         (λ s. let z : eqb v skip ≡ true = subst (λ w. eqb w skip ≡ true) e s in
-        rw (yes, z) (or_false ((marked old v) || (has_variable part v && false))))
+        rw (yes, z) (or-false ((marked old v) || (has_variable part v && false))))
         (λ t. let on : (marked old v || (has_variable part v && not (eqb v skip))) ≡ true = sym (h.each v l m) ∙ subst (λ w. marked new w ≡ true) e t in
         ap (λ b. b || (eqb x.var v && not (eqb v skip))) on ∙ sym on) c)
-        (λ no. rw no (or_false (marked old v || (has_variable part v && not (eqb v skip)))))
+        (λ no. rw no (or-false (marked old v || (has_variable part v && not (eqb v skip)))))
         (cases_Bool (eqb x.var v))
 
 -- a literal more, whose variable is marked
@@ -65,10 +47,10 @@ MarksOthers-more old new part x skip h s k = record {
   each = λ v l m. ⊎_elim
       (λ e. subst (λ w. marked (set new (x.var - 1) true) w ≡ (marked old w || (has_variable (part ++ x ∷ []) w && not (eqb w skip)))) (sym e)
       (marked-set_same new x.var true record { above = k.above; within = omega (arith, k.within, h.size) }
-      ∙ sym (ap (λ b. marked old x.var || (b && not (eqb x.var skip))) (has_variable-push part x x.var ∙ (ap (λ b. has_variable part x.var || b) (eq-eqb x.var x.var refl) ∙ or_true (has_variable part x.var)))
-      ∙ (ap (λ b. marked old x.var || not b) s ∙ or_true (marked old x.var)))))
+      ∙ sym (ap (λ b. marked old x.var || (b && not (eqb x.var skip))) (has_variable-push part x x.var ∙ (ap (λ b. has_variable part x.var || b) (eq-eqb x.var x.var refl) ∙ or-true (has_variable part x.var)))
+      ∙ (ap (λ b. marked old x.var || not b) s ∙ or-true (marked old x.var)))))
       (λ n. marked-set_other new x.var v true k.above l n ∙ (h.each v l m
-      ∙ sym (ap (λ b. marked old v || (b && not (eqb v skip))) (has_variable-push part x v ∙ (ap (λ b. has_variable part v || b) (ne_eqb x.var v (λ e. n (sym e))) ∙ or_false (has_variable part v))))))
+      ∙ sym (ap (λ b. marked old v || (b && not (eqb v skip))) (has_variable-push part x v ∙ (ap (λ b. has_variable part v || b) (ne_eqb x.var v (λ e. n (sym e))) ∙ or-false (has_variable part v))))))
       (cases_eq v x.var);
 }
 
@@ -99,17 +81,11 @@ count_agree p q (x ∷ xs) h =
     let first = weight_same (q x) (p x) (h 0 x (omega arith)) in
     omega (arith, first, sum_by-cons (λ y. cond (p y) 1 0) x xs, sum_by-cons (λ y. cond (q y) 1 0) x xs, count_agree p q xs (λ k d l. h (suc k) d (omega arith)))
 
-weight_one : (b : Bool) → b ≡ true → cond b 1 0 ≡ suc zero
-weight_one b h = rw h refl
-
-weight_none : (b : Bool) → b ≡ false → cond b 1 0 ≡ zero
-weight_none b h = rw h refl
-
 -- one element more passes
 pub count_one_more : {X : Type 0} (p q : X → Bool) (xs : List X) (i : ℕ) (c : X) → i < length xs → p (get_or xs i c) ≡ false → q (get_or xs i c) ≡ true → ((k : ℕ) (d : X) → k < length xs → (k ≡ i → ⊥) → q (get_or xs k d) ≡ p (get_or xs k d)) → count_by q xs ≡ count_by p xs + 1
 count_one_more p q [] i c l f t h = absurd (omega arith)
 count_one_more p q (x ∷ xs) zero c l f t h =
-    omega (arith, weight_none (p x) f, weight_one (q x) t, sum_by-cons (λ y. cond (p y) 1 0) x xs, sum_by-cons (λ y. cond (q y) 1 0) x xs, count_agree p q xs (λ k d m. h (suc k) d (omega arith) (λ e. absurd (omega arith))))
+    omega (arith, count-false (p x) f, count-true (q x) t, sum_by-cons (λ y. cond (p y) 1 0) x xs, sum_by-cons (λ y. cond (q y) 1 0) x xs, count_agree p q xs (λ k d m. h (suc k) d (omega arith) (λ e. absurd (omega arith))))
 count_one_more p q (x ∷ xs) (suc i) c l f t h =
     let first = weight_same (q x) (p x) (h 0 x (omega arith) (λ e. absurd (omega arith))) in
     omega (arith, first, sum_by-cons (λ y. cond (p y) 1 0) x xs, sum_by-cons (λ y. cond (q y) 1 0) x xs, count_one_more p q xs i c (omega arith) f t (λ k d m n. h (suc k) d (omega arith) (λ e. n (omega arith))))

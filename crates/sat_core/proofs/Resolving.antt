@@ -7,6 +7,7 @@ use Rattle.std.specs.Option.{option_map, option_and_then}
 use Rattle.std.proofs.lemmas.Bool.{false≢true, both_ways, cases_Bool, cases_eq, cases_lt, eqb-true, eq-eqb, ne_eqb, and_parts, and_from, false_from_ne_true, not-true}
 use Rattle.std.proofs.lemmas.List.{length-set, take-take, get_or_default}
 use Rattle.std.proofs.lemmas.List.Sums.{sum_by-cons, count_by_more_yes, get_or-le-sum_by}
+use Rattle.loc_base.proofs.ShelfBools.{and-false, and-true, count-false, count-true}
 use Rattle.clause_base.specs.declared.literal.Lit.{Lit}
 use Rattle.clause_base.specs.Literal.{opposite, has, has_variable}
 use Rattle.clause_base.proofs.Sets.{has_either}
@@ -31,12 +32,6 @@ pub record IsAmong {X : Type 0} (p : X → Bool) (xs : List X) : Type 0 where
 later : {X : Type 0} (p : X → Bool) (x : X) (xs : List X) → IsAmong p xs → IsAmong p (x ∷ xs)
 later p x xs a = record { place = suc a.place; within = omega (arith, a.within); passes = a.passes }
 
-weight_none : (b : Bool) → b ≡ false → cond b 1 0 ≡ zero
-weight_none b h = rw h refl
-
-pub weight_one : (b : Bool) → b ≡ true → cond b 1 0 ≡ suc zero
-weight_one b h = rw h refl
-
 weight_le : (b : Bool) → cond b 1 0 ≤ suc zero
 weight_le true = omega arith
 weight_le false = omega arith
@@ -45,7 +40,7 @@ pub among : {X : Type 0} (p : X → Bool) (xs : List X) → 1 ≤ count_by p xs 
 among p [] h = absurd (omega arith)
 among p (x ∷ xs) h =
     ⊎_elim (λ y. record { place = 0; within = omega arith; passes = λ d. y })
-    (λ n. later p x xs (among p xs (omega (arith, h, weight_none (p x) n, sum_by-cons (λ y. cond (p y) 1 0) x xs))))
+    (λ n. later p x xs (among p xs (omega (arith, h, count-false (p x) n, sum_by-cons (λ y. cond (p y) 1 0) x xs))))
     (cases_Bool (p x))
 
 -- an element that passes at another place than k
@@ -62,7 +57,7 @@ elsewhere p (x ∷ xs) zero h =
     record { place = suc a.place; within = omega (arith, a.within); passes = a.passes; other = λ e. absurd (omega arith) }
 elsewhere p (x ∷ xs) (suc k) h =
     ⊎_elim (λ y. record { place = 0; within = omega arith; passes = λ d. y; other = λ e. absurd (omega arith) })
-    (λ n. let a = elsewhere p xs k (omega (arith, h, weight_none (p x) n, sum_by-cons (λ y. cond (p y) 1 0) x xs)) in
+    (λ n. let a = elsewhere p xs k (omega (arith, h, count-false (p x) n, sum_by-cons (λ y. cond (p y) 1 0) x xs)) in
     record { place = suc a.place; within = omega (arith, a.within); passes = a.passes; other = λ e. a.other (omega arith) })
     (cases_Bool (p x))
 
@@ -139,25 +134,13 @@ reason_before t place i d n h l q low k =
         let u = (h.justified i d k).unassigned in
         let no : None ≡ Some m.negated = sym u ∙ (ap (values_of (take i t.entries)) (sym e) ∙ g) in cc
 
-and_false : (b : Bool) → (b && false) ≡ false
-and_false true = refl
-and_false false = refl
-
-and_true : (b : Bool) → (b && true) ≡ b
-and_true true = refl
-and_true false = refl
-
-or_false : (b : Bool) → (b || false) ≡ b
-or_false true = refl
-or_false false = refl
-
 set_other : (t : TrailState) (marks : List Bool) (v : ℕ) (b : Bool) (m : Lit) → IsTrail t → 1 ≤ v → (m.var ≡ v → ⊥) → set_of (set marks (v - 1) b) (values_of t.entries) m ≡ set_of marks (values_of t.entries) m
 set_other t marks v b m h k n = at (cases_lt 0 m.var)
   where
     at : ((0 < m.var) ⊎ (m.var ≤ 0)) → set_of (set marks (v - 1) b) (values_of t.entries) m ≡ set_of marks (values_of t.entries) m
     at (inl p) = ap (λ c. c && is_false (values_of t.entries) m) (marked-set_other marks v m.var b k (omega arith) n)
     at (inr p) = let e : m.var ≡ 0 = omega arith in let f : is_false (values_of t.entries) m ≡ false = ap (λ o. has_sign o m.negated) (ap (values_of t.entries) e ∙ no_zero t h) in
-        rw f (and_false (marked (set marks (v - 1) b) m.var) ∙ sym (and_false (marked marks m.var)))
+        rw f (and-false (marked (set marks (v - 1) b) m.var) ∙ sym (and-false (marked marks m.var)))
 
 -- a literal of the clause so far has a value, and not of the present level
 pub kept_literal : (t : TrailState) (marks : List Bool) (literals : List Lit) (present : ℕ) (m : Lit) → IsTrail t → Tracks t marks literals present → has literals m ≡ true → IsVariable t.vars m.var × (is_present t m.var ≡ false)
@@ -175,7 +158,7 @@ Tracks-unmark t marks literals present v h r k y s = record {
   size = length-set marks (v - 1) false ∙ r.size;
   members = λ m. r.members m ∙ ⊎_elim
       (λ e. let p : is_present t m.var ≡ true = ap (is_present t) e ∙ here in
-      rw p (and_false (set_of marks (values_of t.entries) m) ∙ sym (and_false (set_of (set marks (v - 1) false) (values_of t.entries) m))))
+      rw p (and-false (set_of marks (values_of t.entries) m) ∙ sym (and-false (set_of (set marks (v - 1) false) (values_of t.entries) m))))
       (λ n. ap (λ b. b && not (is_present t m.var)) (sym (set_other t marks v false m h k.above n)))
       (cases_eq m.var v);
   variables = λ w p. let q = kept_variable t marks literals present w h r p in
@@ -203,9 +186,9 @@ Replaces-from marks after clause x k r = record {
   size = r.size ∙ length-set marks (x - 1) false;
   each = λ v l m. r.each v l (omega (arith, m, length-set marks (x - 1) false)) ∙ ⊎_elim
       (λ e. let y : eqb v x ≡ true = eq-eqb v x e in
-      rw y (ap (λ b. b || (has_variable clause v && false)) (ap (marked (set marks (x - 1) false)) e ∙ marked-set_same marks x false k) ∙ and_false (has_variable clause v)))
+      rw y (ap (λ b. b || (has_variable clause v && false)) (ap (marked (set marks (x - 1) false)) e ∙ marked-set_same marks x false k) ∙ and-false (has_variable clause v)))
       (λ n. let y : eqb v x ≡ false = ne_eqb v x n in
-      rw y (ap (λ b. b || (has_variable clause v && true)) (marked-set_other marks x v false k.above l n) ∙ (ap (λ b. marked marks v || b) (and_true (has_variable clause v)) ∙ sym (and_true_left (marked marks v || has_variable clause v)))))
+      rw y (ap (λ b. b || (has_variable clause v && true)) (marked-set_other marks x v false k.above l n) ∙ (ap (λ b. marked marks v || b) (and-true (has_variable clause v)) ∙ sym (and_true_left (marked marks v || has_variable clause v)))))
       (cases_eq v x);
 }
   where
@@ -237,7 +220,7 @@ Resolved-resolved t marks after literals literals' chain chain' present present'
     | inl b ↦ replaces.each (get_or t.entries i e).lit.var (h.justified i e k).variable.above (within_at i e k)
         ∙ (ap (λ c. not (eqb (get_or t.entries i e).lit.var (get_or t.entries place d).lit.var) && (c || has_variable (numbered t.clauses n) (get_or t.entries i e).lit.var)) (r.above i e (omega (arith, b)) k)
         ∙ (ap (λ c. not (eqb (get_or t.entries i e).lit.var (get_or t.entries place d).lit.var) && (false || c)) (subst (λ (x : Entry). has_variable (numbered t.clauses n) x.lit.var ≡ false) (get_or_default t.entries i d e k) (reason_before t place i d n h l q b k))
-        ∙ and_false (not (eqb (get_or t.entries i e).lit.var (get_or t.entries place d).lit.var))))
+        ∙ and-false (not (eqb (get_or t.entries i e).lit.var (get_or t.entries place d).lit.var))))
     | inr b ↦ let same : i ≡ place = omega arith in subst (λ j. marked after (get_or t.entries j e).lit.var ≡ false) (sym same)
         (ap (λ (x : Entry). marked after x.lit.var) (get_or_default t.entries place e d l)
         ∙ (replaces.each (get_or t.entries place d).lit.var (h.justified place d l).variable.above (within_at place d l)
@@ -258,7 +241,7 @@ Resolved-resolved t marks after literals literals' chain chain' present present'
         ∙ (ap (λ c. not c && (marked marks (get_or t.entries a.place d).lit.var || has_variable (numbered t.clauses n) (get_or t.entries a.place d).lit.var)) (ne_eqb _ _ (entries_differ t a.place place d d h a.within l a.other))
         ∙ ap (λ c. c || has_variable (numbered t.clauses n) (get_or t.entries a.place d).lit.var) parts.0) in
         let one : counts t after (get_or t.entries a.place d) ≡ true = and_from (marked after (get_or t.entries a.place d).lit.var) (eqb (get_or t.entries a.place d).decision_level t.level) still parts.1 in
-        omega (arith, weight_one (counts t after (get_or t.entries a.place d)) one, get_or-le-sum_by (λ x. cond (counts t after x) 1 0) t.entries a.place d a.within)
+        omega (arith, count-true (counts t after (get_or t.entries a.place d)) one, get_or-le-sum_by (λ x. cond (counts t after x) 1 0) t.entries a.place d a.within)
 
 -- an entry that stands for one past the last
 abbrev pub no_entry : Entry

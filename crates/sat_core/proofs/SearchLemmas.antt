@@ -364,9 +364,9 @@ Grows-step first now a b c u v w d k r s =
     let e : 0 + d ≡ d = omega arith in
     subst (Grows (form_of first) a c u w) e (Grows-trans (form_of first) a b c u v w 0 d r (subst (λ f. Grows f b c v w d) k.form s))
 
--- the room that is left after a step
-pub room_left : (now next : Engine) (b c : List Step) (v w : ℕ) → Keeps now next → Grows (form_of now) b c v w 0 → now.form_len + length b + v + 1 < 2 ^ 32 → next.form_len + length c + w + 1 < 2 ^ 32
-room_left now next b c v w k r l = omega (arith, k.size, Grows-length (form_of now) b c v w 0 r, l)
+-- the numbers of clauses that are left after a step
+pub clauses_fit-step : (now next : Engine) (b c : List Step) (v w : ℕ) → Keeps now next → Grows (form_of now) b c v w 0 → now.form_len + length b + v + 1 < 2 ^ 32 → next.form_len + length c + w + 1 < 2 ^ 32
+clauses_fit-step now next b c v w k r l = omega (arith, k.size, Grows-length (form_of now) b c v w 0 r, l)
 
 pub goes_on : (old new : Engine) (log : List Step) (assume : List Lit) (budget left : ℕ) (o : Option Verdict) → o ≡ None → StepGives old new log assume budget left o → GoesOn old new log assume budget left
 goes_on old new log assume budget left o e g = subst (StepGives old new log assume budget left) e g

@@ -3,24 +3,15 @@ use Rattle.std.proofs.Common.{◌≡◌, ◌≢◌, ℕ, ◌≤◌, Bool, true, 
 use Rattle.std.proofs.lemmas.Bool.{false≢true, both_ways, cases_eq, eqb-false, and_parts, and_from, or_cases, false_from_ne_true}
 use Rattle.std.proofs.lemmas.List.{map_push}
 use Rattle.std.proofs.lemmas.List.Elements.{All-push, All-nil, All-cons}
+use Rattle.loc_base.proofs.ShelfBools.{and-false, and-true, or-false}
 use Rattle.clause_base.specs.declared.literal.Lit.{Lit}
-use Rattle.clause_base.specs.Literal.{positive, negative, opposite, same_sign, has, has_variable}
+use Rattle.clause_base.specs.Literal.{positive, negative, opposite, has, has_variable}
 use Rattle.clause_base.specs.Resolution.{clashes, IsOnlyClash, resolvent, Gives, IsResult}
 use Rattle.clause_base.specs.Acceptance.{numbered, IsAcceptedChain}
-use Rattle.clause_base.proofs.Sets.{opposite-opposite, has_variable-has, has_either}
+use Rattle.clause_base.proofs.Sets.{same_sign-true, same_sign_itself, opposite-opposite, has_variable-has, has_either}
 use Rattle.clause_base.proofs.Soundness.{clashes_by}
 use Rattle.trail_core.specs.Values.{Values, IsFalseIn}
 use Rattle.sat_core.specs.Derivation.{has_sign, is_false, marked, set_of, ChainGives, Derives, IsForced}
-
-same_sign-true : (a b : Bool) → same_sign a b ≡ true → a ≡ b
-same_sign-true true true h = refl
-same_sign-true true false h = absurd (false≢true h)
-same_sign-true false true h = absurd (false≢true h)
-same_sign-true false false h = refl
-
-same_sign_itself : (a : Bool) → same_sign a a ≡ true
-same_sign_itself true = refl
-same_sign_itself false = refl
 
 has_sign-true : (o : Option Bool) (s : Bool) → has_sign o s ≡ true → o ≡ Some s
 has_sign-true None s h = absurd (false≢true h)
@@ -45,18 +36,6 @@ not_both values l p q = let e : Some l.negated ≡ Some (not l.negated) = sym p 
 abbrev pub ReplacesAt : List Bool → List Bool → Values → List Lit → ℕ → Type 0
 ReplacesAt marks after values clause x = (v : ℕ) (b : Bool) → values v ≡ Some b → marked after v ≡ (not (eqb v x) && (marked marks v || has_variable clause v))
 
-and_false : (b : Bool) → (b && false) ≡ false
-and_false true = refl
-and_false false = refl
-
-or_false : (b : Bool) → (b || false) ≡ b
-or_false true = refl
-or_false false = refl
-
-and_true : (b : Bool) → (b && true) ≡ b
-and_true true = refl
-and_true false = refl
-
 -- a false literal is in the clause where its variable is
 false_member : (values : Values) (clause : List Lit) (x l : Lit) → IsForced values clause x → l.var ≢ x.var → IsFalseIn values l → has clause l ≡ has_variable clause l.var
 false_member values clause x l f n p = at (has_variable clause l.var) refl
@@ -72,18 +51,18 @@ resolve_set marks after values clause x f r l = at (eqb l.var x.var) (is_false v
     at : (e b : Bool) → eqb l.var x.var ≡ e → is_false values l ≡ b → ((marked marks l.var && is_false values l) || has clause l) && not (eqb l.var x.var) ≡ (marked after l.var && is_false values l)
     at true true p q =
         let v = r l.var l.negated (is_false-true values l q) in
-        rw (p, q) (and_false ((marked marks l.var && true) || has clause l) ∙ sym (ap (λ b. b && true) (v ∙ ap (λ b. not b && (marked marks l.var || has_variable clause l.var)) p)))
-    at true false p q = rw (p, q) (and_false ((marked marks l.var && false) || has clause l) ∙ sym (and_false (marked after l.var)))
+        rw (p, q) (and-false ((marked marks l.var && true) || has clause l) ∙ sym (ap (λ b. b && true) (v ∙ ap (λ b. not b && (marked marks l.var || has_variable clause l.var)) p)))
+    at true false p q = rw (p, q) (and-false ((marked marks l.var && false) || has clause l) ∙ sym (and-false (marked after l.var)))
     at false true p q =
         let v = r l.var l.negated (is_false-true values l q) in
         let n : l.var ≢ x.var = eqb-false l.var x.var p in
         let same = false_member values clause x l f n (is_false-true values l q) in
-        rw (p, q, same) (and_true ((marked marks l.var && true) || has_variable clause l.var) ∙ (ap (λ b. b || has_variable clause l.var) (and_true (marked marks l.var))
-        ∙ sym (and_true (marked after l.var) ∙ (v ∙ ap (λ b. not b && (marked marks l.var || has_variable clause l.var)) p))))
+        rw (p, q, same) (and-true ((marked marks l.var && true) || has_variable clause l.var) ∙ (ap (λ b. b || has_variable clause l.var) (and-true (marked marks l.var))
+        ∙ sym (and-true (marked after l.var) ∙ (v ∙ ap (λ b. not b && (marked marks l.var || has_variable clause l.var)) p))))
     at false false p q =
         let n : l.var ≢ x.var = eqb-false l.var x.var p in
         let out : has clause l ≡ false = false_from_ne_true (has clause l) (λ h. both_ways (is_false values l) q (is_false_from values l (f.others l h n))) in
-        rw (p, q, out) (and_true ((marked marks l.var && false) || false) ∙ (or_false (marked marks l.var && false) ∙ (and_false (marked marks l.var) ∙ sym (and_false (marked after l.var)))))
+        rw (p, q, out) (and-true ((marked marks l.var && false) || false) ∙ (or-false (marked marks l.var && false) ∙ (and-false (marked marks l.var) ∙ sym (and-false (marked after l.var)))))
 
 clash_var : (marks : List Bool) (values : Values) (clause : List Lit) (x l : Lit) → IsForced values clause x → set_of marks values l ≡ true → has clause (opposite l) ≡ true → l.var ≡ x.var
 clash_var marks values clause x l f a c =
@@ -136,12 +115,12 @@ pub falsified_set : (values : Values) (clause : List Lit) (marks : List Bool) �
 falsified_set values clause marks f m l = at (is_false values l) refl
   where
     at : (b : Bool) → is_false values l ≡ b → has clause l ≡ (marked marks l.var && is_false values l)
-    at true q = rw q (member (has_variable clause l.var) refl ∙ sym (and_true (marked marks l.var) ∙ m l.var l.negated (is_false-true values l q)))
+    at true q = rw q (member (has_variable clause l.var) refl ∙ sym (and-true (marked marks l.var) ∙ m l.var l.negated (is_false-true values l q)))
       where
         member : (b : Bool) → has_variable clause l.var ≡ b → has clause l ≡ has_variable clause l.var
         member true h = rw h (⊎_elim (λ p. p) (λ p. absurd (not_both values l (is_false-true values l q) (f (opposite l) p))) (has_either clause l h))
         member false h = rw h (false_from_ne_true (has clause l) (λ p. both_ways (has_variable clause l.var) h (has_variable-has clause l p)))
-    at false q = rw q (false_from_ne_true (has clause l) (λ h. both_ways (is_false values l) q (is_false_from values l (f l h))) ∙ sym (and_false (marked marks l.var)))
+    at false q = rw q (false_from_ne_true (has clause l) (λ h. both_ways (is_false values l) q (is_false_from values l (f l h))) ∙ sym (and-false (marked marks l.var)))
 
 chain_done : (clauses : List (List Lit)) (chain : List ℕ) (set : Lit → Bool) (clause : List Lit) → ChainGives clauses chain set → ((l : Lit) → set l ≡ has clause l) → IsResult (map (numbered clauses) chain) clause
 chain_done clauses [] set clause g e = absurd g

@@ -3,6 +3,7 @@ use Rattle.std.proofs.Common.{◌≡◌, ◌≢◌, ℕ, zero, suc, ◌+◌, ◌
 use Rattle.std.specs.List.{remove}
 use Rattle.std.proofs.lemmas.Bool.{false≢true, both_ways, cases_eq, eq-eqb, ne_eqb, and_parts, and_from, or_parts, or_from, or_cases, false_from_ne_true, not_from_false, not-true}
 use Rattle.std.proofs.lemmas.List.{length-set, take_more}
+use Rattle.loc_base.proofs.ShelfBools.{and-false, and-true, or-false}
 use Rattle.clause_base.specs.declared.literal.Lit.{Lit}
 use Rattle.clause_base.specs.Literal.{opposite, same_lit, has, has_variable, has_distinct_variables}
 use Rattle.clause_base.specs.Acceptance.{numbered}
@@ -17,18 +18,6 @@ use Rattle.sat_core.proofs.Sets.{Derives-push, is_false-true}
 use Rattle.sat_core.proofs.Marks.{marked-set_same, marked-set_other, count_agree}
 use Rattle.sat_core.proofs.Tracking.{entry_at, same_lit_other}
 use Rattle.sat_core.proofs.Resolving.{ReplacesAt-from, reason_forces, no_entry, level_at, valued_variable, kept_literal}
-
-and_false : (b : Bool) → (b && false) ≡ false
-and_false true = refl
-and_false false = refl
-
-and_true : (b : Bool) → (b && true) ≡ b
-and_true true = refl
-and_true false = refl
-
-or_false : (b : Bool) → (b || false) ≡ b
-or_false true = refl
-or_false false = refl
 
 -- a variable that the literals lack stays so
 has_variable-remove_none : (ls : List Lit) (i v : ℕ) → has_variable ls v ≡ false → has_variable (remove ls i) v ≡ false
@@ -60,9 +49,9 @@ has-remove (x ∷ xs) zero d m l h =
     let parts = and_parts (not (has_variable xs x.var)) (has_distinct_variables xs) h in
     ⊎_elim
     (λ e. let t : eqb m.var x.var ≡ true = eq-eqb m.var x.var e in
-    has_none xs m (ap (has_variable xs) e ∙ not-true (has_variable xs x.var) parts.0) ∙ sym (ap (λ b. (same_lit x m || has xs m) && not b) t ∙ and_false (same_lit x m || has xs m)))
+    has_none xs m (ap (has_variable xs) e ∙ not-true (has_variable xs x.var) parts.0) ∙ sym (ap (λ b. (same_lit x m || has xs m) && not b) t ∙ and-false (same_lit x m || has xs m)))
     (λ n. let t : eqb m.var x.var ≡ false = ne_eqb m.var x.var n in
-    sym (ap (λ b. (same_lit x m || has xs m) && not b) t ∙ (and_true (same_lit x m || has xs m) ∙ ap (λ b. b || has xs m) (same_lit_other x m n))))
+    sym (ap (λ b. (same_lit x m || has xs m) && not b) t ∙ (and-true (same_lit x m || has xs m) ∙ ap (λ b. b || has xs m) (same_lit_other x m n))))
     (cases_eq m.var x.var)
 has-remove (x ∷ xs) (suc i) d m l h =
     let parts = and_parts (not (has_variable xs x.var)) (has_distinct_variables xs) h in
@@ -71,9 +60,9 @@ has-remove (x ∷ xs) (suc i) d m l h =
     (λ e. let t : eqb m.var (get_or xs i d).var ≡ true = eq-eqb m.var (get_or xs i d).var e in
     let apart : m.var ≡ x.var → ⊥ = λ s. both_ways (has_variable xs x.var) (not-true (has_variable xs x.var) parts.0) (subst (λ v. has_variable xs v ≡ true) (sym e ∙ s) (has_variable-has xs (get_or xs i d) (has_at xs i d k))) in
     ap (λ b. b || (has xs m && not (eqb m.var (get_or xs i d).var))) (same_lit_other x m apart)
-    ∙ (ap (λ b. has xs m && not b) t ∙ (and_false (has xs m) ∙ sym (ap (λ b. (same_lit x m || has xs m) && not b) t ∙ and_false (same_lit x m || has xs m)))))
+    ∙ (ap (λ b. has xs m && not b) t ∙ (and-false (has xs m) ∙ sym (ap (λ b. (same_lit x m || has xs m) && not b) t ∙ and-false (same_lit x m || has xs m)))))
     (λ n. let t : eqb m.var (get_or xs i d).var ≡ false = ne_eqb m.var (get_or xs i d).var n in
-    ap (λ b. same_lit x m || (has xs m && not b)) t ∙ (ap (λ b. same_lit x m || b) (and_true (has xs m)) ∙ sym (ap (λ b. (same_lit x m || has xs m) && not b) t ∙ and_true (same_lit x m || has xs m))))
+    ap (λ b. same_lit x m || (has xs m && not b)) t ∙ (ap (λ b. same_lit x m || b) (and-true (has xs m)) ∙ sym (ap (λ b. (same_lit x m || has xs m) && not b) t ∙ and-true (same_lit x m || has xs m))))
     (cases_eq m.var (get_or xs i d).var)
 
 not_flip : (p q : Bool) → not p ≡ q → p ≡ not q
@@ -105,7 +94,7 @@ Replaces-covered marks clause x k c = record {
 
     same : (v : ℕ) → v ≢ x → (b : Bool) → has_variable clause v ≡ b → marked marks v ≡ (marked marks v || has_variable clause v)
     same v n true q = let y = here v n q in y ∙ sym (ap (λ b. b || has_variable clause v) y)
-    same v n false q = sym (ap (λ b. marked marks v || b) q ∙ or_false (marked marks v))
+    same v n false q = sym (ap (λ b. marked marks v || b) q ∙ or-false (marked marks v))
 
 -- the literal at a place of the clause so far
 pub kept_at : (t : TrailState) (marks : List Bool) (literals : List Lit) (present i : ℕ) (d : Lit) → IsTrail t → Tracks t marks literals present → i < length literals → IsVariable t.vars (get_or literals i d).var × ((is_present t (get_or literals i d).var ≡ false) × (IsFalseIn (values_of t.entries) (get_or literals i d) × (marked marks (get_or literals i d).var ≡ true)))
@@ -134,8 +123,8 @@ pub Tracks-left : (t : TrailState) (marks : List Bool) (literals : List Lit) (pr
 Tracks-left t marks literals present i d h r l = record {
   size = length-set marks (x.var - 1) false ∙ r.size;
   members = λ m. has-remove literals i d m l r.distinct ∙ ⊎_elim
-      (λ e. ap (λ b. has literals m && not b) (eq-eqb m.var x.var e) ∙ (and_false (has literals m) ∙ sym (ap (λ b. (b && is_false (values_of t.entries) m) && not (is_present t m.var)) (ap (marked (set marks (x.var - 1) false)) e ∙ gone))))
-      (λ n. ap (λ b. has literals m && not b) (ne_eqb m.var x.var n) ∙ (and_true (has literals m) ∙ (r.members m ∙ ap (λ b. b && not (is_present t m.var)) (other m n))))
+      (λ e. ap (λ b. has literals m && not b) (eq-eqb m.var x.var e) ∙ (and-false (has literals m) ∙ sym (ap (λ b. (b && is_false (values_of t.entries) m) && not (is_present t m.var)) (ap (marked (set marks (x.var - 1) false)) e ∙ gone))))
+      (λ n. ap (λ b. has literals m && not b) (ne_eqb m.var x.var n) ∙ (and-true (has literals m) ∙ (r.members m ∙ ap (λ b. b && not (is_present t m.var)) (other m n))))
       (cases_eq m.var x.var);
   variables = λ v p. ⊎_elim (λ q. variable record { var = v; negated = false } q) (λ q. variable record { var = v; negated = true } q) (has_either (remove literals i) record { var = v; negated = false } p);
   valued = λ v low high p. ⊎_elim (λ e. absurd (both_ways (marked (set marks (x.var - 1) false) v) (ap (marked (set marks (x.var - 1) false)) e ∙ gone) p)) (λ n. r.valued v low high (sym (marked-set_other marks x.var v false k.0.above low n) ∙ p)) (cases_eq v x.var);
@@ -158,7 +147,7 @@ Tracks-left t marks literals present i d h r l = record {
         at : (b : Bool) → is_false (values_of t.entries) m ≡ b → (marked marks m.var && is_false (values_of t.entries) m) ≡ (marked (set marks (x.var - 1) false) m.var && is_false (values_of t.entries) m)
         at true q = let v = valued_variable t m.var m.negated h (is_false-true (values_of t.entries) m q) in
             ap (λ b. b && is_false (values_of t.entries) m) (sym (marked-set_other marks x.var m.var false k.0.above v.above n))
-        at false q = rw q (and_false (marked marks m.var) ∙ sym (and_false (marked (set marks (x.var - 1) false) m.var)))
+        at false q = rw q (and-false (marked marks m.var) ∙ sym (and-false (marked (set marks (x.var - 1) false) m.var)))
 
     variable : (m : Lit) → has (remove literals i) m ≡ true → marked (set marks (x.var - 1) false) m.var ≡ true
     variable m p =
@@ -170,7 +159,7 @@ Tracks-left t marks literals present i d h r l = record {
     agree : (j : ℕ) (e : Entry) → j < length t.entries → counts t (set marks (x.var - 1) false) (get_or t.entries j e) ≡ counts t marks (get_or t.entries j e)
     agree j e w = ⊎_elim
         (λ s. let off : eqb (get_or t.entries j e).decision_level t.level ≡ false = below j e w s in
-        rw off (and_false (marked (set marks (x.var - 1) false) (get_or t.entries j e).lit.var) ∙ sym (and_false (marked marks (get_or t.entries j e).lit.var))))
+        rw off (and-false (marked (set marks (x.var - 1) false) (get_or t.entries j e).lit.var) ∙ sym (and-false (marked marks (get_or t.entries j e).lit.var))))
         (λ n. ap (λ b. b && eqb (get_or t.entries j e).decision_level t.level) (marked-set_other marks x.var (get_or t.entries j e).lit.var false k.0.above (h.justified j e w).variable.above n))
         (cases_eq (get_or t.entries j e).lit.var x.var)
       where

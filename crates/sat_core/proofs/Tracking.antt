@@ -6,6 +6,8 @@ use Rattle.std.specs.Option.{option_map, option_eq}
 use Rattle.std.proofs.lemmas.Bool.{false≢true, both_ways, cases_eq, cases_lt, eqb-true, eqb-false, eq-eqb, ne_eqb, and_parts, and_from, or_cases, false_from_ne_true, not_from_false, not-true, or_parts, or_from}
 use Rattle.std.proofs.lemmas.List.{get_or-take, get_or-set_same, get_or-set_other, length-take-le, length-set}
 use Rattle.std.proofs.lemmas.List.Sums.{count_by-le-length}
+use Rattle.loc_base.proofs.ShelfBools.{and-false, and-true, or-false}
+use Rattle.loc_base.proofs.ShelfOptions.{option_map-none}
 use Rattle.clause_base.specs.declared.literal.Lit.{Lit}
 use Rattle.clause_base.specs.Literal.{same_lit, same_sign, has, has_variable, has_distinct_variables}
 use Rattle.clause_base.proofs.Sets.{has-push, has_variable-push}
@@ -13,13 +15,13 @@ use Rattle.trail_core.specs.declared.entry.Entry.{Entry}
 use Rattle.trail_core.specs.Values.{Values, IsVariable, IsFalseIn}
 use Rattle.trail_core.specs.TrailState.{TrailState, IsTrail, entry_of, values_of, level_in}
 use Rattle.trail_core.proofs.Lists.{find_found, find_none}
-use Rattle.trail_core.proofs.Truth.{mapped, mapped_none}
+use Rattle.trail_core.proofs.Truth.{mapped}
 use Rattle.sat_core.specs.Derivation.{has_sign, is_false, marked, set_of, has_level, is_present, counts, Tracks}
 use Rattle.sat_core.proofs.Marks.{marked-set_same, marked-set_other, count_agree, count_one_more}
 
 earlier_differs : (t : TrailState) (i k : ℕ) (d e : Entry) → IsTrail t → i < k → k < length t.entries → (get_or t.entries i d).lit.var ≡ (get_or t.entries k e).lit.var → ⊥
 earlier_differs t i k d e h l m q =
-    let none = mapped_none (λ (x : Entry). not x.lit.negated) (entry_of (take k t.entries) (get_or t.entries k e).lit.var) (h.justified k e m).unassigned in
+    let none = option_map-none (λ (x : Entry). not x.lit.negated) (entry_of (take k t.entries) (get_or t.entries k e).lit.var) (h.justified k e m).unassigned in
     let size : length (take k t.entries) ≡ k = length-take-le k t.entries (omega arith) in
     let no = find_none (λ (x : Entry). eqb x.lit.var (get_or t.entries k e).lit.var) (take k t.entries) i d none (omega (arith, size)) in
     both_ways (eqb (get_or t.entries i d).lit.var (get_or t.entries k e).lit.var) (subst (λ (x : Entry). eqb x.lit.var (get_or t.entries k e).lit.var ≡ false) (get_or-take k t.entries i d l) no) (eq-eqb (get_or t.entries i d).lit.var (get_or t.entries k e).lit.var q)
@@ -58,18 +60,6 @@ false_same values l m f e =
 pub same_lit_other : (l m : Lit) → (m.var ≡ l.var → ⊥) → same_lit l m ≡ false
 same_lit_other l m n = ap (λ b. b && same_sign l.negated m.negated) (ne_eqb l.var m.var (λ e. n (sym e)))
 
-or_false : (b : Bool) → (b || false) ≡ b
-or_false true = refl
-or_false false = refl
-
-and_true : (b : Bool) → (b && true) ≡ b
-and_true true = refl
-and_true false = refl
-
-and_false : (b : Bool) → (b && false) ≡ false
-and_false true = refl
-and_false false = refl
-
 -- an unmarked variable is of no literal
 unmarked_absent : (t : TrailState) (marks : List Bool) (literals : List Lit) (present : ℕ) (v : ℕ) → Tracks t marks literals present → marked marks v ≡ false → has_variable literals v ≡ false
 unmarked_absent t marks literals present v h u = false_from_ne_true (has_variable literals v) (λ p. both_ways (marked marks v) u (h.variables v p))
@@ -100,7 +90,7 @@ set_other marks values l m vars k n z = at (cases_lt 0 m.var)
     at : ((0 < m.var) ⊎ (m.var ≤ 0)) → set_of (set marks (l.var - 1) true) values m ≡ set_of marks values m
     at (inl p) = ap (λ b. b && is_false values m) (marked-set_other marks l.var m.var true k.above (omega arith) n)
     at (inr p) = let e : m.var ≡ 0 = omega arith in let f : is_false values m ≡ false = ap (λ o. has_sign o m.negated) (ap values e ∙ z) in
-        rw f (and_false (marked (set marks (l.var - 1) true) m.var) ∙ sym (and_false (marked marks m.var)))
+        rw f (and-false (marked (set marks (l.var - 1) true) m.var) ∙ sym (and-false (marked marks m.var)))
 
 -- variable 0 has no value
 pub no_zero : (t : TrailState) → IsTrail t → values_of t.entries 0 ≡ None
@@ -130,7 +120,7 @@ count_lower : (t : TrailState) (marks : List Bool) (v : ℕ) → IsTrail t → I
 count_lower t marks v h k p = count_agree (counts t marks) (counts t (set marks (v - 1) true)) t.entries
     (λ j d l. ⊎_elim
     (λ e. let low : eqb (get_or t.entries j d).decision_level t.level ≡ false = false_from_ne_true (eqb (get_or t.entries j d).decision_level t.level) (λ y. both_ways (is_present t v) p (present_at j d l e y)) in
-    rw low (and_false (marked (set marks (v - 1) true) (get_or t.entries j d).lit.var) ∙ sym (and_false (marked marks (get_or t.entries j d).lit.var))))
+    rw low (and-false (marked (set marks (v - 1) true) (get_or t.entries j d).lit.var) ∙ sym (and-false (marked marks (get_or t.entries j d).lit.var))))
     (λ n. ap (λ b. b && eqb (get_or t.entries j d).decision_level t.level) (marked-set_other marks v (get_or t.entries j d).lit.var true k.above (h.justified j d l).variable.above n))
     (cases_eq (get_or t.entries j d).lit.var v))
   where
@@ -166,7 +156,7 @@ Tracks-present t marks literals present l h r k f u s = record {
   size = length-set marks (l.var - 1) true ∙ r.size;
   members = λ m. ⊎_elim
       (λ e. r.members m ∙ (ap (λ b. b && not (is_present t m.var)) (ap (λ b. b && is_false (values_of t.entries) m) (ap (marked marks) e ∙ u))
-      ∙ sym (ap (λ b. set_of (set marks (l.var - 1) true) (values_of t.entries) m && not b) (ap (λ v. is_present t v) e ∙ here) ∙ and_false (set_of (set marks (l.var - 1) true) (values_of t.entries) m))))
+      ∙ sym (ap (λ b. set_of (set marks (l.var - 1) true) (values_of t.entries) m && not b) (ap (λ v. is_present t v) e ∙ here) ∙ and-false (set_of (set marks (l.var - 1) true) (values_of t.entries) m))))
       (λ n. r.members m ∙ sym (ap (λ b. b && not (is_present t m.var)) (set_other marks (values_of t.entries) l m t.vars k n (no_zero t h))))
       (cases_eq m.var l.var);
   variables = λ v p. more_marked marks l.var v inside (r.variables v p);
@@ -187,9 +177,9 @@ Tracks-lower t marks literals present l h r k f u s = record {
   size = length-set marks (l.var - 1) true ∙ r.size;
   members = λ m. has-push literals l m ∙ ⊎_elim
       (λ e. ap (λ b. b || same_lit l m) (r.members m ∙ ap (λ b. b && not (is_present t m.var)) (ap (λ b. b && is_false (values_of t.entries) m) (ap (marked marks) e ∙ u)))
-      ∙ sym (ap (λ b. set_of (set marks (l.var - 1) true) (values_of t.entries) m && not b) (ap (λ v. is_present t v) e ∙ s) ∙ (and_true (set_of (set marks (l.var - 1) true) (values_of t.entries) m)
+      ∙ sym (ap (λ b. set_of (set marks (l.var - 1) true) (values_of t.entries) m && not b) (ap (λ v. is_present t v) e ∙ s) ∙ (and-true (set_of (set marks (l.var - 1) true) (values_of t.entries) m)
       ∙ (ap (λ b. b && is_false (values_of t.entries) m) (ap (marked (set marks (l.var - 1) true)) e ∙ marked-set_same marks l.var true inside) ∙ false_same (values_of t.entries) l m f e))))
-      (λ n. ap (λ b. has literals m || b) (same_lit_other l m n) ∙ (or_false (has literals m) ∙ (r.members m ∙ sym (ap (λ b. b && not (is_present t m.var)) (set_other marks (values_of t.entries) l m t.vars k n (no_zero t h))))))
+      (λ n. ap (λ b. has literals m || b) (same_lit_other l m n) ∙ (or-false (has literals m) ∙ (r.members m ∙ sym (ap (λ b. b && not (is_present t m.var)) (set_other marks (values_of t.entries) l m t.vars k n (no_zero t h))))))
       (cases_eq m.var l.var);
   variables = λ v p. ⊎_elim (λ q. more_marked marks l.var v inside (r.variables v q)) (λ q. subst (λ w. marked (set marks (l.var - 1) true) w ≡ true) (eqb-true l.var v q) (marked-set_same marks l.var true inside)) (or_cases (has_variable literals v) (eqb l.var v) (sym (has_variable-push literals l v) ∙ p));
   valued = still_valued t marks l k f r.valued;

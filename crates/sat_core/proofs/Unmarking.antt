@@ -1,7 +1,8 @@
 -- Taking marks away.
-use Rattle.std.proofs.Common.{◌≡◌, ℕ, ◌+◌, ◌-◌, ◌<◌, ◌≤◌, Bool, true, false, not, ◌&&◌, ◌||◌, List, [], ◌∷◌, ◌++◌, length, get_or, set, take, refl, sym, ap, ◌∙◌, subst, arith, inl, inr, ⊎_elim}
+use Rattle.std.proofs.Common.{◌≡◌, ℕ, ◌+◌, ◌-◌, ◌<◌, ◌≤◌, Bool, false, not, ◌&&◌, ◌||◌, List, [], ◌∷◌, ◌++◌, length, get_or, set, take, refl, sym, ap, ◌∙◌, subst, arith, inl, inr, ⊎_elim}
 use Rattle.std.proofs.lemmas.Bool.{cases_Bool, cases_eq, cases_lt, eq-eqb, ne_eqb}
 use Rattle.std.proofs.lemmas.List.{length-set, take_more, take_all, get_or_past}
+use Rattle.loc_base.proofs.ShelfBools.{and-false, and-true, or-false, or-true}
 use Rattle.clause_base.specs.declared.literal.Lit.{Lit}
 use Rattle.clause_base.specs.Literal.{has_variable}
 use Rattle.clause_base.proofs.Sets.{has_variable-push}
@@ -9,24 +10,8 @@ use Rattle.trail_core.specs.Values.{IsVariable}
 use Rattle.sat_core.specs.Derivation.{marked, IsClean, AreOf, Unmarks}
 use Rattle.sat_core.proofs.Marks.{marked-set_same, marked-set_other}
 
-and_true : (b : Bool) → (b && true) ≡ b
-and_true true = refl
-and_true false = refl
-
-and_false : (b : Bool) → (b && false) ≡ false
-and_false true = refl
-and_false false = refl
-
-or_true : (b : Bool) → (b || true) ≡ true
-or_true true = refl
-or_true false = refl
-
-or_false : (b : Bool) → (b || false) ≡ b
-or_false true = refl
-or_false false = refl
-
 pub Unmarks-none : (marks : List Bool) → Unmarks marks marks []
-Unmarks-none marks = record { size = refl; each = λ v l m. sym (and_true (marked marks v)) }
+Unmarks-none marks = record { size = refl; each = λ v l m. sym (and-true (marked marks v)) }
 
 pub Unmarks-more : (old new after : List Bool) (literals : List Lit) (i : ℕ) (d : Lit) → i < length literals → Unmarks old new (take i literals) → IsVariable (length old) (get_or literals i d).var → after ≡ set new ((get_or literals i d).var - 1) false → Unmarks old after (take (i + 1) literals)
 Unmarks-more old new after literals i d l h k e =
@@ -34,9 +19,9 @@ Unmarks-more old new after literals i d l h k e =
       size = length-set new (x.var - 1) false ∙ h.size;
       each = λ v low high. ⊎_elim
           (λ q. ap (marked (set new (x.var - 1) false)) q ∙ (marked-set_same new x.var false record { above = k.above; within = omega (arith, k.within, h.size) }
-          ∙ sym (ap (λ b. marked old v && not b) (has_variable-push (take i literals) x v ∙ (ap (λ b. has_variable (take i literals) v || b) (eq-eqb x.var v (sym q)) ∙ or_true (has_variable (take i literals) v))) ∙ and_false (marked old v))))
+          ∙ sym (ap (λ b. marked old v && not b) (has_variable-push (take i literals) x v ∙ (ap (λ b. has_variable (take i literals) v || b) (eq-eqb x.var v (sym q)) ∙ or-true (has_variable (take i literals) v))) ∙ and-false (marked old v))))
           (λ n. marked-set_other new x.var v false k.above low n ∙ (h.each v low high
-          ∙ sym (ap (λ b. marked old v && not b) (has_variable-push (take i literals) x v ∙ (ap (λ b. has_variable (take i literals) v || b) (ne_eqb x.var v (λ q. n (sym q))) ∙ or_false (has_variable (take i literals) v))))))
+          ∙ sym (ap (λ b. marked old v && not b) (has_variable-push (take i literals) x v ∙ (ap (λ b. has_variable (take i literals) v || b) (ne_eqb x.var v (λ q. n (sym q))) ∙ or-false (has_variable (take i literals) v))))))
           (cases_eq v x.var);
     })
   where
@@ -61,6 +46,6 @@ pub unmarked_all : (old new : List Bool) (literals : List Lit) → AreOf old lit
 unmarked_all old new literals a u = clean_from new (λ v low high.
     let within : v ≤ length old = omega (arith, high, u.size) in
     u.each v low within ∙ ⊎_elim
-    (λ y. ap (λ b. marked old v && not b) (a v low within y) ∙ and_false (marked old v))
+    (λ y. ap (λ b. marked old v && not b) (a v low within y) ∙ and-false (marked old v))
     (λ n. ap (λ b. b && not (has_variable literals v)) n)
     (cases_Bool (marked old v)))

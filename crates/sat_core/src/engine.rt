@@ -54,7 +54,7 @@ impl Engine {
         requires assume { IsWithin self.old.trail.vars assume.now }
         requires distinct { IsTrue (has_distinct_variables assume.now) }
         requires small { length assume.now ≤ 2 ^ 32 }
-        requires room { self.old.form_len + length log.old + budget.old + 1 < 2 ^ 32 }
+        requires clauses_fit { self.old.form_len + length log.old + budget.old + 1 < 2 ^ 32 }
         ensures ready { IsReady self.new log.new }
         ensures keeps { Keeps self.old self.new }
         ensures grows { Grows (form_of self.old) log.old log.new budget.old budget.new (closings result) }
@@ -74,7 +74,7 @@ impl Engine {
     /// Goes back to level 0, and gives the trail the clauses of the log that it lacks.
     fn start(&mut self, log: &Log) -> Result<(), NoMemory>
         requires ready { IsReady self.old log.now }
-        requires room { self.old.form_len + length log.now < 2 ^ 32 }
+        requires clauses_fit { self.old.form_len + length log.now < 2 ^ 32 }
         ensures ready { IsReady self.new log.now }
         ensures keeps { Keeps self.old self.new }
         ensures ok { OnOk result (IsAtStart self.new log.now) }
@@ -91,7 +91,7 @@ impl Engine {
         requires level { self.old.trail.level ≡ 0 }
         requires known { self.old.known ≤ length log.now }
         requires within { AreWithin self.old.trail.vars (map (λ step. step.clause) log.now) }
-        requires room { length self.old.trail.clauses + length log.now < self.old.known + 2 ^ 32 }
+        requires clauses_fit { length self.old.trail.clauses + length log.now < self.old.known + 2 ^ 32 }
         ensures fit { IsFit self.new }
         ensures level { self.new.trail.level ≡ 0 }
         ensures pace { KeepsPace self.old self.new log.now }
@@ -122,7 +122,7 @@ impl Engine {
         requires assume { IsWithin self.old.trail.vars assume.now }
         requires distinct { IsTrue (has_distinct_variables assume.now) }
         requires small { length assume.now ≤ 2 ^ 32 }
-        requires room { self.old.form_len + length log.old + budget.old + 1 < 2 ^ 32 }
+        requires clauses_fit { self.old.form_len + length log.old + budget.old + 1 < 2 ^ 32 }
         requires some { 0 < budget.old }
         ensures ready { IsReady self.new log.new }
         ensures keeps { Keeps self.old self.new }
@@ -144,7 +144,7 @@ impl Engine {
         conflict: u32,
     ) -> Result<Option<Verdict>, NoMemory>
         requires under_way { IsUnderWay self.old log.old assume.now }
-        requires room { self.old.form_len + length log.old + budget.old + 1 < 2 ^ 32 }
+        requires clauses_fit { self.old.form_len + length log.old + budget.old + 1 < 2 ^ 32 }
         requires some { 0 < budget.old }
         requires number { IsNumber self.old.trail.clauses conflict }
         requires conflict { IsFalsified (values_of self.old.trail.entries) (numbered self.old.trail.clauses conflict) }
@@ -172,7 +172,7 @@ impl Engine {
         requires assume { IsWithin self.old.trail.vars assume.now }
         requires distinct { IsTrue (has_distinct_variables assume.now) }
         requires small { length assume.now ≤ 2 ^ 32 }
-        requires room { self.old.form_len + length log.old + 1 < 2 ^ 32 }
+        requires clauses_fit { self.old.form_len + length log.old + 1 < 2 ^ 32 }
         requires rest { AllRest self.old.trail.clauses (values_of self.old.trail.entries) }
         ensures ready { IsReady self.new log.new }
         ensures keeps { Keeps self.old self.new }
@@ -261,7 +261,7 @@ impl Engine {
     /// `NoMemory` the log is as it was, or has the step, and the unit is taken.
     fn learn(&mut self, log: &mut Log, budget: &mut Budget, conflict: u32) -> Result<(), NoMemory>
         requires fit { IsFit self.old }
-        requires room { length self.old.trail.clauses + 1 < 2 ^ 32 }
+        requires clauses_fit { length self.old.trail.clauses + 1 < 2 ^ 32 }
         requires level { 1 ≤ self.old.trail.level }
         requires number { IsNumber self.old.trail.clauses conflict }
         requires conflict { IsFalsified (values_of self.old.trail.entries) (numbered self.old.trail.clauses conflict) }

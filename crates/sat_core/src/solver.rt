@@ -45,7 +45,7 @@ impl Solver {
     /// first counts most.
     pub fn new(alloc: Global, form: &Form, preferred: &[u32]) -> Result<Solver, NoMemory>
         requires within { AreWithin form.now.vars form.now.clauses }
-        requires room { length form.now.clauses < 2 ^ 32 }
+        requires clauses_fit { length form.now.clauses < 2 ^ 32 }
         requires preferred { All (λ v. (1 ≤ v) × (v ≤ form.now.vars)) preferred.now }
         requires few { length preferred.now < 2 ^ 32 }
         ensures begins { IfOk result (Begins form.now.vars form.now.clauses preferred.now) }
@@ -113,7 +113,7 @@ impl Solver {
     pub fn solve(&mut self, assume: &[Lit], budget: &mut Budget) -> Result<Verdict, NoMemory>
         requires within { IsWithin self.old.vars assume.now }
         requires distinct { IsTrue (has_distinct_variables assume.now) }
-        requires room { length self.old.form + length self.old.log + budget.old + 1 < 2 ^ 32 }
+        requires clauses_fit { length self.old.form + length self.old.log + budget.old + 1 < 2 ^ 32 }
         ensures searches { Searches self.old self.new budget.old budget.new (closings result) }
         ensures solver { IsSolver self.new }
         ensures says { IfOk result (Says self.new assume.now budget.new) }
@@ -143,7 +143,7 @@ impl Solver {
 /// A trail with the clauses of a form.
 fn trail_of(alloc: Global, form: &Form) -> Result<Trail, NoMemory>
     requires within { AreWithin form.now.vars form.now.clauses }
-    requires room { length form.now.clauses < 2 ^ 32 }
+    requires clauses_fit { length form.now.clauses < 2 ^ 32 }
     ensures state { IfOk result (λ t. t ≡ record { vars = form.now.vars; clauses = form.now.clauses; entries = []; level = 0 }) }
     ensures trail { IfOk result IsTrail }
 {

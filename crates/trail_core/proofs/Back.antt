@@ -6,13 +6,13 @@ use Rattle.std.proofs.lemmas.Bool.{cases_lt, cases_eq, le-leb, lt-leb}
 use Rattle.std.proofs.lemmas.List.{take-take, take-append-drop, get_or-take, get_or-drop, length-take-le, length-drop, append-nil, take_more, same_from_push, length_push, length-set, get_or-set_same, get_or-set_other}
 use Rattle.std.proofs.lemmas.List.Elements.{filter-append}
 use Rattle.std.proofs.lemmas.List.Sums.{count_by_more_yes}
+use Rattle.loc_base.proofs.ShelfOptions.{option_map-none}
 use Rattle.trail_core.specs.declared.entry.Entry.{Entry}
 use Rattle.trail_core.specs.Values.{IsVariable}
 use Rattle.trail_core.specs.TrailState.{TrailState, IsTrail, IsJustified, AllRest, back_at, entry_of, values_of, up_to, decisions, is_decision}
 use Rattle.trail_core.specs.Layout.{IsIndex, AreStarts, AreNew}
 use Rattle.trail_core.proofs.Lists.{filter_all, filter_none, count_by-take-le, count_by-set_fails}
 use Rattle.trail_core.proofs.Levels.{IsLeveled, up_to_all, up_to-up_to}
-use Rattle.trail_core.proofs.Truth.{mapped_none}
 use Rattle.trail_core.proofs.LayoutLemmas.{entry_of_push_same, entry_of_push_other}
 
 -- where a level's decision stands: k decisions stand before it
@@ -94,7 +94,7 @@ AreStarts-take starts es k h l = record {
 
 pub new_entries : (t : TrailState) → IsTrail t → AreNew t.vars t.entries
 new_entries t h place d l =
-    ((h.justified place d l).variable, mapped_none (λ (e : Entry). not e.lit.negated) (entry_of (take place t.entries) (get_or t.entries place d).lit.var) (h.justified place d l).unassigned)
+    ((h.justified place d l).variable, option_map-none (λ (e : Entry). not e.lit.negated) (entry_of (take place t.entries) (get_or t.entries place d).lit.var) (h.justified place d l).unassigned)
 
 -- the table without the last entry
 pub IsIndex-pop : (table : List (Option Entry)) (es : List Entry) (e : Entry) → IsIndex table (es ++ e ∷ []) → IsVariable (length table) e.lit.var → entry_of es e.lit.var ≡ None → IsIndex (set table (e.lit.var - 1) None) es

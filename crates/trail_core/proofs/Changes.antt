@@ -114,7 +114,7 @@ IsLeveled-push es e h q place d l =
 pub record MayAppend (t : TrailState) (e : Entry) : Type 0 where
   pub justified : IsJustified t.vars t.clauses t.entries e
   pub leveled : e.decision_level ≡ decisions (t.entries ++ e ∷ [])
-  pub room : length t.entries < t.vars
+  pub entry_left : length t.entries < t.vars
   pub rests : (k : ℕ) → k < e.decision_level → AllRest t.clauses (values_of (up_to k t.entries))
 
 -- the trail with that entry
@@ -129,7 +129,7 @@ IsTrail-with_entry t e h m = record {
   leveled = IsLeveled-push t.entries e h.leveled m.leveled;
   level = m.leveled;
   small = h.small;
-  few = omega (arith, m.room, length_push t.entries e);
+  few = omega (arith, m.entry_left, length_push t.entries e);
   rests = λ k l. subst (λ es. AllRest t.clauses (values_of es)) (sym (up_to_push k t.entries e l)) (m.rests k l);
 }
 
@@ -138,10 +138,10 @@ decisions_push es e = sum_by_push (λ x. cond (is_decision x) 1 0) es e
 
 -- a decision may be appended where all clauses rest
 pub MayAppend-decision : (t : TrailState) (l : Lit) → IsTrail t → IsVariable t.vars l.var → IsUnassignedIn (values_of t.entries) l → AllRest t.clauses (values_of t.entries) → length t.entries < t.vars → MayAppend t record { lit = l; decision_level = t.level + 1; reason = None }
-MayAppend-decision t l h v u r room = record {
+MayAppend-decision t l h v u r left = record {
   justified = record { variable = v; unassigned = u; forced = λ n q. absurd (cc) };
   leveled = omega (arith, h.level, decisions_push t.entries record { lit = l; decision_level = t.level + 1; reason = None });
-  room = room;
+  entry_left = left;
   rests = λ k m. elim (cases_lt k t.level) [
     | inl b ↦ h.rests k b
     | inr b ↦ subst (λ es. AllRest t.clauses (values_of es)) (sym (up_to_all t.entries k h.leveled (omega (arith, h.level)))) r
@@ -150,9 +150,9 @@ MayAppend-decision t l h v u r room = record {
 
 -- a literal whose clause is unit may be appended
 pub MayAppend-forced : (t : TrailState) (l : Lit) (n : ℕ) → IsTrail t → IsVariable t.vars l.var → IsReason t.clauses (values_of t.entries) n l → length t.entries < t.vars → MayAppend t record { lit = l; decision_level = t.level; reason = Some n }
-MayAppend-forced t l n h v r room = record {
+MayAppend-forced t l n h v r left = record {
   justified = record { variable = v; unassigned = r.unit.unassigned; forced = λ m q. subst (λ x. IsReason t.clauses (values_of t.entries) x l) (same_Some n m q) r };
   leveled = omega (arith, h.level, decisions_push t.entries record { lit = l; decision_level = t.level; reason = Some n });
-  room = room;
+  entry_left = left;
   rests = h.rests;
 }

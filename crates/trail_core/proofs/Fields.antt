@@ -5,13 +5,13 @@ use Rattle.std.specs.List.{count_by}
 use Rattle.std.specs.Vec.{vec_capacity}
 use Rattle.std.proofs.lemmas.List.{length-set, length-map, map-set}
 use Rattle.std.proofs.lemmas.List.Sums.{count_by-le-length}
+use Rattle.loc_base.proofs.ShelfOptions.{option_map-none}
 use Rattle.clause_base.specs.declared.literal.Lit.{Lit}
 use Rattle.trail_core.specs.declared.entry.Entry.{Entry}
 use Rattle.trail_core.specs.declared.plain.PlainTrail.TheInside.{Inside}
 use Rattle.trail_core.specs.Values.{IsVariable, IsUnassignedIn}
 use Rattle.trail_core.specs.TrailState.{TrailState, IsTrail, IsReason, AllRest, entry_of, values_of, is_decision}
 use Rattle.trail_core.specs.Layout.{state_of, value_in, IsIndex, AreStarts, IsLaidOut}
-use Rattle.trail_core.proofs.Truth.{mapped_none}
 use Rattle.trail_core.proofs.Changes.{MayAppend, MayAppend-decision, MayAppend-forced, with_entry, IsTrail-with_entry}
 use Rattle.trail_core.proofs.LayoutLemmas.{IsFree, room_for, IsIndex-push, counted_push, AreStarts-decide}
 
@@ -27,7 +27,7 @@ pub record Appends (a b : Inside) (e : Entry) : Type 0 where
 
 -- an unassigned variable is free
 pub free_at : (a : Inside) (l : Lit) → IsVariable (state_of a).vars l.var → IsUnassignedIn (values_of a.entries.items) l → IsFree a.assigned.items a.entries.items l.var
-free_at a l v u = record { above = v.above; within = v.within; none = mapped_none (λ (e : Entry). not e.lit.negated) (entry_of a.entries.items l.var) u }
+free_at a l v u = record { above = v.above; within = v.within; none = option_map-none (λ (e : Entry). not e.lit.negated) (entry_of a.entries.items l.var) u }
 
 -- there is room for the entry of an unassigned variable
 pub room_at : (a : Inside) (l : Lit) → IsLaidOut a → IsVariable (state_of a).vars l.var → IsUnassignedIn (values_of a.entries.items) l → length a.entries.items < length a.assigned.items

@@ -5,13 +5,12 @@ use Rattle.std.specs.Option.{option_map, option_or}
 use Rattle.std.proofs.lemmas.Bool.{eq-eqb}
 use Rattle.std.proofs.lemmas.List.{take-append-drop, drop_more}
 use Rattle.std.proofs.lemmas.List.Folds.{find-append}
-use Rattle.loc_base.proofs.ShelfOptions.{option_map-some}
+use Rattle.loc_base.proofs.ShelfOptions.{option_map-none, option_map-some}
 use Rattle.clause_base.specs.declared.literal.Lit.{Lit}
 use Rattle.clause_base.specs.Literal.{opposite}
 use Rattle.trail_core.specs.declared.entry.Entry.{Entry}
 use Rattle.trail_core.specs.TrailState.{TrailState, IsTrail, entry_of, values_of, level_in}
 use Rattle.trail_core.specs.Visits.{IsGone}
-use Rattle.trail_core.proofs.Truth.{mapped_none}
 use Rattle.trail_core.proofs.Listing.{at_any}
 
 -- an entry is that of its variable
@@ -34,7 +33,7 @@ gone_at t g d h l level = record {
 }
   where
     there : entry_of t.entries (get_or t.entries g d).lit.var ≡ Some (get_or t.entries g d)
-    there = entry_there t.entries g d l (mapped_none (λ (x : Entry). not x.lit.negated) (entry_of (take g t.entries) (get_or t.entries g d).lit.var) (h.justified g d l).unassigned)
+    there = entry_there t.entries g d l (option_map-none (λ (x : Entry). not x.lit.negated) (entry_of (take g t.entries) (get_or t.entries g d).lit.var) (h.justified g d l).unassigned)
 
 -- what an option of a list's element says of its place
 got : {X : Type 0} (xs : List X) (i : ℕ) (x : X) → slice_get xs i ≡ Some x → (i < length xs) × ((d : X) → get_or xs i d ≡ x)

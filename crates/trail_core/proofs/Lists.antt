@@ -5,6 +5,7 @@ use Rattle.std.specs.List.{find, filter, count_by}
 use Rattle.std.proofs.lemmas.Bool.{false_from_ne_true, false≢true, both_ways}
 use Rattle.std.proofs.lemmas.List.{take-take}
 use Rattle.std.proofs.lemmas.List.Sums.{count_by-le-length, sum_by-cons, sum_by-set, sum_by-take-le}
+use Rattle.loc_base.proofs.ShelfBools.{count-false, count-true}
 
 none_parts : {X : Type 0} (b : Bool) (x : X) (o : Option X) → cond b (Some x) o ≡ None → (b ≡ false) × (o ≡ None)
 none_parts true x o h = cc
@@ -80,14 +81,8 @@ count_later_step : (b : Bool) (c : ℕ) → cond b 1 0 + c ≤ 1 + c
 count_later_step true c = omega arith
 count_later_step false c = omega arith
 
-weight_of : (b : Bool) → b ≡ true → cond b 1 0 ≡ suc zero
-weight_of b h = rw h refl
-
-no_weight : (b : Bool) → b ≡ false → cond b 1 0 ≡ zero
-no_weight b h = rw h refl
-
 count_first : {X : Type 0} (p : X → Bool) (x : X) (xs : List X) → p x ≡ false → count_by p (x ∷ xs) ≡ count_by p xs
-count_first p x xs h = omega (arith, no_weight (p x) h, sum_by-cons (λ y. cond (p y) 1 0) x xs)
+count_first p x xs h = omega (arith, count-false (p x) h, sum_by-cons (λ y. cond (p y) 1 0) x xs)
 
 count_later : {X : Type 0} (p : X → Bool) (x : X) (xs : List X) → count_by p (x ∷ xs) ≤ 1 + count_by p xs
 count_later p x xs = omega (arith, count_later_step (p x) (count_by p xs), sum_by-cons (λ y. cond (p y) 1 0) x xs)
@@ -100,11 +95,11 @@ count_by_lt p (x ∷ xs) (suc k) d l h = omega (arith, count_later p x xs, count
 
 -- a write of an element that passes over one that fails
 pub count_by-set : {X : Type 0} (p : X → Bool) (xs : List X) (k : ℕ) (y d : X) → k < length xs → p (get_or xs k d) ≡ false → p y ≡ true → count_by p (set xs k y) ≡ count_by p xs + 1
-count_by-set p xs k y d l h t = omega (arith, no_weight (p (get_or xs k d)) h, weight_of (p y) t, sum_by-set (λ x. cond (p x) 1 0) xs k y d l)
+count_by-set p xs k y d l h t = omega (arith, count-false (p (get_or xs k d)) h, count-true (p y) t, sum_by-set (λ x. cond (p x) 1 0) xs k y d l)
 
 -- a write of an element that fails over one that passes
 pub count_by-set_fails : {X : Type 0} (p : X → Bool) (xs : List X) (k : ℕ) (y d : X) → k < length xs → p (get_or xs k d) ≡ true → p y ≡ false → count_by p (set xs k y) + 1 ≡ count_by p xs
-count_by-set_fails p xs k y d l h t = omega (arith, weight_of (p (get_or xs k d)) h, no_weight (p y) t, sum_by-set (λ x. cond (p x) 1 0) xs k y d l)
+count_by-set_fails p xs k y d l h t = omega (arith, count-true (p (get_or xs k d)) h, count-false (p y) t, sum_by-set (λ x. cond (p x) 1 0) xs k y d l)
 
 -- a longer front has no fewer that pass
 pub count_by-take-le : {X : Type 0} (p : X → Bool) (xs : List X) (i j : ℕ) → i ≤ j → count_by p (take i xs) ≤ count_by p (take j xs)

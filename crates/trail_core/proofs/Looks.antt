@@ -4,6 +4,7 @@ use Rattle.std.specs.Prelude.{is_some}
 use Rattle.std.specs.Bool.{beq}
 use Rattle.std.proofs.lemmas.Bool.{false≢true, both_ways, or_cases, or_left, or_right}
 use Rattle.std.proofs.lemmas.List.{take-append-drop, drop_more, take_more, take_all}
+use Rattle.loc_base.proofs.ShelfOptions.{is_some-false, is_some-split}
 use Rattle.clause_base.specs.declared.literal.Lit.{Lit}
 use Rattle.clause_base.specs.Literal.{IsWithin, same_lit, has, has_variable, has_distinct_variables}
 use Rattle.clause_base.proofs.Sets.{same_lit-true, same_lit_itself, has-append, has-push, has_variable-has, distinct_parts}
@@ -62,14 +63,10 @@ pub rests_at_two : (values : Values) (c : List Lit) (i : ℕ) (d u : Lit) → i 
 rests_at_two values c i d u l h unit free =
     open_at_two u (get_or c i d) (has_in_front c i u unit.member) (has_at c i d l) (other_before c i d u l h unit.member) unit.unassigned free
 
-some_is : {X : Type 0} (o : Option X) → is_some o ≡ true → (P : Type 0) → ((x : X) → o ≡ Some x → P) → P
-some_is None h P f = absurd (false≢true h)
-some_is (Some x) h P f = f x refl
-
 -- the second unassigned literal, as the loop sees it
 pub look_rests_open : (values : Values) (c d : List Lit) (i : ℕ) (e : Lit) (o : Option Lit) → d ≡ c → i < length d → has_distinct_variables d ≡ true → SoFar values (take i d) o → is_some o ≡ true → values (get_or d i e).var ≡ None → Rests values c
 look_rests_open values c d i e o q l h s t u =
-    subst (Rests values) q (some_is o t (Rests values d) (λ x p. rests_at_two values d i e x l h (subst (SoFar values (take i d)) p s) u))
+    subst (Rests values) q (is_some-split o t (Rests values d) (λ x p. rests_at_two values d i e x l h (subst (SoFar values (take i d)) p s) u))
 
 other_sign : (a b : Bool) → not (beq a b) ≡ true → a ≡ not b
 other_sign true true h = absurd (false≢true h)
@@ -93,15 +90,11 @@ pub look_false : (values : Values) (d : List Lit) (i : ℕ) (e : Lit) (o : Optio
 look_false values d i e o b l s v t =
     subst (λ part. SoFar values part o) (sym (take_more d i e l)) (SoFar-false values (take i d) o (get_or d i e) s (v ∙ ap Some (same_sign b (get_or d i e).negated t)))
 
-none_is : {X : Type 0} (o : Option X) → is_some o ≡ false → o ≡ None
-none_is None h = refl
-none_is (Some x) h = absurd (false≢true (sym h))
-
 -- the first unassigned literal, as the loop sees it
 pub look_open : (values : Values) (d : List Lit) (i : ℕ) (e : Lit) (o : Option Lit) → i < length d → SoFar values (take i d) o → is_some o ≡ false → values (get_or d i e).var ≡ None → SoFar values (take (i + 1) d) (Some (get_or d i e))
 look_open values d i e o l s t u =
     subst (λ part. SoFar values part (Some (get_or d i e))) (sym (take_more d i e l))
-    (SoFar-unassigned values (take i d) (get_or d i e) (subst (SoFar values (take i d)) (none_is o t) s) u)
+    (SoFar-unassigned values (take i d) (get_or d i e) (subst (SoFar values (take i d)) (is_some-false o t) s) u)
 
 -- the whole clause gone over
 pub look_all : (values : Values) (c d : List Lit) (i : ℕ) (o : Option Lit) → d ≡ c → length d ≤ i → SoFar values (take i d) o → SoFar values c o

@@ -1,6 +1,7 @@
 -- The values that a part of the entries gives.
 use Rattle.std.proofs.Common.{◌≡◌, ℕ, Bool, not, eqb, List, length, take, Option, Some, None, refl, ap}
 use Rattle.std.specs.Option.{option_map}
+use Rattle.loc_base.proofs.ShelfOptions.{option_map-none}
 use Rattle.trail_core.specs.declared.entry.Entry.{Entry}
 use Rattle.trail_core.specs.TrailState.{entry_of, values_of, up_to}
 use Rattle.trail_core.proofs.Lists.{find-take_none, find-take_some}
@@ -16,14 +17,10 @@ pub mapped : {A B : Type 0} (f : A → B) (o : Option A) (y : B) → option_map 
 mapped f None y h = cc
 mapped f (Some x) y h = record { value = x; is = refl; gives = cc }
 
-pub mapped_none : {A B : Type 0} (f : A → B) (o : Option A) → option_map f o ≡ None → o ≡ None
-mapped_none f None h = refl
-mapped_none f (Some x) h = cc
-
 -- a variable without a value has none in a front
 pub values-take_none : (es : List Entry) (m v : ℕ) → values_of es v ≡ None → values_of (take m es) v ≡ None
 values-take_none es m v h =
-    let n = mapped_none (λ (e : Entry). not e.lit.negated) (entry_of es v) h in
+    let n = option_map-none (λ (e : Entry). not e.lit.negated) (entry_of es v) h in
     rw (find-take_none (λ (e : Entry). eqb e.lit.var v) es m n) refl
 
 -- a value in a front is kept

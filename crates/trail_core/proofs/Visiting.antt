@@ -2,6 +2,7 @@
 use Rattle.std.proofs.Common.{◌≡◌, ◌≢◌, ℕ, ◌+◌, ◌-◌, ◌<◌, ◌≤◌, Bool, true, false, not, eqb, List, [], ◌∷◌, ◌++◌, length, get_or, set, take, Option, Some, None, refl, sym, ap, ◌∙◌, subst, arith, ◌⊎◌, inl, inr}
 use Rattle.std.specs.Option.{option_map}
 use Rattle.std.proofs.lemmas.List.{get_or-set_same, get_or-set_other, length-set, length_push, take_all}
+use Rattle.loc_base.proofs.ShelfOptions.{option_map-none}
 use Rattle.clause_base.specs.declared.literal.Lit.{Lit}
 use Rattle.clause_base.specs.Literal.{has}
 use Rattle.clause_base.specs.Acceptance.{numbered}
@@ -16,7 +17,7 @@ use Rattle.trail_core.specs.Watching.{IsCovered, IsWatch, IsSettled, IsPaired, s
 use Rattle.trail_core.specs.Visits.{IsGone, IsOther, IsVisited, IsKnown, IsOriented, IsMoved, IsReplacement, VisitsAs, Holds}
 use Rattle.trail_core.proofs.Lists.{find_found}
 use Rattle.trail_core.proofs.Levels.{level_le_all}
-use Rattle.trail_core.proofs.Truth.{mapped, mapped_none, values-take_some}
+use Rattle.trail_core.proofs.Truth.{mapped, values-take_some}
 use Rattle.trail_core.proofs.LayoutLemmas.{entry_of_push_same}
 use Rattle.trail_core.proofs.RoundLemmas.{Propagates-none, Propagates-forced}
 use Rattle.trail_core.proofs.Keeping.{IsFront, front_push, settled_front, watch_front, paired_map, level_front}
@@ -110,7 +111,7 @@ visits_forced t new w p q n k o is e free trail =
     front = front_push t.entries entry
 
     found : entry_of (t.entries ++ entry ∷ []) p.second.var ≡ Some entry
-    found = entry_of_push_same t.entries entry p.second.var refl (mapped_none (λ (x : Entry). not x.lit.negated) (entry_of t.entries p.second.var) free)
+    found = entry_of_push_same t.entries entry p.second.var refl (option_map-none (λ (x : Entry). not x.lit.negated) (entry_of t.entries p.second.var) free)
 
     gone_level : level_in (t.entries ++ entry ∷ []) p.first.var ≡ Some t.level
     gone_level = level_front t.entries (t.entries ++ entry ∷ []) p.first.var p.first.negated front k.is_gone.is_false ∙ k.is_gone.level

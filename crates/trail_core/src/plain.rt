@@ -65,7 +65,7 @@ impl PlainTrail {
 
     /// Adds a clause of these literals and gives its number, the first being 1. Unchanged after `NoMemory`.
     pub(crate) fn add_clause(&mut self, literals: &[Lit]) -> Result<u32, NoMemory>
-        requires room { length self.old.clauses + 1 < 2 ^ 32 }
+        requires clauses_fit { length self.old.clauses + 1 < 2 ^ 32 }
         requires distinct { IsTrue (has_distinct_variables literals.now) }
         requires within { IsWithin self.old.vars literals.now }
         requires may { MayAdd self.old literals.now }

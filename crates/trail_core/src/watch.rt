@@ -35,7 +35,7 @@ pub(crate) struct Sweep {
 
 /// Leaves the clause in the list.
 fn keep(watches: &mut Watches, sweep: &mut Sweep, number: u32)
-    requires room { sweep.old.kept < length (list_of watches.old.lists.items sweep.old.gone) }
+    requires within_list { sweep.old.kept < length (list_of watches.old.lists.items sweep.old.gone) }
     ensures lists { watches.new.lists.items ≡ slice_set watches.old.lists.items (code_of sweep.old.gone) (slice_set (list_of watches.old.lists.items sweep.old.gone) sweep.old.kept number) }
     ensures pairs { watches.new.pairs ≡ watches.old.pairs }
     ensures gone_over { watches.new.gone_over ≡ watches.old.gone_over }

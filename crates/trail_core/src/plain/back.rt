@@ -42,7 +42,7 @@ fn shorten(
     requires value_size { length values.old.items ≡ length assigned.old.items }
     requires keep { keep ≤ length entries.old.items }
     ensures kept { entries.new.items ≡ take keep entries.old.items }
-    ensures room { vec_capacity entries.new ≡ vec_capacity entries.old }
+    ensures capacity { vec_capacity entries.new ≡ vec_capacity entries.old }
     ensures size { length assigned.new.items ≡ length assigned.old.items }
     ensures index { IsIndex assigned.new.items entries.new.items }
     ensures counted { count_by is_some assigned.new.items ≡ length entries.new.items }

@@ -2,7 +2,7 @@ use Rattle.std.proofs.Common.{sym, subst, Ok}
 use Rattle.std.proofs.lemmas.Result.{err_from_is_err_and}
 use Rattle.sat_core.specs.Outcome.{Grows}
 use Rattle.sat_core.specs.Searching.{form_of, GoesOn, closings_at}
-use Rattle.sat_core.proofs.SearchLemmas.{closings_some, closings_failed, Grows-step, room_left, goes_on, Keeps-trans}
+use Rattle.sat_core.proofs.SearchLemmas.{closings_some, closings_failed, Grows-step, clauses_fit-step, goes_on, Keeps-trans}
 use Rattle.sat_core.proofs.engine.Engine.search.Goals as goal
 
 pub returns-in_err-verdict-clause-grows : goal.returns-in_err-verdict-clause-grows
@@ -24,7 +24,7 @@ loop-verdict-preserved c =
     subst (λ o. Grows (form_of c.loop-verdict.self) c.loop-verdict.log c.advance.new.log c.loop-verdict.budget c.advance.new.budget (closings_at (Ok o))) c.in_default.is c.in_ok-verdict.ensures.grows in
     record {
       under_way = g.under_way;
-      room = room_left c.loop-verdict.self c.advance.new.self c.loop-verdict.log c.advance.new.log c.loop-verdict.budget c.advance.new.budget c.advance.ensures.keeps s c.loop-verdict.invariant.room;
+      clauses_fit = clauses_fit-step c.loop-verdict.self c.advance.new.self c.loop-verdict.log c.advance.new.log c.loop-verdict.budget c.advance.new.budget c.advance.ensures.keeps s c.loop-verdict.invariant.clauses_fit;
       some = g.some;
       keeps = Keeps-trans c.args.self.now c.loop-verdict.self c.advance.new.self c.loop-verdict.invariant.keeps c.advance.ensures.keeps;
       grows = Grows-step c.args.self.now c.loop-verdict.self c.args.log.now c.loop-verdict.log c.advance.new.log c.args.budget.now c.loop-verdict.budget c.advance.new.budget 0 c.loop-verdict.invariant.keeps c.loop-verdict.invariant.grows s;

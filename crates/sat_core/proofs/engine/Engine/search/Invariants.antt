@@ -6,7 +6,7 @@ use Rattle.sat_core.proofs.engine.Engine.search.Given as goal
 abbrev pub invariant-loop-verdict : goal.invariant-loop-verdict
 invariant-loop-verdict l = record {
   under_way : IsUnderWay l.self l.log l.assume;
-  room : l.self.form_len + length l.log + l.budget + 1 < 2 ^ 32;
+  clauses_fit : l.self.form_len + length l.log + l.budget + 1 < 2 ^ 32;
   some : 0 < l.budget;
   keeps : Keeps l.fn.self l.self;
   grows : Grows (form_of l.fn.self) l.fn.log l.log l.fn.budget l.budget 0;

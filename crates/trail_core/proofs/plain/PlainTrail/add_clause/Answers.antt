@@ -10,7 +10,7 @@ added c =
     IsTrail-added (state_of c.self.inside) c.args.self.now c.push.new.self c.args.literals.now c.self.view_is c.self.invariant.trail c.requires.within c.requires.distinct c.requires.may c.in_ok-push.ensures.ok
 
 few : (c : goal.After-len) → length c.push.new.self < 2 ^ 32
-few c = let small : length c.self.inside.clauses + 1 < 2 ^ 32 = subst (λ (s : TrailState). length s.clauses + 1 < 2 ^ 32) (sym c.self.view_is) c.requires.room in
+few c = let small : length c.self.inside.clauses + 1 < 2 ^ 32 = subst (λ (s : TrailState). length s.clauses + 1 < 2 ^ 32) (sym c.self.view_is) c.requires.clauses_fit in
     omega (arith, small, ap length c.in_ok-push.ensures.ok, length_push c.self.inside.clauses c.args.literals.now)
 
 pub invariant_of-self-2 : goal.invariant_of-self-2

@@ -23,7 +23,7 @@ goes_back c =
       counted = c.shorten.ensures.counted;
       values = c.shorten.ensures.values;
       value_size = c.shorten.ensures.value_size;
-      entry_room = c.shorten.ensures.room;
+      entry_room = c.shorten.ensures.capacity;
       start_room = c.truncate.ensures.capacity;
     }
 

@@ -17,7 +17,7 @@ loop-preserved c =
     record {
       end = c.loop.invariant.end;
       left = p.left_is;
-      room = c.pop.ensures.capacity ∙ c.loop.invariant.room;
+      capacity = c.pop.ensures.capacity ∙ c.loop.invariant.capacity;
       size = length-set c.loop.assigned.items (c.unwrap-entry.result.lit.var - 1) None ∙ c.loop.invariant.size;
       index = p.index;
       counted = p.counted;

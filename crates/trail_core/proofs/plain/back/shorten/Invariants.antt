@@ -7,7 +7,7 @@ abbrev pub invariant-loop : goal.invariant-loop
 invariant-loop l = record {
   end : l.end ≡ length l.fn.entries.items;
   left : l.entries.items ≡ take (l.keep + (l.end - l.counter)) l.fn.entries.items;
-  room : vec_capacity l.entries ≡ vec_capacity l.fn.entries;
+  capacity : vec_capacity l.entries ≡ vec_capacity l.fn.entries;
   size : length l.assigned.items ≡ length l.fn.assigned.items;
   index : IsIndex l.assigned.items l.entries.items;
   counted : count_by is_some l.assigned.items ≡ length l.entries.items;
