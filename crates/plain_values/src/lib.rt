@@ -13,6 +13,7 @@ mod words;
 mod write;
 
 pub use expression::value;
+pub use operator::{binary, repeated, resized, unary};
 pub use rows::row;
 pub use select::{bit_of, distance_of, position_from, with_next};
 pub use signals::{is_listed, signal_at, width_at};

@@ -16,7 +16,7 @@ fn is_odd(word: Bits) -> bool
 }
 
 /// A unary operator (IEEE 1364-2005, 5.1).
-pub(crate) fn unary(op: UnaryOp, word: Bits) -> Bits
+pub fn unary(op: UnaryOp, word: Bits) -> Bits
     ensures width { (width : ℕ) → IsTrue (unary_fits op width (width_of word)) → width_of result ≡ width }
     ensures value { value_of result ≡ unary op (width_of word) (value_of word) }
 {
@@ -47,13 +47,7 @@ fn is_less(signed: bool, left: Bits, right: Bits) -> bool
 }
 
 /// A binary operator (IEEE 1364-2005, 5.1). Shifts and comparisons go by the operands' signs.
-pub(crate) fn binary(
-    op: BinaryOp,
-    left: Bits,
-    left_signed: bool,
-    right: Bits,
-    right_signed: bool,
-) -> Bits
+pub fn binary(op: BinaryOp, left: Bits, left_signed: bool, right: Bits, right_signed: bool) -> Bits
     requires { IsTrue (takes op (width_of left) (width_of right)) }
     ensures width { (width : ℕ) → IsTrue (binary_fits op width (width_of left) (width_of right)) → width_of result ≡ width }
     ensures value { value_of result ≡ binary op (width_of left) left_signed right_signed (value_of left) (value_of right) }
@@ -88,7 +82,7 @@ pub(crate) fn binary(
 }
 
 /// A word a number of times, one after another (IEEE 1364-2005, 5.1.14).
-pub(crate) fn repeated(times: u8, part: Bits) -> Bits
+pub fn repeated(times: u8, part: Bits) -> Bits
     requires some { 1 ≤ times }
     requires fits { times * width_of part ≤ 128 }
     ensures width { width_of result ≡ times * width_of part }
@@ -102,7 +96,7 @@ pub(crate) fn repeated(times: u8, part: Bits) -> Bits
 }
 
 /// A word extended by its sign, or cut, to a width (IEEE 1364-2005, 5.5.3).
-pub(crate) fn resized(word: Bits, signed: bool, width: u8) -> Bits
+pub fn resized(word: Bits, signed: bool, width: u8) -> Bits
     requires least { 1 ≤ width }
     requires most { width ≤ 128 }
     ensures width { width_of result ≡ width }
