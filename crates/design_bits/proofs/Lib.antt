@@ -5,3 +5,8 @@ pub mod DriveSteps
 pub mod ReadSteps
 pub mod ReadsAdded
 pub mod MentionSteps
+pub mod ListedLaws
+pub mod PathSteps
+pub mod WaitLaws
+pub mod FullLaws
+pub mod CaseLaws

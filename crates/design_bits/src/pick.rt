@@ -63,3 +63,13 @@ pub(crate) fn may_pick(signals: &[Signal], signal: usize, index: &Typed, offsets
         None => ones(u16::from(width_at(signals, signal))),
     }
 }
+
+/// The bits of a signal that a part by an index surely has: none where the index is no constant.
+pub(crate) fn must_pick(signals: &[Signal], signal: usize, index: &Typed, offsets: &[i32]) -> u128
+    ensures { (b : ℕ) → b < 128 → bit result b ≡ must_pick signals.now signal index.now.width index.now.signed index.now.node offsets.now b }
+{
+    match constant_of(index) {
+        Some(at) => bits_from(signals, signal, at, index.signed, offsets),
+        None => 0,
+    }
+}
