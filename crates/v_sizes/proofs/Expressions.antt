@@ -126,7 +126,7 @@ some-times (suc times) width some =
     let next : suc times * width ≡ (times + 1) * width = ap (λ n. n * width) (omega arith) in
     omega (arith, spread, next)
 
-one-part : (times width : ℕ) → 1 ≤ times → Within (times * width) → Within width
+pub one-part : (times width : ℕ) → 1 ≤ times → Within (times * width) → Within width
 one-part times zero some within = let nothing : times * 0 ≡ 0 = omega arith in absurd (omega (arith, nothing, within.least))
 one-part times (suc width) some within = record { least = omega arith; most = omega (arith, within.most, some-times times (suc width) some) }
 
@@ -144,7 +144,7 @@ logarithm-most (suc more) bits n = by (nat_le n (2 ^ bits)) (logarithm-most more
     by true h = omega arith
     by false h = omega (arith, h)
 
-logarithm-low : (n : ℕ) → ceiling_of_logarithm n < 2 ^ 32
+pub logarithm-low : (n : ℕ) → ceiling_of_logarithm n < 2 ^ 32
 logarithm-low n = omega (arith, logarithm-most 128 0 n)
 
 called-law : (signals : List Signal) (look : Look) (name : SystemFunction) (argument : Tree) (size : ℕ) (signed : Bool) (span : Span) → Within size

@@ -126,7 +126,7 @@ array-meant signals {ss = ss} {cs = cs} a size own_signed signed span down selec
     by false at h less = variable-word signals a size own_signed signed span down at selects accepted fits less
 
 -- a parameter with selects that aren't refused is a constant
-parameter-constant : (span : Span) (down : Bool) (cs : List Chosen) → word_fault span false true down cs ≡ None → list_all is_chosen_by_constants cs ≡ true
+pub parameter-constant : (span : Span) (down : Bool) (cs : List Chosen) → word_fault span false true down cs ≡ None → list_all is_chosen_by_constants cs ≡ true
 parameter-constant span down [] accepted = refl
 parameter-constant span down (c ∷ []) accepted = ap (λ b. b && true) ((chosen-known span true down c accepted).1 refl)
 parameter-constant span down (c ∷ d ∷ rest) accepted = cc

@@ -83,14 +83,14 @@ folded-meant signals e width signed shape within steady meant = by e.constant re
     by false is = meant
 
 -- ---- other widths and signs
-extended-same : (signed : Bool) (width number : ℕ) → extended signed width width number ≡ number
+pub extended-same : (signed : Bool) (width number : ℕ) → extended signed width width number ≡ number
 extended-same signed width number = by (signed && is_negative width number)
   where
     by : (high : Bool) → (if high then number + (2 ^ width - 2 ^ width) else number) ≡ number
     by true = omega arith
     by false = refl
 
-resized-wider : (signed : Bool) (from to number : ℕ) → from ≤ to → resized to signed from number ≡ extended signed from to number
+pub resized-wider : (signed : Bool) (from to number : ℕ) → from ≤ to → resized to signed from number ≡ extended signed from to number
 resized-wider signed from to number wide = ap (λ holds. if holds then extended signed from to number else number % 2 ^ to) (le-leb from to wide)
 
 resize-meant : (signals : List Signal) (t : Typed) (own width : ℕ) (signed : Bool) (of : Valuation → ℕ) → Within width → own ≤ width

@@ -68,7 +68,7 @@ offsets-zero : (offset : ℕ → ℤ) → offsets_to offset zero ≡ []
 unfolding offsets_to
 offsets-zero offset = refl
 
-offsets-suc : (offset : ℕ → ℤ) (count : ℕ) → offsets_to offset (suc count) ≡ offsets_to offset count ++ offset count ∷ []
+pub offsets-suc : (offset : ℕ → ℤ) (count : ℕ) → offsets_to offset (suc count) ≡ offsets_to offset count ++ offset count ∷ []
 unfolding offsets_to
 offsets-suc offset count = refl
 

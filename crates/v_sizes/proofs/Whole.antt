@@ -194,7 +194,7 @@ OperandsStand signals look quotient left right size signed = (class_sizing quoti
 OperandsStand signals look remainder left right size signed = (class_sizing remainder (sizing look left) (sizing look right)).constant ≡ true
 OperandsStand signals look power left right size signed = (class_sizing power (sizing look left) (sizing look right)).constant ≡ true
 
-word_of-low : (width : ℕ) (negative : Bool) (distance : ℕ) → word_of width negative distance < 2 ^ width
+pub word_of-low : (width : ℕ) (negative : Bool) (distance : ℕ) → word_of width negative distance < 2 ^ width
 word_of-low width true distance = mod-lt (2 ^ width - distance % 2 ^ width) (pow_pos width)
 word_of-low width false distance = mod-lt distance (pow_pos width)
 

@@ -1,8 +1,9 @@
 -- When a measured expression is what its definition says: its width and sign by itself, whether it is a constant, and in each
 -- context that isn't narrower its fault and its sized expression.
 use Rattle.std.proofs.Common.{◌≡◌, ℕ, ◌%◌, ◌^◌, ◌<◌, ◌≤◌, Bool, true, false, ◌&&◌, Option, Some, None, refl, ap, sym, subst, ◌∙◌, arith}
-use Rattle.std.specs.Prelude.{if◌then◌else◌, nat_le, ◌==◌, ℤ, pos, is_some}
-use Rattle.std.proofs.lemmas.Bool.{le-leb, eqb-true}
+use Rattle.std.specs.Prelude.{if◌then◌else◌, ◌==◌, max, pos, is_some}
+use Rattle.std.specs.Option.{option_or}
+use Rattle.std.proofs.lemmas.Bool.{eqb-true}
 use Rattle.std.proofs.Math.Nat.{mod-eq_of_lt}
 use Rattle.loc_base.specs.Bits.{width_of, value_of}
 use Rattle.loc_base.specs.Word.{extended}
@@ -16,15 +17,27 @@ use Rattle.v_sizes.specs.Literal.{limited}
 use Rattle.v_sizes.specs.Sizing.{Sizing, own, known}
 use Rattle.v_sizes.specs.Sized.{sized, constant, with_width, carried, folded}
 use Rattle.v_sizes.specs.Word.{word}
-use Rattle.v_sizes.proofs.Meant.{Within, limited-within}
+use Rattle.v_sizes.proofs.Meant.{Within, limited-within, resized-wider}
 use Rattle.v_sizes.proofs.Law.{extended-below}
-use Rattle.v_widths.specs.declared.measured.Closed.{Closed}
+use Rattle.v_selects.specs.declared.closed.Closed.{Closed}
 use Rattle.v_widths.specs.declared.measured.Measured.{Measured}
-use Rattle.v_widths.specs.Folding.{const_number, const_width, number_in}
-use Rattle.v_widths.specs.Closing.{closed, closed_with, own_typed, alone, low}
-use Rattle.v_widths.specs.Measuring.{kept, own_measured, number_of}
-use Rattle.v_widths.specs.Taken.{taken}
+use Rattle.v_selects.specs.Folding.{const_number, const_width, number_in}
+use Rattle.v_widths.specs.Closing.{closed, closed_with, alone, low}
+use Rattle.v_selects.specs.Leaves.{kept}
+use Rattle.v_widths.specs.Measuring.{own_measured, number_of}
+use Rattle.v_selects.specs.Taken.{taken}
 use Rattle.v_widths.proofs.ClosedSteps.{closed_own}
+
+-- ---- both operands, each replaced by what is equal to it
+pub and-same : (a b c d : Bool) → a ≡ c → b ≡ d → (a && b) ≡ (c && d)
+and-same a b c d one other = ap (λ x. x && b) one ∙ ap (λ x. c && x) other
+
+pub max-same : (a b c d : ℕ) → a ≡ c → b ≡ d → max a b ≡ max c d
+max-same a b c d one other = ap (λ x. max x b) one ∙ ap (max c) other
+
+pub or-nothing : (f : Option WidthErr) → option_or f None ≡ f
+or-nothing None = refl
+or-nothing (Some x) = refl
 
 -- an expression in a context, as its size, its fault and its sized expression say
 pub record IsClosed (of : Sizing) (refused : Option WidthErr) (gives : Typed) (size : ℕ) (signed : Bool) (c : Closed) : Type 0 where
@@ -131,9 +144,6 @@ with_width-sign size t = by (t.width == size)
     by : (b : Bool) → sign_in (if b then t else sized size t.signed (node.Resize t)) ≡ t.signed
     by true = refl
     by false = refl
-
-pub resized-wider : (signed : Bool) (from to number : ℕ) → from ≤ to → resized to signed from number ≡ extended signed from to number
-resized-wider signed from to number wide = ap (λ holds. if holds then extended signed from to number else number % 2 ^ to) (le-leb from to wide)
 
 -- the word of a constant, carried to the context
 pub word-carried : (w size number : ℕ) (signed : Bool) → Within w → w ≤ size → number < 2 ^ w

@@ -1,13 +1,12 @@
 -- What an expression becomes in the context that a call gives it.
-use Rattle.std.proofs.Common.{◌≡◌, ℕ, ◌≤◌, ◌<◌, Bool, true, false, ◌&&◌, Option, Some, None, refl, ap, sym, subst, ◌∙◌, arith}
-use Rattle.std.specs.Prelude.{if◌then◌else◌, max, not}
-use Rattle.std.proofs.Math.Nat.{le-max_left, le-max_right, max-le}
+use Rattle.std.proofs.Common.{◌≡◌, ℕ, ◌≤◌, Bool, true, false, ◌&&◌, None, refl, ap, sym, subst, ◌∙◌, arith}
+use Rattle.std.specs.Prelude.{max, not}
+use Rattle.std.proofs.Math.Nat.{le-max_right, max-le}
 use Rattle.loc_base.specs.declared.bits.Bits.{Bits}
 use Rattle.loc_base.specs.Bits.{width_of, value_of}
 use Rattle.v_tree.specs.Tree.{Tree}
 use Rattle.design_core.specs.declared.expression.Typed.{Typed}
 use Rattle.design_core.specs.Constant.{zeros}
-use Rattle.v_sizes.specs.declared.error.WidthErr.{WidthErr}
 use Rattle.v_sizes.specs.declared.meaning.Const.{Const}
 use Rattle.v_sizes.specs.Look.{Look}
 use Rattle.v_sizes.specs.Refusals.{refusal}
@@ -15,10 +14,9 @@ use Rattle.v_sizes.specs.Sizing.{sizing}
 use Rattle.v_sizes.specs.Sized.{constant, typed}
 use Rattle.v_sizes.specs.Context.{IsScope, context_width, context_sign, constant_of, constant_refusal_in}
 use Rattle.v_sizes.specs.Word.{word}
-use Rattle.v_sizes.proofs.Meant.{Within}
 use Rattle.v_sizes.proofs.SameWord.{same_word}
-use Rattle.v_widths.specs.declared.measured.Closed.{Closed}
-use Rattle.v_widths.specs.Folding.{const_number, const_width}
+use Rattle.v_selects.specs.declared.closed.Closed.{Closed}
+use Rattle.v_selects.specs.Folding.{const_number, const_width}
 use Rattle.v_widths.specs.Closing.{closed}
 use Rattle.v_widths.specs.Opening.{opened}
 use Rattle.v_widths.proofs.Agrees.{IsClosed}

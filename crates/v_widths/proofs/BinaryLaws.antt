@@ -1,5 +1,5 @@
 -- That what the pass up gives of an operator of two operands is what its definition says, where it is so of the operands.
-use Rattle.std.proofs.Common.{◌≡◌, ℕ, ◌+◌, ◌-◌, ◌*◌, ◌/◌, ◌%◌, ◌^◌, ◌<◌, ◌≤◌, Bool, true, false, ◌&&◌, [], Option, Some, None, refl, ap, sym, subst, ◌∙◌, arith, lit≤}
+use Rattle.std.proofs.Common.{◌≡◌, ℕ, ◌%◌, ◌^◌, ◌<◌, ◌≤◌, Bool, true, false, ◌&&◌, [], Option, Some, None, refl, ap, sym, subst, ◌∙◌, arith, lit≤}
 use Rattle.std.specs.Prelude.{if◌then◌else◌, max, not, ◌||◌, ◌==◌, ⊤, pos}
 use Rattle.std.specs.Option.{option_or}
 use Rattle.std.proofs.lemmas.Bool.{and_parts, not-false}
@@ -19,22 +19,22 @@ use Rattle.design_core.specs.WellFormed.{binary_fits, signs_fit}
 use Rattle.v_sizes.specs.declared.error.WidthErr.{WidthErr}
 use Rattle.v_sizes.specs.declared.error.WidthErr.TheVariants as fault
 use Rattle.v_sizes.specs.Literal.{limited}
-use Rattle.v_sizes.specs.Operations.{Class, by_context, shift, comparison, logical, quotient, remainder, power, class_of, quotient_of, remainder_of, power_of, word_of, is_below_0, magnitude}
+use Rattle.v_sizes.specs.Operations.{Class, by_context, shift, comparison, logical, quotient, remainder, power, class_of, is_below_0, magnitude}
 use Rattle.v_sizes.specs.Refusals.{when, first_of, by_own, division_fault, power_fault}
-use Rattle.v_sizes.specs.Sizing.{Sizing, own, integer, known, class_sizing}
+use Rattle.v_sizes.specs.Sizing.{Sizing, own, integer, known, both_by_context, class_sizing}
 use Rattle.v_sizes.specs.Sized.{sized, constant, carried, folded}
 use Rattle.v_sizes.proofs.Meant.{Within, limited-within, constant-meant, binary-meant, below}
 use Rattle.v_sizes.proofs.Accepted.{first_of-none, or-none, when-none, or_false, max-within}
 use Rattle.v_sizes.proofs.Operands.{Fits, ByContext, Shifts, Compares, Joins, class-fits}
-use Rattle.v_widths.specs.declared.measured.Closed.{Closed}
 use Rattle.v_widths.specs.declared.measured.Measured.{Measured}
 use Rattle.v_widths.specs.Closing.{closed, closed_with, alone, low, shifted_number, divided_number}
 use Rattle.v_widths.specs.Closing as closing
 use Rattle.v_widths.specs.Measuring.{number_of, compared, joined_truth, logical_number, both_measured, shifted_measured, divided_measured, exponent_fault, raised_measured, compared_measured, binary_measured}
-use Rattle.v_widths.specs.Folding.{number_in}
-use Rattle.v_widths.specs.Taken.{taken}
+use Rattle.v_selects.specs.Folding.{number_in}
+use Rattle.v_selects.specs.Taken.{taken}
 use Rattle.v_widths.proofs.ClosedSteps.{closed_both, closed_divided, closed_shifted, closed_raised}
-use Rattle.v_widths.proofs.Agrees.{IsClosed, IsMeasured, IsTaken, never, low-constant, folded-closed, own-law, alone-closed, taken-as}
+use Rattle.v_widths.proofs.Agrees.{IsClosed, IsMeasured, low-constant, folded-closed, own-law, alone-closed, taken-as, and-same, max-same, or-nothing}
+use Rattle.v_sizes.proofs.Whole.{word_of-low}
 
 abbrev pub Faults : Type 0
 Faults = ℕ → Bool → Option WidthErr
@@ -86,19 +86,9 @@ ClassLaw span c p m =
     IsMeasured (class_sizing c p.L p.R) (class_faults span c p.L p.R p.left_faults p.right_faults)
     (λ size signed. folded (class_sizing c p.L p.R) size signed (class_shapes c p.L p.R p.left_shapes p.right_shapes size signed)) m
 
-or-nothing : (f : Option WidthErr) → option_or f None ≡ f
-or-nothing None = refl
-or-nothing (Some x) = refl
-
 -- the leftmost of two faults
 two-faults : (a b left right : Option WidthErr) → a ≡ left → b ≡ right → option_or a b ≡ first_of left right None
 two-faults a b left right one other = ap (λ f. option_or f b) one ∙ ap (option_or left) (other ∙ sym (or-nothing right))
-
-both-constant : (a b c d : Bool) → a ≡ c → b ≡ d → (a && b) ≡ (c && d)
-both-constant a b c d one other = ap (λ x. x && b) one ∙ ap (λ x. c && x) other
-
-both-wide : (a b c d : ℕ) → a ≡ c → b ≡ d → max a b ≡ max c d
-both-wide a b c d one other = ap (λ x. max x b) one ∙ ap (max c) other
 
 one_bit : Within 1
 one_bit = record { least = lit≤ tt; most = lit≤ tt }
@@ -121,9 +111,9 @@ binary-below op width lw rw signed ls rs a b within l_within r_within suits sign
 both-law : (span : Span) (op : BinaryOp) (p : Pair) → ByContext op → ClassLaw span (by_context op) p (both_measured op p.l p.r)
 both-law span op p suits =
     record {
-      width = both-wide p.l.width p.r.width p.L.width p.R.width p.left.width p.right.width;
-      signed = both-constant p.l.signed p.r.signed p.L.signed p.R.signed p.left.signed p.right.signed;
-      constant = both-constant p.l.constant p.r.constant p.L.constant p.R.constant p.left.constant p.right.constant;
+      width = max-same p.l.width p.r.width p.L.width p.R.width p.left.width p.right.width;
+      signed = and-same p.l.signed p.r.signed p.L.signed p.R.signed p.left.signed p.right.signed;
+      constant = and-same p.l.constant p.r.constant p.L.constant p.R.constant p.left.constant p.right.constant;
       within = max-within p.L.width p.R.width p.left.within p.right.within;
       below = λ size signed within wide holds.
           let both = and_parts p.L.constant p.R.constant holds in
@@ -142,7 +132,7 @@ both-law span op p suits =
           (constant size signed (operator.binary op size signed signed (low size a.typed) (low size b.typed)))
           (sized size signed (node.Binary op a.typed b.typed))
           (class_shapes (by_context op) p.L p.R p.left_shapes p.right_shapes size signed)
-          (both-constant p.l.constant p.r.constant p.L.constant p.R.constant p.left.constant p.right.constant)
+          (and-same p.l.constant p.r.constant p.L.constant p.R.constant p.left.constant p.right.constant)
           (two-faults a.fault b.fault (p.left_faults size signed) (p.right_faults size signed) one.fault other.fault) (λ accepted. refl)
           (λ holds.
           let both = and_parts p.L.constant p.R.constant holds in
@@ -169,7 +159,7 @@ shift-law span op p suits same =
     record {
       width = p.left.width;
       signed = p.left.signed;
-      constant = both-constant p.l.constant c.constant p.L.constant p.R.constant p.left.constant taken_is.constant;
+      constant = and-same p.l.constant c.constant p.L.constant p.R.constant p.left.constant taken_is.constant;
       within = p.left.within;
       below = λ size signed within wide holds.
           let both = and_parts p.L.constant p.R.constant holds in
@@ -186,7 +176,7 @@ shift-law span op p suits same =
           (constant size signed (shifted_number op size signed (low size a.typed) (number_in c.typed)))
           (sized size signed (node.Binary op a.typed c.typed))
           (class_shapes (shift op) p.L p.R p.left_shapes p.right_shapes size signed)
-          (both-constant p.l.constant c.constant p.L.constant p.R.constant p.left.constant taken_is.constant)
+          (and-same p.l.constant c.constant p.L.constant p.R.constant p.left.constant taken_is.constant)
           (two-faults a.fault c.fault (p.left_faults size signed) (by_own p.R p.right_faults) one.fault alone_is.fault) (λ accepted. refl)
           (λ holds.
           let both = and_parts p.L.constant p.R.constant holds in
@@ -225,7 +215,7 @@ compared-in span op p suits =
     own-law of (first_of (p.left_faults w s) (p.right_faults w s) None) (option_or a.fault b.fault)
     (λ size signed. folded of size signed (class_shapes (comparison op) p.L p.R p.left_shapes p.right_shapes size signed))
     1 false (a.constant && b.constant) (operator.binary op w s s (low w a.typed) (low w b.typed)) (node.Binary op a.typed b.typed) (node.Binary op (p.left_shapes w s) (p.right_shapes w s))
-    refl refl (both-constant a.constant b.constant p.L.constant p.R.constant one.of_constant other.of_constant) one_bit
+    refl refl (and-same a.constant b.constant p.L.constant p.R.constant one.of_constant other.of_constant) one_bit
     (two-faults a.fault b.fault (p.left_faults w s) (p.right_faults w s) one.fault other.fault)
     (λ holds.
     let both = and_parts p.L.constant p.R.constant holds in
@@ -243,8 +233,8 @@ comparison-law span op p suits =
     let w = max p.L.width p.R.width in
     let s = p.L.signed && p.R.signed in
     let within = max-within p.L.width p.R.width p.left.within p.right.within in
-    let width : limited (max p.l.width p.r.width) ≡ w = ap limited (both-wide p.l.width p.r.width p.L.width p.R.width p.left.width p.right.width) ∙ limited-within w within in
-    let sign : (p.l.signed && p.r.signed) ≡ s = both-constant p.l.signed p.r.signed p.L.signed p.R.signed p.left.signed p.right.signed in
+    let width : limited (max p.l.width p.r.width) ≡ w = ap limited (max-same p.l.width p.r.width p.L.width p.R.width p.left.width p.right.width) ∙ limited-within w within in
+    let sign : (p.l.signed && p.r.signed) ≡ s = and-same p.l.signed p.r.signed p.L.signed p.R.signed p.left.signed p.right.signed in
     subst (λ x. ClassLaw span (comparison op) p (compared op (limited (max p.l.width p.r.width)) x (closed p.l (limited (max p.l.width p.r.width)) x) (closed p.r (limited (max p.l.width p.r.width)) x))) (sym sign)
     (subst (λ x. ClassLaw span (comparison op) p (compared op x s (closed p.l x s) (closed p.r x s))) (sym width) (compared-in span op p suits))
 
@@ -268,7 +258,7 @@ logical-law span op p suits same =
     (λ size signed. folded of size signed (class_shapes (logical op) p.L p.R p.left_shapes p.right_shapes size signed))
     1 false (a.constant && b.constant) (logical_number op (number_of a) (number_of b)) (node.Binary op a.typed b.typed)
     (node.Binary op (p.left_shapes p.L.width p.L.signed) (p.right_shapes p.R.width p.R.signed))
-    refl refl (both-constant a.constant b.constant p.L.constant p.R.constant one.of_constant other.of_constant) one_bit
+    refl refl (and-same a.constant b.constant p.L.constant p.R.constant one.of_constant other.of_constant) one_bit
     (two-faults a.fault b.fault (by_own p.L p.left_faults) (by_own p.R p.right_faults) one.fault other.fault)
     (λ holds.
     let both = and_parts p.L.constant p.R.constant holds in
@@ -312,89 +302,55 @@ division-constant span L R divisor accepted =
     not-false (L.constant && R.constant)
     (when-none (not (L.constant && R.constant)) (fault.NotConstant span) (when (divisor == 0) (fault.ZeroDivisor span) None) accepted).0
 
-word_of-low : (width : ℕ) (negative : Bool) (distance : ℕ) → word_of width negative distance < 2 ^ width
-word_of-low width true distance = mod-lt (2 ^ width - distance % 2 ^ width) (pow_pos width)
-word_of-low width false distance = mod-lt distance (pow_pos width)
-
 -- a quotient, or a remainder
-abbrev divided_class : Bool → Class
-divided_class true = remainder
-divided_class false = quotient
+abbrev divided_sizing : Bool → Pair → Sizing
+divided_sizing is_remainder p = both_by_context p.L p.R (divided_number is_remainder)
+
+divided-below : (is_remainder : Bool) (size : ℕ) (signed : Bool) (a b : ℕ) → divided_number is_remainder size signed a b < 2 ^ size
+divided-below false size signed a b = word_of-low size _ _
+divided-below true size signed a b = word_of-low size _ _
 
 three-faults : (a b c left right whole : Option WidthErr) → a ≡ left → b ≡ right → c ≡ whole → option_or a (option_or b c) ≡ first_of left right whole
 three-faults a b c left right whole one other own_fault =
     ap (λ f. option_or f (option_or b c)) one ∙ ap (λ f. option_or left (option_or f c)) other ∙ ap (λ f. option_or left (option_or right f)) own_fault
 
-divided-law : (span : Span) (is_remainder : Bool) (p : Pair) → ClassLaw span (divided_class is_remainder) p (divided_measured span is_remainder p.l p.r)
-divided-law span false p =
+divided-law : (span : Span) (is_remainder : Bool) (p : Pair)
+    → IsMeasured (divided_sizing is_remainder p) (class_faults span quotient p.L p.R p.left_faults p.right_faults)
+    (λ size signed. folded (divided_sizing is_remainder p) size signed (constant size signed 0)) (divided_measured span is_remainder p.l p.r)
+divided-law span is_remainder p =
     record {
-      width = both-wide p.l.width p.r.width p.L.width p.R.width p.left.width p.right.width;
-      signed = both-constant p.l.signed p.r.signed p.L.signed p.R.signed p.left.signed p.right.signed;
-      constant = both-constant p.l.constant p.r.constant p.L.constant p.R.constant p.left.constant p.right.constant;
+      width = max-same p.l.width p.r.width p.L.width p.R.width p.left.width p.right.width;
+      signed = and-same p.l.signed p.r.signed p.L.signed p.R.signed p.left.signed p.right.signed;
+      constant = and-same p.l.constant p.r.constant p.L.constant p.R.constant p.left.constant p.right.constant;
       within = max-within p.L.width p.R.width p.left.within p.right.within;
-      below = λ size signed within wide holds. word_of-low size _ _;
+      below = λ size signed within wide holds. divided-below is_remainder size signed (p.L.value zeros size signed) (p.R.value zeros size signed);
       closes = λ size signed within wide.
-          let of = class_sizing quotient p.L p.R in
+          let of = divided_sizing is_remainder p in
           let one = p.left.closes size signed within (left-wide p.L.width p.R.width size wide) in
           let other = p.right.closes size signed within (right-wide p.L.width p.R.width size wide) in
           let a = closed p.l size signed in
           let b = closed p.r size signed in
           let c = p.l.constant && p.r.constant in
-          let same = both-constant p.l.constant p.r.constant p.L.constant p.R.constant p.left.constant p.right.constant in
+          let same = and-same p.l.constant p.r.constant p.L.constant p.R.constant p.left.constant p.right.constant in
           let faults = class_faults span quotient p.L p.R p.left_faults p.right_faults size signed in
           let left_low : (p.L.constant && p.R.constant) ≡ true → low size a.typed ≡ p.L.value zeros size signed =
           λ holds. low-constant size (p.L.value zeros size signed) signed a.typed within
-          (p.left.below size signed within (left-wide p.L.width p.R.width size wide) (and_parts p.L.constant p.R.constant holds).0) (one.known (and_parts p.L.constant p.R.constant holds).0) in
+          (p.left.below size signed within (left-wide p.L.width p.R.width size wide) (and_parts p.L.constant p.R.constant holds).0)
+          (one.known (and_parts p.L.constant p.R.constant holds).0) in
           let right_low : (p.L.constant && p.R.constant) ≡ true → low size b.typed ≡ p.R.value zeros size signed =
           λ holds. low-constant size (p.R.value zeros size signed) signed b.typed within
-          (p.right.below size signed within (right-wide p.L.width p.R.width size wide) (and_parts p.L.constant p.R.constant holds).1) (other.known (and_parts p.L.constant p.R.constant holds).1) in
+          (p.right.below size signed within (right-wide p.L.width p.R.width size wide) (and_parts p.L.constant p.R.constant holds).1)
+          (other.known (and_parts p.L.constant p.R.constant holds).1) in
           subst (IsClosed of faults (folded of size signed (constant size signed 0)) size signed)
-          (sym (closed_divided (max p.l.width p.r.width) (p.l.signed && p.r.signed) c (record { span = span; remainder = false }) p.l p.r size signed))
+          (sym (closed_divided (max p.l.width p.r.width) (p.l.signed && p.r.signed) c (record { span = span; remainder = is_remainder }) p.l p.r size signed))
           (constant-closed of faults (option_or a.fault (option_or b.fault (closing.division_fault span c (low size b.typed)))) (constant size signed 0) size signed c
-          (quotient_of size (integer_of signed size (low size a.typed)) (integer_of signed size (low size b.typed)))
+          (divided_number is_remainder size signed (low size a.typed) (low size b.typed))
           same
           (three-faults a.fault b.fault (closing.division_fault span c (low size b.typed)) (p.left_faults size signed) (p.right_faults size signed) (division_fault span p.L p.R (p.R.value zeros size signed))
           one.fault other.fault (division-same span c (low size b.typed) (p.R.value zeros size signed) p.L p.R same right_low))
           (λ holds.
-          ap (λ n. quotient_of size (integer_of signed size n) (integer_of signed size (low size b.typed))) (left_low holds)
-          ∙ ap (λ n. quotient_of size (integer_of signed size (p.L.value zeros size signed)) (integer_of signed size n)) (right_low holds))
-          (λ accepted.
-          division-constant span p.L p.R (p.R.value zeros size signed)
-          (first_of-none (p.left_faults size signed) (p.right_faults size signed) (division_fault span p.L p.R (p.R.value zeros size signed)) accepted).2)
-          );
-    }
-divided-law span true p =
-    record {
-      width = both-wide p.l.width p.r.width p.L.width p.R.width p.left.width p.right.width;
-      signed = both-constant p.l.signed p.r.signed p.L.signed p.R.signed p.left.signed p.right.signed;
-      constant = both-constant p.l.constant p.r.constant p.L.constant p.R.constant p.left.constant p.right.constant;
-      within = max-within p.L.width p.R.width p.left.within p.right.within;
-      below = λ size signed within wide holds. word_of-low size _ _;
-      closes = λ size signed within wide.
-          let of = class_sizing remainder p.L p.R in
-          let one = p.left.closes size signed within (left-wide p.L.width p.R.width size wide) in
-          let other = p.right.closes size signed within (right-wide p.L.width p.R.width size wide) in
-          let a = closed p.l size signed in
-          let b = closed p.r size signed in
-          let c = p.l.constant && p.r.constant in
-          let same = both-constant p.l.constant p.r.constant p.L.constant p.R.constant p.left.constant p.right.constant in
-          let faults = class_faults span remainder p.L p.R p.left_faults p.right_faults size signed in
-          let left_low : (p.L.constant && p.R.constant) ≡ true → low size a.typed ≡ p.L.value zeros size signed =
-          λ holds. low-constant size (p.L.value zeros size signed) signed a.typed within
-          (p.left.below size signed within (left-wide p.L.width p.R.width size wide) (and_parts p.L.constant p.R.constant holds).0) (one.known (and_parts p.L.constant p.R.constant holds).0) in
-          let right_low : (p.L.constant && p.R.constant) ≡ true → low size b.typed ≡ p.R.value zeros size signed =
-          λ holds. low-constant size (p.R.value zeros size signed) signed b.typed within
-          (p.right.below size signed within (right-wide p.L.width p.R.width size wide) (and_parts p.L.constant p.R.constant holds).1) (other.known (and_parts p.L.constant p.R.constant holds).1) in
-          subst (IsClosed of faults (folded of size signed (constant size signed 0)) size signed)
-          (sym (closed_divided (max p.l.width p.r.width) (p.l.signed && p.r.signed) c (record { span = span; remainder = true }) p.l p.r size signed))
-          (constant-closed of faults (option_or a.fault (option_or b.fault (closing.division_fault span c (low size b.typed)))) (constant size signed 0) size signed c
-          (remainder_of size (integer_of signed size (low size a.typed)) (integer_of signed size (low size b.typed)))
-          same
-          (three-faults a.fault b.fault (closing.division_fault span c (low size b.typed)) (p.left_faults size signed) (p.right_faults size signed) (division_fault span p.L p.R (p.R.value zeros size signed))
-          one.fault other.fault (division-same span c (low size b.typed) (p.R.value zeros size signed) p.L p.R same right_low))
-          (λ holds.
-          ap (λ n. remainder_of size (integer_of signed size n) (integer_of signed size (low size b.typed))) (left_low holds)
-          ∙ ap (λ n. remainder_of size (integer_of signed size (p.L.value zeros size signed)) (integer_of signed size n)) (right_low holds))
+          ap (λ n. divided_number is_remainder size signed n (low size b.typed)) (left_low holds)
+          ∙ ap (divided_number is_remainder size signed (p.L.value zeros size signed)) (right_low holds))
           (λ accepted.
           division-constant span p.L p.R (p.R.value zeros size signed)
           (first_of-none (p.left_faults size signed) (p.right_faults size signed) (division_fault span p.L p.R (p.R.value zeros size signed)) accepted).2)
@@ -408,7 +364,7 @@ power-law span p =
     let alone_is = alone-closed p.right in
     let taken_is = taken-as p.right in
     let c = p.l.constant && e.constant in
-    let same = both-constant p.l.constant e.constant p.L.constant p.R.constant p.left.constant taken_is.constant in
+    let same = and-same p.l.constant e.constant p.L.constant p.R.constant p.left.constant taken_is.constant in
     let wrong : exponent_fault span c e ≡ power_fault span p.L p.R =
     ap (λ b. when (not b || is_below_0 (known (taken e))) (fault.NotConstant span) None) same
     ∙ ap (λ k. when (not (p.L.constant && p.R.constant) || is_below_0 k) (fault.NotConstant span) None) taken_is.same_known in

@@ -1,11 +1,10 @@
 -- What a measured expression becomes in a context, an equation for each shape.
-use Rattle.std.proofs.Common.{◌≡◌, ℕ, Bool, Option, refl, ap, sym, ◌∙◌}
-use Rattle.loc_base.specs.declared.span.Span.{Span}
+use Rattle.std.proofs.Common.{◌≡◌, ℕ, Bool, Option, ap, sym, ◌∙◌}
 use Rattle.design_core.specs.declared.expression.Node.{Node}
 use Rattle.design_core.specs.declared.expression.UnaryOp.{UnaryOp}
 use Rattle.design_core.specs.declared.expression.BinaryOp.{BinaryOp}
 use Rattle.v_sizes.specs.declared.error.WidthErr.{WidthErr}
-use Rattle.v_widths.specs.declared.measured.Closed.{Closed}
+use Rattle.v_selects.specs.declared.closed.Closed.{Closed}
 use Rattle.v_widths.specs.declared.measured.Division.{Division}
 use Rattle.v_widths.specs.declared.measured.Measured.{Measured}
 use Rattle.v_widths.specs.declared.measured.Shape.{Shape}

@@ -1,57 +1,44 @@
 -- That what the pass up gives of each form is what its definition says, where it is so of the operands.
-use Rattle.std.proofs.Common.{◌≡◌, ℕ, ◌+◌, ◌*◌, ◌/◌, ◌%◌, ◌^◌, ◌<◌, ◌≤◌, Bool, true, false, ◌&&◌, List, [], Option, Some, None, refl, ap, sym, subst, ◌∙◌, arith, lit≤}
-use Rattle.std.specs.Prelude.{if◌then◌else◌, max, not, ◌||◌, ◌==◌, ℤ, pos, ⊤}
+use Rattle.std.proofs.Common.{◌≡◌, ℕ, ◌^◌, ◌<◌, Bool, true, false, ◌&&◌, List, [], Option, refl, ap, sym, subst, ◌∙◌, arith, lit≤}
+use Rattle.std.specs.Prelude.{if◌then◌else◌, max}
 use Rattle.std.specs.Option.{option_or}
 use Rattle.std.proofs.lemmas.Bool.{and_parts}
 use Rattle.std.proofs.lemmas.Nat.{pow_pos}
 use Rattle.std.proofs.Math.Nat.{mod-lt, le-max_left, le-max_right}
 use Rattle.loc_base.specs.declared.span.Span.{Span}
-use Rattle.loc_base.specs.Word.{extended, shifted_signed}
+use Rattle.loc_base.specs.Word.{extended}
 use Rattle.v_tree.specs.declared.operator.Unary.{Unary}
-use Rattle.v_tree.specs.declared.operator.Unary.TheVariants as unary
-use Rattle.v_tree.specs.declared.operator.Binary.{Binary}
-use Rattle.v_tree.specs.declared.operator.Binary.TheVariants as binary
-use Rattle.v_tree.specs.declared.operator.SystemFunction.TheVariants as function
 use Rattle.design_core.specs.declared.expression.Typed.{Typed}
 use Rattle.design_core.specs.declared.expression.Node.TheVariants as node
 use Rattle.design_core.specs.declared.expression.UnaryOp.{UnaryOp}
-use Rattle.design_core.specs.declared.expression.BinaryOp.{BinaryOp}
-use Rattle.design_core.specs.declared.expression.BinaryOp.TheVariants as binary_op
 use Rattle.design_core.specs.Constant.{zeros}
 use Rattle.design_core.specs.Operator.{is_true, resized}
 use Rattle.design_core.specs.Operator as operator
 use Rattle.design_core.specs.WellFormed.{unary_fits, same_sign}
 use Rattle.v_sizes.specs.declared.error.WidthErr.{WidthErr}
-use Rattle.v_sizes.specs.declared.error.WidthErr.TheVariants as fault
 use Rattle.v_sizes.specs.Literal.{limited, literal_width, literal_signed, literal_value, written_width}
-use Rattle.v_sizes.specs.Operations.{unary_of, Class, by_context, shift, comparison, logical, quotient, remainder, power, class_of, keeps_width, quotient_of, remainder_of, power_of, word_of, is_below_0, magnitude}
-use Rattle.v_sizes.specs.Refusals.{when, first_of, by_own, literal_fault, division_fault, power_fault}
-use Rattle.v_sizes.specs.Sizing.{Sizing, own, integer, known, by_itself, literal, called, unary_sizing, class_sizing, conditional}
+use Rattle.v_sizes.specs.Operations.{unary_of, keeps_width}
+use Rattle.v_sizes.specs.Refusals.{first_of, by_own, literal_fault}
+use Rattle.v_sizes.specs.Sizing.{Sizing, own, by_itself, literal, unary_sizing, conditional}
 use Rattle.v_sizes.specs.Sized.{sized, constant, with_sign, with_width, carried, folded}
-use Rattle.v_sizes.proofs.Meant.{Within, Meant, Operands, constant-meant, unary-meant, binary-meant, below}
-use Rattle.v_sizes.proofs.Accepted.{first_of-none, or-none, max-within}
+use Rattle.v_sizes.proofs.Meant.{Within, constant-meant, unary-meant, below}
+use Rattle.v_sizes.proofs.Accepted.{first_of-none, max-within}
 use Rattle.v_sizes.proofs.Names.{limits}
 use Rattle.v_sizes.proofs.Law.{extended-below}
 use Rattle.v_sizes.proofs.Operands.{keeps-fits, bit-fits}
-use Rattle.v_widths.specs.declared.measured.Closed.{Closed}
 use Rattle.v_widths.specs.declared.measured.Measured.{Measured}
 use Rattle.v_widths.specs.declared.measured.Shape.TheVariants as shape
-use Rattle.v_widths.specs.Closing.{closed, alone, low, shifted_number, divided_number, unary_typed, both_typed}
-use Rattle.v_widths.specs.Closing as closing
-use Rattle.v_widths.specs.Measuring.{number_of, number_measured, reduced, compared, joined_truth, logical_number, unary_measured, both_measured, shifted_measured, divided_measured, exponent_fault, raised_measured, compared_measured, binary_measured, called_measured, conditional_measured}
-use Rattle.v_widths.specs.Folding.{const_width, number_in}
-use Rattle.v_widths.proofs.ClosedSteps.{closed_called, closed_unary, closed_both, closed_divided, closed_shifted, closed_raised, closed_chosen}
-use Rattle.v_widths.proofs.Agrees.{IsClosed, IsMeasured, IsTaken, never, low-constant, number-constant, folded-closed, own-law, alone-closed, taken-as, with_width-width, with_width-sign, resized-wider, word-carried}
+use Rattle.v_widths.specs.Closing.{closed, alone, low}
+use Rattle.v_widths.specs.Measuring.{number_of, number_measured, reduced, unary_measured, called_measured, conditional_measured}
+use Rattle.v_selects.specs.Folding.{const_width, number_in}
+use Rattle.v_widths.proofs.ClosedSteps.{closed_called, closed_unary, closed_chosen}
+use Rattle.v_widths.proofs.Agrees.{IsClosed, IsMeasured, IsTaken, low-constant, folded-closed, own-law, alone-closed, taken-as, with_width-width, with_width-sign, word-carried, and-same, max-same}
 
 abbrev Faults : Type 0
 Faults = ℕ → Bool → Option WidthErr
 
 abbrev Shapes : Type 0
 Shapes = ℕ → Bool → Typed
-
-or-nothing : (f : Option WidthErr) → option_or f None ≡ f
-or-nothing None = refl
-or-nothing (Some x) = refl
 
 one_bit : Within 1
 one_bit = record { least = lit≤ tt; most = lit≤ tt }
@@ -199,12 +186,6 @@ called-law name e faults shapes m is =
     }
 
 -- ---- conditionals
-max-same : (a b c d : ℕ) → a ≡ c → b ≡ d → max a b ≡ max c d
-max-same a b c d one other = ap (λ x. max x b) one ∙ ap (max c) other
-
-and-same : (a b c d : Bool) → a ≡ c → b ≡ d → (a && b) ≡ (c && d)
-and-same a b c d one other = ap (λ x. x && b) one ∙ ap (λ x. c && x) other
-
 leftmost-same : (a b c test one other : Option WidthErr) → a ≡ test → b ≡ one → c ≡ other → option_or a (option_or b c) ≡ first_of test one other
 leftmost-same a b c test one other first second third =
     ap (λ f. option_or f (option_or b c)) first ∙ ap (λ f. option_or test (option_or f c)) second ∙ ap (λ f. option_or test (option_or one f)) third

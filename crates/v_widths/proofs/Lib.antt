@@ -1,7 +1,3 @@
-pub mod Indexes
-pub mod Parted
-pub mod Picking
-pub mod NameLaws
 pub mod ClosedSteps
 pub mod Agrees
 pub mod FormLaws

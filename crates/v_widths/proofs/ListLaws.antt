@@ -1,39 +1,37 @@
 -- That what the pass up gives of concatenations, replications and logarithms is what their definitions say, where it is so of the
 -- operands.
-use Rattle.std.proofs.Common.{◌≡◌, ℕ, zero, suc, ◌+◌, ◌-◌, ◌*◌, ◌%◌, ◌^◌, ◌<◌, ◌≤◌, Bool, true, false, ◌&&◌, List, [], ◌∷◌, map, Option, Some, None, refl, ap, sym, subst, ◌∙◌, arith, lit≤}
-use Rattle.std.specs.Prelude.{if◌then◌else◌, not, ◌||◌, ◌==◌, nat_le, int_lt, pos, sum_by}
-use Rattle.std.specs.List.{list_all}
+use Rattle.std.proofs.Common.{◌≡◌, ℕ, ◌+◌, ◌*◌, ◌%◌, ◌^◌, ◌<◌, true, false, ◌&&◌, List, [], ◌∷◌, map, Option, None, refl, ap, sym, subst, ◌∙◌, lit≤}
+use Rattle.std.specs.Prelude.{if◌then◌else◌, not, ◌||◌, int_lt, pos}
 use Rattle.std.specs.Option.{option_or}
 use Rattle.std.proofs.lemmas.Bool.{and_parts, not-false}
 use Rattle.std.proofs.lemmas.List.Sums.{sum_by-cons}
 use Rattle.std.proofs.lemmas.Nat.{pow_pos}
 use Rattle.std.proofs.Math.Nat.{mod-lt}
 use Rattle.loc_base.specs.declared.span.Span.{Span}
-use Rattle.loc_base.specs.Word.{extended, is_negative}
+use Rattle.loc_base.specs.Word.{extended}
 use Rattle.v_tree.specs.declared.operator.SystemFunction.TheVariants as function
 use Rattle.design_core.specs.declared.expression.Typed.{Typed}
-use Rattle.design_core.specs.declared.expression.Node.{Node}
 use Rattle.design_core.specs.declared.expression.Node.TheVariants as node
 use Rattle.design_core.specs.Constant.{zeros}
 use Rattle.design_core.specs.Operator.{repeated}
 use Rattle.v_sizes.specs.declared.error.WidthErr.{WidthErr}
 use Rattle.v_sizes.specs.declared.error.WidthErr.TheVariants as fault
 use Rattle.v_sizes.specs.Literal.{limited}
-use Rattle.v_sizes.specs.Operations.{logarithm_from, ceiling_of_logarithm}
+use Rattle.v_sizes.specs.Operations.{ceiling_of_logarithm}
 use Rattle.v_sizes.specs.Refusals.{when, is_bad_width, first_of, by_own, concat_fault, repeat_fault, called_fault}
 use Rattle.v_sizes.specs.Sizing.{Sizing, own, known, times_of, joined_width, joined_value, are_constant, joined, replicated, called}
 use Rattle.v_sizes.specs.Sized.{sized, constant, with_sign, with_width, carried, folded}
-use Rattle.v_sizes.proofs.Meant.{Within}
 use Rattle.v_sizes.proofs.Accepted.{or-none, first_of-none, when-none}
 use Rattle.v_sizes.proofs.Names.{limits}
-use Rattle.v_widths.specs.declared.measured.Closed.{Closed}
+use Rattle.v_selects.specs.declared.closed.Closed.{Closed}
 use Rattle.v_widths.specs.declared.measured.Measured.{Measured}
 use Rattle.v_widths.specs.Closing.{alone}
 use Rattle.v_widths.specs.Measuring.{number_of}
 use Rattle.v_widths.specs.Named.{faults_in, typed_in, joined_measured, repeated_measured, logarithm_measured}
-use Rattle.v_widths.specs.Taken.{taken}
+use Rattle.v_selects.specs.Taken.{taken}
 use Rattle.v_widths.proofs.Agrees.{IsClosed, IsMeasured, IsTaken, own-law, alone-closed, taken-as}
 use Rattle.v_widths.proofs.BinaryLaws.{Faults, Shapes}
+use Rattle.v_sizes.proofs.Expressions.{logarithm-low}
 
 -- finished parts, as their sizes, their leftmost fault and their sized expressions say
 pub record AllFinished (es : List Sizing) (refused : Option WidthErr) (ts : List Typed) (cs : List Closed) : Type 0 where
@@ -132,25 +130,6 @@ repeat-law span C f t k es refused ts cs taken_is closed_is all =
     (all.made (sym all.faults ∙ (first_of-none k.fault (faults_in cs) (repeat_fault span (taken k) (map taken cs)) accepted).1)))
 
 -- ---- logarithms
-pub extended-same : (signed : Bool) (width number : ℕ) → extended signed width width number ≡ number
-extended-same signed width number = by (signed && is_negative width number)
-  where
-    by : (high : Bool) → (if high then number + (2 ^ width - 2 ^ width) else number) ≡ number
-    by true = omega arith
-    by false = refl
-
-logarithm-most : (more bits n : ℕ) → logarithm_from more bits n ≤ bits + more
-unfolding logarithm_from
-logarithm-most zero bits n = omega arith
-logarithm-most (suc more) bits n = by (nat_le n (2 ^ bits)) (logarithm-most more (bits + 1) n)
-  where
-    by : (b : Bool) → logarithm_from more (bits + 1) n ≤ bits + 1 + more → (if b then bits else logarithm_from more (bits + 1) n) ≤ bits + suc more
-    by true most = omega arith
-    by false most = omega (arith, most)
-
-ceiling-below : (n : ℕ) → ceiling_of_logarithm n < 2 ^ 32
-ceiling-below n = omega (arith, logarithm-most 128 0 n)
-
 pub logarithm-law : (span : Span) (e : Sizing) (faults : Faults) (shapes : Shapes) (m : Measured) → IsMeasured e faults shapes m
     → IsMeasured (called function.Clog2 e) (λ size signed. option_or (by_own e faults) (called_fault span function.Clog2 e))
     (λ size signed. folded (called function.Clog2 e) size signed (with_width size (with_sign signed (shapes e.width e.signed))))
@@ -167,7 +146,7 @@ logarithm-law span e faults shapes m is =
     32 true c.constant raw (node.Whole 0) (node.Whole 0)
     refl refl closed_is.of_constant (record { least = lit≤ tt; most = lit≤ tt })
     (ap (λ f. option_or f (called_fault span function.Clog2 (taken c))) closed_is.fault ∙ ap (option_or (by_own e faults)) wrong)
-    (λ holds. subst (λ n. n < 2 ^ 32) (sym (number holds)) (ceiling-below (own e zeros)))
+    (λ holds. subst (λ n. n < 2 ^ 32) (sym (number holds)) (logarithm-low (own e zeros)))
     (λ size signed holds. ap (extended signed 32 size) (sym (number holds)))
     (λ size signed accepted.
     let split = or-none (by_own e faults) (called_fault span function.Clog2 e) accepted in

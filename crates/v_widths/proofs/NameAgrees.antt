@@ -1,6 +1,6 @@
 -- That what the pass up gives of a name with its selects is what its definition says, where it is so of the indexes.
-use Rattle.std.proofs.Common.{◌≡◌, ℕ, ◌+◌, ◌-◌, ◌*◌, ◌%◌, ◌^◌, ◌<◌, ◌≤◌, Bool, true, false, ◌&&◌, List, [], ◌∷◌, map, Option, Some, None, refl, ap, sym, subst, ◌∙◌, arith, lit≤}
-use Rattle.std.specs.Prelude.{if◌then◌else◌, not, ◌||◌, ◌==◌, ℤ, pos, ◌+ℤ◌}
+use Rattle.std.proofs.Common.{◌≡◌, ℕ, ◌^◌, ◌<◌, Bool, true, false, ◌&&◌, List, [], ◌∷◌, map, Option, Some, None, refl, ap, sym, subst, ◌∙◌, arith}
+use Rattle.std.specs.Prelude.{if◌then◌else◌, not, ◌||◌, ◌==◌, ℤ, pos}
 use Rattle.std.specs.List.{list_all}
 use Rattle.std.specs.Option.{option_or}
 use Rattle.std.proofs.lemmas.Bool.{and_parts}
@@ -13,7 +13,7 @@ use Rattle.design_core.specs.declared.expression.Typed.{Typed}
 use Rattle.design_core.specs.declared.expression.Node.{Node}
 use Rattle.design_core.specs.declared.expression.Node.TheVariants as node
 use Rattle.design_core.specs.Constant.{zeros}
-use Rattle.design_core.specs.Valuation.{Valuation, bit, word_at, distance_of, number}
+use Rattle.design_core.specs.Valuation.{Valuation, bit, word_at, distance_of}
 use Rattle.v_sizes.specs.declared.error.WidthErr.{WidthErr}
 use Rattle.v_sizes.specs.declared.error.WidthErr.TheVariants as fault
 use Rattle.v_sizes.specs.declared.meaning.Meaning.{Meaning}
@@ -21,19 +21,20 @@ use Rattle.v_sizes.specs.declared.meaning.Meaning.TheVariants as meaning
 use Rattle.v_sizes.specs.Literal.{limited}
 use Rattle.v_sizes.specs.Refusals.{when, is_bad_width, is_bad_part, chosen_fault, word_fault, name_fault, first_of}
 use Rattle.v_sizes.specs.Selected.{part_count, runs_along, base_index, part_offset, part_number, part_distance, bit_at_index, bits_within, descends}
-use Rattle.v_sizes.specs.Sizing.{Sizing, own, integer, known, by_itself, Chosen, one_bit, some_bits, Word, has_known_size, chosen_width, chosen_value, is_chosen_by_constants, has_no_bit, names_no_bit, is_none, word_bits, word_sizing, meaning_sizing, name_sizing}
-use Rattle.v_sizes.specs.Sized.{constant, carried, folded, Select, bit_select, part_select, start_of, signal_part, base_of, signal_node, word_part, word_node, meaning_node, name_node, offsets_to}
-use Rattle.v_sizes.proofs.Meant.{Within}
+use Rattle.v_sizes.specs.Sizing.{Sizing, own, integer, known, Chosen, one_bit, some_bits, Word, has_known_size, chosen_width, chosen_value, is_chosen_by_constants, has_no_bit, names_no_bit, is_none, word_bits, word_sizing, meaning_sizing, name_sizing}
+use Rattle.v_sizes.specs.Sized.{carried, folded, Select, bit_select, part_select, start_of, signal_part, base_of, signal_node, word_part, word_node, name_node}
+use Rattle.v_sizes.proofs.Meant.{Within, extended-same}
 use Rattle.v_sizes.proofs.Accepted.{or-none, first_of-none}
 use Rattle.v_sizes.proofs.Law.{meaning-below}
 use Rattle.v_sizes.proofs.Steady.{zero_word}
-use Rattle.v_widths.specs.declared.measured.Closed.{Closed}
-use Rattle.v_widths.specs.declared.measured.Picked.{Picked}
-use Rattle.v_widths.specs.declared.measured.Picked.TheVariants as picked
-use Rattle.v_widths.specs.Named.{chosen_in, select_in, picked_fault, picked_faults, named}
-use Rattle.v_widths.specs.Taken.{taken}
-use Rattle.v_widths.proofs.Agrees.{IsClosed, IsMeasured, IsTaken, own-law, never}
-use Rattle.v_widths.proofs.ListLaws.{extended-same}
+use Rattle.v_selects.specs.declared.closed.Closed.{Closed}
+use Rattle.v_selects.specs.declared.closed.Picked.{Picked}
+use Rattle.v_selects.specs.declared.closed.Picked.TheVariants as picked
+use Rattle.v_selects.specs.Named.{chosen_in, select_in, picked_faults}
+use Rattle.v_widths.specs.Named.{named}
+use Rattle.v_selects.specs.Taken.{taken}
+use Rattle.v_widths.proofs.Agrees.{IsClosed, IsMeasured, IsTaken, own-law, never, and-same}
+use Rattle.v_selects.proofs.NameLaws.{known-integer}
 
 -- two sizes that show the same constant
 pub record Alike (x y : Sizing) : Type 0 where
@@ -48,14 +49,8 @@ pub data AllAlike : List Chosen → List Chosen → Type 0 where
   none_alike : AllAlike [] []
   more_alike : {c d : Chosen} {cs ds : List Chosen} → ChosenAlike c d → AllAlike cs ds → AllAlike (c ∷ cs) (d ∷ ds)
 
-integer-known : (x : Sizing) → x.constant ≡ true → integer x zeros ≡ known x
-integer-known x is = sym (ap (λ b. if b then integer x zeros else pos 0) is)
-
 same-integer : {x y : Sizing} → Alike x y → y.constant ≡ true → integer x zeros ≡ integer y zeros
-same-integer {x} {y} alike is = integer-known x (alike.constant_in ∙ is) ∙ alike.known_in ∙ sym (integer-known y is)
-
-and-same : (a b c d : Bool) → a ≡ c → b ≡ d → (a && b) ≡ (c && d)
-and-same a b c d one other = ap (λ x. x && b) one ∙ ap (λ x. c && x) other
+same-integer {x} {y} alike is = known-integer x (alike.constant_in ∙ is) ∙ alike.known_in ∙ sym (known-integer y is)
 
 same-size_known : {c d : Chosen} → ChosenAlike c d → has_known_size c ≡ has_known_size d
 same-size_known (bits_alike alike) = refl

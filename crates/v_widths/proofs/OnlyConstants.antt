@@ -1,12 +1,10 @@
 -- Where constants alone are wanted, what isn't refused is a constant.
-use Rattle.std.proofs.Common.{◌≡◌, ℕ, Bool, true, false, ◌&&◌, List, [], ◌∷◌, Option, Some, None, refl, ap, sym, ◌∙◌}
-use Rattle.std.specs.Prelude.{if◌then◌else◌, max, not, ◌||◌}
+use Rattle.std.proofs.Common.{◌≡◌, ℕ, Bool, true, false, ◌&&◌, List, [], ◌∷◌, Option, Some, None, refl, ◌∙◌}
+use Rattle.std.specs.Prelude.{if◌then◌else◌, max}
 use Rattle.std.specs.List.{list_all}
-use Rattle.std.specs.Option.{option_or}
-use Rattle.std.proofs.lemmas.Bool.{and_from, not-false}
+use Rattle.std.proofs.lemmas.Bool.{and_from}
 use Rattle.loc_base.specs.declared.span.Span.{Span}
 use Rattle.loc_base.specs.Bits.{width_of, value_of}
-use Rattle.v_tree.specs.declared.site.Site.{Site}
 use Rattle.v_tree.specs.declared.operator.Unary.{Unary}
 use Rattle.v_tree.specs.declared.operator.SystemFunction.TheVariants as function
 use Rattle.v_tree.specs.Tree.{Tree, Trees, no_tree, tree}
@@ -15,25 +13,17 @@ use Rattle.design_core.specs.Constant.{zeros}
 use Rattle.design_core.specs.Valuation.{Valuation, bit}
 use Rattle.design_core.specs.Operator as operator
 use Rattle.v_sizes.specs.declared.error.WidthErr.{WidthErr}
-use Rattle.v_sizes.specs.declared.error.WidthErr.TheVariants as fault
 use Rattle.v_sizes.specs.declared.meaning.Meaning.{Meaning}
 use Rattle.v_sizes.specs.declared.meaning.Meaning.TheVariants as meaning
 use Rattle.v_sizes.specs.Look.{Look}
 use Rattle.v_sizes.specs.Operations.{unary_of, Class, by_context, shift, comparison, logical, quotient, remainder, power, class_of, keeps_width}
 use Rattle.v_sizes.specs.Selected.{descends}
-use Rattle.v_sizes.specs.Refusals.{when, chosen_fault, is_bad_part, word_fault, name_fault, first_of, by_own, concat_fault, repeat_fault, called_fault, division_fault, power_fault, refusal, parts_refusal, selects_refusal}
-use Rattle.v_sizes.specs.Sizing.{Sizing, own, by_itself, Chosen, one_bit, some_bits, Word, has_known_size, is_chosen_by_constants, word_sizing, meaning_sizing, name_sizing, are_constant, unary_sizing, class_sizing, sizing, sizings, chosen_of}
-use Rattle.v_sizes.proofs.Accepted.{or-none, first_of-none, when-none, or_false}
+use Rattle.v_sizes.specs.Refusals.{word_fault, name_fault, by_own, concat_fault, repeat_fault, called_fault, division_fault, power_fault, refusal, parts_refusal, selects_refusal}
+use Rattle.v_sizes.specs.Sizing.{Sizing, own, by_itself, Chosen, one_bit, some_bits, Word, is_chosen_by_constants, word_sizing, name_sizing, are_constant, unary_sizing, class_sizing, sizing, sizings, chosen_of}
+use Rattle.v_sizes.proofs.Accepted.{or-none, first_of-none}
 use Rattle.v_widths.proofs.BinaryLaws.{class_faults}
 use Rattle.v_widths.proofs.Opened.{class-refusal}
-
-some-known : (span : Span) (down : Bool) (cs : List Chosen) → word_fault span false true down cs ≡ None → list_all is_chosen_by_constants cs ≡ true
-some-known span down [] accepted = refl
-some-known span down (c ∷ []) accepted =
-    let one = (when-none (not (has_known_size c) || (true && not (is_chosen_by_constants c))) (fault.NotConstant span) (when (is_bad_part down c) (fault.Range span) None) accepted).0 in
-    let two = (or_false (not (has_known_size c)) (not (is_chosen_by_constants c)) one).1 in
-    ap (λ b. b && true) (not-false (is_chosen_by_constants c) two)
-some-known span down (c ∷ d ∷ rest) accepted = cc
+use Rattle.v_sizes.proofs.Law.{parameter-constant}
 
 never-signal : (span : Span) (all down : Bool) (cs : List Chosen) {A : Type 0} → word_fault span true all down cs ≡ None → A
 never-signal span all down [] accepted = cc
@@ -48,7 +38,7 @@ name-constant : (span : Span) (m : Option Meaning) (cs : List Chosen) → name_f
 name-constant span None cs accepted = cc
 name-constant span (Some (meaning.Constant value left right)) cs accepted =
     word-constant (width_of value.bits) value.signed (list_all is_chosen_by_constants cs)
-    (λ _. record { width = width_of value.bits; left = left; right = right; bits = bit (value_of value.bits) }) cs (some-known span (descends left right) cs accepted)
+    (λ _. record { width = width_of value.bits; left = left; right = right; bits = bit (value_of value.bits) }) cs (parameter-constant span (descends left right) cs accepted)
 name-constant span (Some (meaning.Signal signal width signed left right)) cs accepted = never-signal span false (descends left right) cs accepted
 name-constant span (Some (meaning.Array first count low width signed left right)) [] accepted = cc
 name-constant span (Some (meaning.Array first count low width signed left right)) (some_bits k x y ∷ rest) accepted = cc

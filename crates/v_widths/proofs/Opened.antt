@@ -1,26 +1,22 @@
 -- That what the pass up gives of an expression is what the definitions say: its width and sign by itself, and in each context its
 -- fault and its sized expression.
-use Rattle.std.proofs.Common.{◌≡◌, ℕ, ◌≤◌, ◌<◌, Bool, true, false, ◌&&◌, List, Option, Some, None, refl, ap, sym, subst, ◌∙◌, arith}
-use Rattle.std.specs.Prelude.{if◌then◌else◌, max, not, ◌||◌}
+use Rattle.std.proofs.Common.{◌≡◌, ℕ, Bool, true, false, ◌&&◌, Option, Some, None, refl, sym, subst}
+use Rattle.std.specs.Prelude.{max}
 use Rattle.std.specs.Option.{option_or}
-use Rattle.std.proofs.lemmas.Bool.{and_from, not-false}
-use Rattle.loc_base.specs.declared.span.Span.{Span}
 use Rattle.v_tree.specs.declared.site.Site.{Site}
 use Rattle.v_tree.specs.declared.operator.Binary.{Binary}
 use Rattle.v_tree.specs.declared.operator.SystemFunction.{SystemFunction}
 use Rattle.v_tree.specs.declared.operator.SystemFunction.TheVariants as function
 use Rattle.v_tree.specs.Tree.{Tree, Trees, no_tree, tree, Selections, no_select, select}
 use Rattle.v_tree.specs.Tree as written
-use Rattle.design_core.specs.declared.expression.Typed.{Typed}
-use Rattle.design_core.specs.declared.expression.BinaryOp.{BinaryOp}
 use Rattle.design_core.specs.declared.expression.Node.TheVariants as node
 use Rattle.design_core.specs.Constant.{zeros}
 use Rattle.v_sizes.specs.declared.error.WidthErr.{WidthErr}
 use Rattle.v_sizes.specs.Look.{Look}
 use Rattle.v_sizes.specs.Operations.{Class, by_context, shift, comparison, logical, quotient, remainder, power, class_of}
-use Rattle.v_sizes.specs.Refusals.{first_of, by_own, division_fault, power_fault, called_fault, refusal, parts_refusal, selects_refusal}
+use Rattle.v_sizes.specs.Refusals.{first_of, by_own, division_fault, power_fault, refusal, parts_refusal, selects_refusal}
 use Rattle.v_sizes.specs.Sizing.{Sizing, sizing, sizings, chosen_of, class_sizing}
-use Rattle.v_sizes.specs.Sized.{sized, constant, with_sign, with_width, carried, folded, typed, typed_parts, selects_of}
+use Rattle.v_sizes.specs.Sized.{sized, constant, carried, folded, typed, typed_parts, selects_of}
 use Rattle.v_sizes.specs.Context.{IsScope}
 use Rattle.v_sizes.proofs.Sound.{width-within}
 use Rattle.v_widths.specs.declared.measured.Measured.{Measured}

@@ -1,13 +1,12 @@
 -- That parts which are joined one after another are what the definitions say of all of them.
 use Rattle.std.proofs.Common.{◌≡◌, ℕ, zero, suc, ◌+◌, ◌*◌, ◌%◌, ◌^◌, ◌<◌, ◌≤◌, Bool, true, false, ◌&&◌, List, [], ◌∷◌, ◌++◌, map, Option, Some, None, refl, ap, sym, subst, ◌∙◌, arith, lit≤}
-use Rattle.std.specs.Prelude.{if◌then◌else◌, min, max, not, ◌||◌, ◌==◌, nat_lt, nat_le, int_lt, ℤ, pos, negsuc, sum_by, is_some}
+use Rattle.std.specs.Prelude.{if◌then◌else◌, min, not, ◌||◌, ◌==◌, nat_lt, nat_le, int_lt, ℤ, pos, negsuc, is_some}
 use Rattle.std.specs.Option.{option_or}
 use Rattle.std.proofs.lemmas.List.Sums.{sum_by-cons}
 use Rattle.std.proofs.lemmas.Bool.{leb-true, leb-false, lt-ltb}
 use Rattle.std.proofs.lemmas.Nat.{mul-mod_first}
 use Rattle.std.proofs.Math.Nat.{mod-mod, add-mod, min-eq_left, le-max_left}
 use Rattle.loc_base.specs.declared.span.Span.{Span}
-use Rattle.loc_base.specs.declared.bits.Bits.{Bits}
 use Rattle.loc_base.proofs.Modulo.{mod_mod_of, shifted_out}
 use Rattle.design_core.specs.declared.expression.Typed.{Typed}
 use Rattle.design_core.specs.declared.expression.Node.{Node}
@@ -19,20 +18,20 @@ use Rattle.v_sizes.specs.declared.error.WidthErr.TheVariants as fault
 use Rattle.v_sizes.specs.Literal.{limited}
 use Rattle.v_sizes.specs.Refusals.{when, is_bad_width, first_of, concat_fault, repeat_fault}
 use Rattle.v_sizes.specs.Sized.{sized}
-use Rattle.v_sizes.specs.Sizing.{own, known, times_of, joined_width, joined_value, are_constant, joined, replicated}
+use Rattle.v_sizes.specs.Sizing.{known, times_of, joined_width, joined_value, are_constant}
 use Rattle.v_sizes.specs.Word.{word}
 use Rattle.v_sizes.proofs.Meant.{Within, limited-within}
 use Rattle.v_sizes.proofs.Accepted.{first_of-none, when-none, or_false, good-width}
 use Rattle.v_sizes.proofs.Names.{limits}
 use Rattle.v_sizes.proofs.SameWord.{word-low}
-use Rattle.v_widths.specs.declared.measured.Closed.{Closed}
-use Rattle.v_widths.specs.declared.measured.Measured.{Measured}
+use Rattle.v_selects.specs.declared.closed.Closed.{Closed}
 use Rattle.v_widths.specs.declared.measured.Parts.{Parts}
 use Rattle.v_widths.specs.declared.measured.Shape.TheVariants as shape
-use Rattle.v_widths.specs.Measuring.{own_measured, kept, number_of}
+use Rattle.v_widths.specs.Measuring.{own_measured, number_of}
 use Rattle.v_widths.specs.Named.{faults_in, typed_in, joined_measured, repeated_measured}
 use Rattle.v_widths.specs.Parts.{behind, no_parts, with_part, with_parts, joined_parts, many, count_fault, repeated_parts}
-use Rattle.v_widths.specs.Taken.{taken}
+use Rattle.v_selects.specs.Taken.{taken}
+use Rattle.v_sizes.proofs.Expressions.{one-part}
 
 -- the rest of a sum by those of its parts
 behind-mod : (a b w n k : ℕ) → a % 2 ^ 128 ≡ b % 2 ^ 128 → n % 2 ^ 128 ≡ k % 2 ^ 128 → behind a w n ≡ (b * 2 ^ w + k) % 2 ^ 128
@@ -191,13 +190,6 @@ many-same (suc times) width whole n m sum same =
 some-times : (n : ℤ) → 1 ≤ times_of n
 some-times (pos n) = le-max_left 1 (min n 255)
 some-times (negsuc n) = lit≤ tt
-
-one-part : (times width : ℕ) → 1 ≤ times → Within (times * width) → Within width
-one-part zero width some within = absurd (omega (arith, some))
-one-part (suc times) zero some within = let nothing : suc times * 0 ≡ 0 = omega arith in absurd (omega (arith, nothing, within.least))
-one-part (suc times) (suc width) some within =
-    let e : suc times * suc width ≡ times * suc width + suc width = omega arith in
-    record { least = omega arith; most = omega (arith, e, within.most) }
 
 whole-of : (width whole : ℕ) → Within width → Counted width whole → limited width ≡ whole
 whole-of width whole within (counted same) = limited-within width within ∙ same

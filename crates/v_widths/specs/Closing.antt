@@ -1,8 +1,7 @@
 -- What the closing function's own contract says: what a measured expression becomes in a context of a width and a sign.
-use Rattle.std.specs.Prelude.{ℕ, ◌%◌, ◌^◌, ◌*◌, ◌/◌, ◌==◌, Bool, not, if◌then◌else◌, Option, Some, None}
+use Rattle.std.specs.Prelude.{ℕ, ◌%◌, ◌^◌, ◌*◌, ◌/◌, ◌==◌, Bool, if◌then◌else◌, Option, Some, None}
 use Rattle.std.specs.Option.{option_or}
 use Rattle.loc_base.specs.declared.span.Span.{Span}
-use Rattle.loc_base.specs.Bits.{width_of, value_of}
 use Rattle.loc_base.specs.Word.{shifted_signed}
 use Rattle.design_core.specs.declared.expression.Typed.{Typed}
 use Rattle.design_core.specs.declared.expression.UnaryOp.{UnaryOp}
@@ -14,14 +13,14 @@ use Rattle.design_core.specs.Operator.{is_true, integer_of, resized}
 use Rattle.design_core.specs.Operator as operator
 use Rattle.v_sizes.specs.declared.error.WidthErr.{WidthErr}
 use Rattle.v_sizes.specs.declared.error.WidthErr.TheVariants as fault
-use Rattle.v_widths.specs.declared.measured.Closed.{Closed}
+use Rattle.v_selects.specs.declared.closed.Closed.{Closed}
 use Rattle.v_widths.specs.declared.measured.Measured.{Measured}
 use Rattle.v_widths.specs.declared.measured.Shape.TheFolds.{fold-Measured}
 use Rattle.v_widths.specs.declared.measured.Shape.TheOpen.{Measured-F, Shape-F}
 use Rattle.v_sizes.specs.Literal.{limited}
 use Rattle.v_sizes.specs.Operations.{quotient_of, remainder_of}
 use Rattle.v_sizes.specs.Sized.{sized, constant, with_sign, with_width, carried}
-use Rattle.v_widths.specs.Folding.{number_in, const_number, const_width}
+use Rattle.v_selects.specs.Folding.{number_in, const_number, const_width}
 
 -- by the context's width and sign
 abbrev pub Closing : Type 0

@@ -1,12 +1,6 @@
-pub mod Folding
 pub mod Takings
 pub mod Closing
-pub mod Taken
 pub mod Measuring
-pub mod Integer
-pub mod Capped
-pub mod Picked
 pub mod Named
-pub mod Sizes
 pub mod Parts
 pub mod Opening

@@ -1,10 +1,9 @@
 -- What the pass up gives of each form, from what it gave of the operands: its width and its sign by itself (IEEE 1364-2005,
 -- 5.4.1 and 5.5.1), with the operands that no context sizes finished.
-use Rattle.std.specs.Prelude.{ℕ, ◌%◌, ◌^◌, Bool, true, false, not, ◌&&◌, ◌||◌, if◌then◌else◌, max, List, Option, Some, None, is_some}
+use Rattle.std.specs.Prelude.{ℕ, Bool, true, false, not, ◌&&◌, ◌||◌, if◌then◌else◌, max, List, Option, None}
 use Rattle.std.specs.Option.{option_or}
 use Rattle.loc_base.specs.declared.span.Span.{Span}
 use Rattle.v_tree.specs.declared.operator.Unary.{Unary}
-use Rattle.v_tree.specs.declared.operator.Binary.{Binary}
 use Rattle.design_core.specs.declared.expression.BinaryOp.{BinaryOp}
 use Rattle.design_core.specs.declared.expression.BinaryOp.TheVariants as binary_op
 use Rattle.design_core.specs.declared.expression.Node.{Node}
@@ -15,24 +14,23 @@ use Rattle.design_core.specs.Operator as operator
 use Rattle.v_sizes.specs.declared.error.WidthErr.{WidthErr}
 use Rattle.v_sizes.specs.declared.error.WidthErr.TheVariants as fault
 use Rattle.v_sizes.specs.Literal.{limited, literal_width, literal_signed, literal_value}
-use Rattle.v_sizes.specs.Operations.{unary_of, Class, by_context, shift, comparison, logical, quotient, remainder, power, class_of, keeps_width, is_below_0, magnitude}
+use Rattle.v_sizes.specs.Operations.{unary_of, Class, by_context, shift, comparison, logical, quotient, remainder, power, keeps_width, is_below_0, magnitude}
 use Rattle.v_sizes.specs.Refusals.{when, literal_fault}
 use Rattle.v_sizes.specs.Sizing.{own, known}
-use Rattle.v_sizes.specs.Word.{word}
-use Rattle.v_widths.specs.declared.measured.Closed.{Closed}
+use Rattle.v_selects.specs.declared.closed.Closed.{Closed}
+use Rattle.v_selects.specs.declared.leaf.Leaf.{Leaf}
+use Rattle.v_selects.specs.Leaves.{leaf}
+use Rattle.v_selects.specs.Taken.{taken}
 use Rattle.v_widths.specs.declared.measured.Measured.{Measured}
 use Rattle.v_widths.specs.declared.measured.Shape.TheVariants as shape
 use Rattle.v_widths.specs.Closing.{closed, alone, low}
-use Rattle.v_widths.specs.Taken.{taken}
 
 -- ---- what has its width by itself
--- a constant's word; nothing is kept of a node that is refused
-abbrev pub kept : Bool → Option WidthErr → ℕ → ℕ → Node → Node
-kept constant fault width number n = if constant then node.Const (word width number) else if is_some fault then node.Whole 0 else n
+abbrev pub leaf_measured : Leaf → Measured
+leaf_measured l = record { width = l.width; signed = l.signed; constant = l.constant; shape = shape.Own l.node l.fault }
 
 abbrev pub own_measured : ℕ → Bool → Bool → Option WidthErr → ℕ → Node → Measured
-own_measured width signed constant fault number n =
-    record { width = width; signed = signed; constant = constant; shape = shape.Own (kept constant fault width number n) fault }
+own_measured width signed constant fault number n = leaf_measured (leaf width signed constant fault number n)
 
 abbrev pub number_measured : Span → List ℕ → Measured
 number_measured span text = own_measured (literal_width text) (literal_signed text) true (literal_fault span text) (literal_value text) (node.Whole 0)

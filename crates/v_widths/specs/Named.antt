@@ -1,6 +1,6 @@
 -- What the pass up gives of names with their selects, of concatenations, replications and logarithms, from what it gave of
 -- their operands: the definitions of their sizes, said of the finished operands.
-use Rattle.std.specs.Prelude.{ℕ, Bool, true, false, List, [], ◌∷◌, map, Option, Some, None}
+use Rattle.std.specs.Prelude.{Bool, true, false, List, [], ◌∷◌, map, Option, None}
 use Rattle.std.specs.Option.{option_or}
 use Rattle.loc_base.specs.declared.span.Span.{Span}
 use Rattle.v_tree.specs.declared.operator.SystemFunction.TheVariants as function
@@ -10,34 +10,17 @@ use Rattle.design_core.specs.Constant.{zeros}
 use Rattle.v_sizes.specs.declared.error.WidthErr.{WidthErr}
 use Rattle.v_sizes.specs.declared.meaning.Meaning.{Meaning}
 use Rattle.v_sizes.specs.Operations.{ceiling_of_logarithm}
-use Rattle.v_sizes.specs.Refusals.{name_fault, concat_fault, repeat_fault, called_fault, first_of}
-use Rattle.v_sizes.specs.Sized.{sized, Select, bit_select, part_select, name_node}
-use Rattle.v_sizes.specs.Sizing.{Sizing, own, known, times_of, Chosen, one_bit, some_bits, joined_width, name_sizing, joined, replicated}
-use Rattle.v_widths.specs.declared.measured.Closed.{Closed}
+use Rattle.v_sizes.specs.Refusals.{concat_fault, repeat_fault, called_fault, first_of}
+use Rattle.v_sizes.specs.Sized.{sized}
+use Rattle.v_sizes.specs.Sizing.{own, known, times_of, joined_width, joined, replicated}
+use Rattle.v_selects.specs.declared.closed.Closed.{Closed}
 use Rattle.v_widths.specs.declared.measured.Measured.{Measured}
-use Rattle.v_widths.specs.declared.measured.Picked.{Picked}
-use Rattle.v_widths.specs.declared.measured.Picked.TheVariants as picked
-use Rattle.v_widths.specs.Measuring.{own_measured, number_of}
-use Rattle.v_widths.specs.Taken.{taken}
+use Rattle.v_selects.specs.declared.closed.Picked.{Picked}
+use Rattle.v_selects.specs.Named.{named_leaf}
+use Rattle.v_selects.specs.Taken.{taken}
+use Rattle.v_widths.specs.Measuring.{leaf_measured, own_measured, number_of}
 
--- a select, as its sizes are and as it is sized
-abbrev pub chosen_in : Picked → Chosen
-chosen_in (picked.Bit index) = one_bit (taken index)
-chosen_in (picked.Part kind one other) = some_bits kind (taken one) (taken other)
-
-abbrev pub select_in : Picked → Select
-select_in (picked.Bit index) = bit_select (taken index) index.typed
-select_in (picked.Part kind one other) = part_select kind (taken one) one.typed (taken other) other.typed
-
--- the leftmost fault of its indexes, of several selects, and of several parts
-abbrev pub picked_fault : Picked → Option WidthErr
-picked_fault (picked.Bit index) = index.fault
-picked_fault (picked.Part _ one other) = option_or one.fault other.fault
-
-abbrev pub picked_faults : List Picked → Option WidthErr
-picked_faults [] = None
-picked_faults (one ∷ rest) = option_or (picked_fault one) (picked_faults rest)
-
+-- the leftmost fault of several parts
 abbrev pub faults_in : List Closed → Option WidthErr
 faults_in [] = None
 faults_in (one ∷ rest) = option_or one.fault (faults_in rest)
@@ -47,11 +30,7 @@ typed_in e = e.typed
 
 -- a name with its selects
 abbrev pub named : Span → Bool → Option Meaning → List Picked → Measured
-named span only meaning selects =
-    let chosen = map chosen_in selects in
-    let e = name_sizing meaning chosen in
-    own_measured e.width e.signed e.constant (option_or (picked_faults selects) (name_fault span only meaning chosen)) (own e zeros)
-    (name_node meaning (map select_in selects))
+named span only meaning selects = leaf_measured (named_leaf span only meaning selects)
 
 abbrev pub joined_measured : Span → List Closed → Measured
 joined_measured span parts =

@@ -7,10 +7,10 @@ use Rattle.v_tree.specs.Tree.{Tree, Trees, no_tree, tree, Selection, Selections,
 use Rattle.v_tree.specs.Tree as written
 use Rattle.v_sizes.specs.Look.{Look}
 use Rattle.v_sizes.specs.Operations.{class_of}
-use Rattle.v_widths.specs.declared.measured.Closed.{Closed}
+use Rattle.v_selects.specs.declared.closed.Closed.{Closed}
 use Rattle.v_widths.specs.declared.measured.Measured.{Measured}
-use Rattle.v_widths.specs.declared.measured.Picked.{Picked}
-use Rattle.v_widths.specs.declared.measured.Picked.TheVariants as picked
+use Rattle.v_selects.specs.declared.closed.Picked.{Picked}
+use Rattle.v_selects.specs.declared.closed.Picked.TheVariants as picked
 use Rattle.v_widths.specs.Closing.{alone}
 use Rattle.v_widths.specs.Measuring.{number_measured, unary_measured, binary_measured, called_measured, conditional_measured}
 use Rattle.v_widths.specs.Named.{named, logarithm_measured}

@@ -1,5 +1,5 @@
 -- Parts that are joined from the left, one after another, and what the pass up gives of concatenations and replications of them.
-use Rattle.std.specs.Prelude.{ℕ, zero, suc, ◌+◌, ◌*◌, ◌%◌, ◌^◌, Bool, true, false, not, ◌&&◌, ◌||◌, min, List, [], ◌∷◌, ◌++◌, Option, Some, None, int_lt, pos}
+use Rattle.std.specs.Prelude.{ℕ, zero, suc, ◌+◌, ◌*◌, ◌%◌, ◌^◌, true, false, not, ◌&&◌, ◌||◌, min, List, [], ◌∷◌, ◌++◌, Option, None, int_lt, pos}
 use Rattle.std.specs.Option.{option_or}
 use Rattle.loc_base.specs.declared.span.Span.{Span}
 use Rattle.design_core.specs.declared.expression.Node.TheVariants as node
@@ -9,11 +9,11 @@ use Rattle.v_sizes.specs.Literal.{limited}
 use Rattle.v_sizes.specs.Refusals.{when, is_bad_width, first_of}
 use Rattle.v_sizes.specs.Sized.{sized}
 use Rattle.v_sizes.specs.Sizing.{known, times_of}
-use Rattle.v_widths.specs.declared.measured.Closed.{Closed}
+use Rattle.v_selects.specs.declared.closed.Closed.{Closed}
 use Rattle.v_widths.specs.declared.measured.Measured.{Measured}
 use Rattle.v_widths.specs.declared.measured.Parts.{Parts}
 use Rattle.v_widths.specs.Measuring.{own_measured, number_of}
-use Rattle.v_widths.specs.Taken.{taken}
+use Rattle.v_selects.specs.Taken.{taken}
 
 -- a number behind another one, in 128 bits
 abbrev pub behind : ℕ → ℕ → ℕ → ℕ

@@ -3,17 +3,18 @@ ghost use Rattle.std.specs.Prelude.{◌≡◌, ◌*◌, ◌/◌, ◌%◌, ◌^�
 ghost use Rattle.loc_base.specs.Bits.{width_of, value_of};
 ghost use Rattle.design_core.specs.Operator.{resized, binary, is_true};
 ghost use Rattle.v_sizes.specs.Sized.{constant};
-ghost use Rattle.v_widths.specs.Folding.{number_in};
+ghost use Rattle.v_selects.specs.Folding.{number_in};
 ghost use Rattle.v_widths.specs.Closing.{closed_with, own_typed, called_closed, low, chosen_typed, unary_closed, both_closed, divided_number, divided_closed, shifted_number, shifted_closed, raised_closed, chosen_closed, division_fault};
 
-use crate::measured::{Closed, Division};
-use crate::node::{
+use crate::measured::Division;
+use design_core::{BinaryOp, Node, Typed, UnaryOp};
+use loc_base::{Bits, Boxed, NoMemory, Span};
+use std::alloc::Global;
+use v_selects::node::{
     binary_node, choose_node, constant, low_in, sized, unary_node, with_sign, with_width, word_in,
     word_of_node,
 };
-use design_core::{BinaryOp, Node, Typed, UnaryOp};
-use loc_base::{Bits, NoMemory, Span};
-use std::alloc::Global;
+use v_selects::{Closed, typed_of};
 use v_sizes::divide::{quotient, remainder};
 use v_sizes::fold::Operand;
 use v_sizes::numbers::{is_true, low_bits};
@@ -23,6 +24,7 @@ use v_sizes::{WidthErr, fold};
 /// The context of an expression, and whether the expression reads no signal.
 #[derive(Clone, Copy)]
 pub(crate) struct Frame {
+    pub alloc: Global,
     pub size: u8,
     pub signed: bool,
     pub constant: bool,
@@ -58,52 +60,68 @@ fn carried_constant(frame: Frame, word: Bits) -> Typed
     constant_of(frame, resized(word, frame.signed, frame.size).value())
 }
 
-/// What has its width by itself.
-pub(crate) fn own(alloc: Global, frame: Frame, width: u8, node: Node) -> Result<Typed, NoMemory>
-    ensures { IfOk result (λ t. t ≡ own_typed frame.constant width frame.size frame.signed node) }
-{
-    if frame.constant {
-        return Ok(carried_constant(frame, word_of_node(&node)));
-    }
-    with_width(alloc, frame.size, sized(width, frame.signed, node))
-}
-
-/// The argument of a function that changes the sign.
-pub(crate) fn called(alloc: Global, frame: Frame, e: Closed) -> Result<Closed, NoMemory>
-    ensures { IfOk result (λ c. c ≡ called_closed frame.constant frame.size frame.signed e) }
-{
-    let fault = e.fault;
-    let typed = if frame.constant {
-        carried_constant(frame, word_in(&e.typed))
-    } else {
-        let typed = with_sign(alloc, frame.signed, e.typed)?;
-        with_width(alloc, frame.size, typed)?
-    };
-    Ok(closed_with(frame, typed, fault))
-}
-
 /// An expression that is finished in its context.
-fn closed_with(frame: Frame, typed: Typed, fault: Option<WidthErr>) -> Closed
-    ensures { result ≡ closed_with typed frame.constant fault }
+fn closed_with(
+    frame: Frame,
+    typed: Typed,
+    fault: Option<WidthErr>,
+) -> Result<Boxed<Closed>, NoMemory>
+    ensures { IfOk result (λ c. c ≡ closed_with typed frame.constant fault) }
 {
-    Closed {
+    let closed = Closed {
         typed,
         constant: frame.constant,
         fault,
-    }
+    };
+    Boxed::new(frame.alloc, closed)
 }
 
-pub(crate) fn unary(alloc: Global, frame: Frame, op: UnaryOp, e: Closed) -> Result<Closed, NoMemory>
+/// What has its width by itself.
+#[inline(never)]
+pub(crate) fn own(
+    frame: Frame,
+    width: u8,
+    node: Node,
+    fault: Option<WidthErr>,
+) -> Result<Boxed<Closed>, NoMemory>
+    ensures { IfOk result (λ c. c ≡ closed_with (own_typed frame.constant width frame.size frame.signed node) frame.constant fault) }
+{
+    let typed = if frame.constant {
+        carried_constant(frame, word_of_node(&node))
+    } else {
+        with_width(frame.alloc, frame.size, sized(width, frame.signed, node))?
+    };
+    closed_with(frame, typed, fault)
+}
+
+/// The argument of a function that changes the sign.
+#[inline(never)]
+pub(crate) fn called(frame: Frame, e: Boxed<Closed>) -> Result<Boxed<Closed>, NoMemory>
+    ensures { IfOk result (λ c. c ≡ called_closed frame.constant frame.size frame.signed e) }
+{
+    let Closed { typed, fault, .. } = e.into_inner();
+    let typed = if frame.constant {
+        carried_constant(frame, word_in(&typed))
+    } else {
+        let typed = with_sign(frame.alloc, frame.signed, typed)?;
+        with_width(frame.alloc, frame.size, typed)?
+    };
+    closed_with(frame, typed, fault)
+}
+
+#[inline(never)]
+pub(crate) fn unary(frame: Frame, op: UnaryOp, e: Boxed<Closed>) -> Result<Boxed<Closed>, NoMemory>
     ensures { IfOk result (λ c. c ≡ unary_closed op frame.constant frame.size frame.signed e) }
 {
-    let fault = e.fault;
+    let Closed { typed, fault, .. } = e.into_inner();
     let typed = if frame.constant {
-        let word = fold::unary(op, low_in(frame.size, &e.typed));
+        let word = fold::unary(op, low_in(frame.size, &typed));
         constant_of(frame, word.value())
     } else {
-        sized(frame.size, frame.signed, unary_node(alloc, op, e.typed)?)
+        let node = unary_node(frame.alloc, op, typed)?;
+        sized(frame.size, frame.signed, node)
     };
-    Ok(closed_with(frame, typed, fault))
+    closed_with(frame, typed, fault)
 }
 
 /// The words of two operands in the context.
@@ -121,13 +139,13 @@ pub(crate) fn folded(frame: Frame, op: BinaryOp, left: &Typed, right: &Typed) ->
     fold::binary(op, one, other)
 }
 
+#[inline(never)]
 pub(crate) fn both(
-    alloc: Global,
     frame: Frame,
     op: BinaryOp,
-    left: Closed,
-    right: Closed,
-) -> Result<Closed, NoMemory>
+    left: Boxed<Closed>,
+    right: Boxed<Closed>,
+) -> Result<Boxed<Closed>, NoMemory>
     ensures { IfOk result (λ c. c ≡ both_closed op frame.constant frame.size frame.signed left right) }
 {
     let fault = left.fault.or(right.fault);
@@ -135,10 +153,10 @@ pub(crate) fn both(
         let word = folded(frame, op, &left.typed, &right.typed);
         constant_of(frame, word.value())
     } else {
-        let node = binary_node(alloc, op, left.typed, right.typed)?;
+        let node = binary_node(frame.alloc, op, typed_of(left), typed_of(right))?;
         sized(frame.size, frame.signed, node)
     };
-    Ok(closed_with(frame, typed, fault))
+    closed_with(frame, typed, fault)
 }
 
 fn division_fault(frame: Frame, span: Span, divisor: Bits) -> Option<WidthErr>
@@ -153,8 +171,14 @@ fn division_fault(frame: Frame, span: Span, divisor: Bits) -> Option<WidthErr>
     }
 }
 
-pub(crate) fn divided(frame: Frame, division: Division, left: Closed, right: Closed) -> Closed
-    ensures { result ≡ divided_closed division.span division.remainder frame.constant frame.size frame.signed left right }
+#[inline(never)]
+pub(crate) fn divided(
+    frame: Frame,
+    division: Division,
+    left: Boxed<Closed>,
+    right: Boxed<Closed>,
+) -> Result<Boxed<Closed>, NoMemory>
+    ensures { IfOk result (λ c. c ≡ divided_closed division.span division.remainder frame.constant frame.size frame.signed left right) }
 {
     let one = low_in(frame.size, &left.typed);
     let other = low_in(frame.size, &right.typed);
@@ -185,13 +209,13 @@ fn shifted_word(op: BinaryOp, word: Bits, signed: bool, by: u128) -> Bits
     }
 }
 
+#[inline(never)]
 pub(crate) fn shifted(
-    alloc: Global,
     frame: Frame,
     op: BinaryOp,
-    left: Closed,
-    right: Closed,
-) -> Result<Closed, NoMemory>
+    left: Boxed<Closed>,
+    right: Boxed<Closed>,
+) -> Result<Boxed<Closed>, NoMemory>
     ensures { IfOk result (λ c. c ≡ shifted_closed op frame.constant frame.size frame.signed left right) }
 {
     let fault = left.fault.or(right.fault);
@@ -200,14 +224,20 @@ pub(crate) fn shifted(
         let word = shifted_word(op, word, frame.signed, word_in(&right.typed).value());
         constant_of(frame, word.value())
     } else {
-        let node = binary_node(alloc, op, left.typed, right.typed)?;
+        let node = binary_node(frame.alloc, op, typed_of(left), typed_of(right))?;
         sized(frame.size, frame.signed, node)
     };
-    Ok(closed_with(frame, typed, fault))
+    closed_with(frame, typed, fault)
 }
 
-pub(crate) fn raised(frame: Frame, base: Closed, exponent: u128, own: Option<WidthErr>) -> Closed
-    ensures { result ≡ raised_closed exponent own frame.constant frame.size frame.signed base }
+#[inline(never)]
+pub(crate) fn raised(
+    frame: Frame,
+    base: Boxed<Closed>,
+    exponent: u128,
+    own: Option<WidthErr>,
+) -> Result<Boxed<Closed>, NoMemory>
+    ensures { IfOk result (λ c. c ≡ raised_closed exponent own frame.constant frame.size frame.signed base) }
 {
     let word = power(low_in(frame.size, &base.typed), exponent);
     let fault = base.fault.or(own);
@@ -226,32 +256,26 @@ fn taken(condition: Typed, yes: Typed, no: Typed) -> Typed
 }
 
 /// A conditional expression, or what a constant one is.
-fn choice(
-    alloc: Global,
-    frame: Frame,
-    condition: Typed,
-    yes: Typed,
-    no: Typed,
-) -> Result<Typed, NoMemory>
+fn choice(frame: Frame, condition: Typed, yes: Typed, no: Typed) -> Result<Typed, NoMemory>
     ensures { IfOk result (λ t. t ≡ chosen_typed frame.constant frame.size frame.signed condition yes no) }
 {
     if frame.constant {
         return Ok(taken(condition, yes, no));
     }
-    let node = choose_node(alloc, condition, yes, no)?;
+    let node = choose_node(frame.alloc, condition, yes, no)?;
     Ok(sized(frame.size, frame.signed, node))
 }
 
+#[inline(never)]
 pub(crate) fn chosen(
-    alloc: Global,
     frame: Frame,
-    condition: Closed,
-    yes: Closed,
-    no: Closed,
-) -> Result<Closed, NoMemory>
+    condition: Boxed<Closed>,
+    yes: Boxed<Closed>,
+    no: Boxed<Closed>,
+) -> Result<Boxed<Closed>, NoMemory>
     ensures { IfOk result (λ c. c ≡ chosen_closed frame.constant frame.size frame.signed condition yes no) }
 {
     let fault = condition.fault.or(yes.fault.or(no.fault));
-    let typed = choice(alloc, frame, condition.typed, yes.typed, no.typed)?;
-    Ok(closed_with(frame, typed, fault))
+    let typed = choice(frame, typed_of(condition), typed_of(yes), typed_of(no))?;
+    closed_with(frame, typed, fault)
 }

@@ -4,24 +4,14 @@
 
 mod apply;
 mod close;
-mod first;
 mod form;
-mod integer;
 mod measure;
 mod measured;
-mod name_fault;
-mod name_node;
-mod name_size;
-mod named;
-mod node;
+mod one_bit;
+mod operands;
 mod operators;
-mod part_select;
 mod parts;
-mod picked;
-mod places;
-mod selected;
 mod sizes;
-mod taken;
 
 pub use sizes::{constant, constant_in, typed};
 pub use v_sizes::{Const, Meaning, Scope, WidthErr};

@@ -1,30 +1,80 @@
 //! The pass up: the width and the sign that an expression has by itself (IEEE 1364-2005, 5.4.1 and 5.5.1). What no context sizes is
 //! finished here, once.
-ghost use Rattle.std.specs.Prelude.{◌≡◌, IfOk, map};
+ghost use Rattle.std.specs.Prelude.{◌≡◌, Some, IfOk, map};
 ghost use Rattle.v_tree.specs.Tree.{tree_of, trees_of, selection_of, selections_of};
+ghost use Rattle.v_sizes.specs.declared.meaning.Meaning.{Meaning};
+ghost use Rattle.v_sizes.specs.Context.{IsMeaning};
 ghost use Rattle.v_sizes.specs.Scopes.{look_of};
-ghost use Rattle.v_widths.specs.Parts.{no_parts, with_parts};
+ghost use Rattle.v_widths.specs.Closing.{alone};
+ghost use Rattle.v_widths.specs.Named.{named};
+ghost use Rattle.v_widths.specs.Parts.{no_parts, with_parts, joined_parts, repeated_parts};
 ghost use Rattle.v_widths.specs.Opening.{opened, opened_parts, opened_select, opened_selects, system_measured};
 
-use crate::form::{alone, binary, called, conditional, number, unary};
-use crate::measured::{Closed, Measured, Parts, Picked};
-use crate::named::{At, named};
+use crate::close::alone;
+use crate::form::{binary, called, conditional, number, unary};
+use crate::measured::{Measured, Parts, leaf_measured};
 use crate::operators::taking_of;
 use crate::parts::{ceiling, joined, no_parts, repeated, with_part};
-use loc_base::{Items, NoMemory, Span};
+use loc_base::{Boxed, Items, NoMemory, Span};
 use std::alloc::Global;
-use v_sizes::Scope;
-use v_tree::{Expr, Select, SystemFunction};
+use v_selects::{At, Closed, Picked, named};
+use v_sizes::{Meaning, Scope};
+use v_tree::{Expr, Select, Site, SystemFunction};
+
+/// Where an expression stands.
+fn place_of(site: &Site, only: bool) -> At
+    ensures { result ≡ record { span = site.now.span; only = only } }
+{
+    At {
+        span: site.span,
+        only,
+    }
+}
 
 /// A call of a system function.
-fn system(span: Span, function: SystemFunction, argument: Closed) -> Measured
-    ensures { result ≡ system_measured span function argument }
+#[inline(never)]
+fn system(
+    alloc: Global,
+    span: Span,
+    function: SystemFunction,
+    argument: Boxed<Closed>,
+) -> Result<Boxed<Measured>, NoMemory>
+    ensures { IfOk result (λ m. m ≡ system_measured span function argument) }
 {
     match function {
-        SystemFunction::Signed => called(true, argument),
-        SystemFunction::Unsigned => called(false, argument),
-        SystemFunction::Clog2 => ceiling(span, argument),
+        SystemFunction::Signed => called(alloc, true, argument),
+        SystemFunction::Unsigned => called(alloc, false, argument),
+        SystemFunction::Clog2 => ceiling(alloc, span, argument),
     }
+}
+
+/// A name with its selects, which are measured.
+#[inline(never)]
+fn measured_name(
+    alloc: Global,
+    at: At,
+    meaning: Option<Meaning>,
+    selects: Items<Picked>,
+) -> Result<Boxed<Measured>, NoMemory>
+    requires { (m : Meaning) → meaning ≡ Some m → IsMeaning m }
+    ensures { IfOk result (λ m. m ≡ named at.span at.only meaning selects) }
+{
+    let leaf = named(alloc, at, meaning, selects)?;
+    leaf_measured(alloc, leaf)
+}
+
+/// An expression that no context sizes.
+#[cycle(measure)]
+fn finished(
+    alloc: Global,
+    e: &Expr,
+    scope: &Scope<'_>,
+    only: bool,
+) -> Result<Boxed<Closed>, NoMemory>
+    ensures { IfOk result (λ c. c ≡ alone (opened (look_of scope.now) only (tree_of e.now))) }
+{
+    let e = measure(alloc, e, scope, only)?;
+    alone(alloc, e)
 }
 
 /// Parts from the left, each by itself.
@@ -39,11 +89,41 @@ fn measured_parts(
 {
     let mut joined = no_parts(alloc);
     for part in parts {
-        let part = measure(alloc, part, scope, only)?;
-        let part = alone(alloc, part)?;
+        let part = finished(alloc, part, scope, only)?;
         joined = with_part(joined, part)?;
     }
     Ok(joined)
+}
+
+/// A concatenation.
+#[inline(never)]
+#[cycle(measure)]
+fn concatenation(
+    alloc: Global,
+    at: At,
+    parts: &[Expr],
+    scope: &Scope<'_>,
+) -> Result<Boxed<Measured>, NoMemory>
+    ensures { IfOk result (λ m. m ≡ joined_parts at.span (with_parts no_parts (opened_parts (look_of scope.now) at.only (trees_of (map tree_of parts.now))))) }
+{
+    let parts = measured_parts(alloc, parts, scope, at.only)?;
+    joined(alloc, at.span, parts)
+}
+
+/// A replication, whose count is finished.
+#[inline(never)]
+#[cycle(measure)]
+fn replication(
+    alloc: Global,
+    at: At,
+    count: Boxed<Closed>,
+    parts: &[Expr],
+    scope: &Scope<'_>,
+) -> Result<Boxed<Measured>, NoMemory>
+    ensures { IfOk result (λ m. m ≡ repeated_parts at.span count (with_parts no_parts (opened_parts (look_of scope.now) at.only (trees_of (map tree_of parts.now))))) }
+{
+    let parts = measured_parts(alloc, parts, scope, at.only)?;
+    repeated(alloc, at.span, count, parts)
 }
 
 /// A select, its indexes each by itself.
@@ -59,8 +139,7 @@ fn measured_select(
 {
     match select {
         Select::Bit { site: _, index } => {
-            let index = measure(alloc, index, scope, only)?;
-            let index = alone(alloc, index)?;
+            let index = finished(alloc, index, scope, only)?;
             Ok(Picked::Bit(index))
         }
         Select::Part {
@@ -69,10 +148,8 @@ fn measured_select(
             left,
             right,
         } => {
-            let one = measure(alloc, left, scope, only)?;
-            let one = alone(alloc, one)?;
-            let other = measure(alloc, right, scope, only)?;
-            let other = alone(alloc, other)?;
+            let one = finished(alloc, left, scope, only)?;
+            let other = finished(alloc, right, scope, only)?;
             Ok(Picked::Part {
                 kind: *kind,
                 one,
@@ -83,6 +160,7 @@ fn measured_select(
 }
 
 /// Selects from the left.
+#[inline(never)]
 #[cycle(measure)]
 fn measured_selects(
     alloc: Global,
@@ -100,7 +178,8 @@ fn measured_selects(
     Ok(all)
 }
 
-/// An expression measured: one look at each of its nodes. `only` where constants alone are wanted.
+/// An expression measured: one look at each of its nodes. It calls itself for each level of the tree: what has large values is in
+/// the functions that it calls.
 #[cycle(measure)]
 #[tactic(auto, using(crate::proofs::TreeSteps::tree_steps))]
 pub(crate) fn measure(
@@ -108,54 +187,38 @@ pub(crate) fn measure(
     e: &Expr,
     scope: &Scope<'_>,
     only: bool,
-) -> Result<Measured, NoMemory>
+) -> Result<Boxed<Measured>, NoMemory>
     ensures { IfOk result (λ m. m ≡ opened (look_of scope.now) only (tree_of e.now)) }
 {
     match e {
-        Expr::Number {
-            site,
-            number: written,
-        } => Ok(number(site.span, written.text.as_slice())),
-        Expr::Wild {
-            site,
-            number: written,
-        } => Ok(number(site.span, written.text.as_slice())),
+        Expr::Number { site, number: it } => number(alloc, site.span, it.text.as_slice()),
+        Expr::Wild { site, number: it } => number(alloc, site.span, it.text.as_slice()),
         Expr::Name {
             site,
             name,
             selects,
         } => {
             let selects = measured_selects(alloc, selects, scope, only)?;
-            let at = At {
-                span: site.span,
-                only,
-            };
-            named(alloc, at, scope.find(name), selects)
+            measured_name(alloc, place_of(site, only), scope.find(name), selects)
         }
-        Expr::Parens { site: _, inner } => measure(alloc, inner, scope, only),
-        Expr::Concat { site, parts } => {
-            let parts = measured_parts(alloc, parts, scope, only)?;
-            Ok(joined(site.span, parts))
-        }
+        Expr::Parens { inner, .. } => measure(alloc, inner, scope, only),
+        Expr::Concat { site, parts } => concatenation(alloc, place_of(site, only), parts, scope),
         Expr::Repeat { site, count, parts } => {
-            let count = measure(alloc, count, scope, only)?;
-            let count = alone(alloc, count)?;
-            let parts = measured_parts(alloc, parts, scope, only)?;
-            repeated(alloc, site.span, count, parts)
+            let count = finished(alloc, count, scope, only)?;
+            replication(alloc, place_of(site, only), count, parts, scope)
         }
         Expr::System {
             site,
             function,
             argument,
         } => {
-            let argument = measure(alloc, argument, scope, only)?;
-            let argument = alone(alloc, argument)?;
-            Ok(system(site.span, *function, argument))
+            let argument = finished(alloc, argument, scope, only)?;
+            system(alloc, site.span, *function, argument)
         }
         Expr::Unary {
-            site: _,
             operator,
             operand,
+            ..
         } => {
             let operand = measure(alloc, operand, scope, only)?;
             unary(alloc, *operator, operand)
@@ -171,13 +234,12 @@ pub(crate) fn measure(
             binary(alloc, site.span, taking_of(*operator), left, right)
         }
         Expr::Conditional {
-            site: _,
             condition,
             then,
             other,
+            ..
         } => {
-            let condition = measure(alloc, condition, scope, only)?;
-            let condition = alone(alloc, condition)?;
+            let condition = finished(alloc, condition, scope, only)?;
             let on_true = measure(alloc, then, scope, only)?;
             let on_false = measure(alloc, other, scope, only)?;
             conditional(alloc, condition, on_true, on_false)

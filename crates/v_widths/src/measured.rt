@@ -1,20 +1,13 @@
 //! An expression with its width and its sign, whose context is still to come (IEEE 1364-2005, 5.4 and 5.5): operands that no
 //! context sizes are finished in it.
-use design_core::{BinaryOp, Node, Typed, UnaryOp};
-use loc_base::{Boxed, Items, Span};
-use v_sizes::WidthErr;
-use v_tree::PartKind;
+ghost use Rattle.std.specs.Prelude.{◌≡◌, IfOk};
+ghost use Rattle.v_widths.specs.Measuring.{leaf_measured};
 
-/// An expression in a context. Where it is refused, only the width and the sign of its sized expression count, and the
-/// value of a constant.
-#[derive(Drop)]
-pub(crate) struct Closed {
-    pub typed: Typed,
-    /// Whether it reads no signal.
-    pub constant: bool,
-    /// The fault of its leftmost part that is wrong by itself.
-    pub fault: Option<WidthErr>,
-}
+use design_core::{BinaryOp, Node, Typed, UnaryOp};
+use loc_base::{Boxed, Items, NoMemory, Span};
+use std::alloc::Global;
+use v_selects::{Closed, Leaf};
+use v_sizes::WidthErr;
 
 /// A quotient, or a remainder, and where it stands.
 #[derive(Clone, Copy)]
@@ -37,44 +30,40 @@ pub(crate) struct Measured {
 #[derive(Drop)]
 pub(crate) enum Shape {
     /// What has its width by itself: a constant's word, else the node of its width.
-    Own {
-        node: Node,
-        fault: Option<WidthErr>,
-    },
+    Own(Node, Option<WidthErr>),
     /// The argument of a function that changes the sign.
-    Called(Closed),
-    Unary {
-        op: UnaryOp,
-        operand: Boxed<Measured>,
-    },
+    Called(Boxed<Closed>),
+    /// The operand by the context.
+    Unary(UnaryOp, Boxed<Measured>),
     /// Both operands by the context.
-    Both {
-        op: BinaryOp,
-        left: Boxed<Measured>,
-        right: Boxed<Measured>,
-    },
-    Divided {
-        division: Division,
-        left: Boxed<Measured>,
-        right: Boxed<Measured>,
-    },
+    Both(BinaryOp, Boxed<Measured>, Boxed<Measured>),
+    Divided(Division, Boxed<Measured>, Boxed<Measured>),
     /// The left operand by the context.
-    Shifted {
-        op: BinaryOp,
-        left: Boxed<Measured>,
-        right: Closed,
-    },
-    /// A power, with the distance of its exponent from 0, and what is wrong with the exponent.
-    Raised {
-        base: Boxed<Measured>,
-        exponent: u128,
-        fault: Option<WidthErr>,
-    },
-    Chosen {
-        condition: Closed,
-        on_true: Boxed<Measured>,
-        on_false: Boxed<Measured>,
-    },
+    Shifted(BinaryOp, Boxed<Measured>, Boxed<Closed>),
+    /// A power: its base, the distance of its exponent from 0, and what is wrong with the exponent.
+    Raised(Boxed<Measured>, u128, Option<WidthErr>),
+    /// The condition, and the two arms by the context.
+    Chosen(Boxed<Closed>, Boxed<Measured>, Boxed<Measured>),
+}
+
+/// What has its width by itself, measured.
+pub(crate) fn leaf_measured(alloc: Global, leaf: Leaf) -> Result<Boxed<Measured>, NoMemory>
+    ensures { IfOk result (λ m. m ≡ leaf_measured leaf) }
+{
+    let Leaf {
+        width,
+        signed,
+        constant,
+        node,
+        fault,
+    } = leaf;
+    let measured = Measured {
+        width,
+        signed,
+        constant,
+        shape: Shape::Own(node, fault),
+    };
+    Boxed::new(alloc, measured)
 }
 
 /// Parts from the left, as they are joined.
@@ -87,17 +76,4 @@ pub(crate) struct Parts {
     /// The low 128 bits of the number that they are where they are constants.
     pub number: u128,
     pub fault: Option<WidthErr>,
-}
-
-/// A select whose indexes are finished.
-#[derive(Drop)]
-pub(crate) enum Picked {
-    /// `[index]`
-    Bit(Closed),
-    /// `[one : other]`, `[one +: other]` or `[one -: other]`
-    Part {
-        kind: PartKind,
-        one: Closed,
-        other: Closed,
-    },
 }

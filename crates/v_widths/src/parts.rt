@@ -1,22 +1,23 @@
 //! Concatenations and replications (IEEE 1364-2005, 5.1.14), and the logarithm.
-ghost use Rattle.std.specs.Prelude.{◌≡◌, ◌+◌, ◌*◌, ◌%◌, ◌^◌, ◌≤◌, ◌<◌, IfOk, if◌then◌else◌, Some, None, is_some, int_lt, pos, true, false};
+ghost use Rattle.std.specs.Prelude.{◌≡◌, ◌≤◌, IfOk, None, int_lt, pos, false};
 ghost use Rattle.design_core.specs.declared.expression.Node.TheVariants as node;
 ghost use Rattle.v_sizes.specs.Literal.{limited};
 ghost use Rattle.v_sizes.specs.Refusals.{is_bad_width, when};
 ghost use Rattle.v_sizes.specs.Sized.{sized};
-ghost use Rattle.v_sizes.specs.Word.{word};
 ghost use Rattle.v_sizes.specs.declared.error.WidthErr.TheVariants as fault;
 ghost use Rattle.v_sizes.specs.Sizing.{known, times_of};
 ghost use Rattle.v_widths.specs.Named.{logarithm_measured};
 ghost use Rattle.v_widths.specs.Parts.{behind, no_parts, with_part, joined_parts, many, count_fault, repeated_parts};
-ghost use Rattle.v_widths.specs.Taken.{taken};
+ghost use Rattle.v_selects.specs.Taken.{taken};
 
-use crate::form::{is_known_below_0, known_magnitude, number_word, word_node};
-use crate::measured::{Closed, Measured, Parts, Shape};
-use crate::node::sized;
+use crate::measured::{Measured, Parts, leaf_measured};
 use design_core::{Node, Typed};
 use loc_base::{Boxed, Items, NoMemory, Span};
 use std::alloc::Global;
+use v_selects::leaf::{settled, word_node};
+use v_selects::node::sized;
+use v_selects::taken::{is_known_below_0, known_magnitude, number_word};
+use v_selects::{Closed, Leaf};
 use v_sizes::WidthErr;
 use v_sizes::numbers::{limited, low_bits};
 use v_sizes::power::logarithm;
@@ -45,7 +46,7 @@ pub(crate) fn no_parts(alloc: Global) -> Parts
 }
 
 /// One part more on the right.
-pub(crate) fn with_part(parts: Parts, e: Closed) -> Result<Parts, NoMemory>
+pub(crate) fn with_part(parts: Parts, e: Boxed<Closed>) -> Result<Parts, NoMemory>
     ensures { IfOk result (λ p. p ≡ with_part parts e) }
 {
     let Parts {
@@ -55,6 +56,7 @@ pub(crate) fn with_part(parts: Parts, e: Closed) -> Result<Parts, NoMemory>
         number,
         fault,
     } = parts;
+    let e = e.into_inner();
     let own = u16::from(limited(e.typed.width));
     let number = behind(number, own, number_word(&e.typed).value());
     typed.push(e.typed)?;
@@ -85,24 +87,9 @@ fn width_fault(span: Span, width: u32) -> Option<WidthErr>
     }
 }
 
-/// What is kept of a node of a width that is a constant, or refused.
-fn settled(width: u8, constant: bool, fault: Option<WidthErr>, number: u128) -> Option<Node>
-    requires least { 1 ≤ width }
-    requires most { width ≤ 128 }
-    ensures { result ≡ (if constant then Some (node.Const (word width number)) else if is_some fault then Some (node.Whole 0) else None) }
-{
-    if constant {
-        Some(word_node(width, number))
-    } else if fault.is_some() {
-        Some(Node::Whole(0))
-    } else {
-        None
-    }
-}
-
 /// A concatenation.
-pub(crate) fn joined(span: Span, parts: Parts) -> Measured
-    ensures { result ≡ joined_parts span parts }
+pub(crate) fn joined(alloc: Global, span: Span, parts: Parts) -> Result<Boxed<Measured>, NoMemory>
+    ensures { IfOk result (λ m. m ≡ joined_parts span parts) }
 {
     let sum = u32::from(parts.width);
     let width = limited_sum(sum);
@@ -112,12 +99,14 @@ pub(crate) fn joined(span: Span, parts: Parts) -> Measured
         Some(node) => node,
         None => Node::Join(parts.typed),
     };
-    Measured {
+    let leaf = Leaf {
         width,
         signed: false,
         constant,
-        shape: Shape::Own { node, fault },
-    }
+        node,
+        fault,
+    };
+    leaf_measured(alloc, leaf)
 }
 
 /// How many times the parts of a replication stand.
@@ -175,35 +164,40 @@ fn repeat_node(alloc: Global, times: u8, width: u8, parts: Items<Typed>) -> Resu
 pub(crate) fn repeated(
     alloc: Global,
     span: Span,
-    count: Closed,
+    count: Boxed<Closed>,
     parts: Parts,
-) -> Result<Measured, NoMemory>
+) -> Result<Boxed<Measured>, NoMemory>
     ensures { IfOk result (λ m. m ≡ repeated_parts span count parts) }
 {
-    let times = times_of(&count);
+    let times = times_of(count.get());
     let sum = u32::from(times) * u32::from(parts.width);
     let width = limited_sum(sum);
     let constant = parts.constant;
-    let fault = count
-        .fault
-        .or(parts.fault.or(count_fault(span, &count, sum)));
+    let own = count_fault(span, count.get(), sum);
+    let fault = count.fault.or(parts.fault.or(own));
     let number = many(times, parts.width, parts.number);
-    let own = limited_sum(u32::from(parts.width));
+    let part = limited_sum(u32::from(parts.width));
     let node = match settled(width, constant, fault, number) {
         Some(node) => node,
-        None => repeat_node(alloc, times, own, parts.typed)?,
+        None => repeat_node(alloc, times, part, parts.typed)?,
     };
-    Ok(Measured {
+    let leaf = Leaf {
         width,
         signed: false,
         constant,
-        shape: Shape::Own { node, fault },
-    })
+        node,
+        fault,
+    };
+    leaf_measured(alloc, leaf)
 }
 
 /// `$clog2`, of a constant alone.
-pub(crate) fn ceiling(span: Span, argument: Closed) -> Measured
-    ensures { result ≡ logarithm_measured span argument }
+pub(crate) fn ceiling(
+    alloc: Global,
+    span: Span,
+    argument: Boxed<Closed>,
+) -> Result<Boxed<Measured>, NoMemory>
+    ensures { IfOk result (λ m. m ≡ logarithm_measured span argument) }
 {
     let constant = argument.constant;
     let own = if constant {
@@ -211,17 +205,18 @@ pub(crate) fn ceiling(span: Span, argument: Closed) -> Measured
     } else {
         Some(WidthErr::NotConstant(span))
     };
-    let fault = argument.fault.or(own);
     let number = u128::from(logarithm(number_word(&argument.typed).value()));
     let node = if constant {
         word_node(32, number)
     } else {
         Node::Whole(0)
     };
-    Measured {
+    let leaf = Leaf {
         width: 32,
         signed: true,
         constant,
-        shape: Shape::Own { node, fault },
-    }
+        node,
+        fault: argument.fault.or(own),
+    };
+    leaf_measured(alloc, leaf)
 }

@@ -9,11 +9,11 @@ ghost use Rattle.v_widths.specs.Opening.{opened};
 
 use crate::close::close;
 use crate::measure::measure;
-use crate::measured::Closed;
-use crate::node::word_in;
 use design_core::Typed;
 use loc_base::NoMemory;
 use std::alloc::Global;
+use v_selects::Closed;
+use v_selects::node::word_in;
 use v_sizes::{Const, Scope, WidthErr};
 use v_tree::Expr;
 
@@ -35,7 +35,8 @@ fn answered(alloc: Global, e: &Expr, scope: &Scope<'_>, asked: Asked) -> Result<
     let open = measure(alloc, e, scope, asked.only)?;
     let size = open.width.max(asked.context);
     let signed = open.signed && !asked.unsigned;
-    close(alloc, open, size, signed)
+    let closed = close(alloc, open, size, signed)?;
+    Ok(closed.into_inner())
 }
 
 /// The sized expression in the context of a width, 0 for none (IEEE 1364-2005, 5.4 and 5.5). The context is unsigned where

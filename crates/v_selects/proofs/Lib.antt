@@ -1,0 +1,4 @@
+pub mod Indexes
+pub mod Parted
+pub mod Picking
+pub mod NameLaws
