@@ -1,0 +1,156 @@
+-- What an instance's text makes: the same however much is left, as many children as are counted, and none at the last level.
+use Rattle.std.proofs.Common.{◌≡◌, ℕ, zero, suc, ◌+◌, List, [], ◌∷◌, ◌++◌, length, refl, sym, ap, ◌∙◌, subst, arith, length-append, append_assoc, append-nil}
+use Rattle.std.specs.Prelude.{⊤, Ok}
+use Rattle.loc_base.specs.declared.span.Span.{Span}
+use Rattle.v_tree.specs.declared.site.Site.{Site}
+use Rattle.v_tree.specs.ItemTree.{items_of}
+use Rattle.v_tree.specs.ModuleTree.{PlainModule}
+use Rattle.v_hierarchy.specs.declared.left.Left.{Left}
+use Rattle.v_hierarchy.specs.Steps.{◌>>=◌, less_of, turned, placed}
+use Rattle.v_hierarchy.specs.Names.{Entry}
+use Rattle.v_hierarchy.specs.Parameters.{header_parameters}
+use Rattle.v_hierarchy.specs.Headers.{header_ports}
+use Rattle.v_hierarchy.specs.Unrolled.{Steps, unrolled}
+use Rattle.v_hierarchy.specs.Items.{Child, Copied, written, always, child, Block, scope, Copies, no_copy, copy, and_copy, Met, with_names, with_copy, not_deeper, turn_met, begins, ends}
+use Rattle.v_hierarchy.specs.Instances.{place_of, contents, children, made_by}
+use Rattle.v_hierarchy.specs.Hierarchy.{Makes}
+use Rattle.v_elaborate.proofs.Runs.{Ok-same, Err-Ok, both, apart, ended}
+use Rattle.v_elaborate.proofs.UnrolledRuns.{turned-keeps, unrolled-alike}
+use Rattle.v_elaborate.proofs.ItemRuns.{met_of, Encloses, Kept, items-run}
+
+-- ---- names and what is made are the same
+pub record Same (k : ⊤) (m n : Met) : Type 0 where
+  pub names : m.names ≡ n.names
+  pub copies : m.copies ≡ n.copies
+
+same-kept : (one other : ℕ) → Kept ⊤ Same one other
+same-kept one other = record {
+  names = λ k m n h. h.names;
+  declares = λ k m n more h. record { names = refl; copies = h.copies };
+  writes = λ k m n x h. record { names = h.names; copies = ap (λ c. and_copy c (written x)) h.copies };
+  unrolls = λ k m n s events frames body x y h ran ran'.
+      let e = unrolled-alike frames body m.left n.left x y ran ran' in
+      record { names = h.names; copies = ap (λ c. and_copy c (always s events x.0)) h.copies ∙ ap (λ b. and_copy n.copies (always s events b)) e.same };
+  places = λ k m n s c span u v l r h deep deep' at at'. record { names = h.names; copies = ap (λ cs. and_copy cs (child s c)) h.copies };
+  turns = λ k m n span a b h first second. turn-same m n span a b h first second;
+  inside = λ k m n h. tt;
+  begins = λ k m n h. record { names = refl; copies = refl };
+  ends = λ k m n h x y e path made encloses.
+      record {
+        names = h.names;
+        copies = ap (λ c. and_copy c (made (scope path x.names x.copies))) h.copies
+            ∙ ap (λ names. and_copy n.copies (made (scope path names x.copies))) e.names
+            ∙ ap (λ copies. and_copy n.copies (made (scope path y.names copies))) e.copies;
+      };
+}
+  where
+    turn-same : (m n : Met) (span : Span) (a b : Met) → Same tt m n → turn_met span m ≡ Ok a → turn_met span n ≡ Ok b → Same tt a b
+    turn-same m n span a b h first second =
+        apart (turned span m.left) (turned span n.left) _ _ a b (Same tt a b) first second λ l r _ _ first second.
+        ended (Same tt) (met_of m.names m.copies l) (met_of n.names n.copies r) a b first second (record { names = h.names; copies = h.copies })
+
+-- an instance makes one thing
+pub makes-same : (units : List PlainModule) (c : Child) (m n : Met) → Makes units c m → Makes units c n → Same tt m n
+makes-same units c m n one other =
+    both (header_parameters c.values c.«module».parameters >>= header_ports c.«module») _ _ m n (Same tt m n) one.makes other.makes λ names first second.
+    items-run ⊤ Same one.levels other.levels (same-kept one.levels other.levels) (items_of c.«module».items) (place_of units 0 c) tt
+    (begins names one.left) (begins names other.left) m n (record { names = refl; copies = refl }) first second
+
+-- ---- children
+pub children-and_copy : (cs : Copies) (x : Copied) → children (and_copy cs x) ≡ children cs ++ made_by x
+children-and_copy no_copy x = append-nil (made_by x)
+children-and_copy (copy y rest) x = ap (λ ds. made_by y ++ ds) (children-and_copy rest x) ∙ sym (append_assoc (made_by y) (children rest) (made_by x))
+
+-- how many children are made, with those that are left; and none where no level is left
+pub record Counted (levels : ℕ) (k : ℕ) (m n : Met) : Type 0 where
+  pub same : m ≡ n
+  pub total : length (children m.copies) + m.left.instances ≡ k
+  pub last : levels ≡ 0 → children m.copies ≡ []
+
+-- a step that makes no children
+still : (levels k : ℕ) (m n : Met) (x : Copied) (names : List Entry) (l r : Left) → made_by x ≡ [] → l.instances ≡ m.left.instances → l ≡ r → Counted levels k m n
+    → Counted levels k (met_of names (and_copy m.copies x) l) (met_of names (and_copy n.copies x) r)
+still levels k m n x names l r none keeps same h =
+    let made : children (and_copy m.copies x) ≡ children m.copies =
+    children-and_copy m.copies x ∙ ap (λ ds. children m.copies ++ ds) none ∙ append-nil (children m.copies) in
+    record {
+      same = ap (λ (p : Met). met_of names (and_copy p.copies x) l) h.same ∙ ap (λ l. met_of names (and_copy n.copies x) l) same;
+      total = omega (arith, ap length made, h.total, keeps);
+      last = λ zero. made ∙ h.last zero;
+    }
+
+placed-less : (span : Span) (l m : Left) → placed span l ≡ Ok m → l.instances ≡ suc m.instances
+placed-less span l m is = go l.instances is
+  where
+    go : (n : ℕ) → less_of n span >>= (λ n. Ok (record { turns = l.turns; instances = n })) ≡ Ok m → n ≡ suc m.instances
+    go zero is = Err-Ok is
+    go (suc n) is = ap suc (ap (λ (x : Left). x.instances) (Ok-same is))
+
+counted-kept : (levels : ℕ) → Kept ℕ (Counted levels) levels levels
+counted-kept levels = record {
+  names = λ k m n h. ap (λ (p : Met). p.names) h.same;
+  declares = λ k m n more h. record { same = ap (λ (p : Met). with_names p more) h.same; total = h.total; last = h.last };
+  writes = λ k m n x h.
+      subst (λ (p : Met). Counted levels k (with_copy m (written x)) (with_copy p (written x))) h.same
+      (still levels k m m (written x) m.names m.left m.left refl refl refl (record { same = refl; total = h.total; last = h.last }));
+  unrolls = λ k m n s events frames body x y h ran ran'.
+      subst (λ (p : Met × (Steps × Left)). Counted levels k (with_copy (met_of m.names m.copies x.1) (always s events x.0)) (with_copy (met_of p.0.names p.0.copies p.1.1) (always s events p.1.0)))
+      (pair m n x y h.same (Ok-same (sym ran ∙ ap (λ (p : Met). unrolled frames body p.left) h.same ∙ ran')))
+      (still levels k m m (always s events x.0) m.names x.1 x.1 refl (unrolled-alike frames body m.left m.left x x ran ran).kept refl (record { same = refl; total = h.total; last = h.last }));
+  places = λ k m n s c span u v l r h deep deep' at at'.
+      subst (λ (p : Met × Left). Counted levels k (with_copy (met_of m.names m.copies l) (child s c)) (with_copy (met_of p.0.names p.0.copies p.1) (child s c)))
+      (both-same m n l r h.same (Ok-same (sym at ∙ ap (λ (p : Met). placed span p.left) h.same ∙ at')))
+      (one-more k m n s c span u l h deep at);
+  turns = λ k m n span a b h first second.
+      subst (λ p. Counted levels k a p) (Ok-same (sym first ∙ ap (turn_met span) h.same ∙ second)) (turn-counted k m n span a h first);
+  inside = λ k m n h. m.left.instances;
+  begins = λ k m n h. record { same = ap (λ (p : Met). begins [] p.left) h.same; total = omega arith; last = λ zero. refl };
+  ends = λ k m n h x y e path made encloses. scope-counted k m n h x y e path made encloses;
+}
+  where
+    pair : (m n : Met) (x y : Steps × Left) → m ≡ n → x ≡ y → ◌≡◌ {A = Met × (Steps × Left)} (m, x) (n, y)
+    pair m n x y e e' = ap (λ (p : Met). (p, x)) e ∙ ap (λ (q : Steps × Left). (n, q)) e'
+
+    both-same : (m n : Met) (l r : Left) → m ≡ n → l ≡ r → ◌≡◌ {A = Met × Left} (m, l) (n, r)
+    both-same m n l r e e' = ap (λ (p : Met). (p, l)) e ∙ ap (λ (q : Left). (n, q)) e'
+
+    deeper : (levels : ℕ) (span : Span) (u : ⊤) → not_deeper levels span ≡ Ok u → levels ≡ 0 → (P : Type 0) → P
+    deeper zero span u is none P = Err-Ok is
+    deeper (suc l) span u is none P = absurd (omega (arith, none))
+
+    one-more : (k : ℕ) (m n : Met) (s : Site) (c : Child) (span : Span) (u : ⊤) (l : Left) → Counted levels k m n → not_deeper levels span ≡ Ok u → placed span m.left ≡ Ok l
+        → Counted levels k (with_copy (met_of m.names m.copies l) (child s c)) (with_copy (met_of m.names m.copies l) (child s c))
+    one-more k m n s c span u l h deep at =
+        let made : children (and_copy m.copies (child s c)) ≡ children m.copies ++ c ∷ [] = children-and_copy m.copies (child s c) in
+        let less = placed-less span m.left l at in
+        record {
+          same = refl;
+          total = omega (arith, ap length made, length-append (children m.copies) (c ∷ []), h.total, less);
+          last = λ zero. deeper levels span u deep zero (children (and_copy m.copies (child s c)) ≡ []);
+        }
+
+    turn-counted : (k : ℕ) (m n : Met) (span : Span) (a : Met) → Counted levels k m n → turn_met span m ≡ Ok a → Counted levels k a a
+    turn-counted k m n span a h first =
+        apart (turned span m.left) (turned span m.left) _ _ a a (Counted levels k a a) first first λ l r is _ first second.
+        let less = turned-keeps span m.left l is in
+        subst (λ (p : Met). Counted levels k p p) (Ok-same first) (record { same = refl; total = omega (arith, h.total, less); last = h.last })
+
+    scope-counted : (k : ℕ) (m n : Met) (h : Counted levels k m n) (x y : Met) → Counted levels m.left.instances x y → (path : List ℕ) (made : Block → Copied) → Encloses made
+        → Counted levels k (ends m x (made (scope path x.names x.copies))) (ends n y (made (scope path y.names y.copies)))
+    scope-counted k m n h x y e path made encloses =
+        let f : Met → Met → Met = λ p q. ends p q (made (scope path q.names q.copies)) in
+        let all : children (and_copy m.copies (made (scope path x.names x.copies))) ≡ children m.copies ++ children x.copies =
+        children-and_copy m.copies (made (scope path x.names x.copies)) ∙ ap (λ ds. children m.copies ++ ds) (encloses.makes path x.names x.copies) in
+        record {
+          same = ap (λ p. f p x) h.same ∙ ap (f n) e.same;
+          total = omega (arith, ap length all, length-append (children m.copies) (children x.copies), h.total, e.total);
+          last = λ zero. all ∙ ap (λ ds. ds ++ children x.copies) (h.last zero) ∙ e.last zero;
+        }
+
+-- an instance's children are counted
+pub contents-counted : (units : List PlainModule) (levels : ℕ) (c : Child) (left : Left) (met : Met) → contents units levels c left ≡ Ok met
+    → Counted levels left.instances met met
+contents-counted units levels c left met is =
+    both (header_parameters c.values c.«module».parameters >>= header_ports c.«module») _ _ met met (Counted levels left.instances met met) is is λ names first second.
+    items-run ℕ (Counted levels) levels levels (counted-kept levels) (items_of c.«module».items) (place_of units 0 c) left.instances
+    (begins names left) (begins names left) met met (record { same = refl; total = omega arith; last = λ zero. refl }) first second

@@ -1,0 +1,5 @@
+pub mod Runs
+pub mod UnrolledRuns
+pub mod ItemRuns
+pub mod ContentLaws
+pub mod HierarchyLaws

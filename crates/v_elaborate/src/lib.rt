@@ -1,0 +1,6 @@
+//! The instances that a text makes of a top module, in the order of the walk from the top down (IEEE 1364-2005, clause 12).
+#![tactic(auto)]
+
+mod laws;
+
+pub use laws::{instances_are_few, list_is_hierarchy, no_instance_is_deeper};
