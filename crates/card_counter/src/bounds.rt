@@ -9,7 +9,7 @@ use clause_base::Lit;
 /// `first`. `None` where there are no more than `j` selectors. It takes no memory.
 pub fn bound(n: u32, k: u32, j: u32, first: u32) -> Option<Lit>
     requires size { j ≤ k }
-    requires room { first + starts k (n + 1) ≤ 2 ^ 32 }
+    requires variables_fit { first + starts k (n + 1) ≤ 2 ^ 32 }
     ensures some { IfSome result (λ bound. (j < n) × (bound ≡ positive (at_least first k n (j + 1)))) }
     ensures none { IfNone result (n ≤ j) }
 {

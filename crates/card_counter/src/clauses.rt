@@ -12,7 +12,7 @@ use std::alloc::Global;
 /// The clauses that count how many of the selectors are true, up to `k + 1`. Their variables are from `first` on.
 pub fn counter(alloc: Global, selectors: &[Lit], k: u32, first: u32) -> Result<Clauses, NoMemory>
     requires before { AreBefore first selectors.now }
-    requires room { first + starts k (length selectors.now + 1) ≤ 2 ^ 32 }
+    requires variables_fit { first + starts k (length selectors.now + 1) ≤ 2 ^ 32 }
     ensures clauses { IfOk result (λ clauses. clauses ≡ counter_clauses selectors.now k first) }
     ensures counts { IfOk result (IsCounter first k selectors.now) }
 {

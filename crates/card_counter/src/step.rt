@@ -29,7 +29,7 @@ impl Step {
         requires selector { selector.var < self.first }
         requires number { 1 ≤ number }
         requires within { number ≤ width self.k (self.counted + 1) }
-        requires room { self.here + number ≤ 2 ^ 32 }
+        requires variables_fit { self.here + number ≤ 2 ^ 32 }
         ensures { OnOk result (clauses.new ≡ clauses.old ++ pair self.first self.k self.counted selector number) }
     {
         let tells = positive(self.here + (number - 1));
@@ -51,7 +51,7 @@ impl Step {
     pub(crate) fn push_row(self, clauses: &mut Clauses, selector: Lit) -> Result<(), NoMemory>
         requires selector { selector.var < self.first }
         requires counted { self.counted + 1 < 2 ^ 64 }
-        requires room { self.here + width self.k (self.counted + 1) ≤ 2 ^ 32 }
+        requires variables_fit { self.here + width self.k (self.counted + 1) ≤ 2 ^ 32 }
         ensures { OnOk result (clauses.new ≡ clauses.old ++ pairs self.first self.k self.counted selector 1 (width self.k (self.counted + 1))) }
     {
         for done in 0..width_of(self.k, self.counted + 1) {

@@ -7,19 +7,19 @@ use Rattle.card_counter.proofs.Counting.{is-counter, starts-within}
 use Rattle.card_counter.proofs.Steps.{rows-end}
 use Rattle.card_counter.proofs.clauses.counter.Goals as goal
 
-pub push_row-requires-clause-room : goal.push_row-requires-clause-room
-push_row-requires-clause-room c =
+pub push_row-requires-clause-variables_fit : goal.push_row-requires-clause-variables_fit
+push_row-requires-clause-variables_fit c =
     let next = c.loop-counted.counted + 1 in
     let last : starts c.args.k next + width c.args.k next ≤ starts c.args.k (length c.args.selectors.now + 1) =
     starts-within c.args.k next (length c.args.selectors.now + 1) (omega (arith, c.loop-counted-test.true)) in
-    omega (arith, last, c.loop-counted.invariant.here_is, c.requires.room)
+    omega (arith, last, c.loop-counted.invariant.here_is, c.requires.variables_fit)
 
 pub overflow_add-here : goal.overflow_add-here
 overflow_add-here c =
     let next = c.loop-counted.counted + 1 in
     let last : starts c.args.k next + width c.args.k next ≤ starts c.args.k (length c.args.selectors.now + 1) =
     starts-within c.args.k next (length c.args.selectors.now + 1) (omega (arith, c.loop-counted-test.true)) in
-    omega (arith, last, c.loop-counted.invariant.here_is, c.requires.room, c.width_of-here.ensures)
+    omega (arith, last, c.loop-counted.invariant.here_is, c.requires.variables_fit, c.width_of-here.ensures)
 
 pub returns-clause-clauses : goal.returns-clause-clauses
 returns-clause-clauses c =
