@@ -46,32 +46,40 @@ abbrev pub free_nodes : ℕ → ℕ → List Literal → List Node
 free_nodes place b [] = []
 free_nodes place b (x ∷ xs) = gate.Free 0 place b x ∷ free_nodes place (b + 1) xs
 
-inputs-added : (n : ℕ) (nodes : List Node) (bits : List Literal) (input b : ℕ) → (inputs_made nodes bits input b n).nodes ≡ nodes ++ input_nodes input b n
+inputs-added : (n : ℕ) (nodes : List Node) (bits : List Literal) (input b : ℕ)
+    → (inputs_made nodes bits input b n).nodes ≡ nodes ++ input_nodes input b n
 unfolding inputs_made input_made pushed
 inputs-added zero nodes bits input b = sym (append-nil nodes)
 inputs-added (suc n) nodes bits input b =
     let m = input_made nodes input b in
-    inputs-added n m.nodes (bits ++ m.bit ∷ []) input (b + 1) ∙ append_assoc nodes (gate.Input input b ∷ []) (input_nodes input (b + 1) n)
+    inputs-added n m.nodes (bits ++ m.bit ∷ []) input (b + 1)
+    ∙ append_assoc nodes (gate.Input input b ∷ []) (input_nodes input (b + 1) n)
 
-states-added : (n : ℕ) (nodes : List Node) (bits : List Literal) (state b : ℕ) → (states_made nodes bits state b n).nodes ≡ nodes ++ state_nodes state b n
+states-added : (n : ℕ) (nodes : List Node) (bits : List Literal) (state b : ℕ)
+    → (states_made nodes bits state b n).nodes ≡ nodes ++ state_nodes state b n
 unfolding states_made state_made pushed
 states-added zero nodes bits state b = sym (append-nil nodes)
 states-added (suc n) nodes bits state b =
     let m = state_made nodes state b in
-    states-added n m.nodes (bits ++ m.bit ∷ []) state (b + 1) ∙ append_assoc nodes (gate.State state b ∷ []) (state_nodes state (b + 1) n)
+    states-added n m.nodes (bits ++ m.bit ∷ []) state (b + 1)
+    ∙ append_assoc nodes (gate.State state b ∷ []) (state_nodes state (b + 1) n)
 
-frees-added : (xs : List Literal) (nodes : List Node) (bits : List Literal) (place b : ℕ) → (frees_made nodes bits place b xs).nodes ≡ nodes ++ free_nodes place b xs
+frees-added : (xs : List Literal) (nodes : List Node) (bits : List Literal) (place b : ℕ)
+    → (frees_made nodes bits place b xs).nodes ≡ nodes ++ free_nodes place b xs
 unfolding frees_made free_made pushed
 frees-added [] nodes bits place b = sym (append-nil nodes)
 frees-added (x ∷ xs) nodes bits place b =
     let m = free_made nodes 0 place b x in
-    frees-added xs m.nodes (bits ++ m.bit ∷ []) place (b + 1) ∙ append_assoc nodes (gate.Free 0 place b x ∷ []) (free_nodes place (b + 1) xs)
+    frees-added xs m.nodes (bits ++ m.bit ∷ []) place (b + 1)
+    ∙ append_assoc nodes (gate.Free 0 place b x ∷ []) (free_nodes place (b + 1) xs)
 
 -- ---- operators
 
-less-adds : (signed : Bool) (nodes : List Node) (xs ys : List Literal) → AddsAnds nodes (less_made signed nodes xs ys).nodes
+less-adds : (signed : Bool) (nodes : List Node) (xs ys : List Literal)
+    → AddsAnds nodes (less_made signed nodes xs ys).nodes
 unfolding less_made
-less-adds signed nodes xs ys = carries-adds nodes (Known true) (with_top signed xs) (map opposite (with_top signed ys))
+less-adds signed nodes xs ys =
+    carries-adds nodes (Known true) (with_top signed xs) (map opposite (with_top signed ys))
 
 unary-adds : (op : UnaryOp) (nodes : List Node) (xs : List Literal) → AddsAnds nodes (unary_made op nodes xs).nodes
 unfolding unary_made
@@ -91,16 +99,19 @@ unfolding both_true_made
 both_true-adds nodes xs ys =
     let a = truth_made nodes xs in
     let b = truth_made a.nodes ys in
-    adds-then (or_all-adds nodes (Known false) xs) (adds-then (or_all-adds a.nodes (Known false) ys) (and-adds b.nodes a.bit b.bit))
+    adds-then (or_all-adds nodes (Known false) xs)
+    (adds-then (or_all-adds a.nodes (Known false) ys) (and-adds b.nodes a.bit b.bit))
 
 one_true-adds : (nodes : List Node) (xs ys : List Literal) → AddsAnds nodes (one_true_made nodes xs ys).nodes
 unfolding one_true_made
 one_true-adds nodes xs ys =
     let a = truth_made nodes xs in
     let b = truth_made a.nodes ys in
-    adds-then (or_all-adds nodes (Known false) xs) (adds-then (or_all-adds a.nodes (Known false) ys) (or-adds b.nodes a.bit b.bit))
+    adds-then (or_all-adds nodes (Known false) xs)
+    (adds-then (or_all-adds a.nodes (Known false) ys) (or-adds b.nodes a.bit b.bit))
 
-binary-adds : (op : BinaryOp) (s t : Bool) (nodes : List Node) (xs ys : List Literal) → AddsAnds nodes (binary_made op s t nodes xs ys).nodes
+binary-adds : (op : BinaryOp) (s t : Bool) (nodes : List Node) (xs ys : List Literal)
+    → AddsAnds nodes (binary_made op s t nodes xs ys).nodes
 unfolding binary_made
 binary-adds binary_op.Add s t nodes xs ys = sum-adds nodes [] xs ys (Known false)
 binary-adds binary_op.Subtract s t nodes xs ys = sum-adds nodes [] xs (map opposite ys) (Known true)
@@ -132,7 +143,8 @@ Adds before after more = after ≡ before ++ more
 abbrev pub AddsFor : List (List Literal) → ℕ → Operation → List Node → List Node → Type 0
 AddsFor words width (Input input) before after = Adds before after (input_nodes input 0 width)
 AddsFor words width (State state) before after = Adds before after (state_nodes state 0 width)
-AddsFor words width (Free place computed) before after = Adds before after (free_nodes place 0 (take width (bits_at words computed)))
+AddsFor words width (Free place computed) before after =
+    Adds before after (free_nodes place 0 (take width (bits_at words computed)))
 AddsFor words width (Const value) before after = AddsAnds before after
 AddsFor words width (Unary op arg) before after = AddsAnds before after
 AddsFor words width (Binary op left right) before after = AddsAnds before after
@@ -153,9 +165,11 @@ unfolding operation_made
 operation-adds nodes words width (Const value) = adds-none nodes
 operation-adds nodes words width (Input input) = inputs-added width nodes [] input 0
 operation-adds nodes words width (State state) = states-added width nodes [] state 0
-operation-adds nodes words width (Free place computed) = frees-added (take width (bits_at words computed)) nodes [] place 0
+operation-adds nodes words width (Free place computed) =
+    frees-added (take width (bits_at words computed)) nodes [] place 0
 operation-adds nodes words width (Unary op arg) = unary-adds op nodes (bits_at words arg)
-operation-adds nodes words width (Binary op left right) = binary-adds op left.signed right.signed nodes (bits_at words left) (bits_at words right)
+operation-adds nodes words width (Binary op left right) =
+    binary-adds op left.signed right.signed nodes (bits_at words left) (bits_at words right)
 operation-adds nodes words width (Choose test one other) =
     choice-adds nodes [] (first_bit (bits_at words test)) (bits_at words one) (bits_at words other)
 operation-adds nodes words width (Join high low) = adds-none nodes
@@ -164,7 +178,8 @@ operation-adds nodes words width (Resize arg) = adds-none nodes
 operation-adds nodes words width (Slice from_word from) = adds-none nodes
 operation-adds nodes words width (Pick from_word select) =
     picks-adds nodes [] (bits_at words select.index) (bits_at words from_word) select select.offsets
-operation-adds nodes words width (Is index value) = match-adds nodes (bits_at words index) (name_of index.signed index.width value)
+operation-adds nodes words width (Is index value) =
+    match-adds nodes (bits_at words index) (name_of index.signed index.width value)
 operation-adds nodes words width (Put old from size value offset) = adds-none nodes
 operation-adds nodes words width (PutPick old select value offset) =
     puts-adds nodes [] (bits_at words select.index) (drop offset (bits_at words value)) select 0 (bits_at words old)
@@ -187,19 +202,24 @@ unfolding sources_in
 frees-many [] place b = refl
 frees-many (x ∷ xs) place b = frees-many xs place (b + 1)
 
-adds-many : (before after : List Node) (more : List Node) (n : ℕ) → after ≡ before ++ more → sources_in more ≡ n → sources_in after ≡ sources_in before + n
+adds-many : (before after : List Node) (more : List Node) (n : ℕ) → after ≡ before ++ more → sources_in more ≡ n
+    → sources_in after ≡ sources_in before + n
 adds-many before after more n is many = ap sources_in is ∙ omega (arith, sources_in-append before more, many)
 
 ands-many : (before after : List Node) → AddsAnds before after → sources_in after ≡ sources_in before + 0
 ands-many before after adds = adds-many before after adds.more 0 adds.is adds.no_sources
 
-many : (before after : List Node) (words : List (List Literal)) (width : ℕ) (operation : Operation) → AddsFor words width operation before after
+many : (before after : List Node) (words : List (List Literal)) (width : ℕ) (operation : Operation)
+    → AddsFor words width operation before after
     → sources_in after ≡ sources_in before + (if is_source operation then width else 0)
 many before after words width (Const value) adds = ands-many before after adds
-many before after words width (Input input) adds = adds-many before after (input_nodes input 0 width) width adds (inputs-many width input 0)
-many before after words width (State state) adds = adds-many before after (state_nodes state 0 width) width adds (states-many width state 0)
+many before after words width (Input input) adds =
+    adds-many before after (input_nodes input 0 width) width adds (inputs-many width input 0)
+many before after words width (State state) adds =
+    adds-many before after (state_nodes state 0 width) width adds (states-many width state 0)
 many before after words width (Free place computed) adds =
-    adds-many before after (free_nodes place 0 (take width (bits_at words computed))) 0 adds (frees-many (take width (bits_at words computed)) place 0)
+    adds-many before after (free_nodes place 0 (take width (bits_at words computed))) 0 adds
+    (frees-many (take width (bits_at words computed)) place 0)
 many before after words width (Unary op arg) adds = ands-many before after adds
 many before after words width (Binary op left right) adds = ands-many before after adds
 many before after words width (Choose test one other) adds = ands-many before after adds
@@ -214,5 +234,8 @@ many before after words width (PutPick old select value offset) adds = ands-many
 many before after words width (Blend mask one other) adds = ands-many before after adds
 
 pub operation-sources : (nodes : List Node) (words : List (List Literal)) (width : ℕ) (operation : Operation)
-    → sources_in (operation_made nodes words width operation).nodes ≡ sources_in nodes + (if is_source operation then width else 0)
-operation-sources nodes words width operation = many nodes (operation_made nodes words width operation).nodes words width operation (operation-adds nodes words width operation)
+    → sources_in (operation_made nodes words width operation).nodes
+    ≡ sources_in nodes + (if is_source operation then width else 0)
+operation-sources nodes words width operation =
+    many nodes (operation_made nodes words width operation).nodes words width operation
+    (operation-adds nodes words width operation)

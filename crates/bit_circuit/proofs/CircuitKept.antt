@@ -29,7 +29,8 @@ use Rattle.bit_circuit.proofs.Kept.{HasState, states-of, frees-of, apart-net}
 
 -- ---- entries of images
 
-image-at : {X Y : Type 0} (f : X → Y) (xs : List X) (i : ℕ) (x : X) → slice_get xs i ≡ Some x → slice_get (map f xs) i ≡ Some (f x)
+image-at : {X Y : Type 0} (f : X → Y) (xs : List X) (i : ℕ) (x : X) → slice_get xs i ≡ Some x
+    → slice_get (map f xs) i ≡ Some (f x)
 image-at f [] i x is = absurd (omega (arith, slice_get_within [] i x is))
 image-at f (y ∷ xs) zero x is = ap (λ z. Some (f z)) (Some-same is)
 image-at f (y ∷ xs) (suc i) x is = image-at f xs i x is
@@ -70,10 +71,18 @@ module _ (net : Net) (is : IsNet net) where
 
   at-node : (n : ℕ) → n < length net.nodes → AtNode n
   at-node n within =
-      let (w, there) = slice_get-some (widths_of net.nodes) n (omega (arith, within, length-map net.nodes (λ node. node.width))) in
-      record { width = w; value = get_or (net_values nothing net.nodes) n 0; is_width = there; literals = means.are.is n w there }
+      let (w, there) =
+      slice_get-some (widths_of net.nodes) n (omega (arith, within, length-map net.nodes (λ node. node.width))) in
+      record {
+        width = w;
+        value = get_or (net_values nothing net.nodes) n 0;
+        is_width = there;
+        literals =
+            means.are.is n w there;
+      }
 
-  words-there : (numbers : List ℕ) → ((i n : ℕ) → slice_get numbers i ≡ Some n → n < length net.nodes) → AreThere x.nodes (words_at x.words numbers)
+  words-there : (numbers : List ℕ) → ((i n : ℕ) → slice_get numbers i ≡ Some n → n < length net.nodes)
+      → AreThere x.nodes (words_at x.words numbers)
   words-there numbers named i b xs l at_i at_b =
       let image = image-of (λ n. get_or x.words n []) numbers i xs at_i in
       let at = at-node image.of (named i image.of image.there) in
@@ -101,7 +110,8 @@ module _ (net : Net) (is : IsNet net) where
   ]
 
   -- each free bit is one of a free node
-  pub free-of : (i moment place b : ℕ) (computed : Literal) → slice_get (circuit_of net).nodes i ≡ Some (gate.Free moment place b computed)
+  pub free-of : (i moment place b : ℕ) (computed : Literal)
+      → slice_get (circuit_of net).nodes i ≡ Some (gate.Free moment place b computed)
       → HasFree net.nodes place b
   unfolding circuit_of
   free-of i moment place b computed there = elim (frees-of net.nodes [] [] i moment place b computed there) [
@@ -122,19 +132,27 @@ module _ (net : Net) (is : IsNet net) where
 -- ---- the circuit that is put together
 
 -- a refusal of the arena is one of the circuit
-pub refused : (cause : MakeErr) (e : BlastErr) (limit count : ℕ) → e ≡ blast_err cause → UnlessNoMemory cause (limit < count) → IsRefused e (limit < count)
+pub refused : (cause : MakeErr) (e : BlastErr) (limit count : ℕ) → e ≡ blast_err cause
+    → UnlessNoMemory cause (limit < count) → IsRefused e (limit < count)
 refused make.Limit e limit count is past = rw is past
 refused make.NoMemory e limit count is past = rw is tt
 
 -- the parts of the circuit, put together
-pub put-together : (net : Net) (nodes : List Node) (words : List (List Literal)) {ns : List Node} {outputs next : List (List Literal)} {start : List Bits}
+pub put-together : (net : Net) (nodes : List Node) (words : List (List Literal)) {ns : List Node}
+    {outputs next : List (List Literal)} {start : List Bits}
     → expansion nodes words ≡ expanded [] [] net.nodes
     → ns ≡ nodes → outputs ≡ words_at words net.outputs → next ≡ words_at words net.next → start ≡ net.start
     → record { nodes = ns; outputs = outputs; next = next; start = start } ≡ circuit_of net
 unfolding circuit_of
 put-together net nodes words is at_nodes at_outputs at_next at_start =
     rw (at_nodes, at_outputs, at_next, at_start)
-    (ap (λ x. record { nodes = x.nodes; outputs = words_at x.words net.outputs; next = words_at x.words net.next; start = net.start }) is)
+    (ap (λ x. record {
+      nodes = x.nodes;
+      outputs = words_at x.words net.outputs;
+      next = words_at x.words net.next;
+      start =
+          net.start;
+    }) is)
 
 pub counted-whole : (net : Net) → counted (expanded [] [] net.nodes).nodes ≡ counted (circuit_of net).nodes
 unfolding circuit_of

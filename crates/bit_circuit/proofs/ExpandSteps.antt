@@ -27,7 +27,13 @@ use Rattle.bit_circuit.proofs.Added.{operation-sources}
 
 -- inputs and states of 0, and no place freed
 abbrev pub nothing : WordSource
-nothing = record { inputs = λ input. 0; states = λ state. 0; choice = record { frees = λ place. false; chosen = λ place. 0 } }
+nothing =
+    record {
+      inputs = λ input. 0;
+      states = λ state. 0;
+      choice =
+          record { frees = λ place. false; chosen = λ place. 0 };
+    }
 
 below : (width : ℕ) → 0 < 2 ^ width
 below width = pow_pos width
@@ -81,7 +87,8 @@ reached-start net is = record {
 }
 
 -- one more word of 1 to 128 bits
-words-more : (words : List (List Literal)) (xs : List Literal) → AreWords words → 1 ≤ length xs → length xs ≤ 128 → AreWords (words ++ xs ∷ [])
+words-more : (words : List (List Literal)) (xs : List Literal) → AreWords words → 1 ≤ length xs → length xs ≤ 128
+    → AreWords (words ++ xs ∷ [])
 words-more words xs are some few i within = elim (cases_lt i (length words)) [
   | inl low ↦ rw (get_or_append_left words (xs ∷ []) [] i low) (are i low)
   | inr high ↦
@@ -89,15 +96,19 @@ words-more words xs are some few i within = elim (cases_lt i (length words)) [
       rw (ap (λ k. get_or (words ++ xs ∷ []) k []) last ∙ get_or-append_seam words xs [] []) (some, few)
 ]
 
-source_bits-cons : (node : WordNode) (nodes : List WordNode) → source_bits (node ∷ nodes) ≡ (if is_source node.operation then node.width else 0) + source_bits nodes
+source_bits-cons : (node : WordNode) (nodes : List WordNode)
+    → source_bits (node ∷ nodes) ≡ (if is_source node.operation then node.width else 0) + source_bits nodes
 unfolding source_bits
 source_bits-cons node nodes = by_test (is_source node.operation)
   where
-    by_test : (s : Bool) → (if s then node.width + source_bits nodes else source_bits nodes) ≡ (if s then node.width else 0) + source_bits nodes
+    by_test : (s : Bool)
+        → (if s then node.width + source_bits nodes else source_bits nodes)
+        ≡ (if s then node.width else 0) + source_bits nodes
     by_test true = refl
     by_test false = omega arith
 
-module _ {net : List WordNode} {i : ℕ} {nodes : List Node} {words : List (List Literal)} (r : Reached net i nodes words) (node : WordNode) (within : i < length net) (at : node ≡ get_or net i node) where
+module _ {net : List WordNode} {i : ℕ} {nodes : List Node} {words : List (List Literal)}
+    (r : Reached net i nodes words) (node : WordNode) (within : i < length net) (at : node ≡ get_or net i node) where
   left : drop i net ≡ node ∷ drop (i + 1) net
   left = drop-at net i node within at
 
@@ -107,14 +118,18 @@ module _ {net : List WordNode} {i : ℕ} {nodes : List Node} {words : List (List
   pub reached-fits : NodeFits (map length words) node
   reached-fits = all.0
 
-  bits : sources_in nodes + ((if is_source node.operation then node.width else 0) + source_bits (drop (i + 1) net)) ≤ 2 ^ 31
-  bits = subst (λ k. sources_in nodes + k ≤ 2 ^ 31) (ap source_bits left ∙ source_bits-cons node (drop (i + 1) net)) r.few
+  bits : sources_in nodes + ((if is_source node.operation then node.width else 0) + source_bits (drop (i + 1) net))
+      ≤ 2 ^ 31
+  bits = subst (λ k. sources_in nodes + k ≤ 2 ^ 31) (ap source_bits left ∙ source_bits-cons node (drop (i + 1) net))
+      r.few
 
   pub reached-few : sources_in nodes + (if is_source node.operation then node.width else 0) ≤ 2 ^ 31
   reached-few = omega (arith, bits)
 
-  gives : GivesOf (bits_of nothing) nodes (literals_made nodes words node) node.width (operation_value nothing r.known node.width node.operation)
-  gives = operation-means nothing r.are node.width node.operation reached-fits.operation (nothing-fits node.width node.operation)
+  gives : GivesOf (bits_of nothing) nodes (literals_made nodes words node) node.width
+      (operation_value nothing r.known node.width node.operation)
+  gives = operation-means nothing r.are node.width node.operation reached-fits.operation
+      (nothing-fits node.width node.operation)
 
   -- what the node makes, one node further
   abbrev after : List Node
@@ -141,7 +156,9 @@ module _ {net : List WordNode} {i : ℕ} {nodes : List Node} {words : List (List
   next : Reached net (i + 1) after more_words
   next = record {
     known = r.known ++ operation_value nothing r.known node.width node.operation ∷ [];
-    are = subst (λ ws. AreOf (bits_of nothing) after more_words ws (r.known ++ operation_value nothing r.known node.width node.operation ∷ [])) (sym lengths)
+    are = subst
+        (λ ws. AreOf (bits_of nothing) after more_words ws
+        (r.known ++ operation_value nothing r.known node.width node.operation ∷ [])) (sym lengths)
         (push-are node.width (operation_value nothing r.known node.width node.operation) r.are some_bits gives);
     many = omega (arith, r.many, length-append words ((literals_made nodes words node).bits ∷ []));
     wide = words-more words (literals_made nodes words node).bits r.wide
@@ -152,7 +169,8 @@ module _ {net : List WordNode} {i : ℕ} {nodes : List Node} {words : List (List
   }
 
   -- the same, of the nodes and the literals that the code has
-  pub reached-next : (ns : List Node) (xs : List Literal) → word ns xs ≡ literals_made nodes words node → Reached net (i + 1) ns (words ++ xs ∷ [])
+  pub reached-next : (ns : List Node) (xs : List Literal) → word ns xs ≡ literals_made nodes words node
+      → Reached net (i + 1) ns (words ++ xs ∷ [])
   reached-next ns xs is =
       subst (λ w. Reached net (i + 1) w.nodes (words ++ w.bits ∷ [])) (sym is) next
 
@@ -162,31 +180,51 @@ module _ {net : List WordNode} {i : ℕ} {nodes : List Node} {words : List (List
       let m = expanded-means (drop (i + 1) net) nothing next.are next.fits (nothing-given (drop (i + 1) net)) in
       rw (ap (λ x. counted x.nodes) rest ∙ ap counted m.grown.is) (omega (arith, counted-append after m.grown.more))
 
-pub reached-end : (net : List WordNode) (i : ℕ) (nodes : List Node) (words : List (List Literal)) → length net ≤ i → Reached net i nodes words
+pub reached-end : (net : List WordNode) (i : ℕ) (nodes : List Node) (words : List (List Literal)) → length net ≤ i
+    → Reached net i nodes words
     → expansion nodes words ≡ expanded [] [] net
 unfolding expanded
 reached-end net i nodes words end r = sym (r.rest ∙ ap (expanded nodes words) (drop_all i net end))
 
 -- as many words as nodes
 -- and none of them is without a bit
-pub reached-wide : {net : List WordNode} {i : ℕ} {nodes : List Node} {words : List (List Literal)} → Reached net i nodes words → AreWords words
+pub reached-wide : {net : List WordNode} {i : ℕ} {nodes : List Node} {words : List (List Literal)}
+    → Reached net i nodes words → AreWords words
 reached-wide r = r.wide
 
-pub reached-many : {net : List WordNode} {i : ℕ} {nodes : List Node} {words : List (List Literal)} → Reached net i nodes words → length words ≡ i
+pub reached-many : {net : List WordNode} {i : ℕ} {nodes : List Node} {words : List (List Literal)}
+    → Reached net i nodes words → length words ≡ i
 reached-many r = r.many
 
-pub ruleset steps = (reached-start, reached-fits, reached-few, reached-next, counted-reached, reached-end, reached-many, reached-wide, refused-more)
+pub ruleset steps = (
+  reached-start,
+  reached-fits,
+  reached-few,
+  reached-next,
+  counted-reached,
+  reached-end,
+  reached-many,
+  reached-wide,
+  refused-more,
+)
 
 -- ---- the literals of some nodes
 
 pub gather-more : (words : List (List Literal)) (numbers : List ℕ) (i : ℕ) → i < length numbers
-    → words_at words (take (i + 1) numbers) ≡ words_at words (take i numbers) ++ get_or words (get_or numbers i 0) [] ∷ []
-gather-more words numbers i within = map-take_at (λ n. get_or words n []) numbers i (get_or numbers i 0) within (get_or_default numbers i 0 (get_or numbers i 0) within)
+    → words_at words (take (i + 1) numbers)
+    ≡ words_at words (take i numbers) ++ get_or words (get_or numbers i 0) [] ∷ []
+gather-more words numbers i within =
+    map-take_at (λ n. get_or words n []) numbers i (get_or numbers i 0) within
+    (get_or_default numbers i 0 (get_or numbers i 0) within)
 
-pub gather-end : (words : List (List Literal)) (numbers : List ℕ) (i : ℕ) → length numbers ≤ i → words_at words (take i numbers) ≡ words_at words numbers
+pub gather-end : (words : List (List Literal)) (numbers : List ℕ) (i : ℕ) → length numbers ≤ i
+    → words_at words (take i numbers) ≡ words_at words numbers
 gather-end words numbers i end = ap (words_at words) (take_all i numbers end)
 
-pub gather-there : (bound : ℕ) (numbers : List ℕ) (i : ℕ) → AreNumbers bound numbers → i < length numbers → get_or numbers i 0 < bound
-gather-there bound numbers i are within = are i (get_or numbers i 0) (slice_get-at numbers i (get_or numbers i 0) within (get_or_default numbers i 0 (get_or numbers i 0) within))
+pub gather-there : (bound : ℕ) (numbers : List ℕ) (i : ℕ) → AreNumbers bound numbers → i < length numbers
+    → get_or numbers i 0 < bound
+gather-there bound numbers i are within =
+    are i (get_or numbers i 0)
+    (slice_get-at numbers i (get_or numbers i 0) within (get_or_default numbers i 0 (get_or numbers i 0) within))
 
 pub ruleset gathers = (gather-more, gather-end, gather-there)

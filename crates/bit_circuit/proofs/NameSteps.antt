@@ -9,7 +9,9 @@ use Rattle.bit_circuit.specs.Indexes.{name_of, name_at, names_from}
 
 -- a whole number that is not negative, by how far it is from 0
 pub name_of-high : (signed : Bool) (width : ℕ) (v : ℤ) → pos 0 ≤ℤ v
-    → name_of signed width v ≡ (if nat_lt (unsigned_abs v) (2 ^ (if signed then width - 1 else width)) then Some (unsigned_abs v) else None)
+    → name_of signed width v
+    ≡ (if nat_lt (unsigned_abs v) (2 ^ (if signed then width - 1 else width)) then Some (unsigned_abs v) else
+    None)
 name_of-high false width (pos m) high = refl
 name_of-high true width (pos m) high = refl
 name_of-high signed width (negsuc m) high = absurd (omega (arith, ints, high))
@@ -17,7 +19,9 @@ name_of-high signed width (negsuc m) high = absurd (omega (arith, ints, high))
 -- one that is negative
 pub name_of-low : (signed : Bool) (width : ℕ) (v : ℤ) → v <ℤ pos 0
     → name_of signed width v
-    ≡ (if signed then (if nat_lt (unsigned_abs v - 1) (2 ^ (width - 1)) then Some (2 ^ width - ((unsigned_abs v - 1) + 1)) else None) else None)
+    ≡ (if signed then
+    (if nat_lt (unsigned_abs v - 1) (2 ^ (width - 1)) then Some (2 ^ width - ((unsigned_abs v - 1) + 1)) else
+    None) else None)
 name_of-low signed width (pos m) low = absurd (omega (arith, ints, low))
 name_of-low false width (negsuc m) low = refl
 name_of-low true width (negsuc m) low =
@@ -29,7 +33,8 @@ name_of-low true width (negsuc m) low =
 pub ruleset names = (name_of-high, name_of-low)
 
 pub names-more : (names : List (Option ℕ)) (select : Select) (offset : ℤ) (p n : ℕ) → p < n
-    → names ++ names_from select offset p (n - p) ≡ (names ++ name_at select p offset ∷ []) ++ names_from select offset (p + 1) (n - (p + 1))
+    → names ++ names_from select offset p (n - p)
+    ≡ (names ++ name_at select p offset ∷ []) ++ names_from select offset (p + 1) (n - (p + 1))
 unfolding names_from
 names-more names select offset p n less =
     ap (λ k. names ++ names_from select offset p k) count
@@ -38,7 +43,8 @@ names-more names select offset p n less =
     count : n - p ≡ suc (n - (p + 1))
     count = omega (arith, less)
 
-pub names-end : (names : List (Option ℕ)) (select : Select) (offset : ℤ) (p n : ℕ) → n ≤ p → names ++ names_from select offset p (n - p) ≡ names
+pub names-end : (names : List (Option ℕ)) (select : Select) (offset : ℤ) (p n : ℕ) → n ≤ p
+    → names ++ names_from select offset p (n - p) ≡ names
 unfolding names_from
 names-end names select offset p n past = ap (λ k. names ++ names_from select offset p k) count ∙ append-nil names
   where
@@ -53,10 +59,12 @@ pub offsets-more : (names : List (Option ℕ)) (select : Select) (p : ℕ) (offs
 offsets-more names select p offsets i within =
     ap (λ zs. names ++ map (name_at select p) zs)
     (drop-cons offsets i (pos 0) within ∙ ap (λ n. get_or offsets i (pos 0) ∷ drop n offsets) (sym (add-one i)))
-    ∙ sym (append_assoc names (name_at select p (get_or offsets i (pos 0)) ∷ []) (map (name_at select p) (drop (i + 1) offsets)))
+    ∙ sym (append_assoc names (name_at select p (get_or offsets i (pos 0)) ∷ [])
+    (map (name_at select p) (drop (i + 1) offsets)))
 
 pub offsets-end : (names : List (Option ℕ)) (select : Select) (p : ℕ) (offsets : List ℤ) (i : ℕ) → length offsets ≤ i
     → names ++ map (name_at select p) (drop i offsets) ≡ names
-offsets-end names select p offsets i end = ap (λ zs. names ++ map (name_at select p) zs) (drop_all i offsets end) ∙ append-nil names
+offsets-end names select p offsets i end = ap (λ zs. names ++ map (name_at select p) zs) (drop_all i offsets end)
+    ∙ append-nil names
 
 pub ruleset offsets = (offsets-more, offsets-end)

@@ -15,7 +15,8 @@ use Rattle.bit_circuit.specs.Fields.{AreTaken, AreWords}
 use Rattle.bit_circuit.specs.Nodes.{bits_at}
 
 -- the width of a word that is there
-width-at : (words : List (List Literal)) (n w : ℕ) → slice_get (map length words) n ≡ Some w → length (get_or words n []) ≡ w
+width-at : (words : List (List Literal)) (n w : ℕ) → slice_get (map length words) n ≡ Some w
+    → length (get_or words n []) ≡ w
 width-at [] n w is = absurd (omega (arith, slice_get_within [] n w is))
 width-at (x ∷ words) zero w is = Some-same is
 width-at (x ∷ words) (suc n) w is = width-at words n w is

@@ -15,7 +15,8 @@ use Rattle.bit_circuit.specs.Indexes.{name_at, names_from, picks_made, puts_made
 
 -- the bit that a select reads for an offset
 abbrev pub picked_for : List Node → List Literal → List Literal → Select → ℤ → Made
-picked_for nodes index xs select offset = pick_made nodes (Known false) index xs (names_from select offset 0 (length xs))
+picked_for nodes index xs select offset =
+    pick_made nodes (Known false) index xs (names_from select offset 0 (length xs))
 
 pub picks-adds : (nodes : List Node) (bits index xs : List Literal) (select : Select) (offsets : List ℤ)
     → AddsAnds nodes (picks_made nodes bits index xs select offsets).nodes
@@ -30,10 +31,12 @@ module _ (nodes : List Node) (bits index xs : List Literal) (select : Select) (o
   pub picks-more : i < length offsets
       → picks_made nodes bits index xs select (drop i offsets)
       ≡ picks_made (picked_for nodes index xs select (get_or offsets i (pos 0))).nodes
-      (bits ++ (picked_for nodes index xs select (get_or offsets i (pos 0))).bit ∷ []) index xs select (drop (i + 1) offsets)
+      (bits ++ (picked_for nodes index xs select (get_or offsets i (pos 0))).bit ∷ []) index xs select
+      (drop (i + 1) offsets)
   unfolding picks_made
   picks-more within =
-      ap (picks_made nodes bits index xs select) (drop-cons offsets i (pos 0) within ∙ ap (λ n. get_or offsets i (pos 0) ∷ drop n offsets) (sym (add-one i)))
+      ap (picks_made nodes bits index xs select)
+      (drop-cons offsets i (pos 0) within ∙ ap (λ n. get_or offsets i (pos 0) ∷ drop n offsets) (sym (add-one i)))
 
   pub picks-end : length offsets ≤ i → picks_made nodes bits index xs select (drop i offsets) ≡ word nodes bits
   unfolding picks_made
@@ -44,7 +47,8 @@ module _ (nodes : List Node) (bits index xs : List Literal) (select : Select) (o
       ≤ counted (picks_made nodes bits index xs select (drop i offsets)).nodes
   counted-picks_more within =
       let m = picked_for nodes index xs select (get_or offsets i (pos 0)) in
-      rw (picks-more within) (adds-counted (picks-adds m.nodes (bits ++ m.bit ∷ []) index xs select (drop (i + 1) offsets)))
+      rw (picks-more within)
+      (adds-counted (picks-adds m.nodes (bits ++ m.bit ∷ []) index xs select (drop (i + 1) offsets)))
 
 pub ruleset picks = (picks-more, picks-end, counted-picks_more, refused-more)
 
@@ -61,23 +65,26 @@ puts-adds nodes bits index value select p (x ∷ xs) =
     adds-then (put-adds nodes x index value (map (name_at select p) select.offsets))
     (puts-adds m.nodes (bits ++ m.bit ∷ []) index value select (p + 1) xs)
 
-module _ (nodes : List Node) (bits index value : List Literal) (select : Select) (p : ℕ) (xs : List Literal) (i : ℕ) where
-  pub puts-more : i < length xs
-      → puts_made nodes bits index value select p (drop i xs)
-      ≡ puts_made (put_at nodes index value select p (get_or xs i (Known false))).nodes
-      (bits ++ (put_at nodes index value select p (get_or xs i (Known false))).bit ∷ []) index value select (p + 1) (drop (i + 1) xs)
-  unfolding puts_made
-  puts-more within = ap (puts_made nodes bits index value select p) (drop-literal xs i within)
+module _ (nodes : List Node) (bits index value : List Literal) (select : Select) (p : ℕ) (xs : List Literal) (i : ℕ)
+  where
+    pub puts-more : i < length xs
+        → puts_made nodes bits index value select p (drop i xs)
+        ≡ puts_made (put_at nodes index value select p (get_or xs i (Known false))).nodes
+        (bits ++ (put_at nodes index value select p (get_or xs i (Known false))).bit ∷ []) index value select (p + 1)
+        (drop (i + 1) xs)
+    unfolding puts_made
+    puts-more within = ap (puts_made nodes bits index value select p) (drop-literal xs i within)
 
-  pub puts-end : length xs ≤ i → puts_made nodes bits index value select p (drop i xs) ≡ word nodes bits
-  unfolding puts_made
-  puts-end end = ap (puts_made nodes bits index value select p) (drop_all i xs end)
+    pub puts-end : length xs ≤ i → puts_made nodes bits index value select p (drop i xs) ≡ word nodes bits
+    unfolding puts_made
+    puts-end end = ap (puts_made nodes bits index value select p) (drop_all i xs end)
 
-  pub counted-puts_more : i < length xs
-      → counted (put_at nodes index value select p (get_or xs i (Known false))).nodes
-      ≤ counted (puts_made nodes bits index value select p (drop i xs)).nodes
-  counted-puts_more within =
-      let m = put_at nodes index value select p (get_or xs i (Known false)) in
-      rw (puts-more within) (adds-counted (puts-adds m.nodes (bits ++ m.bit ∷ []) index value select (p + 1) (drop (i + 1) xs)))
+    pub counted-puts_more : i < length xs
+        → counted (put_at nodes index value select p (get_or xs i (Known false))).nodes
+        ≤ counted (puts_made nodes bits index value select p (drop i xs)).nodes
+    counted-puts_more within =
+        let m = put_at nodes index value select p (get_or xs i (Known false)) in
+        rw (puts-more within)
+        (adds-counted (puts-adds m.nodes (bits ++ m.bit ∷ []) index value select (p + 1) (drop (i + 1) xs)))
 
 pub ruleset puts = (puts-more, puts-end, counted-puts_more, refused-more)
