@@ -13,6 +13,8 @@ use Rattle.loc_base.proofs.BitLaws.{bit_at-mod_low}
 use Rattle.loc_base.specs.declared.bits.Bits.{Bits}
 use Rattle.loc_base.specs.declared.span.Span.{Span}
 use Rattle.loc_base.specs.Bits.{width_of, value_of, bit_of}
+use Rattle.loc_base.proofs.ShelfLists.{slice_get-at}
+use Rattle.loc_base.proofs.ShelfOptions.{Some-same}
 use Rattle.design_core.specs.declared.signal.Signal.{Signal}
 use Rattle.design_core.specs.declared.statement.Part.{Part}
 use Rattle.design_core.specs.declared.statement.Part.TheVariants.{Whole}
@@ -34,7 +36,7 @@ use Rattle.design_core.specs.WellFormed.{IsWellFormed, is_width, typed_fits, ass
 use Rattle.plain_list.specs.Network.{with_net, whole_of, step}
 use Rattle.plain_list.specs.Trial.{AreNumbersFor}
 use Rattle.design_core.specs.Explained.{number_for, is_one_of, place_width}
-use Rattle.plain_list.proofs.Settled.{whole_of-parts, same_or_not, lt_or_ge, Some-same, step-is, with_net-at, with_net-high, with_net-other}
+use Rattle.plain_list.proofs.Settled.{whole_of-parts, same_or_not, lt_or_ge, step-is, with_net-at, with_net-high, with_net-other}
 
 pub both_true : (x y : Bool) → (x && y) ≡ true → (x ≡ true) × (y ≡ true)
 both_true true y e = (refl, e)
@@ -42,7 +44,7 @@ both_true false y e = absurd (cc)
 
 pub list_all-at : {X : Type 0} (p : X → Bool) (xs : List X) (i : ℕ) (x : X) → list_all p xs ≡ true → slice_get xs i ≡ Some x → p x ≡ true
 list_all-at p [] i x h e = absurd (cc)
-list_all-at p (y ∷ xs) zero x h e = ap p (sym (Some-same y x e)) ∙ (both_true (p y) (list_all p xs) h).0
+list_all-at p (y ∷ xs) zero x h e = ap p (sym (Some-same e)) ∙ (both_true (p y) (list_all p xs) h).0
 list_all-at p (y ∷ xs) (suc i) x h e = list_all-at p xs i x (both_true (p y) (list_all p xs) h).1 e
 
 -- what a continuous assignment to one whole net has in a well-formed design
@@ -185,29 +187,26 @@ pub words-set : (signals : List Signal) (words : List Bits) (s : ℕ) (word : Bi
 words-set signals words s word a l w =
     record { widths = map-set_same width_of words s word word (w ∙ sym (word-width signals words s (get_or words s word) a (slice_get-get_or words s word l))) ∙ a.widths }
 
-pub get_at : {X : Type 0} (xs : List X) (i : ℕ) (x : X) → i < length xs → x ≡ get_or xs i x → slice_get xs i ≡ Some x
-get_at xs i x h e = slice_get-get_or xs i x h ∙ ap Some (sym e)
-
 pub width-at : (signals : List Signal) (s : ℕ) (signal : Signal) → s < length signals → signal ≡ get_or signals s signal → signal.width ≡ width_at signals s
-width-at signals s signal h e = sym (ap (λ o. option_map_or (λ x. x.width) o 0) (get_at signals s signal h e))
+width-at signals s signal h e = sym (ap (λ o. option_map_or (λ x. x.width) o 0) (slice_get-at signals s signal h e))
 
 pub fits-at : (d : Design) (i s : ℕ) (driver : Driver) (target : Target) (computed : Typed) (place : Option ℕ) (span : Span) (parts : List Part) (o : Option ℕ) → IsWellFormed d
     → i < length d.drivers.items → driver ≡ get_or d.drivers.items i driver → driver ≡ Cont target computed place span
     → o ≡ Some s → o ≡ whole_of parts → parts ≡ target.parts → Fits d s computed place
 fits-at d i s driver target computed place span parts o w h e is some of same =
-    driver-fits d i s target computed place span w (get_at d.drivers.items i driver h e ∙ ap Some is) (ap whole_of (sym same) ∙ sym of ∙ some)
+    driver-fits d i s target computed place span w (slice_get-at d.drivers.items i driver h e ∙ ap Some is) (ap whole_of (sym same) ∙ sym of ∙ some)
 
 -- the step of a driver that assigns no whole net changes nothing
 pub step-none : (d : Design) (choice : Choice) (V : Valuation) (i : ℕ) (driver : Driver) (target : Target) (computed : Typed) (place : Option ℕ) (span : Span) (parts : List Part) (o : Option ℕ)
     → i < length d.drivers.items → driver ≡ get_or d.drivers.items i driver → driver ≡ Cont target computed place span → o ≡ None → o ≡ whole_of parts → parts ≡ target.parts
     → V ≡ step d choice V i
 step-none d choice V i driver target computed place span parts o h e is none of same =
-    sym (step-is d choice V i (Cont target computed place span) (get_at d.drivers.items i driver h e ∙ ap Some is)
+    sym (step-is d choice V i (Cont target computed place span) (slice_get-at d.drivers.items i driver h e ∙ ap Some is)
     ∙ ap (λ w. with_net d.signals.items V w (bit (cont_assigned choice place (value d.signals.items V computed)))) (ap whole_of (sym same) ∙ sym of ∙ none))
 
 pub step-comb : (d : Design) (choice : Choice) (V : Valuation) (i : ℕ) (driver : Driver) (body : Stmt) (span : Span)
     → i < length d.drivers.items → driver ≡ get_or d.drivers.items i driver → driver ≡ Comb body span → V ≡ step d choice V i
-step-comb d choice V i driver body span h e is = sym (step-is d choice V i (Comb body span) (get_at d.drivers.items i driver h e ∙ ap Some is))
+step-comb d choice V i driver body span h e is = sym (step-is d choice V i (Comb body span) (slice_get-at d.drivers.items i driver h e ∙ ap Some is))
 
 -- the step of a driver that assigns a whole net gives it the word
 pub step-some : (d : Design) (choice : Choice) (words : List Bits) (i s : ℕ) (driver : Driver) (target : Target) (computed : Typed) (place : Option ℕ) (span : Span) (parts : List Part) (o : Option ℕ) (word : Bits) (signal : Signal) (number : ℕ)
@@ -217,7 +216,7 @@ pub step-some : (d : Design) (choice : Choice) (words : List Bits) (i s : ℕ) (
     → valuation_of (slice_set words s word) ≡ step d choice (valuation_of words) i
 step-some d choice words i s driver target computed place span parts o word signal number a fits h e is some of same sig w n v =
     fun_ext (λ t. fun_ext (λ b. valuation-set d.signals.items words s given word a at_word (w ∙ width) (v ∙ ap (λ m. cont_assigned choice place m % 2 ^ signal.width) n ∙ ap (λ m. given % 2 ^ m) width) t b))
-    ∙ sym (step-is d choice (valuation_of words) i (Cont target computed place span) (get_at d.drivers.items i driver h e ∙ ap Some is)
+    ∙ sym (step-is d choice (valuation_of words) i (Cont target computed place span) (slice_get-at d.drivers.items i driver h e ∙ ap Some is)
     ∙ ap (λ o. with_net d.signals.items (valuation_of words) o (bit given)) (ap whole_of (sym same) ∙ sym of ∙ some))
   where
     given : ℕ

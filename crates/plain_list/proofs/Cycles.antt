@@ -1,13 +1,13 @@
 -- The cycles of a network's trace do not depend on each other: a trace is right where each of its cycles is.
 use Rattle.std.proofs.Common.{◌≡◌, ℕ, zero, suc, ◌+◌, ◌<◌, Bool, false, List, [], ◌∷◌, refl, ap, sym, ◌∙◌, arith}
 use Rattle.std.specs.Prelude.{slice_get, Some}
+use Rattle.loc_base.proofs.ShelfOptions.{Some-same}
 use Rattle.design_core.specs.declared.design.Design.{Design}
 use Rattle.design_core.specs.declared.trace.Trace.{Trace}
 use Rattle.design_core.specs.declared.trace.Checked.{Checked}
 use Rattle.design_core.specs.Valuation.{Valuation}
 use Rattle.design_core.specs.Run.{Choices, choice_at, samples_at, expected_at, start_state, IsRunFrom, IsRight, Meets}
 use Rattle.plain_list.specs.Network.{IsNetwork, settled}
-use Rattle.plain_list.proofs.Settled.{Some-same}
 use Rattle.plain_list.proofs.OneCycle.{settled-cycle, settled-unique}
 
 -- the valuation of cycle t
@@ -38,7 +38,7 @@ pub run_from-at : (d : Design) (order : List ℕ) (trace : Trace) (freed : ℕ �
     → slice_get (run_from d order trace freed c t left) j ≡ Some V → (j < left) × (V ≡ valuation_at d order trace freed c (t + j))
 run_from-at d order trace freed c t zero j V e = absurd (cc)
 run_from-at d order trace freed c t (suc left) zero V e =
-    let first : V ≡ valuation_at d order trace freed c t = Some-same V (valuation_at d order trace freed c t) (sym e) in
+    let first : V ≡ valuation_at d order trace freed c t = Some-same (sym e) in
     (omega arith, first ∙ ap (valuation_at d order trace freed c) (add_none t))
   where
     add_none : (n : ℕ) → n ≡ n + 0

@@ -5,6 +5,7 @@ use Rattle.std.specs.Option.{option_map_or}
 use Rattle.std.proofs.lemmas.List.{get_or_default}
 use Rattle.std.proofs.lemmas.List.Elements.{All-head, All-tail}
 use Rattle.std.proofs.lemmas.Bool.{eq-eqb}
+use Rattle.loc_base.proofs.ShelfLists.{list_any-member}
 use Rattle.design_core.specs.declared.design.Design.{Design}
 use Rattle.design_core.specs.declared.place.Place.{Place}
 use Rattle.design_core.specs.declared.trace.Trace.{Trace}
@@ -14,7 +15,6 @@ use Rattle.plain_list.specs.Network.{IsNetwork}
 use Rattle.plain_list.specs.Trial.{choice_of, AreNumbersFor}
 use Rattle.design_core.specs.Explained.{is_one_of, place_width}
 use Rattle.plain_list.specs.Rightness.{AreRight}
-use Rattle.plain_list.proofs.OneCycle.{list_any-member}
 use Rattle.plain_list.proofs.Cycles.{cycles-by-meets}
 use Rattle.plain_list.proofs.Choices.{Same, settled-same, numbers_of, number_for-numbers_of}
 

@@ -1,5 +1,5 @@
 -- The suspects that are places of their own, and the places of a set of them.
-use Rattle.std.proofs.Common.{◌≡◌, ℕ, zero, suc, ◌+◌, ◌-◌, ◌<◌, ◌≤◌, ◌==◌, Bool, true, false, ◌&&◌, ◌||◌, List, [], ◌∷◌, length, map, refl, ap, ◌∙◌, subst, arith}
+use Rattle.std.proofs.Common.{◌≡◌, ℕ, zero, suc, ◌+◌, ◌-◌, ◌<◌, ◌≤◌, ◌==◌, false, ◌&&◌, ◌||◌, List, [], ◌∷◌, length, map, refl, ap, ◌∙◌, subst, arith}
 use Rattle.std.specs.Prelude.{All, slice_get, slice_index, Some}
 use Rattle.std.specs.List.{list_any}
 use Rattle.std.specs.List.Sorted.{IsStrictlyIncreasing}
@@ -8,13 +8,14 @@ use Rattle.std.proofs.Math.Path.{fun_ext}
 use Rattle.std.proofs.lemmas.Bool.{le-leb}
 use Rattle.std.proofs.lemmas.List.{length-map}
 use Rattle.std.proofs.lemmas.List.Elements.{All-head, All-tail, All-map}
+use Rattle.loc_base.proofs.ShelfBools.{or-false, suc-add_one}
 use Rattle.design_core.specs.declared.design.Design.{Design}
 use Rattle.design_core.specs.Works.{suspect_has, places_of, IsSet}
 use Rattle.plain_list.specs.Candidates.{numbers_from}
 use Rattle.design_core.specs.Explained.{is_one_of}
 use Rattle.plain_list.specs.Groups.{groups_of, places_in}
 use Rattle.plain_list.proofs.Rising.{All-implied}
-use Rattle.plain_list.proofs.Ordered.{IsNumber, IsStrictlyIncreasing-tail, suc-add_one}
+use Rattle.plain_list.proofs.Ordered.{IsNumber, IsStrictlyIncreasing-tail}
 
 pub numbers_from-length : (first count : ℕ) → length (numbers_from first count) ≡ count
 unfolding numbers_from
@@ -37,15 +38,11 @@ suspect-at first (suc count) (suc k) h = suspect-at (first + 1) count k (omega (
     plus : first + 1 + k ≡ first + suc k
     plus = omega arith
 
-or-none : (x : Bool) → (x || false) ≡ x
-or-none true = refl
-or-none false = refl
-
 pub suspect_has-place : (d : Design) (place suspect : ℕ) → IsNumber (length d.places.items) suspect → suspect_has (groups_of d) place suspect ≡ ((suspect - 1) == place)
 suspect_has-place d place suspect h =
     ap (λ some. some && option_map_or (λ places. list_any (λ p. p == place) places) (slice_get (groups_of d) (suspect - 1)) false) (le-leb 1 suspect h.0)
     ∙ ap (λ o. option_map_or (λ places. list_any (λ p. p == place) places) o false) (suspect-at 0 (length d.places.items) (suspect - 1) (omega (arith, h.0, h.1)))
-    ∙ ap (λ n. (n == place) || false) none_add ∙ or-none ((suspect - 1) == place)
+    ∙ ap (λ n. (n == place) || false) none_add ∙ or-false ((suspect - 1) == place)
   where
     none_add : 0 + (suspect - 1) ≡ suspect - 1
     none_add = omega arith

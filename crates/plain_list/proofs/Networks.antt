@@ -3,7 +3,8 @@ use Rattle.std.proofs.Common.{◌≡◌, ℕ, zero, suc, ◌<◌, ◌≤◌, Boo
 use Rattle.std.specs.Prelude.{◌==◌, Contains, slice_get, Option, Some, None, is_some}
 use Rattle.std.specs.List.{list_any}
 use Rattle.std.proofs.lemmas.Bool.{or_left}
-use Rattle.std.proofs.lemmas.Grind.{common_steps}
+use Rattle.loc_base.proofs.ShelfBools.{equal-true, not-true}
+use Rattle.loc_base.proofs.ShelfLists.{Contains-first, Contains-later, list_any-member}
 use Rattle.design_core.specs.declared.signal.Signal.{Signal}
 use Rattle.design_core.specs.declared.driver.Driver.{Driver}
 use Rattle.design_core.specs.declared.driver.Driver.TheVariants.{Cont, Comb}
@@ -12,12 +13,11 @@ use Rattle.design_core.specs.Valuation.{width_at}
 use Rattle.design_core.specs.Drives.{is_reg, is_listed, is_driven, driver_drives}
 use Rattle.design_core.specs.Reads.{part_reads, driver_reads, reads, Depends, IsOrder}
 use Rattle.design_core.specs.WellFormed.{IsWellFormed, driver_fits}
-use Rattle.design_core.proofs.Lists.{Contains-first, Contains-later}
 use Rattle.plain_list.specs.Network.{target_of, value_reads, Assigns, IsFreeOf, IsNetwork}
 use Rattle.plain_list.specs.Assignments.{is_whole, IsOfAssignments}
 use Rattle.plain_list.proofs.Rising.{All-implied}
 use Rattle.plain_list.proofs.Settled.{true-false, whole_of-parts, drives-at}
-use Rattle.plain_list.proofs.OneCycle.{list_any-member, assigned-driver}
+use Rattle.plain_list.proofs.OneCycle.{assigned-driver}
 use Rattle.plain_list.proofs.Assigning.{Fits, cont_fits, list_all-at}
 use Rattle.design_core.proofs.ReadsWithin.{reads-below}
 
@@ -38,16 +38,9 @@ not_true : (x : Bool) → (x ≡ true → ⊥) → x ≡ false
 not_true true h = absurd (h refl)
 not_true false h = refl
 
-not-false : (x : Bool) → not x ≡ true → x ≡ false
-not-false true h = cc
-not-false false h = refl
-
 some-of : (o : Option ℕ) → is_some o ≡ true → (s : ℕ) × (o ≡ Some s)
 some-of None h = cc
 some-of (Some s) h = (s, refl)
-
-same_test : (m n : ℕ) → (m == n) ≡ true → m ≡ n
-same_test m n h = grind (arith, common_steps)
 
 -- an input of the list is one of the inputs
 listed-Contains : (inputs : List ℕ) (s : ℕ) → list_any (λ input. input == s) inputs ≡ true → Contains inputs s
@@ -55,7 +48,7 @@ listed-Contains [] s h = cc
 listed-Contains (input ∷ inputs) s h = by_test (input == s) refl (λ later. listed-Contains inputs s later)
   where
     by_test : (x : Bool) → (input == s) ≡ x → (list_any (λ i. i == s) inputs ≡ true → Contains inputs s) → Contains (input ∷ inputs) s
-    by_test true e rest = subst (Contains (input ∷ inputs)) (same_test input s e) (Contains-first input inputs)
+    by_test true e rest = subst (Contains (input ∷ inputs)) (equal-true input s e) (Contains-first input inputs)
     by_test false e rest = Contains-later input inputs s (rest (sym (ap (λ x. x || list_any (λ i. i == s) inputs) e) ∙ h))
 
 -- a driver's net has a bit, and what it reads is within its signals
@@ -92,7 +85,7 @@ network-of d order w a o =
       once = λ i j s one other. a.one_driver i j one.0 other.0 s 0 one.1 other.1 (drives i s one) (drives j s other);
       inputs_free = λ i s one. not_true (is_listed d s) (λ l. true-false (sym (driven i s one) ∙ a.inputs s 0 (listed-Contains d.inputs.items s l)));
       unclocked = a.clocked;
-      no_registers = λ s signal at. not-false (is_reg signal.kind) (list_all-at (λ signal. not (is_reg signal.kind)) d.signals.items s signal a.no_registers at);
+      no_registers = λ s signal at. not-true (is_reg signal.kind) (list_all-at (λ signal. not (is_reg signal.kind)) d.signals.items s signal a.no_registers at);
       order_all = o.complete;
       order_numbers = o.numbers;
       order_self = All-implied (λ i. ¬ Depends d i i) (λ i. IsFreeOf d i i) order (λ i h. free-of d i i w a h) o.not_itself;

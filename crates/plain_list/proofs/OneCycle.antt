@@ -1,11 +1,12 @@
 -- A cycle of a network has one valuation: the one that its assignments make in its order.
-use Rattle.std.proofs.Common.{◌≡◌, ℕ, ◌<◌, ◌≤◌, ◌⊎◌, inl, inr, Bool, true, false, not, ◌||◌, if◌then◌else◌, List, [], ◌∷◌, length, refl, ap, sym, ◌∙◌, subst, arith, get_or}
+use Rattle.std.proofs.Common.{◌≡◌, ℕ, ◌<◌, ◌≤◌, ◌⊎◌, inl, inr, Bool, true, false, not, ◌||◌, if◌then◌else◌, List, ◌∷◌, length, refl, ap, sym, ◌∙◌, subst, arith, get_or}
 use Rattle.std.specs.Prelude.{IsTrue, Contains, slice_get, Option, Some, None}
-use Rattle.std.specs.List.{list_any}
 use Rattle.std.proofs.lemmas.Grind.{common_steps}
 use Rattle.std.proofs.lemmas.Option.{slice_get-get_or, slice_get_within, get_or_from_slice_get}
 use Rattle.std.proofs.lemmas.List.Folds.{list_any_none}
 use Rattle.loc_base.specs.declared.bits.Bits.{Bits}
+use Rattle.loc_base.proofs.ShelfLists.{Contains-empty, list_any-member}
+use Rattle.loc_base.proofs.ShelfOptions.{Some-same}
 use Rattle.design_core.specs.declared.signal.Signal.{Signal}
 use Rattle.design_core.specs.declared.driver.Driver.{Driver}
 use Rattle.design_core.specs.declared.design.Design.{Design}
@@ -13,28 +14,9 @@ use Rattle.design_core.specs.Valuation.{Valuation, width_at}
 use Rattle.design_core.specs.After.{Choice}
 use Rattle.design_core.specs.Drives.{is_listed, is_driven, is_register_bit, driver_drives}
 use Rattle.design_core.specs.Cycle.{Cycle, before, sampled, driven}
-use Rattle.design_core.proofs.Lists.{Contains-cons, Contains-empty}
 use Rattle.plain_list.specs.Network.{target_of, Assigns, IsNetwork, settled}
 use Rattle.plain_list.proofs.Rising.{All-implied}
-use Rattle.plain_list.proofs.Settled.{IsPending, Goes, Once, true-false, lt_or_ge, Some-same, settled-kept, settled-high, settled-given, settled-only, driven-at, drives-at, drives-only}
-
-pub list_any-member : {X : Type 0} (p : X → Bool) (xs : List X) (x : X) → Contains xs x → p x ≡ true → list_any p xs ≡ true
-list_any-member p [] x c h = absurd (Contains-empty x c)
-list_any-member p (y ∷ xs) x c h =
-    elim (Contains-cons y xs x c) [
-      | inl same ↦ first (ap p same ∙ h)
-      | inr later ↦ rest (list_any-member p xs x later h)
-    ]
-  where
-    first : p y ≡ true → (p y || list_any p xs) ≡ true
-    first e = rw e refl
-
-    rest : list_any p xs ≡ true → (p y || list_any p xs) ≡ true
-    rest e = by_head (p y) e
-      where
-        by_head : (b : Bool) → list_any p xs ≡ true → (b || list_any p xs) ≡ true
-        by_head true e = refl
-        by_head false e = e
+use Rattle.plain_list.proofs.Settled.{IsPending, Goes, Once, true-false, lt_or_ge, settled-kept, settled-high, settled-given, settled-only, driven-at, drives-at, drives-only}
 
 pub network-goes : (d : Design) (order : List ℕ) → IsNetwork d order → Goes d order
 network-goes d order n =
@@ -71,7 +53,7 @@ drives-assigns d order i driver s b n at h = found (n.assigned i (slice_get_with
   where
     found : (t : ℕ) × Assigns d i t → (target_of driver ≡ Some s) × (b < width_at d.signals.items s)
     found (t, (other, at', to)) =
-        let same : other ≡ driver = Some-same other driver (sym at' ∙ at) in
+        let same : other ≡ driver = Some-same (sym at' ∙ at) in
         let only : (s ≡ t) × (b < width_at d.signals.items t) = drives-only d.signals.items driver t s b (sym (ap target_of same) ∙ to) h in
         (sym (ap target_of same) ∙ to ∙ ap Some (sym only.0), subst (λ m. b < width_at d.signals.items m) (sym only.0) only.1)
 

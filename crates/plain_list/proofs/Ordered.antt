@@ -6,6 +6,7 @@ use Rattle.std.specs.Prelude.{All, AllPairs, Contains}
 use Rattle.std.specs.List.Sorted.{IsStrictlyIncreasing}
 use Rattle.std.proofs.lemmas.List.Elements.{All-nil, All-cons, All-head, All-tail, All-append, Contains-append_left, Contains-append_right}
 use Rattle.std.proofs.lemmas.Grind.{common_steps}
+use Rattle.loc_base.proofs.ShelfBools.{suc-add_one}
 use Rattle.design_core.specs.Listing.{is_lower, is_before}
 use Rattle.plain_list.specs.Candidates.{combinations, numbers_from, candidates_of}
 use Rattle.plain_list.proofs.Rising.{Rises, IsChosen, IsLower, All-implied, AllPairs-append, combinations-each, combinations-ordered, combinations-complete}
@@ -65,9 +66,6 @@ candidates-complete n (suc size) set h =
 
     smaller : length set < suc size → IsCandidate n size set
     smaller less = (h.0, omega (arith, less))
-
-pub suc-add_one : (k : ℕ) → suc (k + 1) ≡ suc k + 1
-suc-add_one k = omega arith
 
 -- a set of suspects is a rising list of their numbers, and the other way round
 pub Rises-IsStrictlyIncreasing : (low high : ℕ) (set : List ℕ) → Rises low high set → IsStrictlyIncreasing set

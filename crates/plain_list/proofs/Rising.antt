@@ -6,6 +6,7 @@ use Rattle.std.proofs.lemmas.List.{get_or-map, length-map}
 use Rattle.std.proofs.lemmas.List.Elements.{All-nil, All-cons, All-append, All-map, Contains-append_left, Contains-append_right}
 use Rattle.std.proofs.lemmas.List.Kept.{AllPairs-cons}
 use Rattle.std.proofs.lemmas.Grind.{common_steps}
+use Rattle.loc_base.proofs.ShelfLists.{Contains-first}
 use Rattle.design_core.specs.Listing.{is_lower}
 use Rattle.plain_list.specs.Candidates.{combinations, numbers_from, behind}
 
@@ -34,9 +35,6 @@ AllPairs-append R (x ∷ xs) ys a b c =
     (λ i j d h k. a (suc i) (suc j) d (omega (arith, h)) (omega (arith, k)))
     b
     (λ k d h. c (suc k) d (omega (arith, h))))
-
-pub Contains-here : {X : Type 0} (x : X) (xs : List X) → Contains (x ∷ xs) x
-Contains-here x xs = (0, omega arith, refl)
 
 pub Contains-map : {X Y : Type 0} (f : X → Y) (xs : List X) (x : X) → Contains xs x → Contains (map f xs) (f x)
 Contains-map f xs x (k, h, e) = (k, rw (length-map xs f) h, get_or-map f xs k x (f x) h ∙ ap f e)
@@ -107,7 +105,7 @@ combinations-ordered (suc size) first (suc count) =
 -- each rising list of the numbers is one of the combinations
 pub combinations-complete : (size first count : ℕ) (set : List ℕ) → IsChosen first (first + count) size set → Contains (combinations size (numbers_from first count)) set
 unfolding numbers_from
-combinations-complete zero first count [] h = Contains-here [] []
+combinations-complete zero first count [] h = Contains-first [] []
 combinations-complete zero first count (x ∷ set) h = absurd (omega (arith, h.1))
 combinations-complete (suc size) first count [] h = absurd (omega (arith, h.1))
 combinations-complete (suc size) first zero (x ∷ set) h = absurd (omega (arith, h.0.0, h.0.1))

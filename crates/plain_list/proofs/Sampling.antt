@@ -10,14 +10,16 @@ use Rattle.std.proofs.lemmas.Nat.Bits.{bit_at-zero}
 use Rattle.std.proofs.lemmas.Option.{slice_get_within}
 use Rattle.loc_base.specs.declared.bits.Bits.{Bits}
 use Rattle.loc_base.specs.Bits.{width_of, value_of, bit_of}
+use Rattle.loc_base.proofs.ShelfLists.{slice_get-at}
+use Rattle.loc_base.proofs.ShelfOptions.{Some-same}
 use Rattle.design_core.specs.declared.signal.Signal.{Signal}
 use Rattle.design_core.specs.Valuation.{width_at}
 use Rattle.design_core.specs.Words.{valuation_of, AreWordsOf}
 use Rattle.design_core.specs.TraceFits.{samples_fit}
 use Rattle.design_core.specs.Cycle.{sampled}
 use Rattle.plain_values.proofs.EvaluateWords.{word-width, words-length}
-use Rattle.plain_list.proofs.Settled.{same_or_not, Some-same}
-use Rattle.plain_list.proofs.Assigning.{both_true, get_at, get-set_same, get-set_other, words-set}
+use Rattle.plain_list.proofs.Settled.{same_or_not}
+use Rattle.plain_list.proofs.Assigning.{both_true, get-set_same, get-set_other, words-set}
 
 -- the first words are 0
 pub record ZeroBefore (count : ℕ) (words : List Bits) : Type 0 where
@@ -28,7 +30,7 @@ ZeroBefore-set count words word l z before = record { zeros = λ s w h at. by_pl
   where
     by_place : (s : ℕ) (w : Bits) → s < count + 1 → slice_get (slice_set words count word) s ≡ Some w → (s ≡ count) ⊎ (s ≢ count) → value_of w ≡ 0
     by_place s w h at (inl e) =
-        ap value_of (Some-same w word (sym (subst (λ m. slice_get (slice_set words count word) m ≡ Some w) e at) ∙ get-set_same words count word l)) ∙ z
+        ap value_of (Some-same (sym (subst (λ m. slice_get (slice_set words count word) m ≡ Some w) e at) ∙ get-set_same words count word l)) ∙ z
     by_place s w h at (inr apart) = before.zeros s w (omega (arith, h, apart)) (sym (get-set_other words count s word apart) ∙ at)
 
 pub all_zero : (words : List Bits) → ZeroBefore (length words) words → valuation_of words ≡ (λ _ _. false)
@@ -93,7 +95,7 @@ pub cleared-next : (signals : List Signal) (words : List Bits) (i : ℕ) (old ne
     → old ≡ get_or words i old → width_of new ≡ width_of old → value_of new ≡ 0
     → AreWordsOf signals (slice_set words i new) × ZeroBefore (i + 1) (slice_set words i new)
 cleared-next signals words i old new (a, z) l at w v = (
-  words-set signals words i new a l (w ∙ word-width signals words i old a (get_at words i old l at)),
+  words-set signals words i new a l (w ∙ word-width signals words i old a (slice_get-at words i old l at)),
   ZeroBefore-set i words new l v z,
 )
 

@@ -3,6 +3,8 @@ use Rattle.std.proofs.Common.{◌≡◌, ◌≢◌, ℕ, zero, suc, ◌+◌, ◌
 use Rattle.std.specs.Prelude.{All, AllPairs, Contains, slice_get, Some}
 use Rattle.std.specs.List.{list_any}
 use Rattle.std.proofs.lemmas.Grind.{common_steps}
+use Rattle.loc_base.proofs.ShelfLists.{All-member, Contains-cons, Contains-empty, Contains-first, Contains-later}
+use Rattle.loc_base.proofs.ShelfOptions.{Some-same}
 use Rattle.design_core.specs.declared.signal.Signal.{Signal}
 use Rattle.design_core.specs.declared.statement.Part.{Part}
 use Rattle.design_core.specs.declared.statement.Part.TheVariants.{Whole, Slice, Pick, Word}
@@ -16,7 +18,7 @@ use Rattle.design_core.specs.After.{Choice}
 use Rattle.design_core.specs.Drives.{driver_drives, part_drives}
 use Rattle.design_core.specs.Cycle.{cont_assigned, driven, without}
 use Rattle.design_core.proofs.ValueAgrees.{value-agrees}
-use Rattle.design_core.proofs.Lists.{Contains-first, Contains-later, Contains-cons, All-member, All-later, AllPairs-first, AllPairs-later, Contains-empty}
+use Rattle.design_core.proofs.Lists.{All-later, AllPairs-first, AllPairs-later}
 use Rattle.plain_list.specs.Network.{whole_of, target_of, value_reads, Assigns, IsFreeOf, with_net, assign, step, settled_from}
 
 pub true-false : true ≡ false → ⊥
@@ -31,14 +33,11 @@ lt_or_ge (suc m) (suc n) = elim (lt_or_ge m n) [ inl h ↦ inl (omega (arith, h)
 abbrev pub IsPending : Design → List ℕ → ℕ → Type 0
 IsPending d rest s = (i : ℕ) × Contains rest i × Assigns d i s
 
-pub Some-same : {X : Type 0} (x y : X) → Some x ≡ Some y → x ≡ y
-Some-same x y e = cc
-
 -- a driver assigns one net
 pub Assigns-one : (d : Design) (i s t : ℕ) → Assigns d i s → Assigns d i t → s ≡ t
 Assigns-one d i s t (driver, at, to) (other, at', to') =
-    let same : driver ≡ other = Some-same driver other (sym at ∙ at') in
-    Some-same s t (sym to ∙ ap target_of same ∙ to')
+    let same : driver ≡ other = Some-same (sym at ∙ at') in
+    Some-same (sym to ∙ ap target_of same ∙ to')
 
 -- what one assignment gives the net
 pub with_net-at : (signals : List Signal) (V : Valuation) (s b : ℕ) (bits : ℕ → Bool) → b < width_at signals s → with_net signals V (Some s) bits s b ≡ bits b
@@ -63,7 +62,7 @@ given-agrees signals choice V W (Comb _ _) same = refl
 
 pub whole_of-parts : (parts : List Part) (s : ℕ) → whole_of parts ≡ Some s → parts ≡ Whole s ∷ []
 whole_of-parts [] s e = cc
-whole_of-parts (Whole t ∷ []) s e = ap (λ n. Whole n ∷ []) (Some-same t s e)
+whole_of-parts (Whole t ∷ []) s e = ap (λ n. Whole n ∷ []) (Some-same e)
 whole_of-parts (Whole t ∷ part ∷ parts) s e = cc
 whole_of-parts (Slice _ _ _ ∷ parts) s e = cc
 whole_of-parts (Pick _ _ _ ∷ parts) s e = cc

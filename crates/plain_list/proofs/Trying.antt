@@ -8,8 +8,9 @@ use Rattle.design_core.specs.Explained.{place_width}
 use Rattle.std.specs.Option.{option_map_or}
 use Rattle.std.proofs.Math.Nat.{eq-or-lt_of_le}
 use Rattle.std.proofs.Common.{true, nat_le, pow_pos}
+use Rattle.loc_base.proofs.ShelfLists.{slice_get-at}
 use Rattle.design_core.specs.WellFormed.{IsWellFormed, is_width}
-use Rattle.plain_list.proofs.Assigning.{AreNumbersFor-length, get_at, both_true, list_all-at, le_test}
+use Rattle.plain_list.proofs.Assigning.{AreNumbersFor-length, both_true, list_all-at, le_test}
 
 pub AreNumbersFor-set : (d : Design) (places numbers : List ℕ) (i number : ℕ) → AreNumbersFor d places numbers → number < 2 ^ place_width d (get_or places i 0) → AreNumbersFor d places (slice_set numbers i number)
 AreNumbersFor-set d [] [] i number a h = tt
@@ -95,7 +96,7 @@ place-width d p place w h e =
     (le_test 1 place.width bounds.0, le_test place.width 128 bounds.1, sym (ap (λ o. option_map_or (λ x. x.width) o 0) at))
   where
     at : slice_get d.places.items p ≡ Some place
-    at = get_at d.places.items p place h e
+    at = slice_get-at d.places.items p place h e
 
     bounds : (nat_le 1 place.width ≡ true) × (nat_le place.width 128 ≡ true)
     bounds = both_true (nat_le 1 place.width) (nat_le place.width 128) (list_all-at (λ place. is_width place.width) d.places.items p place w.places at)

@@ -5,10 +5,10 @@ use Rattle.std.specs.List.Sorted.{IsStrictlyIncreasing}
 use Rattle.std.specs.Option.{option_map_or}
 use Rattle.std.proofs.Math.Nat.{mul-le-mul_right, eq-or-lt_of_le}
 use Rattle.std.proofs.lemmas.Grind.{common_steps}
-use Rattle.std.proofs.lemmas.Bool.{ne_eqb}
 use Rattle.std.proofs.lemmas.Option.{slice_get_within}
 use Rattle.loc_base.specs.declared.bits.Bits.{Bits}
 use Rattle.loc_base.specs.Bits.{value_of}
+use Rattle.loc_base.proofs.ShelfOptions.{Some-same}
 use Rattle.design_core.specs.declared.design.Design.{Design}
 use Rattle.design_core.specs.declared.place.Place.{Place}
 use Rattle.design_core.specs.declared.trace.Trace.{Trace}
@@ -22,49 +22,11 @@ use Rattle.plain_list.specs.Rightness.{AreRight}
 use Rattle.plain_list.specs.Groups.{groups_of, places_in}
 use Rattle.plain_list.specs.Rows.{IsRightRow, AreAdded, AreExplained, CanBeRight}
 use Rattle.design_core.specs.Explained.{row_of, AreRows, AreValuesOf}
-use Rattle.plain_list.proofs.Settled.{lt_or_ge, Some-same}
+use Rattle.design_core.proofs.CyclesBefore.{cycles_before-none, cycles_before-next, cycles-within}
+use Rattle.plain_list.proofs.Settled.{lt_or_ge}
 use Rattle.plain_list.proofs.Cycles.{meets-by-cycles}
 use Rattle.plain_list.proofs.Rowing.{IsRow-numbers}
 use Rattle.plain_list.proofs.Grouping.{freed-places, places_in-rising, set-positive}
-
-pub cycles_before-none : (traces : List Trace) → cycles_before traces 0 ≡ 0
-cycles_before-none [] = refl
-cycles_before-none (trace ∷ traces) = refl
-
-cycles_before-suc : (trace : Trace) (traces : List Trace) (j : ℕ) → cycles_before (trace ∷ traces) (suc j) ≡ trace.cycles + cycles_before traces j
-cycles_before-suc trace traces j =
-    let less : suc j - 1 ≡ j = omega arith in
-    ap (λ x. if x then 0 else trace.cycles + cycles_before traces (suc j - 1)) (ne_eqb (suc j) 0 (λ e. omega (arith, e))) ∙ ap (λ n. trace.cycles + cycles_before traces n) less
-
--- one trace more
-pub cycles_before-next : (traces : List Trace) (j : ℕ) (trace : Trace) → slice_get traces j ≡ Some trace → cycles_before traces (j + 1) ≡ cycles_before traces j + trace.cycles
-cycles_before-next [] j trace at = absurd (cc)
-cycles_before-next (first ∷ traces) zero trace at =
-    cycles_before-suc first traces 0 ∙ ap (λ n. first.cycles + n) (cycles_before-none traces) ∙ swap first.cycles ∙ ap (λ (x : Trace). 0 + x.cycles) (Some-same first trace at)
-  where
-    swap : (n : ℕ) → n + 0 ≡ 0 + n
-    swap n = omega arith
-cycles_before-next (first ∷ traces) (suc j) trace at =
-    ap (cycles_before (first ∷ traces)) (next j) ∙ cycles_before-suc first traces (j + 1) ∙ ap (λ n. first.cycles + n) (cycles_before-next traces j trace at)
-    ∙ grouped first.cycles (cycles_before traces j) trace.cycles ∙ ap (λ n. n + trace.cycles) (sym (cycles_before-suc first traces j))
-  where
-    next : (n : ℕ) → suc n + 1 ≡ suc (n + 1)
-    next n = omega arith
-
-    grouped : (a b c : ℕ) → a + (b + c) ≡ a + b + c
-    grouped a b c = omega arith
-
--- a cycle of a trace stands before the next trace
-pub cycles-within : (traces : List Trace) (j k : ℕ) (trace : Trace) (t : ℕ) → slice_get traces j ≡ Some trace → j < k → t < trace.cycles → cycles_before traces j + t < cycles_before traces k
-cycles-within [] j k trace t at h l = absurd (cc)
-cycles-within (first ∷ traces) j zero trace t at h l = absurd (omega (arith, h))
-cycles-within (first ∷ traces) zero (suc k) trace t at h l =
-    let same : first.cycles ≡ trace.cycles = ap (λ (x : Trace). x.cycles) (Some-same first trace at) in
-    subst (λ n. 0 + t < n) (sym (cycles_before-suc first traces k)) (omega (arith, l, same))
-cycles-within (first ∷ traces) (suc j) (suc k) trace t at h l =
-    let later : cycles_before traces j + t < cycles_before traces k = cycles-within traces j k trace t at (omega (arith, h)) l in
-    subst (λ n. n + t < cycles_before (first ∷ traces) (suc k)) (sym (cycles_before-suc first traces j))
-    (subst (λ n. first.cycles + cycles_before traces j + t < n) (sym (cycles_before-suc first traces k)) (omega (arith, later)))
 
 -- at first no trace is explained
 pub nothing-explained : (d : Design) (order : List ℕ) (traces : List Trace) (places : List ℕ) (rows : List Bits) → rows ≡ [] → AreExplained d order traces places rows 0
@@ -97,7 +59,7 @@ one_more-explained d order traces places old new k trace at a adds =
     right : (j : ℕ) (other : Trace) (t : ℕ) → slice_get traces j ≡ Some other → (j ≡ k) ⊎ (j < k) → t < other.cycles
         → IsRightRow d order other places new t (cycles_before traces j + t)
     right j other t at' (inl e) l =
-        let same : trace ≡ other = Some-same trace other (sym at ∙ ap (slice_get traces) (sym e) ∙ at') in
+        let same : trace ≡ other = Some-same (sym at ∙ ap (slice_get traces) (sym e) ∙ at') in
         subst (λ n. IsRightRow d order other places new t (cycles_before traces n + t)) (sym e)
         (subst (λ x. IsRightRow d order x places new t (cycles_before traces k + t)) same
         (added.right t (subst (λ (x : Trace). t < x.cycles) (sym same) l)))

@@ -30,14 +30,6 @@ fn clear(signals: &[Signal], words: &mut [Bits])
     ensures value { valuation_of words.new ≡ (λ _ _. false) }
 {
     for i in 0..words.len() {
-        words[i] = zero_like(words[i]);
+        words[i] = Bits::zero(words[i].width());
     }
-}
-
-/// The number 0 in as many bits as a word has.
-fn zero_like(word: Bits) -> Bits
-    ensures width { width_of result ≡ width_of word }
-    ensures value { value_of result ≡ 0 }
-{
-    Bits::new(word.width(), 0).unwrap()
 }
