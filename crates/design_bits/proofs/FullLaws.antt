@@ -184,12 +184,12 @@ marks-done old new i t so past =
     record { long = so.long; marks = λ n within. so.marks n within ∙ ap (λ v. slice_index_or old n false || (v && t n)) (lt-ltb n i (omega (arith, within, past))) }
 
 -- ---- all numbers
-all_below-true : (n : ℕ) (t : ℕ → Bool) → ((k : ℕ) → k < n → t k ≡ true) → all_below n t ≡ true
+pub all_below-true : (n : ℕ) (t : ℕ → Bool) → ((k : ℕ) → k < n → t k ≡ true) → all_below n t ≡ true
 unfolding all_below
 all_below-true zero t all = refl
 all_below-true (suc n) t all = ap (λ v. v && all_below n t) (all n (omega arith)) ∙ all_below-true n t (λ k below. all k (omega (arith, below)))
 
-all_below-false : (n : ℕ) (t : ℕ → Bool) (k : ℕ) → k < n → t k ≡ false → all_below n t ≡ false
+pub all_below-false : (n : ℕ) (t : ℕ → Bool) (k : ℕ) → k < n → t k ≡ false → all_below n t ≡ false
 unfolding all_below
 all_below-false zero t k below none = absurd (omega (arith, below))
 all_below-false (suc n) t k below none = at (cases_order k n) (λ lower. all_below-false n t k lower none)

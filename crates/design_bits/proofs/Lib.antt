@@ -10,3 +10,7 @@ pub mod PathSteps
 pub mod WaitLaws
 pub mod FullLaws
 pub mod CaseLaws
+pub mod DrivesWithin
+pub mod Touched
+pub mod EitherWay
+pub mod ShareLaws

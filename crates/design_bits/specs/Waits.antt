@@ -45,3 +45,21 @@ pub record IsInItems (n : ℕ) (start now : Walk) (before together : Shared) (tu
 pub record IsIdle (walk : Walk) : Type 0 where
   pub fit : AreFit (length walk.reads) walk
   pub none : (s : ℕ) → slice_index walk.sure.items s ≡ 0
+
+-- a walk has gone over a statement for what it assigns: the bits that pass a test were added, and no bit is surely assigned but those before
+pub record HasAssigned (n : ℕ) (old new : Walk) (test : ℕ → ℕ → Bool) : Type 0 where
+  pub fit : AreFit n new
+  pub same : new.sure.items ≡ old.sure.items
+  pub added : Adds old.reads new.reads test
+
+-- a walk is as it was
+pub record IsKept (n : ℕ) (old new : Walk) : Type 0 where
+  pub fit : AreFit n new
+  pub sure : new.sure.items ≡ old.sure.items
+  pub reads : new.reads ≡ old.reads
+
+-- a walk is among the items of a case, for what each of them assigns
+pub record IsInList (n : ℕ) (start now : Walk) (before together : Shared) (turns : ℕ) (assigned : ℕ → ℕ → Bool) : Type 0 where
+  pub kept : IsKept n start now
+  pub shared : Shares n together (λ s b. shares before s b && assigned s b)
+  pub every : together.every ≡ true → (before.every ≡ true) × (turns ≡ 0)

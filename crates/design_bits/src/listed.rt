@@ -101,7 +101,7 @@ fn met(set: &BitSet, some: &[SignalBits], alloc: Global) -> Result<Vec<SignalBit
 }
 
 /// Adds listed bits to a set.
-fn add_listed(set: &mut BitSet, some: &[SignalBits]) -> Result<(), NoMemory>
+pub(crate) fn add_listed(set: &mut BitSet, some: &[SignalBits]) -> Result<(), NoMemory>
     ensures { OnOk result (Adds set.old set.new (λ s b. lists some.now s b)) }
 {
     for entry in some {

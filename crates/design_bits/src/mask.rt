@@ -1,6 +1,7 @@
 ghost use Rattle.std.specs.Prelude.{◌≡◌, ◌<◌, ◌&&◌, ◌||◌, ℕ, not, nat_lt};
 ghost use Rattle.design_core.specs.Drives.{is_among};
 ghost use Rattle.design_core.specs.Valuation.{bit};
+ghost use Rattle.design_bits.specs.Masks.{exceeds, share_bit};
 
 /// The lowest bits, as many as there are below 128.
 #[tactic(auto, using(crate::proofs::Masks::ones_bits))]
@@ -21,4 +22,20 @@ pub(crate) fn run(from: u8, width: u8) -> u128
 {
     let below = ones(u16::from(from));
     ones(u16::from(from) + u16::from(width)) & !below
+}
+
+/// Whether two masks have a bit in common.
+#[tactic(auto, using(crate::proofs::ShareLaws::share_steps))]
+pub fn share_bit(one: u128, other: u128) -> bool
+    ensures { result ≡ share_bit one other }
+{
+    one & other != 0
+}
+
+/// Whether a mask has a bit that another lacks.
+#[tactic(auto, using(crate::proofs::ShareLaws::exceed_steps))]
+pub fn exceeds(one: u128, other: u128) -> bool
+    ensures { result ≡ exceeds one other }
+{
+    share_bit(one, !other)
 }

@@ -55,7 +55,7 @@ pub(crate) fn add_region(set: &mut BitSet, sure: &[u128], region: Region) -> Res
 }
 
 /// Adds all bits of each of so many signals from one on, of those that there are.
-pub(crate) fn add_whole(
+pub fn add_whole(
     set: &mut BitSet,
     signals: &[Signal],
     first: u32,
@@ -71,7 +71,7 @@ pub(crate) fn add_whole(
 }
 
 /// Adds bits of one signal, where there is that signal.
-pub(crate) fn add_one(set: &mut BitSet, signal: u32, mask: u128) -> Result<(), NoMemory>
+pub fn add_one(set: &mut BitSet, signal: u32, mask: u128) -> Result<(), NoMemory>
     ensures { OnOk result (Adds set.old set.new (λ s b. s == signal && bit mask b)) }
 {
     if (signal as usize) < set.len() {

@@ -91,7 +91,7 @@ fn go_on(
 }
 
 /// The bits that both of two lists have.
-fn meet(
+pub(crate) fn meet(
     walk: &mut Walk,
     one: &[SignalBits],
     other: &[SignalBits],
@@ -124,7 +124,7 @@ fn at_once(list: Vec<SignalBits>, later: bool, alloc: Global) -> Vec<SignalBits>
 
 /// What is shared before the items of a case: what the statement for other values assigns, or all bits where there is none and no
 /// value would take it.
-fn before_items(last: Vec<SignalBits>, other: &Stmt, full: bool) -> Shared
+pub(crate) fn before_items(last: Vec<SignalBits>, other: &Stmt, full: bool) -> Shared
     ensures every { result.every ≡ (is_nothing other.now && full) }
     ensures list { result.list ≡ last }
 {
@@ -135,7 +135,11 @@ fn before_items(last: Vec<SignalBits>, other: &Stmt, full: bool) -> Shared
 }
 
 /// The bits that what was shared so far and one more list have.
-fn share(walk: &mut Walk, shared: Shared, own: Vec<SignalBits>) -> Result<Shared, NoMemory>
+pub(crate) fn share(
+    walk: &mut Walk,
+    shared: Shared,
+    own: Vec<SignalBits>,
+) -> Result<Shared, NoMemory>
     requires { (s : ℕ) → slice_index walk.old.empty s ≡ 0 }
     ensures sure { IfOk result (λ now. walk.new.sure.items ≡ walk.old.sure.items) }
     ensures reads { IfOk result (λ now. walk.new.reads ≡ walk.old.reads) }
