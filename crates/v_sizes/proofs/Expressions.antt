@@ -1,6 +1,6 @@
 -- The law of sized expressions, whole.
 use Rattle.std.proofs.lemmas.Bool.{not-false}
-use Rattle.std.proofs.Common.{◌≡◌, ℕ, zero, suc, ◌+◌, ◌*◌, ◌^◌, ◌<◌, ◌≤◌, Bool, true, false, ◌&&◌, List, Option, None, refl, ap, sym, subst, ◌∙◌, arith, lit≤}
+use Rattle.std.proofs.Common.{◌≡◌, ℕ, zero, suc, ◌+◌, ◌*◌, ◌^◌, ◌<◌, ◌≤◌, Bool, true, false, ◌&&◌, List, [], ◌∷◌, Option, Some, None, refl, ap, sym, subst, ◌∙◌, arith, lit≤}
 use Rattle.std.specs.Prelude.{min, if◌then◌else◌, max, not, ◌||◌, ◌==◌, nat_le, ℤ, int_lt, pos, negsuc}
 use Rattle.std.proofs.Math.Nat.{le-max_left, le-max_right, add-mul}
 use Rattle.loc_base.specs.declared.span.Span.{Span}
@@ -19,8 +19,11 @@ use Rattle.v_sizes.specs.declared.error.WidthErr.TheVariants as fault
 use Rattle.v_sizes.specs.Look.{Look}
 use Rattle.v_sizes.specs.Literal.{written_width}
 use Rattle.v_sizes.specs.Operations.{Class, by_context, shift, comparison, logical, quotient, remainder, power, class_of, keeps_width, is_below_0, logarithm_from, ceiling_of_logarithm}
-use Rattle.v_sizes.specs.Sizing.{Sizing, sizing, sizings, own, known, times_of, joined_width, chosen_of, class_sizing, unary_sizing, called, conditional}
-use Rattle.v_sizes.specs.Refusals.{refusal, parts_refusal, selects_refusal, when, is_bad_width, name_fault, division_fault, power_fault, concat_fault, repeat_fault, called_fault}
+use Rattle.v_sizes.specs.declared.meaning.Meaning.{Meaning}
+use Rattle.v_sizes.specs.declared.meaning.Meaning.TheVariants as meaning
+use Rattle.v_sizes.specs.Selected.{descends}
+use Rattle.v_sizes.specs.Sizing.{Chosen, one_bit, some_bits, Sizing, sizing, sizings, own, known, times_of, joined_width, chosen_of, class_sizing, unary_sizing, called, conditional}
+use Rattle.v_sizes.specs.Refusals.{refusal, parts_refusal, selects_refusal, only_first, only_later, is_bound, word_fault, when, is_bad_width, name_fault, division_fault, power_fault, concat_fault, repeat_fault, called_fault}
 use Rattle.v_sizes.specs.Sized.{sized, constant, typed, typed_parts, selects_of, folded, with_sign, with_width}
 use Rattle.v_sizes.specs.Context.{IsScope}
 use Rattle.v_sizes.proofs.Steady.{IsSteady, sizing-steady}
@@ -37,8 +40,8 @@ use Rattle.v_sizes.proofs.Sound.{width-within, class_refusal, binary-refusal}
 use Rattle.v_sizes.proofs.Whole.{Standing, InContext, OperandsStand, class_shape, kept_sizing, bit_sizing, literal-meant, name-law, concat-law, repeat-law, unary-law, class-law}
 
 -- an operand in every context in which it isn't refused
-abbrev Everywhere : List Signal → Look → Tree → Type 0
-Everywhere signals look e = (w : ℕ) (s : Bool) → Within w → (sizing look e).width ≤ w → refusal look false e w s ≡ None → InContext signals look e w s
+abbrev Everywhere : List Signal → Look → Bool → Tree → Type 0
+Everywhere signals look only e = (w : ℕ) (s : Bool) → Within w → (sizing look e).width ≤ w → refusal look only e w s ≡ None → InContext signals look e w s
 
 -- ---- operands
 division-constant : (span : Span) (left right : Sizing) (divisor : ℕ) → division_fault span left right divisor ≡ None → (left.constant && right.constant) ≡ true
@@ -52,44 +55,44 @@ power-constant span left right h =
     (or_false (not (left.constant && right.constant)) (is_below_0 (known right))
     (when-none (not (left.constant && right.constant) || is_below_0 (known right)) (fault.NotConstant span) None h).0).0
 
-operands-stand : (signals : List Signal) (look : Look) → IsScope look → (span : Span) (c : Class) (left right : Tree) (size : ℕ) (signed : Bool) → Within size
-    → (class_sizing c (sizing look left) (sizing look right)).width ≤ size → class_refusal look span c left right size signed ≡ None
-    → Everywhere signals look left → Everywhere signals look right → OperandsStand signals look c left right size signed
-operands-stand signals look scope span (by_context op) left right size signed within wide h one other =
+operands-stand : (signals : List Signal) (look : Look) (only : Bool) → IsScope look → (span : Span) (c : Class) (left right : Tree) (size : ℕ) (signed : Bool) → Within size
+    → (class_sizing c (sizing look left) (sizing look right)).width ≤ size → class_refusal look only span c left right size signed ≡ None
+    → Everywhere signals look only left → Everywhere signals look only right → OperandsStand signals look c left right size signed
+operands-stand signals look only scope span (by_context op) left right size signed within wide h one other =
     let l = (sizing look left).width in
     let r = (sizing look right).width in
-    let parts = first_of-none (refusal look false left size signed) (refusal look false right size signed) None h in
+    let parts = first_of-none (refusal look only left size signed) (refusal look only right size signed) None h in
     (one size signed within (omega (arith, wide, le-max_left l r)) parts.0, other size signed within (omega (arith, wide, le-max_right l r)) parts.1)
-operands-stand signals look scope span (shift op) left right size signed within wide h one other =
+operands-stand signals look only scope span (shift op) left right size signed within wide h one other =
     let r = sizing look right in
-    let parts = first_of-none (refusal look false left size signed) (refusal look false right r.width r.signed) None h in
+    let parts = first_of-none (refusal look only left size signed) (refusal look only right r.width r.signed) None h in
     (one size signed within wide parts.0, other r.width r.signed (width-within look scope right) (omega arith) parts.1)
-operands-stand signals look scope span (comparison op) left right size signed within wide h one other =
+operands-stand signals look only scope span (comparison op) left right size signed within wide h one other =
     let l = (sizing look left).width in
     let r = (sizing look right).width in
     let w = max l r in
     let s = (sizing look left).signed && (sizing look right).signed in
-    let parts = first_of-none (refusal look false left w s) (refusal look false right w s) None h in
+    let parts = first_of-none (refusal look only left w s) (refusal look only right w s) None h in
     let both = max-within l r (width-within look scope left) (width-within look scope right) in
     (one w s both (le-max_left l r) parts.0, other w s both (le-max_right l r) parts.1)
-operands-stand signals look scope span (logical op) left right size signed within wide h one other =
+operands-stand signals look only scope span (logical op) left right size signed within wide h one other =
     let l = sizing look left in
     let r = sizing look right in
-    let parts = first_of-none (refusal look false left l.width l.signed) (refusal look false right r.width r.signed) None h in (
+    let parts = first_of-none (refusal look only left l.width l.signed) (refusal look only right r.width r.signed) None h in (
       one l.width l.signed (width-within look scope left) (omega arith) parts.0,
       other r.width r.signed (width-within look scope right) (omega arith) parts.1,
     )
-operands-stand signals look scope span quotient left right size signed within wide h one other =
+operands-stand signals look only scope span quotient left right size signed within wide h one other =
     division-constant span (sizing look left) (sizing look right) ((sizing look right).value zeros size signed)
-    (first_of-none (refusal look false left size signed) (refusal look false right size signed)
+    (first_of-none (refusal look only left size signed) (refusal look only right size signed)
     (division_fault span (sizing look left) (sizing look right) ((sizing look right).value zeros size signed)) h).2
-operands-stand signals look scope span remainder left right size signed within wide h one other =
+operands-stand signals look only scope span remainder left right size signed within wide h one other =
     division-constant span (sizing look left) (sizing look right) ((sizing look right).value zeros size signed)
-    (first_of-none (refusal look false left size signed) (refusal look false right size signed)
+    (first_of-none (refusal look only left size signed) (refusal look only right size signed)
     (division_fault span (sizing look left) (sizing look right) ((sizing look right).value zeros size signed)) h).2
-operands-stand signals look scope span power left right size signed within wide h one other =
+operands-stand signals look only scope span power left right size signed within wide h one other =
     power-constant span (sizing look left) (sizing look right)
-    (first_of-none (refusal look false left size signed) (refusal look false right (sizing look right).width (sizing look right).signed)
+    (first_of-none (refusal look only left size signed) (refusal look only right (sizing look right).width (sizing look right).signed)
     (power_fault span (sizing look left) (sizing look right)) h).2
 
 -- the shape of a binary operator is that of its class
@@ -188,96 +191,116 @@ when-reduced : (holds : Bool) (one other : Option WidthErr) → holds ≡ false 
 when-reduced true one other is h = cc
 when-reduced false one other is h = h
 
+-- ---- names: what may stand where constants alone may stand may stand elsewhere
+pub never-signal : (span : Span) (all down : Bool) (cs : List Chosen) {A : Type 0} → word_fault span true all down cs ≡ None → A
+never-signal span all down [] accepted = cc
+never-signal span all down (c ∷ []) accepted = cc
+never-signal span all down (c ∷ d ∷ rest) accepted = cc
+
+name-lenient : (span : Span) (only : Bool) (m : Option Meaning) (cs : List Chosen) → name_fault span only m cs ≡ None → name_fault span false m cs ≡ None
+name-lenient span false m cs accepted = accepted
+name-lenient span true None cs accepted = cc
+name-lenient span true (Some (meaning.Constant value left right)) cs accepted = accepted
+name-lenient span true (Some (meaning.Signal signal width signed left right)) cs accepted = never-signal span false (descends left right) cs accepted
+name-lenient span true (Some (meaning.Array first count low width signed left right)) [] accepted = cc
+name-lenient span true (Some (meaning.Array first count low width signed left right)) (some_bits k x y ∷ rest) accepted = cc
+name-lenient span true (Some (meaning.Array first count low width signed left right)) (one_bit x ∷ rest) accepted =
+    never-signal span true (descends left right) rest accepted
+
 -- ---- every expression
 mutual
-  pub law : (signals : List Signal) (look : Look) → Standing signals look → (e : Tree) → Everywhere signals look e
-  law signals look standing (written.number site text) size signed within wide accepted =
+  pub law : (signals : List Signal) (look : Look) (only : Bool) → Standing signals look → (e : Tree) → Everywhere signals look only e
+  law signals look only standing (written.number site text) size signed within wide accepted =
       literal-meant signals text size signed (limits (written_width text)) within wide
-  law signals look standing (written.wild site text) size signed within wide accepted =
+  law signals look only standing (written.wild site text) size signed within wide accepted =
       literal-meant signals text size signed (limits (written_width text)) within wide
-  law signals look standing (written.name site text selects) size signed within wide accepted =
-      let split = or-none (selects_refusal look false selects) (name_fault site.span false (look text) (chosen_of look selects)) accepted in
+  law signals look only standing (written.name site text selects) size signed within wide accepted =
+      let first = only_first only (look text) in
+      let later = only_later only (look text) in
+      let split = or-none (selects_refusal look first later selects) (name_fault site.span only (look text) (chosen_of look selects)) accepted in
       name-law signals (look text) size signed site.span (λ n found. (standing.scope text n found, standing.of_design text n found))
-      (selects-law signals look standing selects split.0) split.1 within (sizing-steady look (written.name site text selects)) wide
-  law signals look standing (written.parens site inner) size signed within wide accepted = law signals look standing inner size signed within wide accepted
-  law signals look standing (written.concat site ts) size signed within wide accepted =
-      let split = or-none (parts_refusal look false ts) (concat_fault site.span (sizings look ts)) accepted in
+      (selects-law signals look first later standing selects split.0) (name-lenient site.span only (look text) (chosen_of look selects) split.1) within
+      (sizing-steady look (written.name site text selects)) wide
+  law signals look only standing (written.parens site inner) size signed within wide accepted = law signals look only standing inner size signed within wide accepted
+  law signals look only standing (written.concat site ts) size signed within wide accepted =
+      let split = or-none (parts_refusal look only ts) (concat_fault site.span (sizings look ts)) accepted in
       concat-law signals size signed (good-width (joined_width (sizings look ts)) (when-none (is_bad_width (joined_width (sizings look ts))) (fault.Range site.span) None split.1).0)
-      (parts-law signals look standing ts split.0) within (sizing-steady look (written.concat site ts)) wide
-  law signals look standing (written.repeat site count ts) size signed within wide accepted =
+      (parts-law signals look only standing ts split.0) within (sizing-steady look (written.concat site ts)) wide
+  law signals look only standing (written.repeat site count ts) size signed within wide accepted =
       let c = sizing look count in
       let es = sizings look ts in
-      let split = first_of-none (refusal look false count c.width c.signed) (parts_refusal look false ts) (repeat_fault site.span c es) accepted in
+      let split = first_of-none (refusal look true count c.width c.signed) (parts_refusal look only ts) (repeat_fault site.span c es) accepted in
       let bad = not (int_lt (pos 0) (known c)) || is_bad_width (times_of (known c) * joined_width es) in
       let sized_well = (when-none (not c.constant) (fault.NotConstant site.span) (when bad (fault.Range site.span) None) split.2).1 in
       let all = good-width (times_of (known c) * joined_width es)
       (or_false (not (int_lt (pos 0) (known c))) (is_bad_width (times_of (known c) * joined_width es)) (when-none bad (fault.Range site.span) None sized_well).0).1 in
       repeat-law signals c size signed all (one-part (times_of (known c)) (joined_width es) (counts (known c)) all)
-      (parts-law signals look standing ts split.1) within (sizing-steady look (written.repeat site count ts)) wide
-  law signals look standing (written.system site name argument) size signed within wide accepted =
+      (parts-law signals look only standing ts split.1) within (sizing-steady look (written.repeat site count ts)) wide
+  law signals look only standing (written.system site name argument) size signed within wide accepted =
       let e = sizing look argument in
-      let split = or-none (refusal look false argument e.width e.signed) (called_fault site.span name e) accepted in
+      let split = or-none (refusal look only argument e.width e.signed) (called_fault site.span name e) accepted in
       let own_within = width-within look standing.scope argument in
       called-law signals look name argument size signed site.span within own_within
-      (law signals look standing argument e.width e.signed own_within (omega arith) split.0) split.1 (sizing-steady look (written.system site name argument)) wide
-  law signals look standing (written.unary site op operand) size signed within wide accepted =
+      (law signals look only standing argument e.width e.signed own_within (omega arith) split.0) split.1 (sizing-steady look (written.system site name argument)) wide
+  law signals look only standing (written.unary site op operand) size signed within wide accepted =
       let e = sizing look operand in
-      let kept = refusal look false operand size signed in
-      let reduced = refusal look false operand e.width e.signed in
+      let kept = refusal look only operand size signed in
+      let reduced = refusal look only operand e.width e.signed in
       unary-law signals look op operand size signed within
-      (λ is. law signals look standing operand size signed within (kept-wide op e size is wide) (when-kept (keeps_width op) kept reduced is accepted))
+      (λ is. law signals look only standing operand size signed within (kept-wide op e size is wide) (when-kept (keeps_width op) kept reduced is accepted))
       (λ is.
       let h = when-reduced (keeps_width op) kept reduced is accepted in
-      law signals look standing operand e.width e.signed (width-within look standing.scope operand) (omega arith) h)
+      law signals look only standing operand e.width e.signed (width-within look standing.scope operand) (omega arith) h)
       (sizing-steady look (written.unary site op operand))
-  law signals look standing (written.binary site op left right) size signed within wide accepted =
+  law signals look only standing (written.binary site op left right) size signed within wide accepted =
       subst (λ t. Meant signals t size signed (λ V. (class_sizing (class_of op) (sizing look left) (sizing look right)).value V size signed)) (sym (binary-shape look site op left right size signed))
       (class-law signals look (class_of op) left right size signed (class-fits op) within
-      (operands-stand signals look standing.scope site.span (class_of op) left right size signed within wide (sym (binary-refusal look site op left right size signed) ∙ accepted)
-      (λ w s fits narrow h. law signals look standing left w s fits narrow h) (λ w s fits narrow h. law signals look standing right w s fits narrow h)
+      (operands-stand signals look only standing.scope site.span (class_of op) left right size signed within wide (sym (binary-refusal look only site op left right size signed) ∙ accepted)
+      (λ w s fits narrow h. law signals look only standing left w s fits narrow h) (λ w s fits narrow h. law signals look only standing right w s fits narrow h)
       )
       (sizing-steady look (written.binary site op left right))
       )
-  law signals look standing (written.conditional site condition on_true on_false) size signed within wide accepted =
+  law signals look only standing (written.conditional site condition on_true on_false) size signed within wide accepted =
       let c = sizing look condition in
       let a = sizing look on_true in
       let b = sizing look on_false in
-      let split = first_of-none (refusal look false condition c.width c.signed) (refusal look false on_true size signed) (refusal look false on_false size signed) accepted in
+      let split = first_of-none (refusal look only condition c.width c.signed) (refusal look only on_true size signed) (refusal look only on_false size signed) accepted in
       let own_within = width-within look standing.scope condition in
       folded-meant signals (conditional c a b) size signed
       (sized size signed (node.Choose (typed look condition c.width c.signed) (typed look on_true size signed) (typed look on_false size signed))) within
       (sizing-steady look (written.conditional site condition on_true on_false))
       (choose-meant signals (typed look condition c.width c.signed) (typed look on_true size signed) (typed look on_false size signed) c.width size c.signed signed
       (own c) (λ V. a.value V size signed) (λ V. b.value V size signed)
-      (law signals look standing condition c.width c.signed own_within (omega arith) split.0)
-      (law signals look standing on_true size signed within (omega (arith, wide, le-max_left a.width b.width)) split.1)
-      (law signals look standing on_false size signed within (omega (arith, wide, le-max_right a.width b.width)) split.2)
+      (law signals look only standing condition c.width c.signed own_within (omega arith) split.0)
+      (law signals look only standing on_true size signed within (omega (arith, wide, le-max_left a.width b.width)) split.1)
+      (law signals look only standing on_false size signed within (omega (arith, wide, le-max_right a.width b.width)) split.2)
       )
 
-  parts-law : (signals : List Signal) (look : Look) → Standing signals look → (ts : Trees) → parts_refusal look false ts ≡ None → MeantAll signals (typed_parts look ts) (sizings look ts)
-  parts-law signals look standing no_tree accepted = parts.none
-  parts-law signals look standing (tree one rest) accepted =
+  parts-law : (signals : List Signal) (look : Look) (only : Bool) → Standing signals look → (ts : Trees) → parts_refusal look only ts ≡ None → MeantAll signals (typed_parts look ts) (sizings look ts)
+  parts-law signals look only standing no_tree accepted = parts.none
+  parts-law signals look only standing (tree one rest) accepted =
       let e = sizing look one in
-      let split = or-none (refusal look false one e.width e.signed) (parts_refusal look false rest) accepted in
-      parts.more (law signals look standing one e.width e.signed (width-within look standing.scope one) (omega arith) split.0)
-      (parts-law signals look standing rest split.1)
+      let split = or-none (refusal look only one e.width e.signed) (parts_refusal look only rest) accepted in
+      parts.more (law signals look only standing one e.width e.signed (width-within look standing.scope one) (omega arith) split.0)
+      (parts-law signals look only standing rest split.1)
 
-  selects-law : (signals : List Signal) (look : Look) → Standing signals look → (ss : Selections) → selects_refusal look false ss ≡ None
+  selects-law : (signals : List Signal) (look : Look) (first later : Bool) → Standing signals look → (ss : Selections) → selects_refusal look first later ss ≡ None
       → MeantSelects signals (selects_of look ss) (chosen_of look ss)
-  selects-law signals look standing no_select accepted = selects.none
-  selects-law signals look standing (select (written.bit site index) rest) accepted =
+  selects-law signals look first later standing no_select accepted = selects.none
+  selects-law signals look first later standing (select (written.bit site index) rest) accepted =
       let e = sizing look index in
-      let split = or-none (refusal look false index e.width e.signed) (selects_refusal look false rest) accepted in
+      let split = or-none (refusal look first index e.width e.signed) (selects_refusal look later later rest) accepted in
       selects.more
-      (one_index (sizing-steady look index) (law signals look standing index e.width e.signed (width-within look standing.scope index) (omega arith) split.0))
-      (selects-law signals look standing rest split.1)
-  selects-law signals look standing (select (written.part site k one other) rest) accepted =
+      (one_index (sizing-steady look index) (law signals look first standing index e.width e.signed (width-within look standing.scope index) (omega arith) split.0))
+      (selects-law signals look later later standing rest split.1)
+  selects-law signals look first later standing (select (written.part site k one other) rest) accepted =
       let x = sizing look one in
       let y = sizing look other in
-      let split = first_of-none (refusal look false one x.width x.signed) (refusal look false other y.width y.signed) (selects_refusal look false rest) accepted in
+      let bound = first || is_bound k in
+      let split = first_of-none (refusal look bound one x.width x.signed) (refusal look true other y.width y.signed) (selects_refusal look later later rest) accepted in
       selects.more
       (two_indexes
-      (sizing-steady look one) (law signals look standing one x.width x.signed (width-within look standing.scope one) (omega arith) split.0)
-      (sizing-steady look other) (law signals look standing other y.width y.signed (width-within look standing.scope other) (omega arith) split.1)
+      (sizing-steady look one) (law signals look bound standing one x.width x.signed (width-within look standing.scope one) (omega arith) split.0)
+      (sizing-steady look other) (law signals look true standing other y.width y.signed (width-within look standing.scope other) (omega arith) split.1)
       )
-      (selects-law signals look standing rest split.2)
+      (selects-law signals look later later standing rest split.2)

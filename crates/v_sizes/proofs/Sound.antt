@@ -28,40 +28,40 @@ use Rattle.v_sizes.proofs.Meanings.{within-range}
 use Rattle.v_sizes.proofs.Names.{chosen-within}
 
 -- the refusal of a binary operator, by its class
-abbrev pub class_refusal : Look → Span → Class → Tree → Tree → ℕ → Bool → Option WidthErr
-class_refusal look span (by_context _) left right size signed = first_of (refusal look false left size signed) (refusal look false right size signed) None
-class_refusal look span (shift _) left right size signed =
-    first_of (refusal look false left size signed) (refusal look false right (sizing look right).width (sizing look right).signed) None
-class_refusal look span (comparison _) left right size signed =
+abbrev pub class_refusal : Look → Bool → Span → Class → Tree → Tree → ℕ → Bool → Option WidthErr
+class_refusal look only span (by_context _) left right size signed = first_of (refusal look only left size signed) (refusal look only right size signed) None
+class_refusal look only span (shift _) left right size signed =
+    first_of (refusal look only left size signed) (refusal look only right (sizing look right).width (sizing look right).signed) None
+class_refusal look only span (comparison _) left right size signed =
     let w = max (sizing look left).width (sizing look right).width in
     let s = (sizing look left).signed && (sizing look right).signed in
-    first_of (refusal look false left w s) (refusal look false right w s) None
-class_refusal look span (logical _) left right size signed =
-    first_of (refusal look false left (sizing look left).width (sizing look left).signed) (refusal look false right (sizing look right).width (sizing look right).signed) None
-class_refusal look span quotient left right size signed =
-    first_of (refusal look false left size signed) (refusal look false right size signed)
+    first_of (refusal look only left w s) (refusal look only right w s) None
+class_refusal look only span (logical _) left right size signed =
+    first_of (refusal look only left (sizing look left).width (sizing look left).signed) (refusal look only right (sizing look right).width (sizing look right).signed) None
+class_refusal look only span quotient left right size signed =
+    first_of (refusal look only left size signed) (refusal look only right size signed)
     (division_fault span (sizing look left) (sizing look right) ((sizing look right).value zeros size signed))
-class_refusal look span remainder left right size signed =
-    first_of (refusal look false left size signed) (refusal look false right size signed)
+class_refusal look only span remainder left right size signed =
+    first_of (refusal look only left size signed) (refusal look only right size signed)
     (division_fault span (sizing look left) (sizing look right) ((sizing look right).value zeros size signed))
-class_refusal look span power left right size signed =
-    first_of (refusal look false left size signed) (refusal look false right (sizing look right).width (sizing look right).signed)
+class_refusal look only span power left right size signed =
+    first_of (refusal look only left size signed) (refusal look only right (sizing look right).width (sizing look right).signed)
     (power_fault span (sizing look left) (sizing look right))
 
 -- the refusal of a binary operator is that of its class
-pub binary-refusal : (look : Look) (site : Site) (op : Binary) (left right : Tree) (size : ℕ) (signed : Bool)
-    → refusal look false (written.binary site op left right) size signed ≡ class_refusal look site.span (class_of op) left right size signed
-binary-refusal look site op left right size signed = by (class_of op)
+pub binary-refusal : (look : Look) (only : Bool) (site : Site) (op : Binary) (left right : Tree) (size : ℕ) (signed : Bool)
+    → refusal look only (written.binary site op left right) size signed ≡ class_refusal look only site.span (class_of op) left right size signed
+binary-refusal look only site op left right size signed = by (class_of op)
   where
     by : (c : Class) → (elim c [
-      | by_context _ ↦ first_of (refusal look false left size signed) (refusal look false right size signed) None
-      | shift _ ↦ first_of (refusal look false left size signed) (refusal look false right (sizing look right).width (sizing look right).signed) None
-      | comparison _ ↦ class_refusal look site.span (comparison binary_op.Less) left right size signed
-      | logical _ ↦ class_refusal look site.span (logical binary_op.LogicalOr) left right size signed
-      | quotient ↦ class_refusal look site.span quotient left right size signed
-      | remainder ↦ class_refusal look site.span remainder left right size signed
-      | power ↦ class_refusal look site.span power left right size signed
-    ]) ≡ class_refusal look site.span c left right size signed
+      | by_context _ ↦ first_of (refusal look only left size signed) (refusal look only right size signed) None
+      | shift _ ↦ first_of (refusal look only left size signed) (refusal look only right (sizing look right).width (sizing look right).signed) None
+      | comparison _ ↦ class_refusal look only site.span (comparison binary_op.Less) left right size signed
+      | logical _ ↦ class_refusal look only site.span (logical binary_op.LogicalOr) left right size signed
+      | quotient ↦ class_refusal look only site.span quotient left right size signed
+      | remainder ↦ class_refusal look only site.span remainder left right size signed
+      | power ↦ class_refusal look only site.span power left right size signed
+    ]) ≡ class_refusal look only site.span c left right size signed
     by (by_context _) = refl
     by (shift _) = refl
     by (comparison _) = refl

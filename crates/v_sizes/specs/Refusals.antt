@@ -6,6 +6,8 @@ use Rattle.std.specs.Option.{option_or}
 use Rattle.loc_base.specs.declared.span.Span.{Span}
 use Rattle.v_tree.specs.declared.operator.SystemFunction.{SystemFunction}
 use Rattle.v_tree.specs.declared.operator.SystemFunction.TheVariants as function
+use Rattle.v_tree.specs.declared.expression.PartKind.{PartKind}
+use Rattle.v_tree.specs.declared.expression.PartKind.TheVariants as kind
 use Rattle.v_tree.specs.Tree.{Tree, Trees, no_tree, tree, Selections, no_select, select}
 use Rattle.v_tree.specs.Tree as written
 use Rattle.design_core.specs.Constant.{zeros}
@@ -52,6 +54,25 @@ name_fault span only (Some (meaning.Array _ _ _ _ _ left right)) [] = Some (faul
 name_fault span only (Some (meaning.Array _ _ _ _ _ left right)) (some_bits _ _ _ ∷ _) = Some (fault.UnknownName span)
 name_fault span only (Some (meaning.Array _ _ _ _ _ left right)) (one_bit _ ∷ rest) = word_fault span only true (descends left right) rest
 
+-- whether constants alone may stand in the first select of a name, and in those behind it, which choose bits of a word of an array
+abbrev pub only_first : Bool → Option Meaning → Bool
+only_first only (Some (meaning.Constant _ _ _)) = true
+only_first only (Some (meaning.Signal _ _ _ _ _)) = only
+only_first only (Some (meaning.Array _ _ _ _ _ _ _)) = only
+only_first only None = only
+
+abbrev pub only_later : Bool → Option Meaning → Bool
+only_later only (Some (meaning.Constant _ _ _)) = true
+only_later only (Some (meaning.Signal _ _ _ _ _)) = only
+only_later only (Some (meaning.Array _ _ _ _ _ _ _)) = true
+only_later only None = only
+
+-- whether the first number of a part-select is a bound, which a constant alone may be; its second one is a bound or a count
+abbrev pub is_bound : PartKind → Bool
+is_bound kind.Range = true
+is_bound kind.Up = false
+is_bound kind.Down = false
+
 -- a number whose size is none: the tokens of a text have no such number
 abbrev pub literal_fault : Span → List ℕ → Option WidthErr
 literal_fault span text = when (is_bad_width (written_width text)) (fault.Range span) None
@@ -87,16 +108,17 @@ abbrev pub first_of : Option WidthErr → Option WidthErr → Option WidthErr �
 first_of left right whole = option_or left (option_or right whole)
 
 abbrev mutual
-  -- the fault of an expression in a context of a width and a sign; `only` where constants alone are wanted
+  -- the fault of an expression in a context of a width and a sign; `only` where constants alone are wanted, as in a count and in the
+  -- bounds of a select: there a signal's name is wrong by itself
   pub refusal : Look → Bool → Tree → ℕ → Bool → Option WidthErr
   refusal look only (written.number site text) size signed = literal_fault site.span text
   refusal look only (written.wild site text) size signed = literal_fault site.span text
   refusal look only (written.name site text selects) size signed =
-      option_or (selects_refusal look only selects) (name_fault site.span only (look text) (chosen_of look selects))
+      option_or (selects_refusal look (only_first only (look text)) (only_later only (look text)) selects) (name_fault site.span only (look text) (chosen_of look selects))
   refusal look only (written.parens _ inner) size signed = refusal look only inner size signed
   refusal look only (written.concat site parts) size signed = option_or (parts_refusal look only parts) (concat_fault site.span (sizings look parts))
   refusal look only (written.repeat site count parts) size signed =
-      first_of (by_own (sizing look count) (refusal look only count)) (parts_refusal look only parts) (repeat_fault site.span (sizing look count) (sizings look parts))
+      first_of (by_own (sizing look count) (refusal look true count)) (parts_refusal look only parts) (repeat_fault site.span (sizing look count) (sizings look parts))
   refusal look only (written.system site name argument) size signed =
       option_or (by_own (sizing look argument) (refusal look only argument)) (called_fault site.span name (sizing look argument))
   refusal look only (written.unary _ op operand) size signed =
@@ -127,10 +149,12 @@ abbrev mutual
   parts_refusal look only no_tree = None
   parts_refusal look only (tree one rest) = option_or (by_own (sizing look one) (refusal look only one)) (parts_refusal look only rest)
 
-  -- the indexes and bounds of the selects, from the left
-  pub selects_refusal : Look → Bool → Selections → Option WidthErr
-  selects_refusal look only no_select = None
-  selects_refusal look only (select (written.bit _ index) rest) =
-      option_or (by_own (sizing look index) (refusal look only index)) (selects_refusal look only rest)
-  selects_refusal look only (select (written.part _ _ one other) rest) =
-      first_of (by_own (sizing look one) (refusal look only one)) (by_own (sizing look other) (refusal look only other)) (selects_refusal look only rest)
+  -- the indexes and bounds of the selects, from the left: `first` and `later` where constants alone may stand in the first one and in
+  -- the others
+  pub selects_refusal : Look → Bool → Bool → Selections → Option WidthErr
+  selects_refusal look first later no_select = None
+  selects_refusal look first later (select (written.bit _ index) rest) =
+      option_or (by_own (sizing look index) (refusal look first index)) (selects_refusal look later later rest)
+  selects_refusal look first later (select (written.part _ kind one other) rest) =
+      first_of (by_own (sizing look one) (refusal look (first || is_bound kind) one)) (by_own (sizing look other) (refusal look true other))
+      (selects_refusal look later later rest)

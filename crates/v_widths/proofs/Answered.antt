@@ -1,27 +1,31 @@
 -- What an expression becomes in the context that a call gives it.
-use Rattle.std.proofs.Common.{◌≡◌, ℕ, ◌≤◌, Bool, true, false, ◌&&◌, None, refl, ap, sym, subst, ◌∙◌, arith}
+use Rattle.std.proofs.Common.{◌≡◌, ℕ, ◌≤◌, Bool, true, false, ◌&&◌, None, refl, ap, sym, subst, ◌∙◌, arith, List, lit≤}
 use Rattle.std.specs.Prelude.{max, not}
 use Rattle.std.proofs.Math.Nat.{le-max_right, max-le}
 use Rattle.loc_base.specs.declared.bits.Bits.{Bits}
 use Rattle.loc_base.specs.Bits.{width_of, value_of}
-use Rattle.v_tree.specs.Tree.{Tree}
+use Rattle.v_tree.specs.Tree.{Tree, Selections}
+use Rattle.v_tree.specs.Tree as written
 use Rattle.design_core.specs.declared.expression.Typed.{Typed}
 use Rattle.design_core.specs.Constant.{zeros}
 use Rattle.v_sizes.specs.declared.meaning.Const.{Const}
 use Rattle.v_sizes.specs.Look.{Look}
-use Rattle.v_sizes.specs.Refusals.{refusal}
+use Rattle.v_sizes.specs.Refusals.{refusal, only_first, only_later}
 use Rattle.v_sizes.specs.Sizing.{sizing}
 use Rattle.v_sizes.specs.Sized.{constant, typed}
-use Rattle.v_sizes.specs.Context.{IsScope, context_width, context_sign, constant_of, constant_refusal_in}
+use Rattle.v_sizes.specs.Context.{IsScope, context_width, context_sign, constant_of, constant_refusal_in, typed_in, refusal_in}
 use Rattle.v_sizes.specs.Word.{word}
 use Rattle.v_sizes.proofs.SameWord.{same_word}
 use Rattle.v_selects.specs.declared.closed.Closed.{Closed}
 use Rattle.v_selects.specs.Folding.{const_number, const_width}
 use Rattle.v_widths.specs.Closing.{closed}
-use Rattle.v_widths.specs.Opening.{opened}
+use Rattle.v_widths.specs.Named.{named}
+use Rattle.v_widths.specs.Opening.{opened, opened_selects}
 use Rattle.v_widths.proofs.Agrees.{IsClosed}
 use Rattle.v_widths.proofs.Opened.{opened-law}
 use Rattle.v_widths.proofs.OnlyConstants.{only-constant}
+use Rattle.v_tree.specs.declared.site.Site.{Site}
+use Rattle.v_widths.specs.declared.measured.Measured.{Measured}
 
 pub opened-least : (look : Look) (only : Bool) → IsScope look → (e : Tree) → 1 ≤ (opened look only e).width
 opened-least look only scope e =
@@ -109,7 +113,34 @@ answered-closed look scope e context most c is accepted bits wide value =
     answered-constant look scope e context most (sym (answered-refusal look scope e context most) ∙ sym (ap (λ x. x.fault) is) ∙ accepted)
     c.typed (ap (λ x. x.typed) is) bits wide value
 
-pub ruleset own_widths = (opened-least, opened-most)
+-- a name by itself
+pub name-least : (look : Look) (only : Bool) → IsScope look → (site : Site) (text : List ℕ) (selects : Selections)
+    → 1 ≤ (named site.span only (look text) (opened_selects look (only_first only (look text)) (only_later only (look text)) selects)).width
+name-least look only scope site text selects = opened-least look only scope (written.name site text selects)
+
+pub name-most : (look : Look) (only : Bool) → IsScope look → (site : Site) (text : List ℕ) (selects : Selections)
+    → (named site.span only (look text) (opened_selects look (only_first only (look text)) (only_later only (look text)) selects)).width ≤ 128
+name-most look only scope site text selects = opened-most look only scope (written.name site text selects)
+
+pub opened-width : (look : Look) (only : Bool) → IsScope look → (e : Tree) → (opened look only e).width ≡ (sizing look e).width
+opened-width look only scope e = (opened-law look only scope e).width
+
+pub opened-signed : (look : Look) (only : Bool) → IsScope look → (e : Tree) → (opened look only e).signed ≡ (sizing look e).signed
+opened-signed look only scope e = (opened-law look only scope e).signed
+
+-- a name by itself, as the code closes it
+pub closed-name : (look : Look) → IsScope look → (site : Site) (text : List ℕ) (selects : Selections) (c : Closed) (m : Measured)
+    → c ≡ closed m (max m.width 0) (m.signed && not false)
+    → m ≡ named site.span false (look text) (opened_selects look (only_first false (look text)) (only_later false (look text)) selects)
+    → (c.fault ≡ refusal_in look (written.name site text selects) 0 false)
+    × (refusal_in look (written.name site text selects) 0 false ≡ None → c.typed ≡ typed_in look (written.name site text selects) 0 false)
+closed-name look scope site text selects c m closes is =
+    let e : Tree = written.name site text selects in
+    let same : c ≡ closed (opened look false e) (max (opened look false e).width 0) ((opened look false e).signed && not false) =
+    closes ∙ ap (λ (x : Measured). closed x (max x.width 0) (x.signed && not false)) is in (
+      ap (λ x. x.fault) same ∙ answered-fault look false scope e 0 false (lit≤ tt),
+      λ accepted. ap (λ x. x.typed) same ∙ answered-typed look false scope e 0 false (lit≤ tt) accepted,
+    )
 
 pub ruleset typed_answers = (answered-fault, answered-typed)
 

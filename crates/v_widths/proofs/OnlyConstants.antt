@@ -18,17 +18,13 @@ use Rattle.v_sizes.specs.declared.meaning.Meaning.TheVariants as meaning
 use Rattle.v_sizes.specs.Look.{Look}
 use Rattle.v_sizes.specs.Operations.{unary_of, Class, by_context, shift, comparison, logical, quotient, remainder, power, class_of, keeps_width}
 use Rattle.v_sizes.specs.Selected.{descends}
-use Rattle.v_sizes.specs.Refusals.{word_fault, name_fault, by_own, concat_fault, repeat_fault, called_fault, division_fault, power_fault, refusal, parts_refusal, selects_refusal}
+use Rattle.v_sizes.specs.Refusals.{word_fault, name_fault, by_own, concat_fault, repeat_fault, called_fault, division_fault, power_fault, refusal, parts_refusal, selects_refusal, only_first, only_later}
 use Rattle.v_sizes.specs.Sizing.{Sizing, own, by_itself, Chosen, one_bit, some_bits, Word, is_chosen_by_constants, word_sizing, name_sizing, are_constant, unary_sizing, class_sizing, sizing, sizings, chosen_of}
 use Rattle.v_sizes.proofs.Accepted.{or-none, first_of-none}
 use Rattle.v_widths.proofs.BinaryLaws.{class_faults}
 use Rattle.v_widths.proofs.Opened.{class-refusal}
 use Rattle.v_sizes.proofs.Law.{parameter-constant}
-
-never-signal : (span : Span) (all down : Bool) (cs : List Chosen) {A : Type 0} → word_fault span true all down cs ≡ None → A
-never-signal span all down [] accepted = cc
-never-signal span all down (c ∷ []) accepted = cc
-never-signal span all down (c ∷ d ∷ rest) accepted = cc
+use Rattle.v_sizes.proofs.Expressions.{never-signal}
 
 word-constant : (width : ℕ) (signed constant : Bool) (word : Valuation → Word) (cs : List Chosen) → constant ≡ true → (word_sizing width signed constant word cs).constant ≡ true
 word-constant width signed constant word [] is = is
@@ -89,7 +85,7 @@ mutual
   only-constant look (written.wild site text) size signed accepted = refl
   only-constant look (written.name site text selects) size signed accepted =
       name-constant site.span (look text) (chosen_of look selects)
-      (or-none (selects_refusal look true selects) (name_fault site.span true (look text) (chosen_of look selects)) accepted).1
+      (or-none (selects_refusal look (only_first true (look text)) (only_later true (look text)) selects) (name_fault site.span true (look text) (chosen_of look selects)) accepted).1
   only-constant look (written.parens site inner) size signed accepted = only-constant look inner size signed accepted
   only-constant look (written.concat site parts) size signed accepted =
       parts-constant look parts (or-none (parts_refusal look true parts) (concat_fault site.span (sizings look parts)) accepted).0

@@ -1,7 +1,7 @@
 -- That what the pass up gives of an expression is what the definitions say: its width and sign by itself, and in each context its
 -- fault and its sized expression.
 use Rattle.std.proofs.Common.{◌≡◌, ℕ, Bool, true, false, ◌&&◌, Option, Some, None, refl, sym, subst}
-use Rattle.std.specs.Prelude.{max}
+use Rattle.std.specs.Prelude.{max, ◌||◌}
 use Rattle.std.specs.Option.{option_or}
 use Rattle.v_tree.specs.declared.site.Site.{Site}
 use Rattle.v_tree.specs.declared.operator.Binary.{Binary}
@@ -14,7 +14,7 @@ use Rattle.design_core.specs.Constant.{zeros}
 use Rattle.v_sizes.specs.declared.error.WidthErr.{WidthErr}
 use Rattle.v_sizes.specs.Look.{Look}
 use Rattle.v_sizes.specs.Operations.{Class, by_context, shift, comparison, logical, quotient, remainder, power, class_of}
-use Rattle.v_sizes.specs.Refusals.{first_of, by_own, division_fault, power_fault, refusal, parts_refusal, selects_refusal}
+use Rattle.v_sizes.specs.Refusals.{first_of, by_own, division_fault, power_fault, refusal, parts_refusal, selects_refusal, only_first, only_later, is_bound}
 use Rattle.v_sizes.specs.Sizing.{Sizing, sizing, sizings, chosen_of, class_sizing}
 use Rattle.v_sizes.specs.Sized.{sized, constant, carried, folded, typed, typed_parts, selects_of}
 use Rattle.v_sizes.specs.Context.{IsScope}
@@ -115,17 +115,18 @@ mutual
   opened-law look only scope (written.number site text) = number-law site.span text
   opened-law look only scope (written.wild site text) = number-law site.span text
   opened-law look only scope (written.name site text selects) =
-      name-law site.span only (look text) (opened_selects look only selects) (chosen_of look selects) (selects_refusal look only selects) (selects_of look selects)
-      (selects-law look only scope selects) (width-within look scope (written.name site text selects))
+      name-law site.span only (look text) (opened_selects look (only_first only (look text)) (only_later only (look text)) selects) (chosen_of look selects)
+      (selects_refusal look (only_first only (look text)) (only_later only (look text)) selects) (selects_of look selects)
+      (selects-law look (only_first only (look text)) (only_later only (look text)) scope selects) (width-within look scope (written.name site text selects))
   opened-law look only scope (written.parens site inner) = opened-law look only scope inner
   opened-law look only scope (written.concat site parts) =
       subst (IsOpened look only (written.concat site parts)) (sym (joined-same site.span (opened_parts look only parts)))
       (concat-law site.span (sizings look parts) (parts_refusal look only parts) (typed_parts look parts) (opened_parts look only parts) (parts-law look only scope parts))
   opened-law look only scope (written.repeat site count parts) =
       let c = sizing look count in
-      let is = opened-law look only scope count in
-      subst (IsOpened look only (written.repeat site count parts)) (sym (repeated-same site.span (alone (opened look only count)) (opened_parts look only parts)))
-      (repeat-law site.span c (refusal look only count c.width c.signed) (typed look count c.width c.signed) (alone (opened look only count))
+      let is = opened-law look true scope count in
+      subst (IsOpened look only (written.repeat site count parts)) (sym (repeated-same site.span (alone (opened look true count)) (opened_parts look only parts)))
+      (repeat-law site.span c (refusal look true count c.width c.signed) (typed look count c.width c.signed) (alone (opened look true count))
       (sizings look parts) (parts_refusal look only parts) (typed_parts look parts) (opened_parts look only parts) (taken-as is) (alone-closed is) (parts-law look only scope parts))
   opened-law look only scope (written.system site name argument) =
       system-law look only site name argument (opened look only argument) (opened-law look only scope argument)
@@ -150,18 +151,20 @@ mutual
       more-finished e (refusal look only one e.width e.signed) (typed look one e.width e.signed) (alone (opened look only one)) (taken-as is) (alone-closed is)
       (parts-law look only scope rest)
 
-  selects-law : (look : Look) (only : Bool) → IsScope look → (selects : Selections)
-      → AllPicked (opened_selects look only selects) (chosen_of look selects) (selects_refusal look only selects) (selects_of look selects)
-  selects-law look only scope no_select = none_picked
-  selects-law look only scope (select (written.bit site index) rest) =
+  selects-law : (look : Look) (first later : Bool) → IsScope look → (selects : Selections)
+      → AllPicked (opened_selects look first later selects) (chosen_of look selects) (selects_refusal look first later selects) (selects_of look selects)
+  selects-law look first later scope no_select = none_picked
+  selects-law look first later scope (select (written.bit site index) rest) =
       let e = sizing look index in
-      let is = opened-law look only scope index in
-      bit_picked e (refusal look only index e.width e.signed) (typed look index e.width e.signed) (alone (opened look only index)) (taken-as is) (alone-closed is)
-      (selects-law look only scope rest)
-  selects-law look only scope (select (written.part site kind one other) rest) =
+      let is = opened-law look first scope index in
+      bit_picked e (refusal look first index e.width e.signed) (typed look index e.width e.signed) (alone (opened look first index)) (taken-as is) (alone-closed is)
+      (selects-law look later later scope rest)
+  selects-law look first later scope (select (written.part site kind one other) rest) =
       let e = sizing look one in
       let g = sizing look other in
-      let is = opened-law look only scope one in
-      let other_is = opened-law look only scope other in
-      part_picked kind e g (refusal look only one e.width e.signed) (refusal look only other g.width g.signed) (typed look one e.width e.signed) (typed look other g.width g.signed)
-      (alone (opened look only one)) (alone (opened look only other)) (taken-as is) (alone-closed is) (taken-as other_is) (alone-closed other_is) (selects-law look only scope rest)
+      let bound = first || is_bound kind in
+      let is = opened-law look bound scope one in
+      let other_is = opened-law look true scope other in
+      part_picked kind e g (refusal look bound one e.width e.signed) (refusal look true other g.width g.signed) (typed look one e.width e.signed) (typed look other g.width g.signed)
+      (alone (opened look bound one)) (alone (opened look true other)) (taken-as is) (alone-closed is) (taken-as other_is) (alone-closed other_is)
+      (selects-law look later later scope rest)

@@ -13,5 +13,5 @@ mod operators;
 mod parts;
 mod sizes;
 
-pub use sizes::{constant, constant_in, typed};
+pub use sizes::{Size, constant, constant_in, own_size, typed, typed_name};
 pub use v_sizes::{Const, Meaning, Scope, WidthErr};

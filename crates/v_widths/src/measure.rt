@@ -1,9 +1,8 @@
 //! The pass up: the width and the sign that an expression has by itself (IEEE 1364-2005, 5.4.1 and 5.5.1). What no context sizes is
 //! finished here, once.
-ghost use Rattle.std.specs.Prelude.{◌≡◌, Some, IfOk, map};
+ghost use Rattle.std.specs.Prelude.{◌≡◌, true, IfOk, map};
 ghost use Rattle.v_tree.specs.Tree.{tree_of, trees_of, selection_of, selections_of};
-ghost use Rattle.v_sizes.specs.declared.meaning.Meaning.{Meaning};
-ghost use Rattle.v_sizes.specs.Context.{IsMeaning};
+ghost use Rattle.v_sizes.specs.Refusals.{only_first, only_later, is_bound};
 ghost use Rattle.v_sizes.specs.Scopes.{look_of};
 ghost use Rattle.v_widths.specs.Closing.{alone};
 ghost use Rattle.v_widths.specs.Named.{named};
@@ -15,11 +14,11 @@ use crate::form::{binary, called, conditional, number, unary};
 use crate::measured::{Measured, Parts, leaf_measured};
 use crate::operators::taking_of;
 use crate::parts::{ceiling, joined, no_parts, repeated, with_part};
-use loc_base::{Boxed, Items, NoMemory, Span};
+use loc_base::{Boxed, Items, Name, NoMemory, Span};
 use std::alloc::Global;
 use v_selects::{At, Closed, Picked, named};
 use v_sizes::{Meaning, Scope};
-use v_tree::{Expr, Select, Site, SystemFunction};
+use v_tree::{Expr, PartKind, Select, Site, SystemFunction};
 
 /// Where an expression stands.
 fn place_of(site: &Site, only: bool) -> At
@@ -46,21 +45,6 @@ fn system(
         SystemFunction::Unsigned => called(alloc, false, argument),
         SystemFunction::Clog2 => ceiling(alloc, span, argument),
     }
-}
-
-/// A name with its selects, which are measured.
-#[inline(never)]
-fn measured_name(
-    alloc: Global,
-    at: At,
-    meaning: Option<Meaning>,
-    selects: Items<Picked>,
-) -> Result<Boxed<Measured>, NoMemory>
-    requires { (m : Meaning) → meaning ≡ Some m → IsMeaning m }
-    ensures { IfOk result (λ m. m ≡ named at.span at.only meaning selects) }
-{
-    let leaf = named(alloc, at, meaning, selects)?;
-    leaf_measured(alloc, leaf)
 }
 
 /// An expression that no context sizes.
@@ -126,6 +110,42 @@ fn replication(
     repeated(alloc, at.span, count, parts)
 }
 
+/// Where constants alone may stand in a name's selects.
+#[derive(Clone, Copy)]
+struct Only {
+    /// In the first one.
+    first: bool,
+    /// In those behind it.
+    later: bool,
+}
+
+fn only_of(only: bool, meaning: Option<Meaning>) -> Only
+    ensures first { result.first ≡ only_first only meaning }
+    ensures later { result.later ≡ only_later only meaning }
+{
+    match meaning {
+        Some(Meaning::Constant { .. }) => Only {
+            first: true,
+            later: true,
+        },
+        Some(Meaning::Array { .. }) => Only {
+            first: only,
+            later: true,
+        },
+        Some(Meaning::Signal { .. }) | None => Only {
+            first: only,
+            later: only,
+        },
+    }
+}
+
+/// Whether the first number of a part-select is a bound.
+fn is_bound(kind: PartKind) -> bool
+    ensures { result ≡ is_bound kind }
+{
+    matches!(kind, PartKind::Range)
+}
+
 /// A select, its indexes each by itself.
 #[cycle(measure)]
 #[tactic(auto, using(crate::proofs::TreeSteps::select_steps))]
@@ -148,8 +168,8 @@ fn measured_select(
             left,
             right,
         } => {
-            let one = finished(alloc, left, scope, only)?;
-            let other = finished(alloc, right, scope, only)?;
+            let one = finished(alloc, left, scope, only || is_bound(*kind))?;
+            let other = finished(alloc, right, scope, true)?;
             Ok(Picked::Part {
                 kind: *kind,
                 one,
@@ -166,16 +186,36 @@ fn measured_selects(
     alloc: Global,
     selects: &[Select],
     scope: &Scope<'_>,
-    only: bool,
+    only: Only,
 ) -> Result<Items<Picked>, NoMemory>
-    ensures { IfOk result (λ ps. ps ≡ opened_selects (look_of scope.now) only (selections_of (map selection_of selects.now))) }
+    ensures { IfOk result (λ ps. ps ≡ opened_selects (look_of scope.now) only.first only.later (selections_of (map selection_of selects.now))) }
 {
     let mut all = Items::new(alloc);
+    let mut here = only.first;
     for select in selects {
-        let one = measured_select(alloc, select, scope, only)?;
+        let one = measured_select(alloc, select, scope, here)?;
         all.push(one)?;
+        here = only.later;
     }
     Ok(all)
+}
+
+/// A name with its selects.
+#[inline(never)]
+#[cycle(measure)]
+pub(crate) fn measure_name(
+    alloc: Global,
+    at: At,
+    name: &Name,
+    selects: &[Select],
+    scope: &Scope<'_>,
+) -> Result<Boxed<Measured>, NoMemory>
+    ensures { IfOk result (λ m. m ≡ named at.span at.only (look_of scope.now name.now) (opened_selects (look_of scope.now) (only_first at.only (look_of scope.now name.now)) (only_later at.only (look_of scope.now name.now)) (selections_of (map selection_of selects.now)))) }
+{
+    let only = only_of(at.only, scope.find(name));
+    let selects = measured_selects(alloc, selects, scope, only)?;
+    let leaf = named(alloc, at, scope.find(name), selects)?;
+    leaf_measured(alloc, leaf)
 }
 
 /// An expression measured: one look at each of its nodes. It calls itself for each level of the tree: what has large values is in
@@ -197,14 +237,11 @@ pub(crate) fn measure(
             site,
             name,
             selects,
-        } => {
-            let selects = measured_selects(alloc, selects, scope, only)?;
-            measured_name(alloc, place_of(site, only), scope.find(name), selects)
-        }
+        } => measure_name(alloc, place_of(site, only), name, selects, scope),
         Expr::Parens { inner, .. } => measure(alloc, inner, scope, only),
         Expr::Concat { site, parts } => concatenation(alloc, place_of(site, only), parts, scope),
         Expr::Repeat { site, count, parts } => {
-            let count = finished(alloc, count, scope, only)?;
+            let count = finished(alloc, count, scope, true)?;
             replication(alloc, place_of(site, only), count, parts, scope)
         }
         Expr::System {

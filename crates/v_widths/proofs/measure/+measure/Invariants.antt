@@ -12,5 +12,5 @@ invariant-measured_parts-loop-part l =
 
 abbrev pub invariant-measured_selects-loop-select : goal.invariant-measured_selects-loop-select
 invariant-measured_selects-loop-select l =
-    (l.all ++ opened_selects (look_of l.scope) l.only (selections_of (map selection_of (drop l.select-index l.selects))))
-    ≡ opened_selects (look_of l.scope) l.only (selections_of (map selection_of l.selects))
+    (l.all ++ opened_selects (look_of l.scope) l.here l.only.later (selections_of (map selection_of (drop l.select-index l.selects))))
+    ≡ opened_selects (look_of l.scope) l.only.first l.only.later (selections_of (map selection_of l.selects))
