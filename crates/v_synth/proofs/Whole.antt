@@ -28,21 +28,21 @@ use Rattle.word_net.specs.Values.{Source, values}
 use Rattle.word_net.specs.Fits.{AllFit}
 use Rattle.word_net.specs.Build.{Made, Means, Grown}
 use Rattle.word_net.proofs.Meaning.{keep, grown-then, grown-none}
-use Rattle.v_synth.specs.Store.{Nodes}
-use Rattle.v_synth.specs.Driver.{drivers_made}
+use Rattle.v_synth_parts.specs.Store.{Nodes}
+use Rattle.v_synth_parts.specs.Driver.{drivers_made}
 use Rattle.v_synth.specs.Clocked.{has_state, begun_made, masked_made, resets_made, bodies_made}
 use Rattle.v_synth.specs.Net.{states_from, states_of, nexts_made, net_of, cycle_source}
-use Rattle.v_synth.specs.Meaning.{Shows, word_of}
+use Rattle.v_synth_parts.specs.Meaning.{Shows, word_of}
 use Rattle.v_synth.specs.Matches.{OneNet, Matches}
-use Rattle.v_synth.proofs.Base.{signal-at, keep-shows}
-use Rattle.v_synth.proofs.Drivers.{AreQuiet, drivers-law}
+use Rattle.v_synth_parts.proofs.Base.{signal-at, keep-shows}
+use Rattle.v_synth_parts.proofs.Drivers.{AreQuiet, drivers-law}
 use Rattle.v_synth.proofs.Begun.{masked-law, begun-law}
 use Rattle.v_synth.proofs.Blocks.{resets-law, bodies-law}
 
 -- ---- lists of nodes
 
 -- each node of a list stands for a word of the signal beside it
-data AllMean (e : Source) (signals : List Signal) (nodes : List WordNode) (f : ℕ → ℕ) : List ℕ → List ℕ → Type 0 where
+pub data AllMean (e : Source) (signals : List Signal) (nodes : List WordNode) (f : ℕ → ℕ) : List ℕ → List ℕ → Type 0 where
   no_more : AllMean e signals nodes f [] []
   one_more : {n s : ℕ} {ns ss : List ℕ} → Means e nodes n (width_at signals s) (f s) → AllMean e signals nodes f ns ss → AllMean e signals nodes f (n ∷ ns) (s ∷ ss)
 
@@ -70,7 +70,7 @@ outputs-law {e} {signals} (s ∷ ss) there shows =
 -- ---- next states
 
 -- the register bits of a signal
-register_word : Design → Valuation → ℕ → ℕ
+pub register_word : Design → Valuation → ℕ → ℕ
 register_word d N s = number (width_at d.signals.items s) (λ b. is_register_bit d s b && N s b)
 
 record NextsIn (e : Source) (d : Design) (N : Valuation) (nodes : List WordNode) (next ss : List ℕ) (m : Nodes) : Type 0 where
@@ -96,7 +96,7 @@ nexts-law {e} {nodes_of} {N} d (s ∷ ss) {nodes} next own there shows =
     }
 
 -- signals that have a state are signals
-states-there : (d : Design) (s more : ℕ) → s + more ≡ length d.signals.items → list_all (is_signal d.signals.items) (states_from d s more) ≡ true
+pub states-there : (d : Design) (s more : ℕ) → s + more ≡ length d.signals.items → list_all (is_signal d.signals.items) (states_from d s more) ≡ true
 states-there d s zero all = refl
 states-there d s (suc more) all =
     let rest = states-there d (s + 1) more (omega (arith, all)) in
@@ -233,20 +233,20 @@ quiet-first d order samples state choice once i driver member at s b drives =
 -- ---- the whole net
 
 -- what is shown of it
-record IsShown (d : Design) (order : List ℕ) (samples : List Bits) (state : Valuation) (choice : Choice) : Type 0 where
-  grown : Grown [] (net_of d order).nodes
-  outputs : AllMean (cycle_source d samples state choice) d.signals.items (net_of d order).nodes (word_of d.signals.items (computed_now d order samples state choice)) (net_of d order).outputs d.outputs.items
-  next : AllMean (cycle_source d samples state choice) d.signals.items (net_of d order).nodes
+pub record IsShown (d : Design) (order : List ℕ) (samples : List Bits) (state : Valuation) (choice : Choice) : Type 0 where
+  pub grown : Grown [] (net_of d order).nodes
+  pub outputs : AllMean (cycle_source d samples state choice) d.signals.items (net_of d order).nodes (word_of d.signals.items (computed_now d order samples state choice)) (net_of d order).outputs d.outputs.items
+  pub next : AllMean (cycle_source d samples state choice) d.signals.items (net_of d order).nodes
       (register_word d (with_bodies d choice (computed_now d order samples state choice) d.clocked.items (computed_now d order samples state choice))) (net_of d order).next (states_of d)
 
-input-there : (signals : List Signal) (s : ℕ) → input_fits signals s ≡ true → is_signal signals s ≡ true
+pub input-there : (signals : List Signal) (s : ℕ) → input_fits signals s ≡ true → is_signal signals s ≡ true
 input-there signals s fits = at (cases_lt s (length signals))
   where
     at : (s < length signals) ⊎ (length signals ≤ s) → is_signal signals s ≡ true
     at (inl low) = lt-ltb s (length signals) low
     at (inr high) = absurd (both_ways (input_fits signals s) (ap (λ o. option_map_or (λ signal. is_input signal.kind) o false) (slice_get_past signals s high)) fits)
 
-net-shown : (d : Design) (order : List ℕ) (samples : List Bits) (state : Valuation) (choice : Choice) → IsWellFormed d → IsDrivenOnce d → IsOrder d order → IsShown d order samples state choice
+pub net-shown : (d : Design) (order : List ℕ) (samples : List Bits) (state : Valuation) (choice : Choice) → IsWellFormed d → IsDrivenOnce d → IsOrder d order → IsShown d order samples state choice
 unfolding net_of
 net-shown d order samples state choice well once ordered =
     let E : Valuation = before d samples state in

@@ -1,11 +1,5 @@
-pub mod Expression
-pub mod Store
-pub mod Statement
-pub mod Driver
 pub mod Clocked
 pub mod Net
-pub mod Meaning
 pub mod Matches
-pub mod Lists
-pub mod Arms
 pub mod Owned
+pub mod Rows

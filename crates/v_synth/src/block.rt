@@ -2,19 +2,17 @@
 ghost use Rattle.std.specs.Prelude.{◌≡◌, ◌^◌, ◌<◌, [], length, IfOk, OnOk};
 ghost use Rattle.design_core.specs.Valuation.{width_at};
 ghost use Rattle.word_net.specs.Build.{made};
-ghost use Rattle.v_synth.specs.Store.{nodes_made};
-ghost use Rattle.v_synth.specs.Statement.{maps};
+ghost use Rattle.v_synth_parts.specs.Store.{nodes_made};
+ghost use Rattle.v_synth_parts.specs.Statement.{maps};
 ghost use Rattle.v_synth.specs.Clocked.{active_made, body_made, left_at, left_made, own_made, owns_made, reset_made, turned_made};
 ghost use Rattle.v_synth.specs.Owned.{AreOwn, BlockFits};
-ghost use Rattle.v_synth.specs.Arms.{StatementFits};
+ghost use Rattle.v_synth_parts.specs.Arms.{StatementFits};
 
 use crate::clocked::Turn;
-use crate::merge::Maps;
-use crate::scene::{Nodes, push, unsigned};
-use crate::store::Left;
 use design_core::{Clocked, Design, Reset, Stmt, UnaryOp};
 use loc_base::{Items, NoMemory};
 use std::alloc::Global;
+use v_synth_parts::{Left, Maps, Nodes, push, unsigned};
 use word_net::Operation;
 
 /// A word that a block leaves, and the word so far.
@@ -118,7 +116,7 @@ impl Own<'_> {
     }
 
     /// The width of a signal.
-    #[tactic(auto, using(crate::proofs::Scenes::signals_at))]
+    #[tactic(auto, using(v_synth_parts::proofs::Scenes::signals_at))]
     fn width(&self, s: usize) -> u8
         requires { s < length self.now.design.now.signals.items }
         ensures { result ≡ width_at self.now.design.now.signals.items s }

@@ -2,19 +2,14 @@
 //! are each computed once.
 #![tactic(auto)]
 
-mod array_parts;
-mod assign;
 mod begin;
 mod block;
 mod clocked;
-mod driver;
+mod every_block;
 pub mod laws;
-mod merge;
-mod scene;
-mod statement;
-mod store;
-mod typed;
+mod marks;
+mod net;
+mod rows;
 
-pub use array_parts::ArrayPart;
 pub use clocked::Turn;
-pub use store::Stored;
+pub use net::word_net;

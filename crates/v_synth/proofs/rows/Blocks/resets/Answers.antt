@@ -1,0 +1,19 @@
+use Rattle.std.proofs.Common.{◌≡◌, ℕ, ◌<◌, List, length, arith, ◌∙◌}
+use Rattle.design_core.specs.declared.driver.Clocked.{Clocked}
+use Rattle.design_core.specs.declared.design.Design.{Design}
+use Rattle.v_synth.proofs.BlockSteps.{block-fits, resets-next}
+use Rattle.v_synth.proofs.rows.Blocks.resets.Goals as goal
+
+pub loop-i-preserved : goal.loop-i-preserved
+loop-i-preserved c =
+    let d : Design = c.args.self.now.design.now in
+    let blocks : List Clocked = d.clocked.items in
+    let i : ℕ = c.loop-i.i in
+    let block : Clocked = c.index.result.now in
+    let within : i < length blocks = omega (arith, c.loop-i-test.true, c.len-i-end.ensures) in
+    record {
+      each = c.in_ok-reset.ensures.each;
+      fits = (block-fits d blocks i block within c.index.ensures c.loop-i.invariant.fits).1;
+      rest = c.loop-i.invariant.rest
+          ∙ resets-next d c.args.from.now c.loop-i.nodes c.reset.new.nodes c.loop-i.map c.reset.new.map i blocks block within c.index.ensures c.in_ok-reset.ensures.ok;
+    }

@@ -1,0 +1,22 @@
+use Rattle.std.proofs.Common.{◌≡◌, drop, length}
+use Rattle.std.specs.List.{All}
+use Rattle.v_synth_parts.specs.Statement.{Maps, maps}
+use Rattle.v_synth_parts.specs.Arms.{ArmFits, ItemsFit, StatementsFit, all_made, case_made, closed}
+use Rattle.v_synth_parts.proofs.store.Left.+statement.Given as goal
+
+abbrev pub invariant-arms-loop-i : goal.invariant-arms-loop-i
+invariant-arms-loop-i l = record {
+  fits : ItemsFit l.self.signals.now l.subject.width (drop l.i l.items);
+  arms : All (ArmFits l.self.signals.now) l.arms;
+  rest : (other : Maps → Maps) → closed l.self.signals.now l.arms (case_made l.self.signals.now (maps l.nodes l.both.current l.both.later) l.subject (drop l.i l.items) other)
+      ≡ case_made l.self.signals.now (maps l.fn.nodes l.both.current l.both.later) l.subject l.items other;
+}
+
+abbrev pub invariant-statements-loop-i : goal.invariant-statements-loop-i
+invariant-statements-loop-i l = record {
+  current : length l.both.current ≡ length l.self.signals.now;
+  later : length l.both.later ≡ length l.self.signals.now;
+  fits : StatementsFit l.self.signals.now (drop l.i l.statements);
+  rest : all_made l.self.signals.now (maps l.fn.nodes l.fn.both.current l.fn.both.later) l.statements
+      ≡ all_made l.self.signals.now (maps l.nodes l.both.current l.both.later) (drop l.i l.statements);
+}

@@ -1,0 +1,17 @@
+use Rattle.std.proofs.Common.{◌≡◌, length}
+use Rattle.std.specs.List.{All}
+use Rattle.v_synth_parts.specs.Statement.{maps}
+use Rattle.v_synth_parts.specs.Arms.{ArmFits, closed}
+use Rattle.v_synth_parts.proofs.store.Left.close.Given as goal
+
+abbrev pub invariant-loop-arm : goal.invariant-loop-arm
+invariant-loop-arm l = record {
+  arms : All (ArmFits l.self.signals.now) l.left;
+  current : length l.other.current ≡ length l.self.signals.now;
+  later : length l.other.later ≡ length l.self.signals.now;
+  rest : closed l.self.signals.now l.fn.arms (maps l.fn.nodes l.fn.other.current l.fn.other.later)
+      ≡ closed l.self.signals.now l.left (maps l.nodes l.other.current l.other.later);
+}
+
+abbrev pub decreases-loop-arm : goal.decreases-loop-arm
+decreases-loop-arm l = length l.left

@@ -1,0 +1,16 @@
+use Rattle.std.proofs.Common.{◌≡◌, drop, length}
+use Rattle.std.specs.Prelude.{IsTrue}
+use Rattle.std.specs.List.{list_all}
+use Rattle.design_core.specs.Store.{parts_width}
+use Rattle.design_core.specs.WellFormed.{part_fits}
+use Rattle.v_synth_parts.specs.Store.{parts_stored}
+use Rattle.v_synth_parts.proofs.store.Left.parts.Given as goal
+
+abbrev pub invariant-loop-i : goal.invariant-loop-i
+invariant-loop-i l = record {
+  each : length l.map ≡ length l.self.signals.now;
+  left : l.offset ≡ parts_width l.self.signals.now (drop l.i l.sides.parts.now);
+  fits : IsTrue (list_all (part_fits l.self.signals.now) (drop l.i l.sides.parts.now));
+  rest : parts_stored l.self.signals.now l.fn.nodes l.fn.map l.sides.parts.now l.sides.indexes.now l.word
+      ≡ parts_stored l.self.signals.now l.nodes l.map (drop l.i l.sides.parts.now) (drop l.i l.sides.indexes.now) l.word;
+}

@@ -1,0 +1,10 @@
+use Rattle.std.proofs.Common.{◌≡◌, ◌-◌, length}
+use Rattle.v_synth_parts.specs.Store.{words_stored}
+use Rattle.v_synth_parts.proofs.store.Left.words.Given as goal
+
+abbrev pub invariant-loop-place : goal.invariant-loop-place
+invariant-loop-place l = record {
+  each : length l.map ≡ length l.self.signals.now;
+  rest : words_stored l.self.signals.now l.store.array l.store.stored l.fn.nodes l.fn.map 0 l.count
+      ≡ words_stored l.self.signals.now l.store.array l.store.stored l.nodes l.map l.place (l.count - l.place);
+}

@@ -1,0 +1,64 @@
+//! Procedural assignments (IEEE 1364-2005, 9.2).
+ghost use Rattle.std.specs.Prelude.{◌≡◌, ◌^◌, ◌<◌, length, IsTrue, OnOk};
+ghost use Rattle.design_core.specs.WellFormed.{assignment_fits};
+ghost use Rattle.v_synth_parts.specs.Statement.{maps, set_made};
+
+use crate::merge::Maps;
+use crate::scene::{Nodes, Scene, push, unsigned};
+use crate::store::{Left, Sides, indexes};
+use crate::typed::expression;
+use design_core::{Part, Typed};
+use loc_base::NoMemory;
+use word_net::Operation;
+
+/// An assignment: its place, its left side, its value, and whether it is nonblocking.
+#[derive(Clone, Copy, Drop)]
+pub(crate) struct Assignment<'a> {
+    pub place: u32,
+    pub parts: &'a [Part],
+    pub value: &'a Typed,
+    pub later: bool,
+}
+
+impl Left<'_> {
+    /// An assignment: its value, what its place assigns, its indexes, and then the store.
+    #[tactic(auto, using(crate::proofs::AssignSteps::steps), unfolding(crate::specs::Statement::set_made))]
+    pub(crate) fn assign(
+        &self,
+        nodes: &mut Nodes,
+        both: &mut Maps,
+        set: &Assignment,
+    ) -> Result<(), NoMemory>
+        requires few { length self.now.signals.now < 2 ^ 32 }
+        requires current { length both.old.current ≡ length self.now.signals.now }
+        requires later { length both.old.later ≡ length self.now.signals.now }
+        requires fits { IsTrue (assignment_fits self.now.signals.now set.now.parts.now set.now.value.now) }
+        ensures ok { OnOk result (maps nodes.new both.new.current both.new.later ≡ set_made self.now.signals.now (maps nodes.old both.old.current both.old.later) set.now.place set.now.parts.now set.now.value.now set.now.later) }
+        ensures current { length both.new.current ≡ length self.now.signals.now }
+        ensures later { length both.new.later ≡ length self.now.signals.now }
+    {
+        let at = Scene {
+            alloc: self.alloc,
+            signals: self.signals,
+            nodes_of: both.current.as_slice(),
+        };
+        let width = self.parts_width(set.parts);
+        let value = expression(&at, nodes, set.value)?;
+        let free = Operation::Free {
+            place: set.place,
+            computed: unsigned(value, set.value.width),
+        };
+        let free = push(nodes, width, free)?;
+        let indexes = indexes(&at, nodes, set.parts)?;
+        let sides = Sides {
+            parts: set.parts,
+            indexes: indexes.as_slice(),
+        };
+        let word = unsigned(free, width);
+        if set.later {
+            self.parts(nodes, &mut both.later, &sides, word)
+        } else {
+            self.parts(nodes, &mut both.current, &sides, word)
+        }
+    }
+}

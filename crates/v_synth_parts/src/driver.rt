@@ -1,0 +1,162 @@
+//! Drivers (IEEE 1364-2005, 6.1 and 9.9), one after another in an order.
+ghost use Rattle.std.specs.Prelude.{◌≡◌, ◌^◌, ◌<◌, length, IfOk, IsTrue, OnOk};
+ghost use Rattle.std.specs.List.{All};
+ghost use Rattle.design_core.specs.WellFormed.{assignment_fits};
+ghost use Rattle.v_synth_parts.specs.Store.{nodes_made};
+ghost use Rattle.v_synth_parts.specs.Driver.{assigned_made, driver_made, drivers_made};
+ghost use Rattle.v_synth_parts.specs.Lists.{prepared_in};
+ghost use Rattle.v_synth_parts.specs.Statement.{maps, statement_made};
+ghost use Rattle.v_synth_parts.specs.Arms.{DriverFits, DriversFit, StatementFits, block_made, continuous_made};
+
+use crate::merge::Maps;
+use crate::scene::{Nodes, Scene, push, unsigned};
+use crate::store::{Left, Sides, indexes};
+use design_core::{Driver, Part, Stmt, Typed};
+use loc_base::{Items, NoMemory};
+use word_net::{Operand, Operation};
+
+/// A continuous assignment.
+#[derive(Clone, Copy, Drop)]
+struct Continuous<'a> {
+    parts: &'a [Part],
+    value: &'a Typed,
+    place: Option<u32>,
+}
+
+/// What a continuous assignment assigns: where it has a place, what that assigns.
+#[tactic(auto, unfolding(crate::specs::Driver::assigned_made))]
+fn assigned(
+    nodes: &mut Nodes,
+    place: Option<u32>,
+    width: u8,
+    computed: Operand,
+) -> Result<Operand, NoMemory>
+    ensures { IfOk result (λ o. prepared_in nodes.new o ≡ assigned_made nodes.old place width computed) }
+{
+    match place {
+        Some(place) => {
+            let free = push(nodes, width, Operation::Free { place, computed })?;
+            Ok(unsigned(free, width))
+        }
+        None => Ok(computed),
+    }
+}
+
+impl Left<'_> {
+    /// A continuous assignment: its value, what its place assigns, its indexes, and then the store.
+    #[tactic(auto, using(crate::proofs::AssignSteps::steps), unfolding(crate::specs::Arms::continuous_made))]
+    fn continuous(
+        &self,
+        nodes: &mut Nodes,
+        map: &mut Items<u32>,
+        set: &Continuous,
+    ) -> Result<(), NoMemory>
+        requires few { length self.now.signals.now < 2 ^ 32 }
+        requires each { length map.old ≡ length self.now.signals.now }
+        requires fits { IsTrue (assignment_fits self.now.signals.now set.now.parts.now set.now.value.now) }
+        ensures ok { OnOk result (nodes_made nodes.new map.new ≡ continuous_made self.now.signals.now nodes.old map.old set.now.parts.now set.now.value.now set.now.place) }
+        ensures each { length map.new ≡ length self.now.signals.now }
+    {
+        let at = Scene {
+            alloc: self.alloc,
+            signals: self.signals,
+            nodes_of: map.as_slice(),
+        };
+        let width = self.parts_width(set.parts);
+        let value = self.value(nodes, map.as_slice(), set.value)?;
+        let computed = unsigned(value, set.value.width);
+        let word = assigned(nodes, set.place, width, computed)?;
+        let indexes = indexes(&at, nodes, set.parts)?;
+        let sides = Sides {
+            parts: set.parts,
+            indexes: indexes.as_slice(),
+        };
+        self.parts(nodes, map, &sides, word)
+    }
+
+    /// A block over a map: what its statements leave to be read.
+    #[tactic(auto, unfolding(crate::specs::Arms::block_made))]
+    fn block(&self, nodes: &mut Nodes, map: &mut Items<u32>, body: &Stmt) -> Result<(), NoMemory>
+        requires few { length self.now.signals.now < 2 ^ 32 }
+        requires each { length map.old ≡ length self.now.signals.now }
+        requires fits { StatementFits self.now.signals.now body.now }
+        ensures ok { OnOk result (nodes_made nodes.new map.new ≡ block_made self.now.signals.now nodes.old map.old body.now) }
+        ensures each { length map.new ≡ length self.now.signals.now }
+    {
+        let both = self.left_by(nodes, map.as_slice(), body)?;
+        *map = both.into_current();
+        Ok(())
+    }
+
+    /// What a statement leaves that starts from a map, which is read and which later updates begin with.
+    pub fn left_by(&self, nodes: &mut Nodes, map: &[u32], body: &Stmt) -> Result<Maps, NoMemory>
+        requires few { length self.now.signals.now < 2 ^ 32 }
+        requires each { length map.now ≡ length self.now.signals.now }
+        requires fits { StatementFits self.now.signals.now body.now }
+        ensures made { IfOk result (λ both. maps nodes.new both.current both.later ≡ statement_made self.now.signals.now (maps nodes.old map.now map.now) body.now) }
+        ensures current { IfOk result (λ both. length both.current ≡ length self.now.signals.now) }
+        ensures later { IfOk result (λ both. length both.later ≡ length self.now.signals.now) }
+    {
+        let mut both = Maps {
+            current: Items::copy_of(self.alloc, map)?,
+            later: Items::copy_of(self.alloc, map)?,
+        };
+        self.statement(nodes, &mut both, body)?;
+        Ok(both)
+    }
+
+    /// One driver.
+    #[tactic(auto, using(crate::proofs::DriverSteps::driver_steps))]
+    fn driver(
+        &self,
+        nodes: &mut Nodes,
+        map: &mut Items<u32>,
+        driver: &Driver,
+    ) -> Result<(), NoMemory>
+        requires few { length self.now.signals.now < 2 ^ 32 }
+        requires each { length map.old ≡ length self.now.signals.now }
+        requires fits { DriverFits self.now.signals.now driver.now }
+        ensures ok { OnOk result (nodes_made nodes.new map.new ≡ driver_made self.now.signals.now nodes.old map.old driver.now) }
+        ensures each { length map.new ≡ length self.now.signals.now }
+    {
+        match driver {
+            Driver::Cont {
+                target,
+                value,
+                place,
+                span: _,
+            } => {
+                let set = Continuous {
+                    parts: target.parts.as_slice(),
+                    value,
+                    place: *place,
+                };
+                self.continuous(nodes, map, &set)
+            }
+            Driver::Comb { body, span: _ } => self.block(nodes, map, body),
+        }
+    }
+
+    /// The drivers in an order.
+    #[tactic(auto, using(crate::proofs::DriverSteps::drivers_steps))]
+    pub fn drivers(
+        &self,
+        nodes: &mut Nodes,
+        map: &mut Items<u32>,
+        drivers: &[Driver],
+        order: &[u32],
+    ) -> Result<(), NoMemory>
+        requires few { length self.now.signals.now < 2 ^ 32 }
+        requires each { length map.old ≡ length self.now.signals.now }
+        requires fits { DriversFit self.now.signals.now drivers.now }
+        requires within { All (λ i. i < length drivers.now) order.now }
+        ensures ok { OnOk result (nodes_made nodes.new map.new ≡ drivers_made self.now.signals.now drivers.now nodes.old map.old order.now) }
+        ensures each { length map.new ≡ length self.now.signals.now }
+    {
+        for k in 0..order.len() {
+            let i = order[k] as usize;
+            self.driver(nodes, map, &drivers[i])?;
+        }
+        Ok(())
+    }
+}
