@@ -1,7 +1,8 @@
 //! A register with an asynchronous reset, of either level.
 
 use crate::build::{constant, design_of, is_right, not, set, trace_of, whole};
-use design_core::{Clocked, Design, Part, Reset, SignalKind};
+use design_core::{Clocked, Design, Part, Reset, SignalKind, Stmt};
+use loc_base::Items;
 use std::alloc::Global;
 use std::test::Fail;
 
@@ -56,5 +57,68 @@ fn a_freed_reset_takes_the_chosen_value(rt: HostRuntime) -> Result<(), Fail> {
     let values = [0, 0, 1, 0, 0, 0, 0, 0, 0, 0];
     assert!(rt; is_right(alloc, &design, &[], &trace, &[true, false], &values)?);
     assert!(rt; !is_right(alloc, &design, &[], &trace, &[false, false], &values)?);
+    Ok(())
+}
+
+/// The bit beyond the leftmost one of the first word of `reg mem [0:1]`: what `mem[2]` is assigned by.
+fn beyond(alloc: Global) -> Result<Part, Fail> {
+    let mut offsets = Items::new(alloc);
+    offsets.push(1)?;
+    Ok(Part::Pick {
+        signal: 1,
+        index: constant(32, 0)?,
+        offsets,
+    })
+}
+
+/// `for (i = 0; i <= 2; i = i + 1) mem[i] <= 1'b0;`, unrolled: one turn past the end of the array.
+fn clear_words(alloc: Global) -> Result<Stmt, Fail> {
+    let mut turns = Items::new(alloc);
+    turns.push(set(alloc, 0, Part::Whole(1), constant(1, 0)?, true)?)?;
+    turns.push(set(alloc, 1, Part::Whole(2), constant(1, 0)?, true)?)?;
+    turns.push(set(alloc, 2, beyond(alloc)?, constant(1, 0)?, true)?)?;
+    Ok(Stmt::Block(turns))
+}
+
+/// `always @(posedge clk or posedge rst) if (rst)` with that loop, both words of the array starting at 1.
+fn array(alloc: Global) -> Result<Design, Fail> {
+    let signals = [
+        ("rst", 1, SignalKind::Input, 0),
+        ("mem[0]", 1, SignalKind::Reg, 1),
+        ("mem[1]", 1, SignalKind::Reg, 1),
+    ];
+    let places = [(1, 1), (1, 2), (1, 1)];
+    let mut design = design_of(alloc, &signals, &places, &[0], &[1, 2])?;
+    let reset = Some(Reset {
+        signal: 0,
+        level: true,
+        values: clear_words(alloc)?,
+    });
+    let body = Stmt::Nothing;
+    design.clocked.push(Clocked { reset, body })?;
+    Ok(design)
+}
+
+/// A turn past the array's end stores nothing, whatever is chosen for its place, and the words have their reset values.
+#[test]
+fn a_reset_loop_may_go_past_the_end_of_an_array(rt: HostRuntime) -> Result<(), Fail> {
+    let alloc = rt.alloc();
+    let design = array(alloc)?;
+    let words = [Some(1), Some(1), Some(0), Some(0)];
+    let trace = trace_of(alloc, &design, 2, &[0, 1], &words)?;
+    for last in [false, true] {
+        let freed = [false, false, last];
+        assert!(rt; is_right(alloc, &design, &[], &trace, &freed, &[0, 0, 1, 0, 0, 1])?);
+    }
+    assert!(rt;
+        !is_right(
+            alloc,
+            &design,
+            &[],
+            &trace,
+            &[false, true, false],
+            &[0, 1, 0, 0, 1, 0]
+        )?
+    );
     Ok(())
 }
