@@ -1,15 +1,15 @@
 -- The list of the walk is the hierarchy: what stands at any path is in it, each entry stands at some path, and none is too deep.
 use Rattle.std.proofs.Common.{◌≡◌, ℕ, zero, suc, ◌+◌, ◌<◌, ◌≤◌, List, [], ◌∷◌, ◌++◌, length, Option, Some, None, refl, sym, ap, ◌∙◌, subst, arith, ◌⊎◌, inl, inr, length-append, append_assoc, append-nil}
-use Rattle.std.specs.Prelude.{⊤, slice_get, Result, Ok}
+use Rattle.std.specs.Prelude.{⊤, slice_get, Result, Ok, Err}
 use Rattle.std.proofs.lemmas.Option.{none-some}
 use Rattle.v_tree.specs.ModuleTree.{PlainModule}
 use Rattle.v_hierarchy.specs.declared.error.ElabErr.{ElabErr}
-use Rattle.v_hierarchy.specs.Steps.{each}
+use Rattle.v_hierarchy.specs.Steps.{◌>>=◌, each}
 use Rattle.v_hierarchy.specs.Items.{Child, Met}
 use Rattle.v_hierarchy.specs.Instances.{Instance, instance, contents, children, Found, with_instance, walked, unit_name, top_of, most_left, top_child, instances}
 use Rattle.v_hierarchy.specs.Hierarchy.{Makes, IsAt}
-use Rattle.v_elaborate.specs.Laws.{IsInstance, Stands, IsHierarchy}
-use Rattle.v_elaborate.proofs.Runs.{Ok-same, both, apart}
+use Rattle.v_elaborate.specs.Laws.{design_turns, IsInstance, Stands, Comes, IsHierarchy}
+use Rattle.v_elaborate.proofs.Runs.{Ok-same, Err-Ok, both, apart}
 use Rattle.v_elaborate.proofs.ContentLaws.{makes-same, contents-counted}
 
 -- ---- some entry of a list, and each
@@ -49,6 +49,10 @@ some-at units c (x ∷ xs) (inl is) = record { number = 0; instance = x; at = re
 some-at units c (x ∷ xs) (inr some) =
     let r = some-at units c xs some in record { number = suc r.number; instance = r.instance; at = r.at; is = r.is }
 
+turns-append : (xs ys : List Instance) → design_turns (xs ++ ys) ≡ design_turns xs + design_turns ys
+turns-append [] ys = omega arith
+turns-append (x ∷ xs) ys = omega (arith, turns-append xs ys)
+
 -- ---- below one instance
 -- an instance of the hierarchy below another
 record ComesBelow (units : List PlainModule) (c : Child) (i : Instance) : Type 0 where
@@ -64,6 +68,7 @@ record Walked (units : List PlainModule) (levels : ℕ) (c : Child) (found last 
   only : Each-in (ComesBelow units c) new
   within : (path : List ℕ) (d : Child) → IsAt units c path d → length path ≤ levels
   count : length new + last.left.instances ≡ suc found.left.instances
+  turns : design_turns new + last.left.turns ≡ found.left.turns
 
 -- ---- below each of several
 record ComesBelowSome (units : List PlainModule) (cs : List Child) (i : Instance) : Type 0 where
@@ -79,6 +84,7 @@ record WalkedAll (units : List PlainModule) (levels : ℕ) (cs : List Child) (fo
   only : Each-in (ComesBelowSome units cs) new
   within : (k : ℕ) (c : Child) → slice_get cs k ≡ Some c → (path : List ℕ) (d : Child) → IsAt units c path d → length path < levels
   count : length new + last.left.instances ≡ length cs + found.left.instances
+  turns : design_turns new + last.left.turns ≡ found.left.turns
 
 none-walked : (units : List PlainModule) (levels : ℕ) (found : Found) → WalkedAll units levels [] found found
 none-walked units levels found = record {
@@ -88,6 +94,7 @@ none-walked units levels found = record {
   only = tt;
   within = λ k c at path d is. absurd (none-some c at);
   count = omega arith;
+  turns = omega arith;
 }
 
 first-walked : (units : List PlainModule) (levels : ℕ) (c : Child) (cs : List Child) (found met last : Found)
@@ -102,6 +109,7 @@ first-walked units levels c cs found met last one rest = record {
       (λ i is. record { number = suc is.number; parent = is.parent; stands = is.stands; comes = is.comes }) rest.new rest.only);
   within = within;
   count = omega (arith, length-append one.new rest.new, one.count, rest.count);
+  turns = omega (arith, turns-append one.new rest.new, one.turns, rest.turns);
 }
   where
     whole : (k : ℕ) (b : Child) → slice_get (c ∷ cs) k ≡ Some b → (path : List ℕ) (d : Child) → IsAt units b path d → Some-in (IsInstance units d) (one.new ++ rest.new)
@@ -141,6 +149,7 @@ one-walked units levels l parent c found last met makes rest = record {
   );
   within = within;
   count = omega (arith, rest.count, (contents-counted units l c found.left met makes).total);
+  turns = omega (arith, rest.turns, (contents-counted units l c found.left met makes).turns);
 }
   where
     made : Makes units c met
@@ -219,3 +228,8 @@ pub list-few : (units : List PlainModule) (name : List ℕ) (top : PlainModule) 
     → length list ≤ 65536
 list-few units name top list named is =
     let t = top-walked units name top list named is in omega (arith, ap length (sym t.is ∙ t.walks.list), t.walks.count)
+
+pub list-turns : (units : List PlainModule) (name : List ℕ) (top : PlainModule) (list : List Instance) → top_of units name ≡ Ok top → instances units name ≡ Ok list
+    → design_turns list ≤ 65536
+list-turns units name top list named is =
+    let t = top-walked units name top list named is in omega (arith, ap design_turns (sym t.is ∙ t.walks.list), t.walks.turns)

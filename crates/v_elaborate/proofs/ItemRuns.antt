@@ -1,9 +1,10 @@
 -- Two runs over the items of a module, the second with another number of levels below: a relation that each step keeps holds at
 -- the end.
 use Rattle.std.proofs.Common.{◌≡◌, ℕ, Bool, true, false, List, [], ◌∷◌, refl, sym, subst}
-use Rattle.std.specs.Prelude.{⊤, Some, None, Result, Ok}
+use Rattle.std.specs.Prelude.{⊤, Option, Some, None, Result, Ok, Err}
 use Rattle.loc_base.specs.declared.span.Span.{Span}
 use Rattle.v_tree.specs.declared.site.Site.{Site}
+use Rattle.v_tree.specs.declared.declaration.Identifier.{Identifier}
 use Rattle.v_tree.specs.ItemTree.{PlainSensitivity, PlainInstance, PlainItem, port_item, net_item, integer_item, genvar_item, parameter_item, assign_item, gate_item, always_item, initial_item, instance_item, generate_item, loop_item, if_item, if_else_item, PlainBlock, single, several, Items, no_items, more_items}
 use Rattle.v_tree.specs.StatementTree.{PlainStatement}
 use Rattle.v_tree.specs.ModuleTree.{PlainModule}
@@ -18,7 +19,6 @@ use Rattle.v_hierarchy.specs.Paths.{below, block_part, turn_part}
 use Rattle.v_hierarchy.specs.Constants as whole
 use Rattle.v_hierarchy.specs.Unrolled.{Steps, unrolled, at_turn, holds_at, begun, stepped, turns, most_turns}
 use Rattle.v_hierarchy.specs.Items.{Child, Copied, written, always, child, inner, turn, Block, scope, Copies, Place, Met, with_names, with_copy, ported, direction_of, net_of, named_as, parameter_of, connections_fit, not_deeper, instance_of, unit_of, turn_met, loop_genvar, within, begins, ends, chosen, block_of, turn_of, item, items, body_of}
-use Rattle.v_hierarchy.specs.Instances.{children, made_by}
 use Rattle.v_elaborate.proofs.Runs.{both, apart, ended, each-runs, turns-run}
 
 -- a place with another number of levels below it
@@ -28,12 +28,9 @@ leveled p levels = record { units = p.units; levels = levels; path = p.path; out
 abbrev pub met_of : List Entry → Copies → Left → Met
 met_of names copies left = record { names = names; copies = copies; left = left }
 
--- what a scope becomes in the one around it makes the children that stand in the scope
-pub record Encloses (made : Block → Copied) : Type 0 where
-  pub makes : (path : List ℕ) (names : List Entry) (copies : Copies) → made_by (made (scope path names copies)) ≡ children copies
-
--- a relation that each step keeps; it may say of each scope something of its own
-pub record Kept (K : Type 0) (R : K → Met → Met → Type 0) (one other : ℕ) : Type 0 where
+-- a relation that each step keeps; it may say of each scope something of its own, and `T` holds where a turn is counted and not
+-- yet met
+pub record Kept (K : Type 0) (R T : K → Met → Met → Type 0) (one other : ℕ) : Type 0 where
   pub names : (k : K) (m n : Met) → R k m n → m.names ≡ n.names
   pub declares : (k : K) (m n : Met) (more : List Entry) → R k m n → R k (with_names m more) (with_names n more)
   pub writes : (k : K) (m n : Met) (x : PlainItem) → R k m n → R k (with_copy m (written x)) (with_copy n (written x))
@@ -43,17 +40,21 @@ pub record Kept (K : Type 0) (R : K → Met → Met → Type 0) (one other : ℕ
   pub places : (k : K) (m n : Met) (s : Site) (c : Child) (span : Span) (u v : ⊤) (l r : Left) → R k m n
       → not_deeper one span ≡ Ok u → not_deeper other span ≡ Ok v → placed span m.left ≡ Ok l → placed span n.left ≡ Ok r
       → R k (with_copy (met_of m.names m.copies l) (child s c)) (with_copy (met_of n.names n.copies r) (child s c))
-  pub turns : (k : K) (m n : Met) (span : Span) (a b : Met) → R k m n → turn_met span m ≡ Ok a → turn_met span n ≡ Ok b → R k a b
+  pub turns : (k : K) (m n : Met) (span : Span) (a b : Met) → R k m n → turn_met span m ≡ Ok a → turn_met span n ≡ Ok b → T k a b
   pub inside : (k : K) (m n : Met) → R k m n → K
-  pub begins : (k : K) (m n : Met) (holds : R k m n) → R (inside k m n holds) (begins [] m.left) (begins [] n.left)
-  pub ends : (k : K) (m n : Met) (holds : R k m n) (x y : Met) → R (inside k m n holds) x y → (path : List ℕ) (made : Block → Copied) → Encloses made
-      → R k (ends m x (made (scope path x.names x.copies))) (ends n y (made (scope path y.names y.copies)))
+  pub scope_begins : (k : K) (m n : Met) (holds : R k m n) → R (inside k m n holds) (begins [] m.left) (begins [] n.left)
+  pub scope_ends : (k : K) (m n : Met) (holds : R k m n) (x y : Met) → R (inside k m n holds) x y → (path : List ℕ)
+      → R k (ends m x (inner (scope path x.names x.copies))) (ends n y (inner (scope path y.names y.copies)))
+  pub turn_inside : (k : K) (m n : Met) → T k m n → K
+  pub turn_begins : (k : K) (m n : Met) (holds : T k m n) → R (turn_inside k m n holds) (begins [] m.left) (begins [] n.left)
+  pub turn_ends : (k : K) (m n : Met) (holds : T k m n) (x y : Met) → R (turn_inside k m n holds) x y → (path : List ℕ) (variable : Identifier) (value : Const)
+      → R k (ends m x (turn variable value (scope path x.names x.copies))) (ends n y (turn variable value (scope path y.names y.copies)))
 
 -- a loop from its first value on
 abbrev generate_end : ℕ → Span → (Const → Met → Result Met ElabErr) → (Const → Result (Const × Bool) ElabErr) → Met → Const × Bool → Result Met ElabErr
 generate_end most span body next met first = turns most span (turn_met span) body next first met
 
-module _ (K : Type 0) (R : K → Met → Met → Type 0) (one other : ℕ) (keeps : Kept K R one other) where
+module _ (K : Type 0) (R T : K → Met → Met → Type 0) (one other : ℕ) (keeps : Kept K R T one other) where
   -- both with the names of the first
   renamed : (k : K) (f g : Met → Result Met ElabErr)
       → ((ns : List Entry) (c : Copies) (l : Left) (c' : Copies) (l' : Left) (a b : Met) → R k (met_of ns c l) (met_of ns c' l')
@@ -76,16 +77,27 @@ module _ (K : Type 0) (R : K → Met → Met → Type 0) (one other : ℕ) (keep
       (keeps.places k m n s c i.name.site.span v w l r holds deep deep' place place')
 
   -- a scope of its own
-  encloses-runs : (k : K) (f g : Met → Result Met ElabErr) (path : List ℕ) (made : Block → Copied) → Encloses made
+  encloses-runs : (k : K) (f g : Met → Result Met ElabErr) (path : List ℕ)
       → ((k' : K) (m n a b : Met) → R k' m n → f m ≡ Ok a → g n ≡ Ok b → R k' a b)
       → (m n a b : Met) → R k m n
-      → f (begins [] m.left) >>= (λ x. Ok (ends m x (made (scope path x.names x.copies)))) ≡ Ok a
-      → g (begins [] n.left) >>= (λ x. Ok (ends n x (made (scope path x.names x.copies)))) ≡ Ok b → R k a b
-  encloses-runs k f g path made encloses run m n a b holds first second =
+      → f (begins [] m.left) >>= (λ x. Ok (ends m x (inner (scope path x.names x.copies)))) ≡ Ok a
+      → g (begins [] n.left) >>= (λ x. Ok (ends n x (inner (scope path x.names x.copies)))) ≡ Ok b → R k a b
+  encloses-runs k f g path run m n a b holds first second =
       apart (f (begins [] m.left)) (g (begins [] n.left)) _ _ a b (R k a b) first second λ x y ran ran' first second.
-      ended (R k) (ends m x (made (scope path x.names x.copies))) (ends n y (made (scope path y.names y.copies))) a b first second
-      (keeps.ends k m n holds x y
-      (run (keeps.inside k m n holds) (begins [] m.left) (begins [] n.left) x y (keeps.begins k m n holds) ran ran') path made encloses)
+      ended (R k) (ends m x (inner (scope path x.names x.copies))) (ends n y (inner (scope path y.names y.copies))) a b first second
+      (keeps.scope_ends k m n holds x y (run (keeps.inside k m n holds) (begins [] m.left) (begins [] n.left) x y (keeps.scope_begins k m n holds) ran ran') path)
+
+  -- a turn
+  turn-runs : (k : K) (f g : Met → Result Met ElabErr) (path : List ℕ) (variable : Identifier) (value : Const)
+      → ((k' : K) (m n a b : Met) → R k' m n → f m ≡ Ok a → g n ≡ Ok b → R k' a b)
+      → (m n a b : Met) → T k m n
+      → f (begins [] m.left) >>= (λ x. Ok (ends m x (turn variable value (scope path x.names x.copies)))) ≡ Ok a
+      → g (begins [] n.left) >>= (λ x. Ok (ends n x (turn variable value (scope path x.names x.copies)))) ≡ Ok b → R k a b
+  turn-runs k f g path variable value run m n a b holds first second =
+      apart (f (begins [] m.left)) (g (begins [] n.left)) _ _ a b (R k a b) first second λ x y ran ran' first second.
+      ended (R k) (ends m x (turn variable value (scope path x.names x.copies))) (ends n y (turn variable value (scope path y.names y.copies))) a b first second
+      (keeps.turn_ends k m n holds x y
+      (run (keeps.turn_inside k m n holds) (begins [] m.left) (begins [] n.left) x y (keeps.turn_begins k m n holds) ran ran') path variable value)
 
   chosen-runs : (k : K) (holds : Bool) (f f' g g' : Met → Result Met ElabErr) (m n a b : Met)
       → (f m ≡ Ok a → g n ≡ Ok b → R k a b) → (f' m ≡ Ok a → g' n ≡ Ok b → R k a b)
@@ -94,14 +106,11 @@ module _ (K : Type 0) (R : K → Met → Met → Type 0) (one other : ℕ) (keep
   chosen-runs k false f f' g g' m n a b one other first second = other first second
 
   generate-runs : (k : K) (most : ℕ) (span : Span) (f g : Const → Met → Result Met ElabErr) (next : Const → Result (Const × Bool) ElabErr) (begins : Const × Bool)
-      → ((value : Const) (m n a b : Met) → R k m n → f value m ≡ Ok a → g value n ≡ Ok b → R k a b)
+      → ((value : Const) (m n a b : Met) → T k m n → f value m ≡ Ok a → g value n ≡ Ok b → R k a b)
       → (m n a b : Met) → R k m n → generate_end most span f next m begins ≡ Ok a → generate_end most span g next n begins ≡ Ok b → R k a b
   generate-runs k most span f g next begins body m n a b holds first second =
-      turns-run (R k) span (turn_met span) f g next (λ m n a b holds first second. keeps.turns k m n span a b holds first second) body
+      turns-run (R k) (T k) span (turn_met span) f g next (λ m n a b holds first second. keeps.turns k m n span a b holds first second) body
       most begins.0 begins.1 m n a b holds first second
-
-  inner-encloses : Encloses inner
-  inner-encloses = record { makes = λ path names copies. refl }
 
   mutual
     item-alike : (x : PlainItem) (p : Place) (k : K) (ns : List Entry) (c : Copies) (l : Left) (c' : Copies) (l' : Left) (a b : Met)
@@ -154,7 +163,7 @@ module _ (K : Type 0) (R : K → Met → Met → Type 0) (one other : ℕ) (keep
         (stepped (ns ∷ p.outer) head) begins
         (λ value m n a b holds first second.
         let own = within p (turn_part body (whole.integer value)) (at_turn head.variable value (ns ∷ p.outer)) in
-        encloses-runs k (body_of (leveled own one) body) (body_of (leveled own other) body) own.path (turn head.variable value) (record { makes = λ path names copies. refl })
+        turn-runs k (body_of (leveled own one) body) (body_of (leveled own other) body) own.path head.variable value
         (λ k' m n a b holds first second.
         renamed k' (body_of (leveled own one) body) (body_of (leveled own other) body)
         (λ ns c l c' l' a b holds first second. body-alike body own k' ns c l c' l' a b holds first second) m n a b holds first second)
@@ -165,7 +174,7 @@ module _ (K : Type 0) (R : K → Met → Met → Type 0) (one other : ℕ) (keep
         let own = within p (block_part on_true) (ns ∷ p.outer) in
         chosen-runs k chooses (block_of (λ own. body_of own on_true) (leveled p one) on_true) (λ same. Ok same)
         (block_of (λ own. body_of own on_true) (leveled p other) on_true) (λ same. Ok same) (met_of ns c l) (met_of ns c' l') a b
-        (encloses-runs k (body_of (leveled own one) on_true) (body_of (leveled own other) on_true) own.path inner inner-encloses
+        (encloses-runs k (body_of (leveled own one) on_true) (body_of (leveled own other) on_true) own.path
         (λ k' m n a b holds first second.
         renamed k' (body_of (leveled own one) on_true) (body_of (leveled own other) on_true)
         (λ ns c l c' l' a b holds first second. body-alike on_true own k' ns c l c' l' a b holds first second) m n a b holds first second)
@@ -177,12 +186,12 @@ module _ (K : Type 0) (R : K → Met → Met → Type 0) (one other : ℕ) (keep
         let alt = within p (block_part on_false) (ns ∷ p.outer) in
         chosen-runs k chooses (block_of (λ own. body_of own on_true) (leveled p one) on_true) (block_of (λ own. body_of own on_false) (leveled p one) on_false)
         (block_of (λ own. body_of own on_true) (leveled p other) on_true) (block_of (λ own. body_of own on_false) (leveled p other) on_false) (met_of ns c l) (met_of ns c' l') a b
-        (encloses-runs k (body_of (leveled own one) on_true) (body_of (leveled own other) on_true) own.path inner inner-encloses
+        (encloses-runs k (body_of (leveled own one) on_true) (body_of (leveled own other) on_true) own.path
         (λ k' m n a b holds first second.
         renamed k' (body_of (leveled own one) on_true) (body_of (leveled own other) on_true)
         (λ ns c l c' l' a b holds first second. body-alike on_true own k' ns c l c' l' a b holds first second) m n a b holds first second)
         (met_of ns c l) (met_of ns c' l') a b holds)
-        (encloses-runs k (body_of (leveled alt one) on_false) (body_of (leveled alt other) on_false) alt.path inner inner-encloses
+        (encloses-runs k (body_of (leveled alt one) on_false) (body_of (leveled alt other) on_false) alt.path
         (λ k' m n a b holds first second.
         renamed k' (body_of (leveled alt one) on_false) (body_of (leveled alt other) on_false)
         (λ ns c l c' l' a b holds first second. body-alike on_false alt k' ns c l c' l' a b holds first second) m n a b holds first second)

@@ -1,5 +1,5 @@
 -- Two runs of the same steps that are not refused: what holds of both before each step holds behind it.
-use Rattle.std.proofs.Common.{◌≡◌, ℕ, zero, suc, Bool, true, false, List, [], ◌∷◌, refl, subst}
+use Rattle.std.proofs.Common.{◌≡◌, ℕ, zero, suc, Bool, true, false, List, [], ◌∷◌, refl, sym, subst}
 use Rattle.std.specs.Prelude.{Result, Ok, Err}
 use Rattle.loc_base.specs.declared.span.Span.{Span}
 use Rattle.v_sizes.specs.declared.meaning.Const.{Const}
@@ -40,18 +40,18 @@ each-runs R f g step (x ∷ xs) m n a b holds one other =
     apart (f x m) (g x n) (each f xs) (each g xs) a b (R a b) one other λ p q first second one other.
     each-runs R f g step xs p q a b (step x m n p q holds first second) one other
 
--- the turns of a loop, which begin alike
-pub turns-run : {S : Type 0} (R : S → S → Type 0) (span : Span) (count : S → Result S ElabErr) (f g : Const → S → Result S ElabErr)
+-- the turns of a loop, which begin alike: `T` holds of both where a turn is counted and not yet met
+pub turns-run : {S : Type 0} (R T : S → S → Type 0) (span : Span) (count : S → Result S ElabErr) (f g : Const → S → Result S ElabErr)
     (next : Const → Result (Const × Bool) ElabErr)
-    → ((m n a b : S) → R m n → count m ≡ Ok a → count n ≡ Ok b → R a b)
-    → ((value : Const) (m n a b : S) → R m n → f value m ≡ Ok a → g value n ≡ Ok b → R a b)
+    → ((m n a b : S) → R m n → count m ≡ Ok a → count n ≡ Ok b → T a b)
+    → ((value : Const) (m n a b : S) → T m n → f value m ≡ Ok a → g value n ≡ Ok b → R a b)
     → (most : ℕ) (value : Const) (runs : Bool) (m n a b : S) → R m n
     → turns most span count f next (value, runs) m ≡ Ok a → turns most span count g next (value, runs) n ≡ Ok b → R a b
-turns-run R span count f g next counts body most value false m n a b holds one other = ended R m n a b one other holds
-turns-run R span count f g next counts body zero value true m n a b holds one other = Err-Ok one
-turns-run R span count f g next counts body (suc most) value true m n a b holds one other =
+turns-run R T span count f g next counts body most value false m n a b holds one other = ended R m n a b one other holds
+turns-run R T span count f g next counts body zero value true m n a b holds one other = Err-Ok one
+turns-run R T span count f g next counts body (suc most) value true m n a b holds one other =
     apart (count m) (count n) _ _ a b (R a b) one other λ p q first second one other.
     apart (f value p) (g value q) _ _ a b (R a b) one other λ c d met_one met_other one other.
     both (next value) _ _ a b (R a b) one other λ following one other.
-    turns-run R span count f g next counts body most following.0 following.1 c d a b
+    turns-run R T span count f g next counts body most following.0 following.1 c d a b
     (body value p q c d (counts m n p q holds first second) met_one met_other) one other

@@ -3,7 +3,7 @@ ghost use Rattle.std.specs.Prelude.{◌≡◌, ◌≤◌, ℕ, List, length, Ok}
 ghost use Rattle.v_hierarchy.specs.Items.{Child};
 ghost use Rattle.v_hierarchy.specs.Instances.{instances, top_child, top_of};
 ghost use Rattle.v_hierarchy.specs.Hierarchy.{IsAt};
-ghost use Rattle.v_elaborate.specs.Laws.{Listed, IsHierarchy};
+ghost use Rattle.v_elaborate.specs.Laws.{design_turns, Listed, IsHierarchy};
 
 /// The list of a design's instances is the hierarchy: what stands at any path is in it, and each entry stands at some path.
 pub fn list_is_hierarchy()
@@ -27,4 +27,12 @@ pub fn instances_are_few()
     requires named { top_of of.units of.name ≡ Ok of.top }
     requires list { instances of.units of.name ≡ Ok of.list }
     ensures { length of.list ≤ 65536 }
+{}
+
+/// There are at most 65,536 turns of loops in all instances together.
+pub fn turns_are_few()
+    ghost of: { Listed }
+    requires named { top_of of.units of.name ≡ Ok of.top }
+    requires list { instances of.units of.name ≡ Ok of.list }
+    ensures { design_turns of.list ≤ 65536 }
 {}

@@ -3,4 +3,4 @@
 
 mod laws;
 
-pub use laws::{instances_are_few, list_is_hierarchy, no_instance_is_deeper};
+pub use laws::{instances_are_few, list_is_hierarchy, no_instance_is_deeper, turns_are_few};
