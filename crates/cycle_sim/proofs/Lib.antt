@@ -12,3 +12,7 @@ pub mod CollectSteps
 pub mod DrivesBelow
 pub mod Filling
 pub mod Planning
+pub mod Choosing
+pub mod Running
+pub mod Chosen
+pub mod Replayed

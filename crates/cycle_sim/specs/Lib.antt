@@ -6,3 +6,4 @@ pub mod Collected
 pub mod Planned
 pub mod Holding
 pub mod Simulator
+pub mod Replaying

@@ -1,5 +1,5 @@
 -- Where traces are not right with values chosen for places: the trace, the cycle and the output, each counted from 0.
-use Rattle.std.specs.Prelude.{ℕ, ◌≡◌, ◌<◌, ◌⊎◌, Bool, IsTrue, List, length, slice_get, Option, Some, None, All}
+use Rattle.std.specs.Prelude.{ℕ, ◌≡◌, ◌<◌, ◌≤◌, ◌⊎◌, Bool, IsTrue, List, length, slice_get, Option, Some, None, All}
 use Rattle.loc_base.specs.Bits.{bit_of}
 use Rattle.design_core.specs.declared.design.Design.{Design}
 use Rattle.design_core.specs.declared.trace.Checked.{Checked}
@@ -55,9 +55,19 @@ abbrev pub Replays : Design → List Trace → Values → Option Miss → Type 0
 Replays d traces values None = MeetAll d traces values
 Replays d traces values (Some miss) = IsLeastMiss d traces values miss
 
--- the first of some sets whose values miss, with its least miss
-pub record IsFirstToMiss (d : Design) (traces : List Trace) (sets : List SetWithValues) (number : ℕ) (miss : Miss) : Type 0 where
+-- with the values of each of the sets from one number up to another each trace is right
+abbrev pub AllMeet : Design → List Trace → List SetWithValues → ℕ → ℕ → Type 0
+AllMeet d traces sets from to = (i : ℕ) (set : SetWithValues) → from ≤ i → i < to → slice_get sets i ≡ Some set → MeetAll d traces set.values
+
+-- a set whose values miss, with its least miss, where those from one number up to it don't
+pub record IsFirstToMiss (d : Design) (traces : List Trace) (sets : List SetWithValues) (from number : ℕ) (miss : Miss) : Type 0 where
   pub set : SetWithValues
   pub is_set : slice_get sets number ≡ Some set
   pub misses : IsLeastMiss d traces set.values miss
-  pub first : (i : ℕ) (other : SetWithValues) → i < number → slice_get sets i ≡ Some other → MeetAll d traces other.values
+  pub first : AllMeet d traces sets from number
+
+-- the answer for the sets from one number up to another: none where each trace is right with the values of each, else the
+-- first that misses
+abbrev pub FirstToMiss : Design → List Trace → List SetWithValues → ℕ → ℕ → Option (ℕ × Miss) → Type 0
+FirstToMiss d traces sets from to None = AllMeet d traces sets from to
+FirstToMiss d traces sets from to (Some (number, miss)) = IsFirstToMiss d traces sets from number miss

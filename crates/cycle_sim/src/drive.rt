@@ -70,7 +70,7 @@ fn drive(
 
 /// The number at a place.
 #[tactic(auto, using(plain_values::proofs::EvaluateWords::slice_get_at))]
-fn number_at(numbers: &[u32], k: usize) -> usize
+pub(crate) fn number_at(numbers: &[u32], k: usize) -> usize
     requires { k < length numbers.now }
     ensures { slice_get numbers.now k ≡ Some result }
 {

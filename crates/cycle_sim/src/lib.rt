@@ -9,10 +9,12 @@ mod drive;
 mod machine;
 mod mask;
 mod miss;
+mod miss_search;
 mod plan;
 mod sim;
 mod suited;
 
 pub use miss::Miss;
+pub use miss_search::replay;
 pub use sim::Sim;
 pub use suited::can_simulate;

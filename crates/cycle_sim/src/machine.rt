@@ -26,10 +26,10 @@ use std::alloc::Global;
 /// A design that is simulated, cycle by cycle: its words, and what was made of it once.
 #[derive(Drop)]
 pub(crate) struct Machine<'a> {
-    design: &'a Design,
+    pub(crate) design: &'a Design,
     order: &'a [u32],
     plan: Plan,
-    values: Vec<Bits>,
+    pub(crate) values: Vec<Bits>,
     state: Vec<Bits>,
     /// Room for the bits that a clocked block assigns by `=`.
     room: Vec<Bits>,
