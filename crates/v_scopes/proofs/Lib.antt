@@ -1,0 +1,3 @@
+pub mod OutwardLaws
+pub mod GivenLaws
+pub mod TableLaws
