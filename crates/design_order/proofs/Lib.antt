@@ -1,3 +1,5 @@
 pub mod Counting
 pub mod Walks
 pub mod RunningLaws
+pub mod SourceLaws
+pub mod NeedLaws

@@ -1,3 +1,6 @@
 pub mod Circle
+pub mod DriverOrder
+pub mod Refusal
 pub mod Rows
 pub mod Running
+pub mod Sources

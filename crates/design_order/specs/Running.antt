@@ -3,10 +3,7 @@ use Rattle.std.specs.Prelude.{ℕ, ◌≡◌, ◌<◌, ◌==◌, Bool, true, fal
 use Rattle.std.specs.Ordering.{nat_cmp}
 use Rattle.std.specs.BTreeSet.{contains}
 use Rattle.design_core.specs.Order.{AreNext, Leads}
-use Rattle.design_order.specs.declared.error.OrderErr.{OrderErr}
-use Rattle.design_order.specs.declared.error.OrderErr.TheVariants.{NoMemory, Circle}
 use Rattle.design_order.specs.declared.least.State.{State}
-use Rattle.design_order.specs.Circle.{IsCircleOf}
 use Rattle.design_order.specs.Rows.{row, Listed, has, left}
 
 pub record IsRunning (needs : List (List ℕ)) (s : State) : Type 0 where
@@ -17,11 +14,6 @@ pub record IsRunning (needs : List (List ℕ)) (s : State) : Type 0 where
   pub counts : (k : ℕ) → slice_index s.counts.items k ≡ left (has s.order.items) (row needs k)
   pub done : (k : ℕ) → has s.order.items k ≡ true → slice_index s.counts.items k ≡ 0
   pub ready : (k : ℕ) → contains nat_cmp s.ready k ≡ (nat_lt k (length needs) && (not (has s.order.items k) && slice_index s.counts.items k == 0))
-
--- a refusal: with a circle, but at want of memory
-abbrev pub IsRefused : (ℕ → ℕ → Type 0) → ℕ → OrderErr → Type 0
-IsRefused D n NoMemory = Unit {0}
-IsRefused D n (Circle drivers) = IsCircleOf D n drivers.items
 
 -- a walk along numbers that were not taken, each of which needs the next one: `met` has those that stand on its path, which leads
 -- to a number

@@ -3,7 +3,8 @@ ghost use Rattle.std.specs.Ordering.{nat_cmp};
 ghost use Rattle.std.specs.BTreeSet.{contains};
 ghost use Rattle.design_core.specs.Order.{IsLeastOrderOf};
 ghost use Rattle.design_order.specs.Rows.{AreUsers, AreWithin, Listed, has, times};
-ghost use Rattle.design_order.specs.Running.{IsRunning, IsRefused};
+ghost use Rattle.design_order.specs.Refusal.{IsRefused};
+ghost use Rattle.design_order.specs.Running.{IsRunning};
 
 use crate::circle::circle_from;
 use crate::error::OrderErr;

@@ -4,10 +4,14 @@
 #![tactic(auto)]
 
 mod circle;
+mod drivers;
 mod error;
 mod least;
+mod needs;
+mod sources;
 mod users;
 
+pub use drivers::order;
 pub use error::OrderErr;
 pub use least::least_order;
 pub use users::are_within;
