@@ -9,33 +9,22 @@ use Rattle.loc_base.specs.Bits.{width_of}
 use Rattle.design_core.specs.declared.signal.Signal.{Signal}
 use Rattle.design_core.specs.declared.design.Design.{Design}
 use Rattle.design_core.specs.Valuation.{bit, width_at, distance_of}
-use Rattle.design_core.specs.WellFormed.{is_width, spans, signal_fits, input_fits, IsWellFormed}
+use Rattle.design_core.specs.Given.{CanRun}
+use Rattle.design_core.specs.WellFormed.{is_width, spans, signal_fits, input_fits}
 use Rattle.design_bits.proofs.Masks.{bit-zero}
 use Rattle.v_rules.specs.Entries.{driven_times}
 use Rattle.v_rules.specs.First.{IsFirst}
 use Rattle.v_rules.specs.OneDriver.{IsDrivenTwice}
 use Rattle.v_rules.specs.Tallies.{AreTooOften}
-use Rattle.v_rules.proofs.DrivesWithin.{driven-below}
-
--- a bit of a signal is one of at most 128
-width-within : (signals : List Signal) (k p : ℕ) → list_all signal_fits signals ≡ true → p < width_at signals k → (k < length signals) × (p < 128)
-width-within [] k p fits below = absurd (omega (arith, below))
-width-within (s ∷ signals) zero p fits below =
-    let own = and_parts (signal_fits s) (list_all signal_fits signals) fits in
-    let front = and_parts (is_width s.width && spans s.width (distance_of s.left s.right s.left)) (width_of s.start == s.width) own.0 in
-    let width = and_parts (is_width s.width) (spans s.width (distance_of s.left s.right s.left)) front.0 in
-    let both = and_parts (nat_le 1 s.width) (nat_le s.width 128) width.0 in
-    (omega arith, omega (arith, below, leb-true s.width 128 both.1))
-width-within (s ∷ signals) (suc k) p fits below =
-    let rest = width-within signals k p (and_parts (signal_fits s) (list_all signal_fits signals) fits).1 below in
-    (omega (arith, rest.0), rest.1)
+use Rattle.design_bits.proofs.DrivesWithin.{width-within}
+use Rattle.v_rules.proofs.DrivenWithin.{driven-below}
 
 least-one : (b : Bool) (n : ℕ) → (if b then 1 else 2) ≤ n → 1 ≤ n
 least-one true n h = h
 least-one false n h = omega (arith, h)
 
 -- a signal whose mask is 0 does not break the rule
-not-twice : (d : Design) (twice : List ℕ) (k : ℕ) → IsWellFormed d → AreTooOften d twice → get_or twice k 0 ≡ 0 → IsDrivenTwice d k → ⊥
+not-twice : (d : Design) (twice : List ℕ) (k : ℕ) → CanRun d → AreTooOften d twice → get_or twice k 0 ≡ 0 → IsDrivenTwice d k → ⊥
 not-twice d twice k well t none r =
     let some = least-one (input_fits d.signals.items k) (driven_times d k r.position) r.driven in
     let within = width-within d.signals.items k r.position well.signals (driven-below d k r.position well some) in
@@ -53,7 +42,7 @@ is-twice d twice s t within some small =
     let here : bit m p ≡ true = ap (λ b. b == 1) found.1 in
     record { position = p; driven = leb-true _ _ (sym (t.bits s p (omega (arith, within, t.long)) found.0) ∙ here) }
 
-pub first-twice : (d : Design) (twice : List ℕ) (found : Option ℕ) → IsWellFormed d → AreTooOften d twice
+pub first-twice : (d : Design) (twice : List ℕ) (found : Option ℕ) → CanRun d → AreTooOften d twice
     → IfNone found ((k : ℕ) → get_or twice k 0 ≡ 0) → IfSome found (λ s. s < length twice) → IfSome found (λ s. get_or twice s 0 ≢ 0) → IfSome found (λ s. get_or twice s 0 < 2 ^ 128)
     → IfSome found (λ s. (k : ℕ) → k < s → get_or twice k 0 ≡ 0) → IsFirst (IsDrivenTwice d) found
 first-twice d twice None well t none within some small first = λ k r. not-twice d twice k well t (none k) r

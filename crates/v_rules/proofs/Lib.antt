@@ -1,4 +1,4 @@
 pub mod OneDriverLaws
-pub mod DrivesWithin
+pub mod DrivenWithin
 pub mod TallyLaws
 pub mod FirstTwice

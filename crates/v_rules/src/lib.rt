@@ -4,6 +4,8 @@
 
 pub mod laws;
 mod one_driver;
+mod size;
 mod tally;
 
 pub use one_driver::first_driven_twice;
+pub use size::is_too_large;

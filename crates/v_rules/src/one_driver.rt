@@ -1,6 +1,7 @@
 ghost use Rattle.std.specs.Prelude.{◌≡◌, ◌≢◌, ◌<◌, ◌^◌, ◌&&◌, ℕ, length, slice_index, IfOk, IfNone, IfSome};
 ghost use Rattle.design_core.specs.Valuation.{bit};
-ghost use Rattle.design_core.specs.WellFormed.{IsWellFormed, is_input};
+ghost use Rattle.design_core.specs.Given.{CanRun};
+ghost use Rattle.design_core.specs.WellFormed.{is_input};
 ghost use Rattle.design_bits.specs.Masks.{Adds, has};
 ghost use Rattle.v_rules.specs.First.{IsFirst};
 ghost use Rattle.v_rules.specs.OneDriver.{IsDrivenTwice};
@@ -84,7 +85,7 @@ fn driven_too_often(design: &Design, alloc: Global) -> Result<Vec<u128>, NoMemor
 /// The first signal with a bit that has two drivers, or one where the signal is an input of the top; `None` where there is none.
 /// Drivers are continuous assignments, outputs of gates, port connections, combinational blocks and clocked blocks.
 pub fn first_driven_twice(design: &Design, alloc: Global) -> Result<Option<usize>, NoMemory>
-    requires { IsWellFormed design.now }
+    requires { CanRun design.now }
     ensures { IfOk result (IsFirst (IsDrivenTwice design.now)) }
 {
     let twice = driven_too_often(design, alloc)?;

@@ -5,7 +5,7 @@ use Rattle.design_core.specs.Valuation.{bit}
 use Rattle.design_bits.specs.Masks.{has}
 use Rattle.design_bits.proofs.Masks.{bit-and}
 use Rattle.design_bits.proofs.Added.{adds-step}
-use Rattle.v_rules.proofs.TallyLaws.{join-more, join-all, get_or-same}
+use Rattle.design_bits.proofs.Touched.{join-more, join-all, get_or-same}
 use Rattle.v_rules.proofs.tally.join_common.Goals as goal
 
 pub loop-signal-preserved : goal.loop-signal-preserved
