@@ -4,8 +4,7 @@ use design_core::Node;
 use std::alloc::Global;
 use std::process::Abort;
 use std::test::Fail;
-use v_tree::Expr;
-use v_widths::{Scope, WidthErr, constant, own_size, typed, typed_name};
+use v_widths::{Scope, constant, typed};
 
 /// The width and the sign of an expression in a context of 8 bits, and the width of the left operand of its operator.
 fn sized(
@@ -107,42 +106,5 @@ fn a_name_that_is_there_is_not_added(rt: HostRuntime) -> Result<(), Fail> {
         assert!(rt; !scope.add(name, meaning)?);
         assert_eq!(rt; scope.find(name), Some(meaning));
     }
-    Ok(())
-}
-
-#[test]
-fn a_name_is_sized_as_the_expression_that_it_is(rt: HostRuntime) -> Result<(), Fail> {
-    let alloc = rt.alloc();
-    let names = names(&rt, alloc)?;
-    let scope = signals(&rt, alloc, names.as_slice())?;
-    let e = expression(&rt, alloc, b"a[6:3]")?;
-    match &e {
-        Expr::Name {
-            site,
-            name,
-            selects,
-        } => {
-            let found = typed_name(alloc, &scope, *site, name, selects.as_slice())?;
-            assert_eq!(rt; found.width, 4);
-        }
-        _ => assert!(rt; false),
-    }
-    Ok(())
-}
-
-#[test]
-fn a_refused_expression_has_a_size(rt: HostRuntime) -> Result<(), Fail> {
-    let alloc = rt.alloc();
-    let names = names(&rt, alloc)?;
-    let scope = signals(&rt, alloc, names.as_slice())?;
-    let e = expression(&rt, alloc, b"s / t")?;
-    assert!(rt;
-        matches!(
-            typed(alloc, &e, &scope, 0, false),
-            Err(WidthErr::NotConstant(_))
-        )
-    );
-    let size = own_size(alloc, &e, &scope)?;
-    assert_eq!(rt; (size.width, size.signed), (8, true));
     Ok(())
 }
