@@ -8,3 +8,4 @@ pub mod Assignments
 pub mod Races
 pub mod Sound
 pub mod Tallies
+pub mod Held
