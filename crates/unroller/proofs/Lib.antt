@@ -1,0 +1,5 @@
+pub mod Examples
+pub mod Entries
+pub mod NodeSteps
+pub mod WorkSteps
+pub mod CycleLaws

@@ -1,0 +1,4 @@
+pub mod Cycles
+pub mod Unrolls
+pub mod Meaning
+pub mod Fields

@@ -1,0 +1,139 @@
+//! The definitions, and what is kept of each cycle, so far.
+
+ghost use Rattle.std.specs.Prelude.{◌≡◌, ◌<◌, ◌++◌, ◌∷◌, [], IfErr, IfOk, OnOk, length, map};
+ghost use Rattle.gate_base.specs.Arena.{UnlessNoMemory};
+ghost use Rattle.gate_base.specs.Nodes.{counted};
+ghost use Rattle.unroller.specs.Cycles.{frees_at, is_free, translated, words_translated};
+ghost use Rattle.unroller.specs.Unrolls.{with_cycle};
+ghost use Rattle.unroller.specs.Fields.{cycle_of, frame_of, unrolling_of};
+
+use crate::frame::{Frame, translated};
+use crate::nodes::nodes;
+use bit_circuit::Circuit;
+use design_core::Checked;
+use gate_base::{Literal, MakeErr, Maker, Node};
+use loc_base::{Items, NoMemory, Rows};
+use std::alloc::Global;
+
+/// The definitions and what is kept of each cycle, and where more is allocated.
+pub(crate) struct Work {
+    pub alloc: Global,
+    pub base: u32,
+    pub maker: Maker,
+    pub ends: Items<u32>,
+    pub outputs: Rows<Literal>,
+    pub expected: Items<Checked>,
+    pub frees: Rows<Literal>,
+    pub firsts: Items<u32>,
+}
+
+impl Drop for Work {
+    fn drop(self) {
+        let Work {
+            alloc: _,
+            base: _,
+            maker: _,
+            ends: _,
+            outputs: _,
+            expected: _,
+            frees: _,
+            firsts: _,
+        } = self;
+    }
+}
+
+/// The literals of a word of the circuit.
+#[tactic(auto, using(crate::proofs::WorkSteps::words))]
+fn word_translated(
+    alloc: Global,
+    now: &[Literal],
+    word: &[Literal],
+) -> Result<Items<Literal>, NoMemory>
+    ensures { IfOk result (λ made. made ≡ map (translated now.now) word.now) }
+{
+    let mut made = Items::new(alloc);
+    for i in 0..word.len() {
+        made.push(translated(now, word[i]))?;
+    }
+    Ok(made)
+}
+
+/// Appends those of words.
+#[tactic(auto, using(crate::proofs::WorkSteps::rows))]
+fn words_translated(
+    alloc: Global,
+    now: &[Literal],
+    words: &Rows<Literal>,
+    made: &mut Rows<Literal>,
+) -> Result<(), NoMemory>
+    ensures { OnOk result (made.new ≡ made.old ++ words_translated now.now words.now) }
+{
+    for i in 0..words.len() {
+        let word = word_translated(alloc, now, words.row(i))?;
+        made.push(word.as_slice())?;
+    }
+    Ok(())
+}
+
+/// The literals of the free bits among the nodes of the circuit.
+#[tactic(auto, using(crate::proofs::WorkSteps::frees))]
+fn frees_at(alloc: Global, nodes: &[Node], now: &[Literal]) -> Result<Items<Literal>, NoMemory>
+    requires { length nodes.now ≡ length now.now }
+    ensures { IfOk result (λ frees. frees ≡ frees_at nodes.now now.now) }
+{
+    let mut frees = Items::new(alloc);
+    for i in 0..nodes.len() {
+        if is_free(nodes[i]) {
+            frees.push(now[i])?;
+        }
+    }
+    Ok(frees)
+}
+
+/// Whether a node is a bit of a place.
+fn is_free(node: Node) -> bool
+    ensures { result ≡ is_free node }
+{
+    match node {
+        Node::Free {
+            moment: _,
+            place: _,
+            bit: _,
+            computed: _,
+        } => true,
+        Node::Input { input: _, bit: _ } | Node::State { state: _, bit: _ } => false,
+        Node::And { left: _, right: _ } => false,
+    }
+}
+
+impl Work {
+    /// Appends a cycle, and gives the literals of the next states.
+    #[tactic(auto, using(crate::proofs::WorkSteps::cycles))]
+    pub(crate) fn cycle(
+        &mut self,
+        circuit: &Circuit,
+        frame: &Frame,
+        expected: &[Checked],
+    ) -> Result<Rows<Literal>, MakeErr>
+        ensures ok { OnOk result (unrolling_of self.new ≡ with_cycle circuit.now (unrolling_of self.old) expected.now (cycle_of frame.now self.old.maker.nodes circuit.now).nodes (cycle_of frame.now self.old.maker.nodes circuit.now).bits) }
+        ensures states { IfOk result (λ next. next ≡ words_translated (cycle_of frame.now self.old.maker.nodes circuit.now).bits circuit.now.next) }
+        ensures err { IfErr result (λ e. UnlessNoMemory e (self.old.maker.limit < counted (cycle_of frame.now self.old.maker.nodes circuit.now).nodes)) }
+        ensures limit { self.new.maker.limit ≡ self.old.maker.limit }
+    {
+        let mut now = Items::new(self.alloc);
+        nodes(&mut self.maker, frame, circuit.nodes(), &mut now)?;
+        self.ends.push(self.maker.len())?;
+        words_translated(
+            self.alloc,
+            now.as_slice(),
+            circuit.outputs(),
+            &mut self.outputs,
+        )?;
+        self.expected.append(expected)?;
+        let frees = frees_at(self.alloc, circuit.nodes(), now.as_slice())?;
+        self.frees.push(frees.as_slice())?;
+        let mut next = Rows::new(self.alloc);
+        words_translated(self.alloc, now.as_slice(), circuit.next(), &mut next)?;
+        Ok(next)
+    }
+}
