@@ -3,6 +3,7 @@ use Rattle.std.proofs.Common.{◌≡◌, ◌≢◌, ℕ, suc, ◌+◌, ◌<◌, 
 use Rattle.std.specs.List.{list_all, prefix_len}
 use Rattle.std.proofs.lemmas.List.Sums.{prefix_len-le-length}
 use Rattle.std.proofs.lemmas.List.{append-nil}
+use Rattle.loc_base.proofs.ShelfOptions.{Some-same}
 use std.Path.{fun_ext}
 use Rattle.v_lexer.specs.declared.pieces.Piece.{Piece}
 use Rattle.v_lexer.specs.Bytes.{is_letter, is_name_byte}
@@ -146,13 +147,10 @@ none_found f (first ∷ text) e (byte ∷ more) rest joins =
     subst (λ b. f (b ∷ more) ≡ None) (sym same)
     (none_found (λ rest. f (first ∷ rest)) text (longer_none (longest (λ rest. f (first ∷ rest)) text) (f []) e).0 more rest tails)
 
-some_same : (a b : Piece × ℕ) → Some a ≡ Some b → a ≡ b
-some_same a b e = cc
-
 some_parts : (k : Piece) (m : ℕ) (l : Piece) (n : ℕ) → ◌≡◌ {A = Option (Piece × ℕ)} (Some (k, m)) (Some (l, n)) → (k ≡ l) × (m ≡ n)
 some_parts k m l n e =
-    let kinds : k ≡ l = ap (λ (p : Piece × ℕ). p.0) (some_same (k, m) (l, n) e) in
-    let sizes : m ≡ n = ap (λ (p : Piece × ℕ). p.1) (some_same (k, m) (l, n) e) in
+    let kinds : k ≡ l = ap (λ (p : Piece × ℕ). p.0) (Some-same e) in
+    let sizes : m ≡ n = ap (λ (p : Piece × ℕ). p.1) (Some-same e) in
     (kinds, sizes)
 
 -- the front found is a piece, and none that is longer

@@ -2,6 +2,7 @@
 -- one that it names.
 use Rattle.std.proofs.Common.{◌≡◌, ◌≢◌, ℕ, zero, suc, ◌+◌, ◌-◌, ◌<◌, ◌≤◌, ◌⊎◌, inl, inr, Bool, true, false, if◌then◌else◌, List, length, Some, None, Option, sym, ap, ◌∙◌, subst, refl, arith, slice_get}
 use Rattle.std.proofs.lemmas.Option.{slice_get_cases, slice_get_within}
+use Rattle.loc_base.proofs.ShelfBools.{if-cases}
 use Rattle.v_lexer.specs.Lexeme.{Lexeme}
 use Rattle.v_tree.specs.declared.site.Site.{Site}
 use Rattle.v_lexer.specs.declared.types.terminal.Terminal.{Terminal}
@@ -12,7 +13,7 @@ use Rattle.v_tree.specs.Faults.{no_place, Begins}
 use Rattle.v_tree.specs.Reading.{Read, ◌>>=◌, expect, lower}
 use Rattle.v_tree.proofs.MarkLemmas.{same_true, same_of}
 use Rattle.v_tree.proofs.PlaceLemmas.{marked_inside}
-use Rattle.v_tree.proofs.BindLemmas.{good, bad, bad_good, ok-one, bind-inv, if-inv, lower-inv, expect-inv, expect-of, true_false}
+use Rattle.v_tree.proofs.BindLemmas.{good, bad, bad_good, ok-one, bind-inv, lower-inv, expect-inv, expect-of, true_false}
 use Rattle.v_tree.proofs.SoundLemmas.{not_mark}
 use Rattle.v_tree.proofs.CompleteLemmas.{step, then_of, else_of, apart_of, lower-of}
 use Rattle.v_tree.proofs.SteadyLemmas.{Steady, Ahead, reach, from_before, st_bind, st_ok, st_no_place, st_expect, st_lower, st_look, st_if, not_by, site_kept}
@@ -143,7 +144,7 @@ pub law_choice : {A : Type 0} (base : ℕ) (t u : List Lexeme) (a : ℕ) (m : Te
 law_choice {A} base t u a m some o p q r P Q k l tells other =
     let yes = λ (is : mark_at t a ≡ m). k is (marked_inside t a (λ gone. not_by m marks.Nothing some (sym is ∙ gone))) in
     record {
-      sound = λ x b e. elim (if-inv (same (mark_at t a) m) o p _ e) [
+      sound = λ x b e. elim (if-cases (same (mark_at t a) m) o p _ e) [
         | inl h ↦ inl ((yes (same_true _ _ h.0)).sound x b h.1)
         | inr h ↦ inr ((l (not_mark _ _ h.0)).sound x b h.1)
       ];
@@ -161,7 +162,7 @@ pub law_test : {A : Type 0} (base : ℕ) (t u : List Lexeme) (a : ℕ) (test : T
     → ((x : A) (b : ℕ) → P x b → test (mark_at t a) ≡ true) → ((x : A) (b : ℕ) → Q x b → test (mark_at t a) ≡ false)
     → Law base t u a (if test (mark_at t a) then o else p) (if test (mark_at u a) then q else r) (λ x b. P x b ⊎ Q x b)
 law_test base t u a test o p q r P Q k l tells other = record {
-  sound = λ x b e. elim (if-inv (test (mark_at t a)) o p _ e) [
+  sound = λ x b e. elim (if-cases (test (mark_at t a)) o p _ e) [
     | inl h ↦ inl ((k h.0).sound x b h.1)
     | inr h ↦ inr ((l h.0).sound x b h.1)
   ];
@@ -223,7 +224,7 @@ left_out_steady base t u a h = record { ahead = (omega arith, h, record { refuse
 pub law_unless : {A : Type 0} (base : ℕ) (t u : List Lexeme) (a : ℕ) → a ≤ length t → (m : Terminal) (o p : Read A) (P : A → ℕ → Type 0) → (mark_at t a ≢ m → Law base t u a o p P)
     → Law base t u a (unless_at t m a o) (unless_at u m a p) (λ x b. (mark_at t a ≢ m) × P x b)
 law_unless base t u a inside m o p P k = record {
-  sound = λ x b e. elim (if-inv (same (mark_at t a) m) _ _ _ e) [
+  sound = λ x b e. elim (if-cases (same (mark_at t a) m) _ _ _ e) [
     | inl h ↦ bad_good (Unsupported a) (x, b) h.1
     | inr h ↦ (not_mark _ _ h.0, (k (not_mark _ _ h.0)).sound x b h.1)
   ];

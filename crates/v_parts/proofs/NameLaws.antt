@@ -1,5 +1,6 @@
 -- The readers of names, ranges, delays and left sides read what their productions have.
 use Rattle.std.proofs.Common.{◌≡◌, ◌≢◌, ℕ, zero, suc, ◌+◌, ◌<◌, ◌≤◌, ◌⊎◌, inl, inr, false, if◌then◌else◌, List, [], ◌∷◌, length, sym, ap₂, ◌∙◌, subst, refl, arith}
+use Rattle.loc_base.proofs.ShelfBools.{if-cases}
 use Rattle.v_lexer.specs.Lexeme.{Lexeme}
 use Rattle.v_lexer.specs.declared.types.terminal.Terminal.{Terminal}
 use Rattle.v_lexer.specs.declared.types.terminal.Terminal.TheVariants as marks
@@ -10,7 +11,7 @@ use Rattle.v_tree.specs.Tree.{Tree, wild}
 use Rattle.v_tree.specs.Reading.{Read, below, selects_at, whole_expression}
 use Rattle.v_tree.specs.Expressions.{IsWild, IsWhole}
 use Rattle.v_tree.proofs.MarkLemmas.{same_true}
-use Rattle.v_tree.proofs.BindLemmas.{good, bad, bad_good, if-inv}
+use Rattle.v_tree.proofs.BindLemmas.{good, bad, bad_good}
 use Rattle.v_tree.proofs.SoundLemmas.{not_mark}
 use Rattle.v_tree.proofs.CompleteLemmas.{else_of, apart_of, complete_selects}
 use Rattle.v_tree.proofs.SteadyLemmas.{Steady, st_look, st_if, not_by, within_by, text_kept, site_kept}
@@ -52,7 +53,7 @@ whole_value t d e a b plain w =
 value_sound : (t : List Lexeme) (d a : ℕ) (e : Tree) (b : ℕ) → value_at t d a ≡ good (e, b) → IsValue t d e a b
 unfolding value_at
 value_sound t d a e b is =
-    elim (if-inv (same (mark_at t a) marks.Wild) _ _ _ is) [
+    elim (if-cases (same (mark_at t a) marks.Wild) _ _ _ is) [
       | inl p ↦ bad_good (Unsupported a) (e, b) p.1
       | inr p ↦ whole_value t d e a b (not_mark _ _ p.0) (whole_sound t d a e b p.1)
     ]

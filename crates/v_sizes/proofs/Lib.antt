@@ -1,7 +1,6 @@
 pub mod Digits
 pub mod Integers
 pub mod Powers
-pub mod Repeats
 pub mod Scoped
 pub mod SameWord
 pub mod Examples

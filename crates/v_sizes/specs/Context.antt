@@ -55,11 +55,10 @@ IsAmong signals (meaning.Array first count _ width _ left right) = (k : ℕ) →
 abbrev pub IsScopeOf : List Signal → Look → Type 0
 IsScopeOf signals look = (name : List ℕ) (m : Meaning) → look name ≡ Some m → IsAmong signals m
 
--- a context that an expression can stand in: not narrower than it, and signed only where it is
-pub record IsContext (look : Look) (e : Tree) (width : ℕ) (signed : Bool) : Type 0 where
+-- a context that an expression can stand in: not narrower than it
+pub record IsContext (look : Look) (e : Tree) (width : ℕ) : Type 0 where
   pub wide : (sizing look e).width ≤ width
   pub most : width ≤ 128
-  pub as_signed : signed ≡ true → (sizing look e).signed ≡ true
 
 -- the width and the sign that an assignment of a width gives an expression (5.4.1, 5.5.2); `unsigned` where what stands beside it,
 -- as another expression of a case, makes it so

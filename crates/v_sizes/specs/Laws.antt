@@ -14,7 +14,7 @@ use Rattle.v_sizes.specs.Context.{IsScope, IsScopeOf, IsContext}
 pub record Stands (signals : List Signal) (look : Look) (e : Tree) (width : ℕ) (signed : Bool) : Type 0 where
   pub scope : IsScope look
   pub of_design : IsScopeOf signals look
-  pub context : IsContext look e width signed
+  pub context : IsContext look e width
   pub accepted : refusal look false e width signed ≡ None
 
 -- the sized expression is of the context's width and sign, and its parts fit it

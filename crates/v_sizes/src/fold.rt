@@ -1,7 +1,7 @@
 //! The operators of sized expressions on words (IEEE 1364-2005, 5.1).
 ghost use Rattle.std.specs.Prelude.{◌≡◌, ℕ, ◌%◌, ◌*◌, ◌≤◌, ◌||◌, IsTrue, count_ones};
 ghost use Rattle.loc_base.specs.Bits.{width_of, value_of};
-ghost use Rattle.design_core.specs.Operator.{one_if, unary, binary, is_less, repeated};
+ghost use Rattle.design_core.specs.Operator.{one_if, unary, binary, is_less};
 ghost use Rattle.design_core.specs.WellFormed.{unary_fits, binary_fits};
 
 use crate::numbers::{flag, is_full, is_true};
@@ -88,18 +88,4 @@ pub fn binary(op: BinaryOp, one: Operand, other: Operand) -> Bits
         BinaryOp::LogicalAnd => flag(is_true(left) && is_true(right)),
         BinaryOp::LogicalOr => flag(is_true(left) || is_true(right)),
     }
-}
-
-/// A word a number of times, one after another (IEEE 1364-2005, 5.1.14).
-pub fn repeated(times: u8, part: Bits) -> Bits
-    requires some { 1 ≤ times }
-    requires fits { times * width_of part ≤ 128 }
-    ensures width { width_of result ≡ times * width_of part }
-    ensures value { value_of result ≡ repeated times (width_of part) (value_of part) }
-{
-    let mut word = part;
-    for _ in 1..times {
-        word = word.join(part);
-    }
-    word
 }

@@ -6,8 +6,7 @@ use loc_base::NoMemory;
 use std::alloc::Global;
 use std::collections::HashMap;
 
-/// Meanings by name: at most one for each name. To find or to put one takes the time of its bytes, whatever the table
-/// holds.
+/// Meanings by name: at most one for each name.
 #[derive(Drop)]
 pub(crate) struct Table<'a> {
     by_name: HashMap<&'a [u8], Option<Meaning>>,

@@ -1,5 +1,6 @@
 -- The readers of initial blocks read what their productions have.
 use Rattle.std.proofs.Common.{◌≡◌, ℕ, zero, suc, ◌+◌, ◌≤◌, inl, inr, Bool, true, if◌then◌else◌, List, [], ◌∷◌, length, None, Err, ap, ◌∙◌, subst, refl, arith}
+use Rattle.loc_base.proofs.ShelfBools.{if-cases}
 use Rattle.v_lexer.specs.Lexeme.{Lexeme}
 use Rattle.v_lexer.specs.declared.types.terminal.Terminal.TheVariants as marks
 use Rattle.v_tree.specs.declared.fault.Fault.TheVariants.{Unsupported, Deep}
@@ -7,7 +8,7 @@ use Rattle.v_tree.specs.declared.statement.AssignKind.TheVariants.{Blocking}
 use Rattle.v_tree.specs.Marks.{mark_at}
 use Rattle.v_tree.specs.Sites.{site}
 use Rattle.v_tree.specs.Tree.{no_select}
-use Rattle.v_tree.proofs.BindLemmas.{bad, bad_good, if-inv}
+use Rattle.v_tree.proofs.BindLemmas.{bad, bad_good}
 use Rattle.v_tree.proofs.CompleteLemmas.{else_of}
 use Rattle.v_tree.proofs.SteadyLemmas.{st_look, st_if, site_kept}
 use Rattle.v_tree.specs.PartTree.{name_left}
@@ -66,7 +67,7 @@ law_taken base t u d a st =
     let l = taking_initial_assign base t u d a st in
     record {
       law = record {
-        sound = λ x b e. elim (if-inv (is_left_out (mark_at t a)) _ _ _ e) [
+        sound = λ x b e. elim (if-cases (is_left_out (mark_at t a)) _ _ _ e) [
           | inl h ↦ bad_good (Unsupported a) (x, b) h.1
           | inr h ↦ l.law.sound x b h.1
         ];

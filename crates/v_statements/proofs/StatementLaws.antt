@@ -1,5 +1,6 @@
 -- The readers of statements read what their productions have.
 use Rattle.std.proofs.Common.{◌≡◌, ◌≢◌, ℕ, zero, suc, ◌+◌, ◌<◌, ◌≤◌, inl, inr, Bool, true, false, if◌then◌else◌, List, [], ◌∷◌, length, Ok, Err, sym, ap, ◌∙◌, subst, refl, arith}
+use Rattle.loc_base.proofs.ShelfBools.{if-cases}
 use Rattle.v_lexer.specs.Lexeme.{Lexeme}
 use Rattle.v_lexer.specs.declared.types.terminal.Terminal.{Terminal}
 use Rattle.v_lexer.specs.declared.types.terminal.Terminal.TheVariants as marks
@@ -15,7 +16,7 @@ use Rattle.v_tree.specs.Faults.{no_place, Begins}
 use Rattle.v_tree.specs.Reading.{Read, ◌>>=◌, whole_expression}
 use Rattle.v_tree.specs.Expressions.{IsWild}
 use Rattle.v_tree.proofs.MarkLemmas.{same_true, same_of}
-use Rattle.v_tree.proofs.BindLemmas.{good, bad, bad_good, if-inv, bind-inv, from_ok, true_false}
+use Rattle.v_tree.proofs.BindLemmas.{good, bad, bad_good, bind-inv, from_ok, true_false}
 use Rattle.v_tree.proofs.SoundLemmas.{not_mark}
 use Rattle.v_tree.proofs.CompleteLemmas.{step, then_of, else_of, apart_of}
 use Rattle.v_tree.proofs.SteadyLemmas.{Steady, st_bind, not_by, within_by, site_kept, mark_kept}
@@ -173,8 +174,8 @@ unfolding casez_label_at
 casez_sound t d a x b e =
     let i = bind-inv (whole_expression t d a) _ _ e in
     let w = whole_sound t d a i.0.0 i.0.1 i.1 in
-    elim (if-inv (same (mark_at t a) marks.Wild) _ _ _ i.2) [
-      | inl p ↦ elim (if-inv (may_follow_label (mark_at t i.0.1)) _ _ _ p.1) [
+    elim (if-cases (same (mark_at t a) marks.Wild) _ _ _ i.2) [
+      | inl p ↦ elim (if-cases (may_follow_label (mark_at t i.0.1)) _ _ _ p.1) [
         | inl q ↦ from_ok (λ x b. IsCasezLabel t d x a b) _ _ _ _ q.1 record { whole = w; alone = λ h. q.0 }
         | inr q ↦ bad_good (Unsupported a) (x, b) q.1
       ]

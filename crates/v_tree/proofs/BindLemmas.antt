@@ -1,5 +1,6 @@
 -- What a step that succeeds says of its parts.
 use Rattle.std.proofs.Common.{◌≡◌, ◌≢◌, ℕ, ◌+◌, ◌-◌, ◌<◌, ◌≤◌, ◌⊎◌, inl, inr, Bool, true, false, if◌then◌else◌, List, Ok, Err, Result, sym, ap, ◌∙◌, subst, refl, arith, nat_lt, ◌==◌, eq-eqb, ltb-true}
+use Rattle.loc_base.proofs.ShelfBools.{if-cases}
 use Rattle.v_lexer.specs.Lexeme.{Lexeme}
 use Rattle.v_lexer.specs.declared.types.terminal.Terminal.{Terminal}
 use Rattle.v_tree.specs.declared.fault.Fault.{Fault}
@@ -28,17 +29,13 @@ pub bind-inv : {A B : Type 0} (r : Result A Fault) (f : A → Result B Fault) (y
 bind-inv (Ok x) f y e = (x, refl, e)
 bind-inv (Err g) f y e = bad_good g y e
 
-pub if-inv : {A : Type 0} (b : Bool) (x y z : A) → (if b then x else y) ≡ z → ((b ≡ true) × (x ≡ z)) ⊎ ((b ≡ false) × (y ≡ z))
-if-inv true x y z e = inl (refl, e)
-if-inv false x y z e = inr (refl, e)
-
 -- what was found is what is said of
 pub from_ok : {A : Type 0} (P : A → ℕ → Type 0) (x y : A) (b c : ℕ) → good {A = A × ℕ} (x, b) ≡ good {A = A × ℕ} (y, c) → P x b → P y c
 from_ok {A} P x y b c e p = subst (λ (q : A × ℕ). P q.0 q.1) (ok-one (x, b) (y, c) e) p
 
 pub lower-inv : (d a n : ℕ) → lower d a ≡ Ok n → n + 1 ≡ d
 lower-inv d a n e =
-    elim (if-inv (d == 0) _ _ _ e) [
+    elim (if-cases (d == 0) _ _ _ e) [
       | inl p ↦ bad_good (Deep a) n p.1
       | inr p ↦
           let h : d - 1 ≡ n = ok-one _ _ p.1 in
@@ -48,7 +45,7 @@ lower-inv d a n e =
 
 pub above-inv : (levels_left used a n : ℕ) → above levels_left used a ≡ Ok n → (n + 1 ≡ levels_left) × (used ≤ n)
 above-inv levels_left used a n e =
-    elim (if-inv (nat_lt used levels_left) _ _ _ e) [
+    elim (if-cases (nat_lt used levels_left) _ _ _ e) [
       | inl p ↦ let less : used < levels_left = ltb-true _ _ p.0 in let h : levels_left - 1 ≡ n = ok-one _ _ p.1 in (omega (arith, less, h), omega (arith, less, h))
       | inr p ↦ bad_good (Deep a) n p.1
     ]
@@ -56,7 +53,7 @@ above-inv levels_left used a n e =
 pub expect-inv : (t : List Lexeme) (m : Terminal) (a b : ℕ) → expect t m a ≡ Ok b → (mark_at t a ≡ m) × (b ≡ a + 1)
 unfolding expect
 expect-inv t m a b e =
-    elim (if-inv (same (mark_at t a) m) _ _ _ e) [
+    elim (if-cases (same (mark_at t a) m) _ _ _ e) [
       | inl p ↦ (same_true _ _ p.0, sym (ok-one _ _ p.1))
       | inr p ↦ bad_good (no_place t a) b p.1
     ]

@@ -1,5 +1,6 @@
 -- Each expression of the tokens is found by reading.
 use Rattle.std.proofs.Common.{◌≡◌, ◌≢◌, ℕ, zero, suc, ◌+◌, ◌-◌, ◌<◌, ◌≤◌, Bool, true, false, if◌then◌else◌, List, length, Some, None, Option, Ok, Result, sym, ap, ◌∙◌, subst, refl, arith, nat_lt, le-ltb, lt-ltb, ne_eqb, ◌==◌, lit≤}
+use Rattle.loc_base.proofs.ShelfOptions.{Some-same}
 use Rattle.v_lexer.specs.Lexeme.{Lexeme}
 use Rattle.v_tree.specs.declared.site.Site.{Site}
 use Rattle.v_lexer.specs.declared.types.terminal.Terminal.{Terminal}
@@ -20,7 +21,7 @@ use Rattle.v_tree.proofs.MarkLemmas.{same_true, same_of}
 use Rattle.v_tree.proofs.BindLemmas.{good, expect-of}
 use Rattle.v_tree.proofs.PlaceLemmas.{binary_inside, marked_inside}
 use Rattle.v_tree.proofs.StepLemmas.{whole_over, operand_over, below_less, strength_most, climb_more, climb_same, chain_more}
-use Rattle.v_tree.proofs.SoundLemmas.{none_some, some_one, forward, strength_least, never}
+use Rattle.v_tree.proofs.SoundLemmas.{none_some, forward, strength_least, never}
 
 pub step : {A B : Type 0} (r : Result A Fault) (x : A) (f : A → Result B Fault) (y : Result B Fault) → r ≡ good x → f x ≡ y → (r >>= f) ≡ y
 step r x f y e h = ap (λ q. q >>= f) e ∙ h
@@ -336,7 +337,7 @@ binary_chains t s op left right lh rh d levels_left least a b low some (m, l, k,
     let climbs = climb t (readers t d).operand 11 in
     let inside = binary_inside t m op p in
     let c = lh.climbs d levels_left least a m (omega (arith, low, k)) some l (omega (arith, deep)) (omega (arith, up)) (λ h. operator_no_bracket _ op p)
-    (λ o h. subst (λ v. strength v ≤ tightness left) (some_one op o (sym p ∙ h)) k) in
+    (λ o h. subst (λ v. strength v ≤ tightness left) (Some-same (sym p ∙ h)) k) in
     let left_over : c.left ≢ 0 = (let h = c.enough in omega (arith, h, inside)) in
     let most = strength_most op in
     let f = rh.climbs d (levels_left - 1) (strength op + 1) (m + 1) b (omega (arith, q)) (omega arith) r (omega (arith, deep)) (omega (arith, up)) done (λ o h. let g = loose o h in omega (arith, g, q)) in

@@ -1,5 +1,7 @@
 -- What reading finds is an expression of the tokens.
 use Rattle.std.proofs.Common.{◌≡◌, ◌≢◌, ℕ, zero, suc, ◌+◌, ◌<◌, ◌≤◌, inl, inr, true, false, List, length, Some, None, Option, Ok, sym, ap, ◌∙◌, subst, refl, arith, nat_lt, ltb-true, ltb-false, lit≤}
+use Rattle.loc_base.proofs.ShelfBools.{if-cases}
+use Rattle.loc_base.proofs.ShelfOptions.{Some-same}
 use Rattle.v_lexer.specs.Lexeme.{Lexeme}
 use Rattle.v_lexer.specs.declared.types.terminal.Terminal.{Terminal}
 use Rattle.v_lexer.specs.declared.types.terminal.Terminal.TheVariants as marks
@@ -16,7 +18,7 @@ use Rattle.v_tree.specs.Expressions.{Ends, tightness, how_many, takes_select, Is
 use Rattle.v_tree.specs.Faults.{no_place}
 use Rattle.v_tree.specs.Reading.{Reader, Readers, readers, below, operand_with, signed_at, called_at, plain_at, whole_with, lower, above, expect, chain, chain_step, climb, more_parts, parts_from, selects_at, select_at, behind_at, close_bit, close_part, name_at, parens_at, close_parens, braces_at, repeat_at, concat_at, close_repeat, close_concat, system_at, close_system, unary_at, question_at}
 use Rattle.v_tree.proofs.MarkLemmas.{same_true, same_of}
-use Rattle.v_tree.proofs.BindLemmas.{bind-inv, if-inv, from_ok, lower-inv, above-inv, expect-inv, bad_good, true_false}
+use Rattle.v_tree.proofs.BindLemmas.{bind-inv, from_ok, lower-inv, above-inv, expect-inv, bad_good, true_false}
 use Rattle.v_tree.proofs.StepLemmas.{whole_over, operand_over, below_less, strength_most}
 use Rattle.v_tree.proofs.PlaceLemmas.{binary_inside}
 use Rattle.v_tree.specs.declared.operator.Binary.TheVariants as ops
@@ -104,7 +106,7 @@ more-sound : (t : List Lexeme) (d : ℕ) (w : Reader) → SoundReader t d w → 
 unfolding more_parts
 more-sound t d w under levels_left zero a xs b e = from_ok (λ xs b. SoundMore t d levels_left xs a b) _ _ _ _ e record { spelled = refl; nests = omega arith; rises = omega arith }
 more-sound t d w under levels_left (suc n) a xs b e =
-    elim (if-inv (same (mark_at t a) marks.Comma) _ _ _ e) [
+    elim (if-cases (same (mark_at t a) marks.Comma) _ _ _ e) [
       | inr p ↦ from_ok (λ xs b. SoundMore t d levels_left xs a b) _ _ _ _ p.1 record { spelled = refl; nests = omega arith; rises = omega arith }
       | inl p ↦
           let i = bind-inv (w levels_left (a + 1)) _ _ p.1 in
@@ -140,7 +142,7 @@ braces-sound t d w under levels_left a x b o e =
     let low = lower-inv d a i.0 i.1 in
     let less = lower-inv levels_left a r.0 r.1 in
     let s = under i.0 low r.0 (a + 1) j.0.0 j.0.1 j.1 in
-    elim (if-inv (same (mark_at t j.0.1) marks.OpenBrace) _ _ _ j.2) [
+    elim (if-cases (same (mark_at t j.0.1) marks.OpenBrace) _ _ _ j.2) [
       | inl p ↦
           let k = bind-inv (w r.0 (j.0.1 + 1)) _ _ p.1 in
           let z = under i.0 low r.0 (j.0.1 + 1) k.0.0 k.0.1 k.1 in
@@ -223,7 +225,7 @@ unfolding selects_at
 selects-sound t d w under levels_left zero a xs b e =
     from_ok (λ xs b. SoundSelects t d levels_left 0 xs a b) _ _ _ _ e record { spelled = refl; count = omega arith; nests = omega arith; rises = omega arith; stops = λ h. absurd (omega (arith, h)) }
 selects-sound t d w under levels_left (suc n) a xs b e =
-    elim (if-inv (same (mark_at t a) marks.OpenBracket) _ _ _ e) [
+    elim (if-cases (same (mark_at t a) marks.OpenBracket) _ _ _ e) [
       | inr p ↦ from_ok (λ xs b. SoundSelects t d levels_left (suc n) xs a b) _ _ _ _ p.1
           record { spelled = refl; count = omega arith; nests = omega arith; rises = omega arith; stops = λ h. not_mark _ _ p.0 }
       | inl p ↦
@@ -255,16 +257,16 @@ plain-sound : (t : List Lexeme) (d : ℕ) (w : Reader) → ((n : ℕ) → n + 1 
     → plain_at t d w (mark_at t a) levels_left a ≡ Ok (x, b) → SoundOperand t d levels_left x a b
 unfolding plain_at
 plain-sound t d w under levels_left a x b e =
-    elim (if-inv (same (mark_at t a) marks.Number) _ _ _ e) [
+    elim (if-cases (same (mark_at t a) marks.Number) _ _ _ e) [
       | inl p ↦ from_ok (λ x b. SoundOperand t d levels_left x a b) _ _ _ _ p.1 record {
         sound = record { spelled = (same_true _ _ p.0, refl, refl, refl); nests = omega arith; rises = omega arith; stops = none_stops };
         tight = omega arith;
       }
-      | inr p ↦ elim (if-inv (same (mark_at t a) marks.Name) _ _ _ p.1) [
+      | inr p ↦ elim (if-cases (same (mark_at t a) marks.Name) _ _ _ p.1) [
         | inl q ↦ name-sound t d w under levels_left a x b (same_true _ _ q.0) q.1
-        | inr q ↦ elim (if-inv (same (mark_at t a) marks.Open) _ _ _ q.1) [
+        | inr q ↦ elim (if-cases (same (mark_at t a) marks.Open) _ _ _ q.1) [
           | inl r ↦ parens-sound t d w under levels_left a x b (same_true _ _ r.0) r.1
-          | inr r ↦ elim (if-inv (same (mark_at t a) marks.OpenBrace) _ _ _ r.1) [
+          | inr r ↦ elim (if-cases (same (mark_at t a) marks.OpenBrace) _ _ _ r.1) [
             | inl s ↦ braces-sound t d w under levels_left a x b (same_true _ _ s.0) s.1
             | inr s ↦ bad_good (no_place t a) (x, b) s.1
           ]
@@ -347,9 +349,6 @@ strength_least ops.Or = lit≤ tt
 strength_least ops.LogicalAnd = lit≤ tt
 strength_least ops.LogicalOr = lit≤ tt
 
-pub some_one : {A : Type 0} (x y : A) → Some x ≡ Some y → x ≡ y
-some_one x y e = cc
-
 abbrev pub nothing : {A : Type 0} → Option A
 nothing = None
 
@@ -375,9 +374,9 @@ step-sound : (t : List Lexeme) (d : ℕ) (right : ℕ → Reader) (least : ℕ) 
 step-sound t d right least under levels_left from n again left a s tight ends fuel None is x b e =
     from_ok (λ x b. SoundClimb t d levels_left least x from b) _ _ _ _ e record { sound = s; tight = tight; ended = λ o h. none_some o (sym is ∙ h) }
 step-sound t d right least under levels_left from n again left a s tight ends fuel (Some op) is x b e =
-    elim (if-inv (nat_lt (strength op) least) _ _ _ e) [
+    elim (if-cases (nat_lt (strength op) least) _ _ _ e) [
       | inl p ↦ from_ok (λ x b. SoundClimb t d levels_left least x from b) _ _ _ _ p.1
-          record { sound = s; tight = tight; ended = λ o h. let low : strength op < least = ltb-true _ _ p.0 in let one : op ≡ o = some_one op o (sym is ∙ h) in subst (λ q. strength q < least) one low }
+          record { sound = s; tight = tight; ended = λ o h. let low : strength op < least = ltb-true _ _ p.0 in let one : op ≡ o = Some-same (sym is ∙ h) in subst (λ q. strength q < least) one low }
       | inr p ↦
           let high : least ≤ strength op = ltb-false _ _ p.0 in
           let i = bind-inv (above levels_left (levels left) a) _ _ p.1 in
@@ -432,7 +431,7 @@ unfolding whole_with question_at
 whole-sound t d o w opens under levels_left a x b e =
     let i = bind-inv (climb t o 12 1 levels_left a) _ _ e in
     let c = climb-sound t d o opens 12 1 (lit≤ tt) (lit≤ tt) (lit≤ tt) levels_left a i.0.0 i.0.1 i.1 in
-    elim (if-inv (same (mark_at t i.0.1) marks.Question) _ _ _ i.2) [
+    elim (if-cases (same (mark_at t i.0.1) marks.Question) _ _ _ i.2) [
       | inr p ↦ from_ok (λ x b. SoundWhole t d levels_left x a b) _ _ _ _ p.1 record {
         sound = c.sound;
         ends = record {

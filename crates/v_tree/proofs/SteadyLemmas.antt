@@ -1,6 +1,7 @@
 -- Reading looks no farther than the token behind what it found, or at the one that it names.
 use Rattle.std.proofs.Common.{◌≡◌, ◌≢◌, ℕ, zero, suc, ◌+◌, ◌-◌, ◌<◌, ◌≤◌, inl, inr, Bool, true, false, if◌then◌else◌, List, length, Some, None, Option, Ok, Err, sym, ap, ap₂, ◌∙◌, subst, refl, arith, nat_lt, ltb-true, ltb-false, le-ltb, ◌==◌, eqb-true, eq-eqb, lit≤}
 use Rattle.std.proofs.lemmas.Bool.{cases_lt}
+use Rattle.loc_base.proofs.ShelfOptions.{Some-same}
 use Rattle.v_lexer.specs.Lexeme.{Lexeme}
 use Rattle.v_lexer.specs.declared.types.terminal.Terminal.{Terminal}
 use Rattle.v_lexer.specs.declared.types.terminal.Terminal.TheVariants as marks
@@ -21,7 +22,7 @@ use Rattle.v_tree.proofs.MarkLemmas.{same_true, same_of}
 use Rattle.v_tree.proofs.BindLemmas.{good, bad, bad_good, true_false}
 use Rattle.v_tree.proofs.PlaceLemmas.{binary_inside, marked_inside, past_nothing, unary_inside, system_inside, part_inside}
 use Rattle.v_tree.proofs.StepLemmas.{whole_over, operand_over, below_less, strength_most, chain_more, more_parts_more}
-use Rattle.v_tree.proofs.SoundLemmas.{none_some, some_one, not_mark, forward, sound_readers, climb-sound, SoundOperands}
+use Rattle.v_tree.proofs.SoundLemmas.{none_some, not_mark, forward, sound_readers, climb-sound, SoundOperands}
 use Rattle.v_tree.proofs.CompleteLemmas.{chain-stops, is_false, then_of, else_of}
 
 -- a word that is left out is named so, and a limit is passed only behind so many tokens
@@ -490,7 +491,7 @@ chain_choice base t u d f g least levels_left from n under again k left other a 
     chain_rests base t u f g least levels_left from (suc n) k left other a h (λ o e. none_some o (sym is ∙ e)) kept
 chain_choice base t u d f g least levels_left from n under again k left other a enough also h deep far few kept (Some op) is =
     elim (cases_lt (strength op) least) [
-      | inl low ↦ chain_rests base t u f g least levels_left from (suc n) k left other a h (λ o e. subst (λ v. strength v < least) (some_one op o (sym is ∙ e)) low) kept
+      | inl low ↦ chain_rests base t u f g least levels_left from (suc n) k left other a h (λ o e. subst (λ v. strength v < least) (Some-same (sym is ∙ e)) low) kept
       | inr high ↦ chain_case base t u d f g least levels_left from n under again k left other a enough also h deep far few kept op is high
     ]
 

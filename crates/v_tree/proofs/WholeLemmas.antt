@@ -1,5 +1,6 @@
 -- Expressions of their own: what reading finds is one, each one is found, and where reading refuses there is none.
 use Rattle.std.proofs.Common.{◌≡◌, ◌≢◌, ℕ, ◌+◌, ◌<◌, ◌≤◌, inl, inr, Bool, true, false, if◌then◌else◌, List, length, Some, None, Option, Ok, Err, sym, ap, ◌∙◌, subst, refl, arith, lit≤}
+use Rattle.loc_base.proofs.ShelfBools.{if-cases}
 use Rattle.v_lexer.specs.Lexeme.{Lexeme}
 use Rattle.v_tree.specs.declared.site.Site.{Site}
 use Rattle.v_lexer.specs.declared.types.terminal.Terminal.TheVariants as marks
@@ -15,7 +16,7 @@ use Rattle.v_tree.specs.Faults.{Begins, told_by}
 use Rattle.v_tree.specs.Answers.{Refuses}
 use Rattle.v_tree.specs.Reading.{Read, readers, wild_at, whole_expression}
 use Rattle.v_tree.proofs.MarkLemmas.{same_true, same_of}
-use Rattle.v_tree.proofs.BindLemmas.{good, bad, bad_good, if-inv, from_ok, true_false}
+use Rattle.v_tree.proofs.BindLemmas.{good, bad, bad_good, from_ok, true_false}
 use Rattle.v_tree.proofs.SoundLemmas.{none_some, none_stops, not_mark, sound_readers}
 use Rattle.v_tree.proofs.CompleteLemmas.{complete, then_of, else_of, is_false, finish}
 use Rattle.v_tree.proofs.SteadyLemmas.{Steady, Fair, mark_kept, text_kept, site_kept, st_look, st_if, not_by, within_by, steady_readers}
@@ -23,7 +24,7 @@ use Rattle.v_tree.proofs.SteadyLemmas.{Steady, Fair, mark_kept, text_kept, site_
 wild_sound : (t : List Lexeme) (d a : ℕ) → mark_at t a ≡ marks.Wild → (q : Option Binary) → binary_of (mark_at t (a + 1)) ≡ q → (x : Tree) (b : ℕ) → wild_at t a q ≡ Ok (x, b) → IsWhole t d x a b
 wild_sound t d a is (Some o) next x b e = bad_good (Unsupported a) (x, b) e
 wild_sound t d a is None next x b e =
-    elim (if-inv (same (mark_at t (a + 1)) marks.Question) _ _ _ e) [
+    elim (if-cases (same (mark_at t (a + 1)) marks.Question) _ _ _ e) [
       | inl p ↦ bad_good (Unsupported a) (x, b) p.1
       | inr p ↦ from_ok (λ x b. IsWhole t d x a b) _ _ _ _ p.1 record {
         spelled = inr (is, refl, refl, refl);
@@ -35,7 +36,7 @@ wild_sound t d a is None next x b e =
 pub whole_sound : (t : List Lexeme) (d a : ℕ) (x : Tree) (b : ℕ) → whole_expression t d a ≡ Ok (x, b) → IsWhole t d x a b
 unfolding whole_expression
 whole_sound t d a x b e =
-    elim (if-inv (same (mark_at t a) marks.Wild) _ _ _ e) [
+    elim (if-cases (same (mark_at t a) marks.Wild) _ _ _ e) [
       | inl p ↦ wild_sound t d a (same_true _ _ p.0) (binary_of (mark_at t (a + 1))) refl x b p.1
       | inr p ↦
           let s = (sound_readers t d).wholes 4096 a x b p.1 in

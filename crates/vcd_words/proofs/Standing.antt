@@ -3,19 +3,16 @@ use Rattle.std.proofs.Common.{◌≡◌, ◌≢◌, ℕ, ◌+◌, Bool, true, fa
 use Rattle.std.specs.Prelude.{slice_get}
 use Rattle.std.specs.List.{list_all}
 use Rattle.std.specs.Option.{option_map_or}
-use Rattle.std.proofs.lemmas.Bool.{cases_Bool, cond-true, cond-false, and_from, and_parts, false≢true}
+use Rattle.std.proofs.lemmas.Bool.{cases_Bool, cond-true, cond-false, and_from, and_parts}
 use Rattle.std.proofs.lemmas.List.{append-nil}
 use Rattle.std.proofs.lemmas.List.Folds.{list_all-append}
 use Rattle.loc_base.specs.Ascii.{is_white}
+use Rattle.loc_base.proofs.ShelfBools.{not-true}
 use Rattle.vcd_words.specs.Words.{Placed, ended, words_from, words_at, IsNextWord, AreWords, WordsStand}
 use Rattle.vcd_words.proofs.WordSteps.{white_byte, one_ended}
 
 abbrev is_black : ℕ → Bool
 is_black byte = not (is_white byte)
-
-black_not : (b : Bool) → not b ≡ true → b ≡ false
-black_not true e = absurd (false≢true e)
-black_not false e = refl
 
 -- white space before a text moves its words
 white_front : (at : ℕ) (before text : List ℕ) → list_all is_white before ≡ true → words_at at (before ++ text) ≡ words_at (at + length before) text
@@ -30,7 +27,7 @@ pub black_front : (at : ℕ) (word bytes text : List ℕ) → list_all is_black 
 black_front at word [] text black = ap (λ w. words_from at w text) (sym (append-nil word))
 black_front at word (byte ∷ bytes) text black =
     let tests = and_parts (is_black byte) (list_all is_black bytes) black in
-    cond-false _ _ _ (black_not (is_white byte) tests.0) ∙ black_front at (word ++ byte ∷ []) bytes text tests.1
+    cond-false _ _ _ (not-true (is_white byte) tests.0) ∙ black_front at (word ++ byte ∷ []) bytes text tests.1
     ∙ ap (λ w. words_from at w text) (append_assoc word (byte ∷ []) bytes)
 
 -- a word ends
