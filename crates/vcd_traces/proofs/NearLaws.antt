@@ -8,6 +8,7 @@ use Rattle.std.specs.List.{list_all}
 use Rattle.std.proofs.lemmas.Bool.{cases_Bool, cond-true, cond-false, and_parts, false≢true}
 use Rattle.std.proofs.lemmas.List.{get_or-set_same, get_or-set_other}
 use Rattle.loc_base.specs.Ascii.{is_visible}
+use Rattle.loc_base.proofs.ShelfOptions.{Some-same}
 use Rattle.vcd_words.specs.Codes.{place_of, is_short_code, CodeLaws}
 use Rattle.vcd_words.proofs.CodeLaws.{code_laws}
 use Rattle.vcd_reading.proofs.ByteLaws.{same_means, same_self}
@@ -85,16 +86,13 @@ near_set old new code other place role (Some q) here there within near far =
     elim (cases_Bool (pointwise nat_eq code other)) [
       | inl same ↦
           let P : List ℕ → Type 0 = λ l. near_place (length old.near.items) l ≡ Some q in
-          let one : place ≡ q = some_one place q (sym here ∙ subst P (sym (same_means code other same)) there) in
+          let one : place ≡ q = Some-same (sym here ∙ subst P (sym (same_means code other same)) there) in
           ap (λ l. get_or l q None) near ∙ ap (λ k. get_or (set old.near.items place (Some role)) k None) (sym one)
           ∙ get_or-set_same old.near.items place (Some role) None within ∙ sym (cond-true _ _ _ same)
       | inr away ↦
           ap (λ l. get_or l q None) near ∙ get_or-set_other old.near.items place q (Some role) None (apart away) ∙ sym (cond-false _ _ _ away)
     ]
   where
-    some_one : (m n : ℕ) → Some m ≡ Some n → m ≡ n
-    some_one m n e = cc
-
     apart : pointwise nat_eq code other ≡ false → q ≢ place
     apart away same =
         let P : ℕ → Type 0 = λ k. near_place (length old.near.items) other ≡ Some k in
