@@ -38,7 +38,10 @@ is_at_end (Some (byte ∷ bytes)) = false
 unfoldable pub is_decimal_number : List ℕ → Bool
 is_decimal_number bytes = is_at_end (option_and_then past_exponent (option_and_then past_fraction (past_digits bytes)))
 
--- a sign if any, and a decimal number, `inf` or `nan`
+-- `inf` and `nan` as C prints them, and `NaN` as Icarus Verilog writes a real while the dump is switched off
+abbrev pub is_no_number : List ℕ → Bool
+is_no_number bytes = same_bytes bytes (codes "inf") || same_bytes bytes (codes "nan") || same_bytes bytes (codes "NaN")
+
+-- a sign if any, and a decimal number or what stands for none
 unfoldable pub is_real : List ℕ → Bool
-is_real bytes =
-    same_bytes (unsigned bytes) (codes "inf") || same_bytes (unsigned bytes) (codes "nan") || is_decimal_number (unsigned bytes)
+is_real bytes = is_no_number (unsigned bytes) || is_decimal_number (unsigned bytes)

@@ -1,7 +1,7 @@
 //! The numbers of real changes (IEEE 1364-2005, 18.2.1).
 ghost use Rattle.std.specs.Prelude.{◌≡◌};
 ghost use Rattle.std.specs.Option.{option_copied};
-ghost use Rattle.vcd_reading.specs.Reals.{unsigned, drop_digits, past_digits, past_fraction, past_exponent, is_decimal_number, is_real};
+ghost use Rattle.vcd_reading.specs.Reals.{unsigned, drop_digits, past_digits, past_fraction, past_exponent, is_decimal_number, is_no_number, is_real};
 
 use loc_base::is_decimal;
 
@@ -76,11 +76,18 @@ fn is_decimal_number(bytes: &[u8]) -> bool
     bytes.is_empty()
 }
 
-/// Whether a word is a real number: a sign if any, and a decimal number, `inf` or `nan`.
+/// Whether a word stands for what is no number.
+fn is_no_number(bytes: &[u8]) -> bool
+    ensures { result ≡ is_no_number bytes.now }
+{
+    bytes == b"inf".as_slice() || bytes == b"nan".as_slice() || bytes == b"NaN".as_slice()
+}
+
+/// Whether a word is a real number: a sign if any, and a decimal number, `inf`, `nan` or `NaN`.
 #[tactic(auto, unfolding(crate::specs::Reals::is_real))]
 pub fn is_real(bytes: &[u8]) -> bool
     ensures { result ≡ is_real bytes.now }
 {
     let bytes = unsigned(bytes);
-    bytes == b"inf".as_slice() || bytes == b"nan".as_slice() || is_decimal_number(bytes)
+    is_no_number(bytes) || is_decimal_number(bytes)
 }
