@@ -1,6 +1,6 @@
 -- The clock and resets (IEEE 1364.1-2002, 5.2.2): one clock for the whole design, an input of the top, handed on by plain names
 -- alone; a reset is another input of the top. The rule of the clock is this project's own.
-use Rattle.std.specs.Prelude.{ℕ, ◌==◌, Bool, true, false, not, ◌&&◌, ◌||◌, if◌then◌else◌, List, [], ◌∷◌, Option, Some, None}
+use Rattle.std.specs.Prelude.{ℕ, ◌==◌, Bool, true, false, not, ◌&&◌, ◌||◌, if◌then◌else◌, List, [], ◌∷◌, Option, Some, None, Result, Ok, Err}
 use Rattle.std.specs.Option.{option_map_or, option_and_then}
 use Rattle.std.specs.List.{list_any}
 use Rattle.loc_base.specs.Bits.{value_of}
@@ -11,6 +11,8 @@ use Rattle.v_tree.specs.declared.operator.Binary.TheVariants as binary_word
 use Rattle.v_tree.specs.Tree.{Tree, no_select}
 use Rattle.v_tree.specs.Tree as written
 use Rattle.v_tree.specs.ItemTree.{PlainEvent, edge_event, change_event}
+use Rattle.design_core.specs.declared.expression.Node.{Node}
+use Rattle.design_core.specs.declared.expression.Node.TheVariants as node
 use Rattle.design_core.specs.declared.driver.Driver.{Driver}
 use Rattle.design_core.specs.declared.driver.Driver.TheVariants as driver
 use Rattle.design_core.specs.declared.driver.Clocked.{Clocked}
@@ -21,13 +23,12 @@ use Rattle.design_core.specs.Mentions.{driver_mentions, statement_mentions}
 use Rattle.design_core.specs.WellFormed.{is_reset_values}
 use Rattle.v_sizes.specs.declared.meaning.Meaning.{Meaning}
 use Rattle.v_sizes.specs.declared.meaning.Meaning.TheVariants as meaning
-use Rattle.v_sizes.specs.Sizing.{sizing}
-use Rattle.v_sizes.specs.Context.{constant_of}
 use Rattle.v_hierarchy.specs.Names.{same_name}
 use Rattle.v_hierarchy.specs.Unrolled.{Steps, run, branch, StepList, no_step, step}
 use Rattle.v_binding.specs.declared.known.Use.{Use}
 use Rattle.v_binding.specs.declared.known.Use.TheVariants.{Stands as stands}
-use Rattle.v_binding.specs.Names.{Names, find, look_in}
+use Rattle.v_binding.specs.Names.{Names, find}
+use Rattle.v_binding.specs.Expressions.{by_itself}
 use Rattle.v_binding.specs.Bound.{Root}
 
 -- ---- which input of the top a signal is, or is connected to by plain names
@@ -119,9 +120,16 @@ abbrev pub is_name : List ℕ → Tree → Bool
 is_name text (written.name _ name no_select) = same_name name text
 is_name text _ = false
 
--- a constant of that value
+-- a constant of that value; what is refused by itself is none
+abbrev pub is_word_of : ℕ → Node → Bool
+is_word_of n (node.Const word) = value_of word == n
+is_word_of n _ = false
+
 abbrev pub is_constant_of : Names → ℕ → Tree → Bool
-is_constant_of names n e = (sizing (look_in names) e).constant && value_of (constant_of (look_in names) e 0).bits == n
+is_constant_of names n e = elim (by_itself names e) [
+  | Ok x ↦ is_word_of n x.node
+  | Err e ↦ false
+]
 
 -- whether a condition is that a reset is active: r, or r == 1; of a falling edge !r, ~r, or r == 0
 abbrev pub is_active : Names → Resetting → Tree → Bool
