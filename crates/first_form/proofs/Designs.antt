@@ -8,6 +8,7 @@ use Rattle.std.proofs.lemmas.List.{length-map, length-append}
 use Rattle.std.proofs.lemmas.List.Sums.{sum_by-append}
 use Rattle.std.proofs.lemmas.List.Elements.{All-weaker, All-nil, All-cons}
 use Rattle.std.proofs.lemmas.Option.{same_Some, none-some, get_or_from_slice_get, slice_get_within}
+use Rattle.loc_base.proofs.ShelfLists.{AllZip-length}
 use Rattle.design_core.specs.declared.signal.Signal.{Signal}
 use Rattle.design_core.specs.declared.signal.SignalKind.TheVariants as kind
 use Rattle.design_core.specs.declared.driver.Driver.{Driver}
@@ -28,7 +29,6 @@ use Rattle.first_form.specs.Meaning.{IsSignalOf, IsDriverOf, place_of, ports_fro
 use Rattle.first_form.specs.Combinational.{is_continuous}
 use Rattle.first_form.specs.Shape.{IsShapedDriver}
 use Rattle.first_form.proofs.Numbering.{number_found, IsFound, some_number, number_of_place}
-use Rattle.first_form.proofs.ListSteps.{zip_length}
 use Rattle.first_form.proofs.Formulas.{formula_from, fits_from, is_one_bit}
 
 -- a name that a list has stands at its number
@@ -69,7 +69,7 @@ width_one (x ∷ nets) (y ∷ signals) (suc s) all within = width_one nets signa
 pub one_bit_at : (nets : List Declaration) (signals : List Signal) (s : ℕ) → AllZip IsSignalOf nets signals → s < length nets → is_one_bit signals s ≡ true
 one_bit_at nets signals s all within =
     and_from (nat_lt s (length signals)) (width_at signals s == 1)
-    (lt-ltb s (length signals) (omega (arith, zip_length IsSignalOf nets signals all)))
+    (lt-ltb s (length signals) (omega (arith, AllZip-length IsSignalOf nets signals all)))
     (eq-eqb (width_at signals s) 1 (width_one nets signals s all within))
 
 pub kind_at : (nets : List Declaration) (signals : List Signal) (s : ℕ) → AllZip IsSignalOf nets signals → option_map_or (λ net. net.input) (slice_get nets s) false ≡ true

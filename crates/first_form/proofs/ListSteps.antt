@@ -3,58 +3,37 @@ use Rattle.std.proofs.Common.{◌≡◌, ℕ, zero, suc, ◌+◌, ◌<◌, Bool,
 use Rattle.std.specs.Prelude.{All}
 use Rattle.std.specs.List.{slice_index_or, list_all, AllZip, enumerate_from, flat_map}
 use Rattle.std.proofs.lemmas.Bool.{cases_Bool, cases_lt, cond-true, cond-false, and_from, and_parts, and_left, and_right}
-use Rattle.std.proofs.lemmas.List.{take_more, length-take-le, get_or_append_left, get_or_at, append-nil, append_assoc, map_push}
+use Rattle.std.proofs.lemmas.List.{length-take-le, get_or_append_left, get_or_at, append-nil, append_assoc, map_push}
 use Rattle.first_form.specs.declared.netlist.Port.{Port}
 use Rattle.first_form.specs.Meaning.{ports_from}
 use Rattle.std.proofs.lemmas.List.Elements.{All-push}
 use Rattle.std.proofs.lemmas.List.Concat.{flat_map-append}
+use Rattle.loc_base.proofs.ShelfLists.{AllZip-push, take-at}
 
 pub enumerate_from_push : {X : Type 0} (n : ℕ) (xs : List X) (x : X) → enumerate_from n (xs ++ x ∷ []) ≡ enumerate_from n xs ++ (n + length xs, x) ∷ []
 enumerate_from_push n [] x = ap (λ m. (m, x) ∷ []) (omega arith)
 enumerate_from_push n (y ∷ ys) x =
     ap (λ rest. (n, y) ∷ rest) (enumerate_from_push (n + 1) ys x ∙ ap (λ m. enumerate_from (n + 1) ys ++ (m, x) ∷ []) (omega arith))
 
-pub zip_push : {X Y : Type 0} (R : X → Y → Type 0) (xs : List X) (ys : List Y) (x : X) (y : Y) → AllZip R xs ys → R x y → AllZip R (xs ++ x ∷ []) (ys ++ y ∷ [])
-zip_push R [] [] x y all one = (one, tt)
-zip_push R [] (b ∷ ys) x y all one = absurd all
-zip_push R (a ∷ xs) [] x y all one = absurd all
-zip_push R (a ∷ xs) (b ∷ ys) x y all one = (all.0, zip_push R xs ys x y all.1 one)
-
-pub zip_length : {X Y : Type 0} (R : X → Y → Type 0) (xs : List X) (ys : List Y) → AllZip R xs ys → length xs ≡ length ys
-zip_length R [] [] all = refl
-zip_length R [] (b ∷ ys) all = absurd all
-zip_length R (a ∷ xs) [] all = absurd all
-zip_length R (a ∷ xs) (b ∷ ys) all = omega (arith, zip_length R xs ys all.1)
-
-pub zip_at : {X Y : Type 0} (R : X → Y → Type 0) (xs : List X) (ys : List Y) (i : ℕ) (d : X) (e : Y) → AllZip R xs ys → i < length xs → R (get_or xs i d) (get_or ys i e)
-zip_at R [] ys i d e all within = absurd (omega arith)
-zip_at R (a ∷ xs) [] i d e all within = absurd all
-zip_at R (a ∷ xs) (b ∷ ys) zero d e all within = all.0
-zip_at R (a ∷ xs) (b ∷ ys) (suc i) d e all within = zip_at R xs ys i d e all.1 (omega arith)
-
--- the front of a list and one more element
-pub more_of : {X : Type 0} (xs : List X) (i : ℕ) (x : X) → i < length xs → x ≡ get_or xs i x → take (i + 1) xs ≡ take i xs ++ x ∷ []
-more_of xs i x within is = take_more xs i x within ∙ ap (λ y. take i xs ++ y ∷ []) (sym is)
-
 pub zipped_more : {X Y : Type 0} (R : ℕ × X → Y → Type 0) (xs : List X) (ys : List Y) (i : ℕ) (x : X) (y : Y) → i < length xs → x ≡ get_or xs i x
     → AllZip R (enumerate_from 0 (take i xs)) ys → R (i, x) y → AllZip R (enumerate_from 0 (take (i + 1) xs)) (ys ++ y ∷ [])
 zipped_more {X = X} {Y = Y} R xs ys i x y within is all one =
     let P : List (ℕ × X) → Type 0 = λ l. AllZip R l (ys ++ y ∷ []) in
     let numbered : enumerate_from 0 (take (i + 1) xs) ≡ enumerate_from 0 (take i xs) ++ (i, x) ∷ [] =
-    ap (enumerate_from 0) (more_of xs i x within is) ∙ enumerate_from_push 0 (take i xs) x
+    ap (enumerate_from 0) (take-at xs i x within is) ∙ enumerate_from_push 0 (take i xs) x
     ∙ ap (λ m. enumerate_from 0 (take i xs) ++ (m, x) ∷ []) (omega (arith, length-take-le i xs (omega arith))) in
-    subst P (sym numbered) (zip_push R (enumerate_from 0 (take i xs)) ys (i, x) y all one)
+    subst P (sym numbered) (AllZip-push R (enumerate_from 0 (take i xs)) ys (i, x) y all one)
 
 pub flat_more : {X Y : Type 0} (f : X → List Y) (xs : List X) (i : ℕ) (x : X) → i < length xs → x ≡ get_or xs i x
     → flat_map f (take (i + 1) xs) ≡ flat_map f (take i xs) ++ f x
 flat_more f xs i x within is =
-    ap (flat_map f) (more_of xs i x within is) ∙ flat_map-append f (take i xs) (x ∷ [])
+    ap (flat_map f) (take-at xs i x within is) ∙ flat_map-append f (take i xs) (x ∷ [])
     ∙ ap (λ l. flat_map f (take i xs) ++ l) (append-nil (f x))
 
 pub all_more : {X : Type 0} (P : X → Type 0) (xs : List X) (i : ℕ) (x : X) → i < length xs → x ≡ get_or xs i x → All P (take i xs) → P x → All P (take (i + 1) xs)
 all_more {X = X} P xs i x within is all one =
     let Q : List X → Type 0 = λ l. (k : ℕ) (d : X) → k < length l → P (slice_index_or l k d) in
-    subst Q (sym (more_of xs i x within is)) (All-push P (take i xs) x all one)
+    subst Q (sym (take-at xs i x within is)) (All-push P (take i xs) x all one)
 
 -- what is said of each index of a list, with one more
 pub indexed_more : (P : ℕ → ℕ → Type 0) (xs : List ℕ) (x n : ℕ) → length xs ≡ n → ((k : ℕ) → k < n → P k (get_or xs k 0)) → P n x
@@ -73,8 +52,8 @@ pub mapped_more : {X Z Y : Type 0} (R : Z → Y → Type 0) (front : List Z) (f 
 mapped_more {X = X} {Z = Z} {Y = Y} R front f xs ys i x y within is all one =
     let P : List Z → Type 0 = λ l. AllZip R l (ys ++ y ∷ []) in
     let more : front ++ map f (take (i + 1) xs) ≡ (front ++ map f (take i xs)) ++ f x ∷ [] =
-    ap (λ l. front ++ map f l) (more_of xs i x within is) ∙ ap (λ l. front ++ l) (map_push f (take i xs) x) ∙ sym (append_assoc front (map f (take i xs)) (f x ∷ [])) in
-    subst P (sym more) (zip_push R (front ++ map f (take i xs)) ys (f x) y all one)
+    ap (λ l. front ++ map f l) (take-at xs i x within is) ∙ ap (λ l. front ++ l) (map_push f (take i xs) x) ∙ sym (append_assoc front (map f (take i xs)) (f x ∷ [])) in
+    subst P (sym more) (AllZip-push R (front ++ map f (take i xs)) ys (f x) y all one)
 
 -- the ports that pass a test, with one more
 pub ports_push : (test : Port → Bool) (k : ℕ) (ports : List Port) (port : Port) → ports_from test k (ports ++ port ∷ []) ≡ ports_from test k ports ++ ports_from test (k + length ports) (port ∷ [])
@@ -91,20 +70,20 @@ ports_push test k (p ∷ ports) port =
 pub port_more : (test : Port → Bool) (ports : List Port) (i : ℕ) (port : Port) → i < length ports → port ≡ get_or ports i port → test port ≡ true
     → ports_from test 0 (take (i + 1) ports) ≡ ports_from test 0 (take i ports) ++ i ∷ []
 port_more test ports i port within is holds =
-    ap (ports_from test 0) (more_of ports i port within is) ∙ ports_push test 0 (take i ports) port
+    ap (ports_from test 0) (take-at ports i port within is) ∙ ports_push test 0 (take i ports) port
     ∙ ap (λ l. ports_from test 0 (take i ports) ++ l) (cond-true _ _ _ holds ∙ ap (λ m. m ∷ []) (omega (arith, length-take-le i ports (omega arith))))
 
 pub port_less : (test : Port → Bool) (ports : List Port) (i : ℕ) (port : Port) → i < length ports → port ≡ get_or ports i port → test port ≡ false
     → ports_from test 0 (take (i + 1) ports) ≡ ports_from test 0 (take i ports)
 port_less test ports i port within is fails =
-    ap (ports_from test 0) (more_of ports i port within is) ∙ ports_push test 0 (take i ports) port
+    ap (ports_from test 0) (take-at ports i port within is) ∙ ports_push test 0 (take i ports) port
     ∙ ap (λ l. ports_from test 0 (take i ports) ++ l) (cond-false _ _ _ fails) ∙ append-nil (ports_from test 0 (take i ports))
 
 -- whether all pass a test, so far and at one more
 pub all_pass_more : {X Z : Type 0} (test : Z → Bool) (f : X → Z) (xs : List X) (i : ℕ) (x : X) → i < length xs → x ≡ get_or xs i x
     → list_all test (map f (take i xs)) ≡ true → test (f x) ≡ true → list_all test (map f (take (i + 1) xs)) ≡ true
 all_pass_more test f xs i x within is all one =
-    ap (λ l. list_all test (map f l)) (more_of xs i x within is) ∙ ap (list_all test) (map_push f (take i xs) x) ∙ pushed test (map f (take i xs)) (f x) all one
+    ap (λ l. list_all test (map f l)) (take-at xs i x within is) ∙ ap (list_all test) (map_push f (take i xs) x) ∙ pushed test (map f (take i xs)) (f x) all one
   where
     pushed : {Z : Type 0} (test : Z → Bool) (zs : List Z) (z : Z) → list_all test zs ≡ true → test z ≡ true → list_all test (zs ++ z ∷ []) ≡ true
     pushed test [] z all one = and_from (test z) true one refl

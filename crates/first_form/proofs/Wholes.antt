@@ -10,6 +10,7 @@ use Rattle.std.proofs.lemmas.List.FromFn.{length-enumerate_from}
 use Rattle.std.proofs.lemmas.List.Elements.{All-contains, All-weaker, All-nil, All-cons, All-append}
 use Rattle.std.proofs.lemmas.List.Concat.{get_or-flat_map}
 use Rattle.std.proofs.lemmas.Option.{same_Some, none-some, get_or_from_slice_get, slice_get_within, slice_get-map}
+use Rattle.loc_base.proofs.ShelfLists.{AllZip-length, slice_get-some}
 use Rattle.design_core.specs.declared.driver.Driver.{Driver}
 use Rattle.design_core.specs.declared.design.Design.{Design}
 use Rattle.design_core.specs.Drives.{driver_drives, is_driven}
@@ -28,7 +29,7 @@ use Rattle.first_form.specs.Meaning.{IsSignalOf, IsDesignOf, place_of, ports_fro
 use Rattle.first_form.specs.Combinational.{IsCombinational}
 use Rattle.first_form.specs.Shape.{IsShapedDriver, sources_of, AreSources}
 use Rattle.first_form.proofs.Numbering.{number_of_place, number_found}
-use Rattle.first_form.proofs.ListSteps.{zip_length, flat_more}
+use Rattle.first_form.proofs.ListSteps.{flat_more}
 use Rattle.first_form.proofs.Formulas.{is_one_bit}
 use Rattle.first_form.proofs.Designs as d
 
@@ -248,11 +249,6 @@ source_number : (xs : List (List ℕ)) (reads : List (List ℕ)) → All (λ j. 
 source_number xs [] = All-nil (λ j. j < length xs)
 source_number xs (q ∷ reads) = source_first xs q (filter_map (number_in xs) reads) (number_in xs q) refl (source_number xs reads)
 
-element : {X : Type 0} (xs : List X) (i : ℕ) → i < length xs → (x : X) × (slice_get xs i ≡ Some x)
-element [] i within = absurd (omega arith)
-element (x ∷ xs) zero within = (x, refl)
-element (x ∷ xs) (suc i) within = element xs i (omega arith)
-
 flat_le : {X : Type 0} (f : X → List ℕ) (k : ℕ) (xs : List X) → length (flat_map f (take k xs)) ≤ length (flat_map f xs)
 flat_le f zero xs = omega arith
 flat_le f (suc k) [] = omega arith
@@ -266,7 +262,7 @@ pub graph_from : (n : Netlist) (starts list : List ℕ) → IsFlat n starts list
 graph_from n starts list flat = record {
   some = omega (arith, flat.count);
   ascending = λ i below.
-      let (a, at) = element n.assigns.items i (omega (arith, flat.count)) in
+      let (a, at) = slice_get-some n.assigns.items i (omega (arith, flat.count)) in
       omega (arith, flat_part n starts list flat i a at);
   within = λ i below. omega (arith, flat.count, flat.begins i (omega (arith, flat.count)), flat_le (sources n) i n.assigns.items, ap length flat.joined);
   numbers = λ k below.
@@ -293,7 +289,7 @@ pub depends_from_edge : (n : Netlist) (starts list : List ℕ) → IsFlat n star
 depends_from_edge n starts list flat i j edge =
     let number = edge.number in
     let low = edge.low in
-    let (a, at) = element n.assigns.items i (omega (arith, flat.count)) in
+    let (a, at) = slice_get-some n.assigns.items i (omega (arith, flat.count)) in
     let m = edge.place - get_or starts i 0 in
     let place : get_or starts i 0 + m ≡ edge.place = omega arith in
     let below : m < length (sources n a) = omega (arith, flat_part n starts list flat i a at, edge.high) in
@@ -369,7 +365,7 @@ pub order_from : (n : Netlist) (design : Design) (starts list order : List ℕ) 
     → IsTopological (IsEdge starts list) (length starts - 1) order → IsOrder design order
 order_from n design starts list order parts flat topological =
     let many : length design.drivers.items ≡ length starts - 1 =
-    omega (arith, zip_length (IsShapedDriver (number_of (names n))) (enumerate_from 0 n.assigns.items) design.drivers.items parts.drivers, length-enumerate_from 0 n.assigns.items, flat.count) in
+    omega (arith, AllZip-length (IsShapedDriver (number_of (names n))) (enumerate_from 0 n.assigns.items) design.drivers.items parts.drivers, length-enumerate_from 0 n.assigns.items, flat.count) in
     let edge = λ (i j : ℕ) (dep : Depends design i j). edge_from_depends n starts list flat i j (depends_from n design parts i j dep) in
     record {
       numbers = λ k e within. omega (arith, topological.numbers k e within);

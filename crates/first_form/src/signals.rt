@@ -1,6 +1,5 @@
 ghost use Rattle.std.specs.Prelude.{◌≡◌, ◌≢◌, ◌<◌, ◌^◌, ℕ, IfOk, length, map, not, Bool, List};
 ghost use Rattle.std.specs.List.{AllZip};
-ghost use Rattle.loc_base.specs.Bits.{width_of, value_of};
 ghost use Rattle.first_form.specs.Netlists.{is_input, declarations, declares};
 ghost use Rattle.first_form.specs.Meaning.{IsSignalOf, ports_from, place_of};
 ghost use Rattle.first_form.specs.NumberTable.{number_or_zero};
@@ -11,17 +10,6 @@ use crate::netlist::{Assignment, Direction, Netlist, Port};
 use design_core::{Place, PlaceKind, Signal, SignalKind};
 use loc_base::{Bits, Name, NameTable};
 use std::alloc::Global;
-
-/// The word of one bit that is 0.
-fn zero() -> Bits
-    ensures width { width_of result ≡ 1 }
-    ensures value { value_of result ≡ 0 }
-{
-    let Some(bits) = Bits::new(1, 0) else {
-        unreachable!()
-    };
-    bits
-}
 
 /// The signal of a declared net.
 fn signal_of(alloc: Global, name: &Name, input: bool) -> Result<Signal, FormErr>
@@ -39,7 +27,7 @@ fn signal_of(alloc: Global, name: &Name, input: bool) -> Result<Signal, FormErr>
         } else {
             SignalKind::Net
         },
-        start: zero(),
+        start: Bits::zero(1),
     })
 }
 

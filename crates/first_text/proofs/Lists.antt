@@ -1,6 +1,7 @@
 -- What all elements of a list are, with one more, and where one of them is nothing.
-use Rattle.std.proofs.Common.{◌≡◌, ℕ, ◌+◌, ◌<◌, List, [], ◌∷◌, ◌++◌, length, map, take, drop, get_or, Option, Some, None, refl, sym, ap, ap₂, ◌∙◌, arith, add-one, drop-cons}
+use Rattle.std.proofs.Common.{◌≡◌, ℕ, ◌+◌, ◌<◌, List, [], ◌∷◌, ◌++◌, length, map, take, drop, get_or, Option, Some, None, refl, sym, ap, ap₂, ◌∙◌, arith}
 use Rattle.std.proofs.lemmas.List.{map_more, take-append-drop, map-append}
+use Rattle.loc_base.proofs.ShelfLists.{drop-at}
 use Rattle.first_text.specs.Netlists.{added, all_of}
 
 -- of which head and which others a list is
@@ -49,13 +50,9 @@ all_more f view xs i x ys y zs within is all one more =
     ap (all_of f) (map_more view xs i x within) ∙ all_push f (map view (take i xs)) (view (get_or xs i x)) ys y all (ap (λ z. f (view z)) (sym is) ∙ one)
     ∙ ap (λ l. Some l) (sym more)
 
--- a list about its i-th element
-pub around : {X : Type 0} (xs : List X) (i : ℕ) (x : X) → i < length xs → x ≡ get_or xs i x → drop i xs ≡ x ∷ drop (i + 1) xs
-around xs i x within is = drop-cons xs i x within ∙ ap₂ (λ y n. y ∷ drop n xs) (sym is) (sym (add-one i))
-
 -- where the i-th element is nothing
 pub none_at : {X V Y : Type 0} (f : V → Option Y) (view : X → V) (xs : List X) (i : ℕ) (x : X) → i < length xs → x ≡ get_or xs i x → f (view x) ≡ None
     → all_of f (map view xs) ≡ None
 none_at f view xs i x within is none =
-    ap (λ l. all_of f (map view l)) (sym (take-append-drop i xs) ∙ ap (λ l. take i xs ++ l) (around xs i x within is))
+    ap (λ l. all_of f (map view l)) (sym (take-append-drop i xs) ∙ ap (λ l. take i xs ++ l) (drop-at xs i x within is))
     ∙ ap (all_of f) (map-append view (take i xs) (x ∷ drop (i + 1) xs)) ∙ all_none f (map view (take i xs)) (view x) (map view (drop (i + 1) xs)) none
