@@ -1,0 +1,5 @@
+mod Steps
+mod Entries
+mod Loops
+mod Made
+mod Whole
