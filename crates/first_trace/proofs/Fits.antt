@@ -1,5 +1,5 @@
 -- A trace that a text means is one of a design whose ports have one bit.
-use Rattle.std.proofs.Common.{◌≡◌, ℕ, zero, suc, ◌+◌, ◌-◌, ◌*◌, ◌^◌, ◌<◌, ◌≤◌, true, List, [], ◌∷◌, ◌++◌, length, drop, refl, sym, ◌∙◌, ap, subst, arith, inl, inr, ◌⊎◌, length-drop, length-append}
+use Rattle.std.proofs.Common.{◌≡◌, ℕ, suc, ◌+◌, ◌-◌, ◌*◌, ◌^◌, ◌<◌, ◌≤◌, true, List, [], ◌∷◌, ◌++◌, length, drop, refl, sym, ◌∙◌, ap, subst, arith, inl, inr, length-drop, length-append}
 use Rattle.std.proofs.Math.Nat.{suc-mul, mul-le-mul_right, zero-mul}
 use Rattle.std.specs.Prelude.{bit_and, All, slice_range}
 use Rattle.std.proofs.lemmas.Bool.{and_from, eq-eqb}
@@ -7,6 +7,7 @@ use Rattle.std.proofs.lemmas.List.{length-map, length-take-le}
 use Rattle.std.proofs.lemmas.List.Elements.{All-take, All-drop}
 use Rattle.loc_base.specs.declared.bits.Bits.{Bits}
 use Rattle.loc_base.specs.Bits.{width_of, value_of, value_of-range}
+use Rattle.loc_base.proofs.ShelfBools.{below_two}
 use Rattle.design_core.specs.declared.design.Design.{Design}
 use Rattle.design_core.specs.declared.signal.Signal.{Signal}
 use Rattle.design_core.specs.declared.trace.Checked.{Checked}
@@ -55,16 +56,11 @@ samples_are signals (s ∷ more) (word ∷ rest) ports samples long =
     and_from _ _ (eq-eqb (width_of word) (width_at signals s) (samples 0 word (omega arith) ∙ sym (ports 0 s (omega arith))))
     (samples_are signals more rest (λ k d within. ports (suc k) d (omega (arith, within))) (λ k d within. samples (suc k) d (omega (arith, within))) (omega (arith, long)))
 
-pub zero_or_one : (n : ℕ) → n < 2 → (n ≡ 0) ⊎ (n ≡ 1)
-zero_or_one zero small = inl refl
-zero_or_one (suc zero) small = inr refl
-zero_or_one (suc (suc n)) small = absurd (omega (arith, small))
-
 masked : (value mask : ℕ) → value < 2 → mask < 2 → (mask ≡ 0 → value ≡ 0) → bit_and value mask ≡ value
 masked value mask value_small mask_small unchecked =
-    elim (zero_or_one mask mask_small) [
+    elim (below_two mask mask_small) [
       | inl none ↦ ap (λ v. bit_and v mask) (unchecked none) ∙ ap (λ m. bit_and 0 m) none ∙ sym (unchecked none)
-      | inr all ↦ ap (λ m. bit_and value m) all ∙ elim (zero_or_one value value_small) [
+      | inr all ↦ ap (λ m. bit_and value m) all ∙ elim (below_two value value_small) [
         | inl z ↦ ap (λ v. bit_and v 1) z ∙ sym z
         | inr o ↦ ap (λ v. bit_and v 1) o ∙ sym o
       ]

@@ -1,7 +1,7 @@
 -- Steps of loops over lists, and tests that fail at one element.
-use Rattle.std.proofs.Common.{◌≡◌, ℕ, zero, suc, ◌+◌, ◌<◌, Bool, true, false, ◌&&◌, List, [], ◌∷◌, ◌++◌, length, get_or, take, map, refl, sym, ◌∙◌, ap, arith}
+use Rattle.std.proofs.Common.{◌≡◌, ℕ, zero, suc, ◌<◌, Bool, true, false, ◌&&◌, List, [], ◌∷◌, length, get_or, map, refl, ap, arith}
 use Rattle.std.specs.List.{list_all}
-use Rattle.std.proofs.lemmas.List.{map_more, take_more, take_all, map_push}
+use Rattle.std.proofs.lemmas.List.{map_more, map_push}
 use Rattle.std.proofs.lemmas.List.Folds.{list_all_more}
 
 -- one element that fails
@@ -21,8 +21,5 @@ all_mapped p f (x ∷ xs) = ap (λ b. p (f x) && b) (all_mapped p f xs)
 pub map_mapped : {X Y Z : Type 0} (g : Y → Z) (f : X → Y) (xs : List X) → map g (map f xs) ≡ map (λ x. g (f x)) xs
 map_mapped g f [] = refl
 map_mapped g f (x ∷ xs) = ap (λ rest. g (f x) ∷ rest) (map_mapped g f xs)
-
-pub map_read : {X Y : Type 0} (f : X → Y) (xs : List X) (i : ℕ) (x : X) → i < length xs → x ≡ get_or xs i x → map f (take (i + 1) xs) ≡ map f (take i xs) ++ f x ∷ []
-map_read f xs i x within is = map_more f xs i x within ∙ ap (λ y. map f (take i xs) ++ f y ∷ []) (sym is)
 
 pub ruleset list_steps = (all_breaks, map_more, map_push, map_mapped, all_mapped, list_all_more)

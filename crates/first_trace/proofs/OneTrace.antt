@@ -7,6 +7,7 @@ use Rattle.std.proofs.lemmas.Bool.Decides.{Decides-eqb}
 use Rattle.std.proofs.lemmas.Option.{same_Some}
 use Rattle.loc_base.specs.declared.bits.Bits.{Bits}
 use Rattle.loc_base.specs.Bits.{width_of, value_of}
+use Rattle.loc_base.proofs.ShelfBools.{below_two}
 use Rattle.design_core.specs.declared.design.Design.{Design}
 use Rattle.design_core.specs.declared.trace.Checked.{Checked}
 use Rattle.design_core.specs.declared.trace.Trace.{Trace}
@@ -20,7 +21,7 @@ use Rattle.first_trace.specs.Same.{OneTrace}
 use Rattle.first_trace.proofs.StampLaws.{ArePlaces}
 use Rattle.first_trace.proofs.WholeLaws.{AreSeen}
 use Rattle.first_trace.proofs.TraceLaws.{IsHeader, same_header, stamps_seen}
-use Rattle.first_trace.proofs.Fits.{one_bit, zero_or_one}
+use Rattle.first_trace.proofs.Fits.{one_bit}
 
 number_or : List (List ℕ) → List ℕ → ℕ
 number_or names name = unwrap_or (number_in names name) 0
@@ -56,7 +57,7 @@ level_mask Unknown = 0
 
 sample_value : (word : Bits) → width_of word ≡ 1 → level_value (sample_level word) ≡ value_of word
 sample_value word width =
-    elim (zero_or_one (value_of word) (one_bit word width)) [
+    elim (below_two (value_of word) (one_bit word width)) [
       | inl z ↦ ap level_value (cond-true (value_of word == 0) Zero One ((Decides-eqb (value_of word) 0).1 z)) ∙ sym z
       | inr o ↦ ap (λ v. level_value (if v == 0 then Zero else One)) o ∙ sym o
     ]
@@ -77,7 +78,7 @@ samples_values (word ∷ samples) widths =
 expected_value : (checked : Checked) → width_of checked.value ≡ 1 → width_of checked.mask ≡ 1 → (value_of checked.mask ≡ 0 → value_of checked.value ≡ 0)
     → (level_value (expected_level checked) ≡ value_of checked.value) × (level_mask (expected_level checked) ≡ value_of checked.mask)
 expected_value checked value mask unchecked =
-    elim (zero_or_one (value_of checked.mask) (one_bit checked.mask mask)) [
+    elim (below_two (value_of checked.mask) (one_bit checked.mask mask)) [
       | inl z ↦
           let e : expected_level checked ≡ Unknown = cond-true (value_of checked.mask == 0) Unknown (sample_level checked.value) ((Decides-eqb (value_of checked.mask) 0).1 z) in
           (ap level_value e ∙ sym (unchecked z), ap level_mask e ∙ sym z)

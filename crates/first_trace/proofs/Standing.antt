@@ -1,20 +1,18 @@
 -- The words of a text stand in it, and no others do.
-use Rattle.std.proofs.Common.{◌≡◌, ◌≢◌, ℕ, Bool, true, false, not, List, [], ◌∷◌, ◌++◌, refl, sym, ◌∙◌, ap, subst, inl, inr, append_assoc}
+use Rattle.std.proofs.Common.{◌≡◌, ◌≢◌, ℕ, Bool, true, not, List, [], ◌∷◌, ◌++◌, refl, sym, ◌∙◌, ap, subst, inl, inr, append_assoc}
 use Rattle.std.specs.Prelude.{slice_get}
 use Rattle.std.specs.List.{list_all}
 use Rattle.std.specs.Option.{option_map_or}
-use Rattle.std.proofs.lemmas.Bool.{cases_Bool, cond-true, cond-false, and_from, and_parts, false≢true}
+use Rattle.std.proofs.lemmas.Bool.{cases_Bool, cond-true, cond-false, and_from, and_parts}
 use Rattle.std.proofs.lemmas.List.{append-nil}
 use Rattle.std.proofs.lemmas.List.Folds.{list_all-append}
-use Rattle.first_trace.specs.Dump.{is_white, ended, words_from, words_of}
+use Rattle.loc_base.proofs.ShelfBools.{not-true}
+use Rattle.loc_base.specs.Ascii.{is_white}
+use Rattle.first_trace.specs.Dump.{ended, words_from, words_of}
 use Rattle.first_trace.specs.Words.{AreWords, WordsStand}
 
 abbrev is_black : ℕ → Bool
 is_black byte = not (is_white byte)
-
-black_not : (b : Bool) → not b ≡ true → b ≡ false
-black_not true e = absurd (false≢true e)
-black_not false e = refl
 
 -- white space before a text
 white_front : (before text : List ℕ) → list_all is_white before ≡ true → words_of (before ++ text) ≡ words_of text
@@ -28,7 +26,7 @@ black_front : (word bytes text : List ℕ) → list_all is_black bytes ≡ true 
 black_front word [] text black = ap (λ w. words_from w text) (sym (append-nil word))
 black_front word (byte ∷ bytes) text black =
     let tests = and_parts (is_black byte) (list_all is_black bytes) black in
-    cond-false _ _ _ (black_not (is_white byte) tests.0) ∙ black_front (word ++ byte ∷ []) bytes text tests.1
+    cond-false _ _ _ (not-true (is_white byte) tests.0) ∙ black_front (word ++ byte ∷ []) bytes text tests.1
     ∙ ap (λ w. words_from w text) (append_assoc word (byte ∷ []) bytes)
 
 some_word : (word : List ℕ) (words : List (List ℕ)) → word ≢ [] → ended word words ≡ word ∷ words

@@ -2,7 +2,8 @@
 use Rattle.std.proofs.Common.{◌≡◌, ℕ, zero, suc, ◌+◌, ◌<◌, true, false, List, [], ◌∷◌, length, get_or, take, drop, refl, sym, ◌∙◌, ap, arith}
 use Rattle.std.proofs.lemmas.Bool.{cond-true, cond-false, false≢true}
 use Rattle.std.proofs.lemmas.List.{drop_more, take_more, drop_all, take_all}
-use Rattle.first_trace.specs.Dump.{is_white, ended, words_from, words_of}
+use Rattle.loc_base.specs.Ascii.{is_white}
+use Rattle.first_trace.specs.Dump.{ended, words_from, words_of}
 
 -- white space before a text changes no word of it
 pub white_step : (text : List ℕ) (i : ℕ) → i < length text → is_white (get_or text i 0) ≡ true → words_of (drop (i + 1) text) ≡ words_of (drop i text)

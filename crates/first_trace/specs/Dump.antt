@@ -1,8 +1,9 @@
 -- A value change dump of one scope without a clock (IEEE 1364-2005, 18.2): its words, and what a variable's value is at
 -- a stamp.
-use Rattle.std.specs.Prelude.{ℕ, ◌≡◌, ◌+◌, ◌-◌, ◌*◌, ◌≤◌, Bool, true, ◌&&◌, ◌||◌, ◌==◌, nat_le, nat_lt, if◌then◌else◌, IsTrue, List, [], ◌∷◌, ◌++◌, length, map, All, Option, Some, None, codes, fold, slice_get}
+use Rattle.std.specs.Prelude.{ℕ, ◌≡◌, ◌+◌, ◌-◌, ◌*◌, ◌≤◌, Bool, true, ◌&&◌, ◌==◌, nat_le, nat_lt, if◌then◌else◌, IsTrue, List, [], ◌∷◌, ◌++◌, length, map, All, Option, Some, None, codes, fold, slice_get}
 use Rattle.std.specs.List.{list_all, flat_map}
 use Rattle.std.specs.Option.{option_map_or}
+use Rattle.loc_base.specs.Ascii.{is_decimal, is_white}
 use Rattle.loc_base.specs.Bits.{width_of, value_of}
 use Rattle.loc_base.specs.declared.bits.Bits.{Bits}
 use Rattle.design_core.specs.declared.signal.Signal.{Signal}
@@ -12,10 +13,6 @@ use Rattle.design_core.specs.declared.trace.Trace.{Trace}
 use Rattle.first_form.specs.Names.{same_bytes, is_in, AreDistinct}
 use Rattle.first_trace.specs.declared.levels.Level.{Level}
 use Rattle.first_trace.specs.declared.levels.Level.TheVariants.{Zero, One, Unknown}
-
--- white space: a space, a tab, a newline, a form feed or a carriage return (3.2)
-abbrev pub is_white : ℕ → Bool
-is_white byte = byte == 32 || byte == 9 || byte == 10 || byte == 12 || byte == 13
 
 -- the bytes of a word before other words, where there are any
 abbrev pub ended : List ℕ → List (List ℕ) → List (List ℕ)
@@ -81,12 +78,9 @@ change_word change = level_byte change.level ∷ change.code
 abbrev pub stamp_words : Stamp → List (List ℕ)
 stamp_words stamp = (35 ∷ stamp.digits) ∷ map change_word stamp.changes
 
-abbrev pub is_digit : ℕ → Bool
-is_digit byte = nat_le 48 byte && nat_le byte 57
-
 -- 1 to 18 decimal digits, and their number
 abbrev pub is_time : List ℕ → Bool
-is_time digits = nat_le 1 (length digits) && nat_le (length digits) 18 && list_all is_digit digits
+is_time digits = nat_le 1 (length digits) && nat_le (length digits) 18 && list_all is_decimal digits
 
 abbrev pub time_of : List ℕ → ℕ
 time_of digits = fold (λ time byte. time * 10 + (byte - 48)) 0 digits

@@ -2,7 +2,8 @@
 use Rattle.std.specs.Prelude.{ℕ, ◌≡◌, ◌≢◌, true, not, IsTrue, List, [], ◌∷◌, ◌++◌, slice_get}
 use Rattle.std.specs.List.{list_all}
 use Rattle.std.specs.Option.{option_map_or}
-use Rattle.first_trace.specs.Dump.{is_white, words_of}
+use Rattle.loc_base.specs.Ascii.{is_white}
+use Rattle.first_trace.specs.Dump.{words_of}
 
 -- the next word of a text and what stands behind it: its first bytes that are no white space, as many as there are
 pub record IsNextWord (text word behind : List ℕ) : Type 0 where

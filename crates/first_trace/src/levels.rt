@@ -27,26 +27,6 @@ pub fn level_of(byte: u8) -> Option<Level>
     }
 }
 
-fn zero() -> Bits
-    ensures width { width_of result ≡ 1 }
-    ensures value { value_of result ≡ 0 }
-{
-    let Some(bits) = Bits::new(1, 0) else {
-        unreachable!()
-    };
-    bits
-}
-
-fn one() -> Bits
-    ensures width { width_of result ≡ 1 }
-    ensures value { value_of result ≡ 1 }
-{
-    let Some(bits) = Bits::new(1, 1) else {
-        unreachable!()
-    };
-    bits
-}
-
 /// The sample of an input, where its level is known.
 pub fn sample_of(level: Level) -> Option<Bits>
     ensures unknown { IfNone result (is_known level ≡ false) }
@@ -55,8 +35,8 @@ pub fn sample_of(level: Level) -> Option<Bits>
     ensures level { IfSome result (λ word. sample_level word ≡ level) }
 {
     match level {
-        Level::Zero => Some(zero()),
-        Level::One => Some(one()),
+        Level::Zero => Some(Bits::zero(1)),
+        Level::One => Some(Bits::from_bool(true)),
         Level::Unknown => None,
     }
 }
@@ -69,9 +49,9 @@ pub fn checked_of(level: Level) -> Checked
     ensures unchecked { value_of result.mask ≡ 0 → value_of result.value ≡ 0 }
 {
     let (value, mask) = match level {
-        Level::Zero => (zero(), one()),
-        Level::One => (one(), one()),
-        Level::Unknown => (zero(), zero()),
+        Level::Zero => (Bits::zero(1), Bits::from_bool(true)),
+        Level::One => (Bits::from_bool(true), Bits::from_bool(true)),
+        Level::Unknown => (Bits::zero(1), Bits::zero(1)),
     };
     Checked { value, mask }
 }

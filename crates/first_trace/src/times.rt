@@ -1,12 +1,7 @@
 ghost use Rattle.std.specs.Prelude.{◌≡◌};
-ghost use Rattle.first_trace.specs.Dump.{is_digit};
 ghost use Rattle.first_trace.specs.Machine.{time_in};
 
-fn is_digit(byte: u8) -> bool
-    ensures { result ≡ is_digit byte }
-{
-    b'0' <= byte && byte <= b'9'
-}
+use loc_base::is_decimal;
 
 /// The time that 1 to 18 decimal digits mean.
 #[tactic(auto, using(crate::proofs::TimeSteps::time_steps))]
@@ -18,7 +13,7 @@ pub fn time_in(digits: &[u8]) -> Option<u64>
     }
     let mut time = 0u64;
     for digit in digits {
-        if !is_digit(*digit) {
+        if !is_decimal(*digit) {
             return None;
         }
         time = time * 10 + (*digit - b'0') as u64;

@@ -1,21 +1,16 @@
 ghost use Rattle.std.specs.Prelude.{◌≡◌, ◌≤◌, ◌<◌, ◌∷◌, [], ℕ, List, false, IsTrue, OnOk, IfOk, IfNone, IfSome, not, length, take, drop, slice_index};
-ghost use Rattle.first_trace.specs.Dump.{is_white, words_of, words_from};
+ghost use Rattle.loc_base.specs.Ascii.{is_white};
+ghost use Rattle.first_trace.specs.Dump.{words_of, words_from};
 ghost use Rattle.first_trace.specs.Sight.{words_left};
 ghost use Rattle.first_form.specs.declared.error.FormErr.TheVariants.{NoMemory, Form};
 
 use first_form::FormErr;
+use loc_base::is_white;
 
 /// What is left of a text whose words are read one by one.
 #[derive(Drop)]
 pub struct Words<'a> {
     pub rest: &'a [u8],
-}
-
-/// Whether a byte is white space (IEEE 1364-2005, 3.2).
-fn is_space(byte: u8) -> bool
-    ensures { result ≡ is_white byte }
-{
-    byte == b' ' || byte == b'\t' || byte == b'\n' || byte == 12 || byte == b'\r'
 }
 
 /// The number of bytes that are white space at the front of a text.
@@ -26,7 +21,7 @@ fn white_len(text: &[u8]) -> usize
     ensures black { result < length text.now → is_white (slice_index text.now result) ≡ false }
 {
     for (i, byte) in text.iter().enumerate() {
-        if !is_space(*byte) {
+        if !is_white(*byte) {
             return i;
         }
     }
@@ -43,7 +38,7 @@ fn word_len(text: &[u8]) -> usize
     ensures words { words_of text.now ≡ take result text.now ∷ words_of (drop result text.now) }
 {
     for (i, byte) in text.iter().enumerate() {
-        if is_space(*byte) {
+        if is_white(*byte) {
             return i;
         }
     }
