@@ -1,8 +1,7 @@
 -- Names with one more, and with one less.
-use Rattle.std.proofs.Common.{◌≡◌, ℕ, Bool, true, false, List, [], ◌∷◌, ◌++◌, map, reverse, drop, Option, Some, None, refl, sym, ap, ◌∙◌, subst}
-use Rattle.std.specs.Prelude.{⊤, ℤ, if◌then◌else◌, ◌||◌, nat_eq, option_map}
+use Rattle.std.proofs.Common.{◌≡◌, ℕ, Bool, true, false, List, [], ◌∷◌, ◌++◌, reverse, drop, Option, Some, None, refl, sym, ap, ◌∙◌, subst}
+use Rattle.std.specs.Prelude.{⊤, ℤ, if◌then◌else◌, ◌||◌, option_map}
 use Rattle.std.specs.Option.{option_and_then}
-use Rattle.std.specs.Cmp.Lexicographic.{pointwise}
 use Rattle.std.proofs.lemmas.List.{reverse-append}
 use Rattle.std.proofs.lemmas.Slice.Eq.{bytes_eq-Decides}
 use Rattle.v_sizes.specs.declared.meaning.Meaning.{Meaning}
@@ -16,7 +15,6 @@ use Rattle.v_hierarchy.specs.Names.{same_name}
 use Rattle.v_hierarchy.proofs.DeclaredLaws.{same-itself}
 use Rattle.v_binding.specs.declared.known.Use.{Use}
 use Rattle.v_binding.specs.declared.known.Use.TheVariants.{Stands as stands, AtTurn as at_turn, Outside as outside}
-use Rattle.v_binding.specs.declared.known.Known.{Known}
 use Rattle.bind_names.specs.declared.names.Held.{Held}
 use Rattle.v_binding.specs.Uses.{meaning_of, bare_meaning}
 use Rattle.v_binding.specs.Names as plain

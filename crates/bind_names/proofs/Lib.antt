@@ -1,1 +1,3 @@
 pub mod HeldLaws
+pub mod NamedWidth
+pub mod BySelf

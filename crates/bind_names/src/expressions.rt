@@ -1,20 +1,27 @@
 //! Expressions and constants where they stand (IEEE 1364-2005, clause 5).
-ghost use Rattle.std.specs.Prelude.{◌≡◌, ◌≤◌, Ok, IfOk, IfErr};
-ghost use Rattle.v_tree.specs.Tree.{tree_of};
+ghost use Rattle.std.specs.Prelude.{◌≡◌, ◌≤◌, ◌⊎◌, map, false, Some, Ok, IfOk, IfErr};
+ghost use Rattle.v_tree.specs.Tree.{tree_of, selection_of, selections_of};
+ghost use Rattle.v_tree.specs.Tree as written;
+ghost use Rattle.v_sizes.specs.declared.error.WidthErr.TheVariants.{NoMemory as OutOfMemory};
+ghost use Rattle.v_sizes.specs.Scopes.{look_of};
+ghost use Rattle.v_sizes.specs.Context.{refusal_in};
+ghost use Rattle.v_sizes.specs.Sizing.{sizing};
+ghost use Rattle.v_binding.specs.Names.{look_in};
 ghost use Rattle.v_binding.specs.Expressions.{sized_in, assigned, by_itself, constant_at, index_at};
 ghost use Rattle.v_binding.specs.Faults.{is_unknown, fault_beside};
-ghost use Rattle.bind_names.specs.Refuses.{Refuses};
+ghost use Rattle.bind_names.specs.Refuses.{Refuses, refusal_beside};
 ghost use Rattle.v_sizes.specs.declared.error.WidthErr.TheVariants as width_fault;
 ghost use Rattle.bind_names.specs.Seen.{names_in};
 
 use crate::names::Names;
 use design_core::Typed;
-use loc_base::Span;
+use loc_base::{Name, NoMemory, Span};
+use std::alloc::Global;
 use v_binding::BindErr;
 use v_hierarchy::{index_of, site_of};
 use v_sizes::{Const, WidthErr};
-use v_tree::Expr;
-use v_widths::{constant_in, typed};
+use v_tree::{Expr, Select, Site};
+use v_widths::{Scope, Size, constant_in, own_size, typed, typed_name};
 
 /// Whether a name that spans this is refused as unknown.
 fn is_unknown(span: Span, fault: Option<WidthErr>) -> bool
@@ -34,6 +41,38 @@ fn name_fault(span: Span, bare: Option<WidthErr>) -> BindErr
         BindErr::UnknownName(span)
     } else {
         BindErr::NotConstant(span)
+    }
+}
+
+/// The fault of an expression by that where the variables of loops are registers, unless memory was wanting there.
+fn refusal_beside(bare: Option<WidthErr>, wrong: WidthErr) -> BindErr
+    ensures { result ≡ refusal_beside bare wrong }
+{
+    if let Some(WidthErr::NoMemory) = bare {
+        return BindErr::NoMemory;
+    }
+    match wrong {
+        WidthErr::UnknownName(span) => name_fault(span, bare),
+        WidthErr::NotConstant(_)
+        | WidthErr::ZeroDivisor(_)
+        | WidthErr::Range(_)
+        | WidthErr::NoMemory => wrong.into(),
+    }
+}
+
+/// Why a name with its selects is refused by itself, if it is.
+fn name_refusal(
+    alloc: Global,
+    scope: &Scope<'_>,
+    site: Site,
+    name: &Name,
+    selects: &[Select],
+) -> Option<WidthErr>
+    ensures { (result ≡ Some OutOfMemory) ⊎ (refusal_in (look_of scope.now) (written.name site name.now (selections_of (map selection_of selects.now))) 0 false ≡ result) }
+{
+    match typed_name(alloc, scope, site, name, selects) {
+        Ok(_) => None,
+        Err(wrong) => Some(wrong),
     }
 }
 
@@ -59,6 +98,17 @@ impl<'t> Names<'t> {
         }
     }
 
+    /// The width and the sign that an expression has by itself, also where it is refused.
+    pub fn own_size(&self, e: &Expr) -> Result<Size, NoMemory>
+        ensures width { IfOk result (λ s. s.width ≡ (sizing (look_in (names_in self.now)) (tree_of e.now)).width) }
+        ensures signed { IfOk result (λ s. s.signed ≡ (sizing (look_in (names_in self.now)) (tree_of e.now)).signed) }
+        ensures least { IfOk result (λ s. 1 ≤ s.width) }
+        ensures most { IfOk result (λ s. s.width ≤ 128) }
+    {
+        let own = own_size(self.allocator(), e, self.scope())?;
+        Ok(own)
+    }
+
     /// The right side of an assignment to so many bits.
     pub fn assigned(&self, e: &Expr, width: u8) -> Result<Typed, BindErr>
         requires { width ≤ 128 }
@@ -74,6 +124,23 @@ impl<'t> Names<'t> {
         ensures err { IfErr result (λ fault. Refuses (by_itself (names_in self.now) (tree_of e.now)) fault) }
     {
         self.sized_in(e, 0, false)
+    }
+
+    /// A name with its selects by itself, where no expression stands, but a name: on a left side, or in an event list.
+    pub fn named(&self, site: Site, name: &Name, selects: &[Select]) -> Result<Typed, BindErr>
+        ensures ok { IfOk result (λ t. by_itself (names_in self.now) (written.name site name.now (selections_of (map selection_of selects.now))) ≡ Ok t) }
+        ensures err { IfErr result (λ fault. Refuses (by_itself (names_in self.now) (written.name site name.now (selections_of (map selection_of selects.now)))) fault) }
+        ensures most { IfOk result (λ t. t.width ≤ 128) }
+    {
+        let alloc = self.allocator();
+        match typed_name(alloc, self.scope(), site, name, selects) {
+            Ok(typed) => Ok(typed),
+            Err(wrong) => {
+                let bare = self.bare()?;
+                let beside = name_refusal(alloc, &bare, site, name, selects);
+                Err(refusal_beside(beside, wrong))
+            }
+        }
     }
 
     /// The constant in an assignment of a width, 0 for none.

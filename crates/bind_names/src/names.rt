@@ -84,7 +84,8 @@ impl<'t> Names<'t> {
         Ok(scope)
     }
 
-    pub(crate) fn allocator(&self) -> Global {
+    /// The allocator of its tables.
+    pub fn allocator(&self) -> Global {
         self.alloc
     }
 

@@ -1,4 +1,4 @@
-use Rattle.std.proofs.Common.{◌≡◌, List, [], ◌∷◌, ◌++◌, reverse, sym, ap, ◌∙◌, subst}
+use Rattle.std.proofs.Common.{reverse, sym, ap, ◌∙◌, subst}
 use Rattle.v_sizes.specs.Scopes.{look_of}
 use Rattle.v_sizes.specs.Table.{with_meaning, with_standing}
 use Rattle.v_binding.specs.Names.{look_in}

@@ -1,4 +1,4 @@
-use Rattle.std.proofs.Common.{◌≡◌, ℕ, List, take}
+use Rattle.std.proofs.Common.{◌≡◌, take}
 use Rattle.v_binding.specs.Names.{find}
 use Rattle.bind_names.specs.Held.{names_of}
 use Rattle.bind_names.proofs.names.Names.search.Given as goal
