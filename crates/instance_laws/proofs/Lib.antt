@@ -3,3 +3,5 @@ mod Entries
 mod Loops
 mod Made
 mod Whole
+mod Grown
+mod Defaults

@@ -60,7 +60,7 @@ loop_turn-fits body fits frames variable value m n one all is =
     (and_turn-fits m.met value x.0 all one (fits (at_turn variable value frames) m.left x first))
 
 -- a loop from its first value on
-abbrev loop_end : Span → PlainHead → (List (List Entry) → Left → Result (Steps × Left) ElabErr) → List (List Entry) → Left → Const × Bool → Result (Steps × Left) ElabErr
+abbrev pub loop_end : Span → PlainHead → (List (List Entry) → Left → Result (Steps × Left) ElabErr) → List (List Entry) → Left → Const × Bool → Result (Steps × Left) ElabErr
 loop_end span head body frames left first =
     turns most_turns span (loop_turned span) (loop_turn body frames head.variable) (stepped frames head) first (record { met = no_turn; left = left }) >>= λ x.
     Ok (repeated head.variable x.met, x.left)

@@ -1,1 +1,4 @@
+pub mod Every
 pub mod Listed
+pub mod OfText
+pub mod Written
