@@ -1,0 +1,5 @@
+pub mod Rooted
+pub mod Tables
+pub mod Lists
+pub mod Looks
+pub mod Fields
