@@ -1,0 +1,3 @@
+pub mod NamesBack
+pub mod SocketLaws
+pub mod ChildLaws
