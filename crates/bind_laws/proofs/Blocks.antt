@@ -29,15 +29,18 @@ use Rattle.bind_laws.proofs.Goes.{Goes, driver-more, clocked-more, read-more, mi
 
 -- ---- roots
 -- an input that a name is connected to fits
-pub root-fits : (w : Whole) (roots : List Root) (s input : ℕ) → Every (λ (r : Root). RootFits w r.input) roots → root_of roots s ≡ Some input → RootFits w input
+pub root-fits : (w : Whole) (roots : List Root) (s input : ℕ) → Every (λ (r : Root). RootFits w r.input) roots
+    → root_of roots s ≡ Some input → RootFits w input
 root-fits w [] s input all is = cc
 root-fits w (r ∷ rs) s input all is = by (r.signal == s) is (λ later. root-fits w rs s input all.1 later)
   where
-    by : (same : Bool) → (if same then Some r.input else root_of rs s) ≡ Some input → (root_of rs s ≡ Some input → RootFits w input) → RootFits w input
+    by : (same : Bool) → (if same then Some r.input else root_of rs s) ≡ Some input
+        → (root_of rs s ≡ Some input → RootFits w input) → RootFits w input
     by true is later = subst (RootFits w) (Some-same is) all.0
     by false is later = later is
 
-pub named-fits : (w : Whole) (roots : List Root) (names : Names) (text : List ℕ) (input : ℕ) → Every (λ (r : Root). RootFits w r.input) roots
+pub named-fits : (w : Whole) (roots : List Root) (names : Names) (text : List ℕ) (input : ℕ)
+    → Every (λ (r : Root). RootFits w r.input) roots
     → root_named roots names text ≡ Some input → RootFits w input
 named-fits w roots names text input all is = by (signal_of (find names text)) is
   where
@@ -49,7 +52,8 @@ named-fits w roots names text input all is = by (signal_of (find names text)) is
 abbrev WaitedFits : Whole → Waited → Type 0
 WaitedFits w x = (input : ℕ) → x.root ≡ Some input → RootFits w input
 
-edges-fit : (w : Whole) (roots : List Root) (names : Names) (events : List PlainEvent) → Every (λ (r : Root). RootFits w r.input) roots
+edges-fit : (w : Whole) (roots : List Root) (names : Names) (events : List PlainEvent)
+    → Every (λ (r : Root). RootFits w r.input) roots
     → Every (WaitedFits w) (edges roots names events)
 edges-fit w roots names [] all = tt
 edges-fit w roots names (edge_event _ e text ∷ es) all = (λ input is. named-fits w roots names text input all is, edges-fit w roots names es all)
@@ -60,13 +64,15 @@ pub record ResetFits (w : Whole) (r : Resetting) : Type 0 where
   pub root : RootFits w r.input
   pub other : is_clock w.clock r.input ≡ false
 
-resetting-fits : (w : Whole) (x : Waited) (r : Resetting) → WaitedFits w x → resetting w.clock x ≡ Some r → ResetFits w r
+resetting-fits : (w : Whole) (x : Waited) (r : Resetting) → WaitedFits w x → resetting w.clock x ≡ Some r
+    → ResetFits w r
 resetting-fits w x r fits is = by x.root fits is
   where
     made : ℕ → Resetting
     made input = record { input = input; level = x.rising; text = x.text }
 
-    chosen : (input : ℕ) → RootFits w input → (clocks : Bool) → is_clock w.clock input ≡ clocks → (if clocks then None else Some (made input)) ≡ Some r → ResetFits w r
+    chosen : (input : ℕ) → RootFits w input → (clocks : Bool) → is_clock w.clock input ≡ clocks
+        → (if clocks then None else Some (made input)) ≡ Some r → ResetFits w r
     chosen input root true at is = cc
     chosen input root false at is = subst (ResetFits w) (Some-same is) (record { root = root; other = at })
 
@@ -102,7 +108,8 @@ wait-fits w (x ∷ []) fits = by (is_clock_edge w.clock x)
     by false = others-fit w
 wait-fits w (one ∷ other ∷ []) fits = by (is_clock_edge w.clock one) (is_clock_edge w.clock other)
   where
-    by : (first second : Bool) → WaitFits w (if first then wait_with (resetting w.clock other) else if second then wait_with (resetting w.clock one) else by_others)
+    by : (first second : Bool)
+        → WaitFits w (if first then wait_with (resetting w.clock other) else if second then wait_with (resetting w.clock one) else by_others)
     by true second = with-fits w other fits.1.0
     by false true = with-fits w one fits.0
     by false false = others-fit w
@@ -118,7 +125,8 @@ pub record ArmsFit (w : Whole) (count : ℕ → ℕ) (arms : Arms) : Type 0 wher
 either-order : (a b : ℕ) → a + b ≡ b + a
 either-order a b = omega arith
 
-here-fit : (w : Whole) (s : Stmt) (arms : Arms) → statement_fits w.signals w.places s ≡ true → arms_here s ≡ Some arms → ArmsFit w (λ p. times_in p s) arms
+here-fit : (w : Whole) (s : Stmt) (arms : Arms) → statement_fits w.signals w.places s ≡ true → arms_here s ≡ Some arms
+    → ArmsFit w (λ p. times_in p s) arms
 here-fit w (stmt.If' cond _ (more_of-Stmt on_true end_of-Stmt) _ (more_of-Stmt on_false end_of-Stmt)) arms fits is =
     let f = and_parts _ _ fits in
     let g = and_parts _ _ f.0 in
@@ -129,14 +137,17 @@ here-fit w (stmt.Block' _ _) arms fits is = cc
 here-fit w (stmt.Case' _ _ _ _ _ _) arms fits is = cc
 here-fit w (stmt.Set _ _ _ _) arms fits is = cc
 
-alone-fit : {shape : _} (w : Whole) (row : Row_of-Stmt shape) (arms : Arms) → statements_fit w.signals w.places row ≡ true → arms_alone row ≡ Some arms → ArmsFit w (λ p. times_in_all p row) arms
+alone-fit : {shape : _} (w : Whole) (row : Row_of-Stmt shape) (arms : Arms)
+    → statements_fit w.signals w.places row ≡ true → arms_alone row ≡ Some arms
+    → ArmsFit w (λ p. times_in_all p row) arms
 alone-fit w end_of-Stmt arms fits is = cc
 alone-fit w (more_of-Stmt s end_of-Stmt) arms fits is =
     let inner = here-fit w s arms (and_parts _ _ fits).0 is in
     record { values = inner.values; body = inner.body; times = λ p. omega (arith, inner.times p) }
 alone-fit w (more_of-Stmt s (more_of-Stmt t rest)) arms fits is = cc
 
-arms-fit : (w : Whole) (s : Stmt) (arms : Arms) → statement_fits w.signals w.places s ≡ true → arms_of s ≡ Some arms → ArmsFit w (λ p. times_in p s) arms
+arms-fit : (w : Whole) (s : Stmt) (arms : Arms) → statement_fits w.signals w.places s ≡ true → arms_of s ≡ Some arms
+    → ArmsFit w (λ p. times_in p s) arms
 arms-fit w (stmt.Block' tag row) arms fits is = alone-fit w row arms fits is
 arms-fit w stmt.Nothing arms fits is = cc
 arms-fit w (stmt.If' cond one on_true other on_false) arms fits is = here-fit w (stmt.If' cond one on_true other on_false) arms fits is
@@ -148,19 +159,25 @@ pub record ResetArms (w : Whole) (s : Stmt) (arms : Arms) : Type 0 where
   pub fit : ArmsFit w (λ p. times_in p s) arms
   pub constants : is_reset_values arms.values ≡ true
 
-reset-fits : (w : Whole) (names : Names) (r : Resetting) (steps : Steps) (s : Stmt) (arms : Arms) → statement_fits w.signals w.places s ≡ true
+reset-fits : (w : Whole) (names : Names) (r : Resetting) (steps : Steps) (s : Stmt) (arms : Arms)
+    → statement_fits w.signals w.places s ≡ true
     → reset_arms names r steps s ≡ Some arms → ResetArms w s arms
 reset-fits w names r steps s arms fits is = outer (option_map_or (is_active names r) (condition_of steps) false) is
   where
-    chosen : (found : Arms) → arms_of s ≡ Some found → (constant : Bool) → is_reset_values found.values ≡ constant → (if constant then Some found else None) ≡ Some arms → ResetArms w s arms
+    chosen : (found : Arms) → arms_of s ≡ Some found → (constant : Bool) → is_reset_values found.values ≡ constant
+        → (if constant then Some found else None) ≡ Some arms → ResetArms w s arms
     chosen found at true holds is = subst (ResetArms w s) (Some-same is) (record { fit = arms-fit w s found fits at; constants = holds })
     chosen found at false holds is = cc
 
-    inner : (o : Option Arms) → arms_of s ≡ o → option_and_then (λ (a : Arms). if is_reset_values a.values then Some a else None) o ≡ Some arms → ResetArms w s arms
+    inner : (o : Option Arms) → arms_of s ≡ o
+        → option_and_then (λ (a : Arms). if is_reset_values a.values then Some a else None) o ≡ Some arms
+        → ResetArms w s arms
     inner None at is = cc
     inner (Some found) at is = chosen found at (is_reset_values found.values) refl is
 
-    outer : (active : Bool) → (if active then option_and_then (λ (a : Arms). if is_reset_values a.values then Some a else None) (arms_of s) else None) ≡ Some arms → ResetArms w s arms
+    outer : (active : Bool)
+        → (if active then option_and_then (λ (a : Arms). if is_reset_values a.values then Some a else None) (arms_of s) else None)
+        ≡ Some arms → ResetArms w s arms
     outer true is = inner (arms_of s) refl is
     outer false is = cc
 
@@ -173,7 +190,8 @@ pub record ClockedFits (w : Whole) (s : Stmt) (block : Clocked) : Type 0 where
 without-fits : (w : Whole) (s : Stmt) → statement_fits w.signals w.places s ≡ true → ClockedFits w s (without_reset s)
 without-fits w s fits = record { fits = and_from _ _ fits refl; times = λ p. omega arith }
 
-with-reset-fits : (w : Whole) (s : Stmt) (r : Resetting) (arms : Arms) → ResetFits w r → ResetArms w s arms → ClockedFits w s (with_reset r arms)
+with-reset-fits : (w : Whole) (s : Stmt) (r : Resetting) (arms : Arms) → ResetFits w r → ResetArms w s arms
+    → ClockedFits w s (with_reset r arms)
 with-reset-fits w s r arms reset a = record {
   fits = and_from _ _ a.fit.body
       (and_from _ _ (and_from _ _ (and_from _ _ (reset.root.given reset.other) (eq-eqb (width_at w.signals r.input) 1 reset.root.of_width)) a.constants) a.fit.values);
@@ -183,7 +201,8 @@ with-reset-fits w s r arms reset a = record {
 abbrev block_in : Clocked × Bool → Clocked
 block_in x = x.0
 
-clocked-fits : (w : Whole) (names : Names) (x : Wait) (steps : Steps) (s : Stmt) → WaitFits w x → statement_fits w.signals w.places s ≡ true
+clocked-fits : (w : Whole) (names : Names) (x : Wait) (steps : Steps) (s : Stmt) → WaitFits w x
+    → statement_fits w.signals w.places s ≡ true
     → ClockedFits w s (clocked_of names x steps s).0
 clocked-fits w names by_clock steps s waits fits = without-fits w s fits
 clocked-fits w names by_others steps s waits fits = without-fits w s fits
@@ -201,7 +220,8 @@ clocked-fits w names (by_clock_and r) steps s waits fits = by (reset_arms names 
 
 -- ---- blocks
 -- a statement with the places that it makes becomes a driver
-combinational-goes : (w : Whole) (f : Frame) (site : Site) (x : Placed Stmt) (b : Bound) → (Begins x.places w.places → Binds w.signals w.places b.places x)
+combinational-goes : (w : Whole) (f : Frame) (site : Site) (x : Placed Stmt) (b : Bound)
+    → (Begins x.places w.places → Binds w.signals w.places b.places x)
     → Goes w b (combinational f site x.value (with_places x.places b))
 combinational-goes w f site x b binds begins =
     let s = binds begins in
@@ -211,8 +231,10 @@ combinational-goes w f site x b binds begins =
           (driver-more w x.places (driver.Comb x.value site.span) b s.fits s.times s.widths before);
     }
 
-clocked-goes : (w : Whole) (f : Frame) (names : Names) (site : Site) (events : List PlainEvent) (steps : Steps) (x : Placed Stmt) (b : Bound) → f.clock ≡ w.clock
-    → (Begins x.places w.places → Binds w.signals w.places b.places x) → Goes w b (clocked f names site events steps x.value (with_places x.places b))
+clocked-goes : (w : Whole) (f : Frame) (names : Names) (site : Site) (events : List PlainEvent) (steps : Steps)
+    (x : Placed Stmt) (b : Bound) → f.clock ≡ w.clock
+    → (Begins x.places w.places → Binds w.signals w.places b.places x)
+    → Goes w b (clocked f names site events steps x.value (with_places x.places b))
 clocked-goes w f names site events steps x b same binds begins =
     let s = binds begins in
     record {
@@ -227,8 +249,10 @@ clocked-goes w f names site events steps x b same binds begins =
           (clocked-more w x.places made.0 b fits.fits (λ p. ap (λ n. n + below p (length b.places)) (fits.times p) ∙ s.times p) s.widths before));
     }
 
-block-goes : (w : Whole) (f : Frame) (names : Names) (site : Site) (events : List PlainEvent) (steps : Steps) (x : Placed Stmt) (b : Bound) → f.clock ≡ w.clock
-    → (Begins x.places w.places → Binds w.signals w.places b.places x) → Goes w b (block_of f names site events steps x.value (with_places x.places b))
+block-goes : (w : Whole) (f : Frame) (names : Names) (site : Site) (events : List PlainEvent) (steps : Steps)
+    (x : Placed Stmt) (b : Bound) → f.clock ≡ w.clock
+    → (Begins x.places w.places → Binds w.signals w.places b.places x)
+    → Goes w b (block_of f names site events steps x.value (with_places x.places b))
 block-goes w f names site events steps x b same binds = by (has_edge events)
   where
     by : (edged : Bool) → Goes w b (elim edged [
@@ -238,8 +262,10 @@ block-goes w f names site events steps x b same binds = by (has_edge events)
     by true = clocked-goes w f names site events steps x b same binds
     by false = combinational-goes w f site x b binds
 
-pub always-goes : (w : Whole) (f : Frame) (home : Home) (names : Names) (site : Site) (sensitivity : PlainSensitivity) (steps : Steps) (b c : Bound)
-    → NamesFit w.signals names → StepsFit steps → f.clock ≡ w.clock → always_block f home names site sensitivity steps b ≡ Ok c → Goes w b c
+pub always-goes : (w : Whole) (f : Frame) (home : Home) (names : Names) (site : Site) (sensitivity : PlainSensitivity)
+    (steps : Steps) (b c : Bound)
+    → NamesFit w.signals names → StepsFit steps → f.clock ≡ w.clock
+    → always_block f home names site sensitivity steps b ≡ Ok c → Goes w b c
 always-goes w f home names site sensitivity steps b c fit turns same is =
     between (each (event_at names) (events_of sensitivity) tt) (λ _. bound home names steps b.places >>= λ x. Ok (block_of f names site (events_of sensitivity) steps x.value (with_places x.places b))) c (Goes w b c) is
     λ _ _ is.

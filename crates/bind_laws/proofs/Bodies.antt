@@ -49,7 +49,8 @@ pub record Assigns (signals : List Signal) (l : Left) (e : Typed) : Type 0 where
   pub value : typed_fits signals e ≡ true
   pub wide : l.width ≤ e.width
 
-pub assignment-fits : (signals : List Signal) (l : Left) (e : Typed) → Assigns signals l e → assignment_fits signals l.parts e ≡ true
+pub assignment-fits : (signals : List Signal) (l : Left) (e : Typed) → Assigns signals l e
+    → assignment_fits signals l.parts e ≡ true
 assignment-fits signals l e a =
     let wide = sym a.target.of_width in
     and_from _ _
@@ -57,8 +58,10 @@ assignment-fits signals l e a =
     (le-leb (parts_width signals l.parts) e.width (subst (λ w. w ≤ e.width) wide a.wide))
 
 -- the next place is of the left side's width
-pub place-fits : (signals : List Signal) (final places : List Place) (k : PlaceKind) (home : Home) (site : Site) (copy : ℕ) (l : Left) → LeftFits signals l
-    → Begins (places ++ place k home site copy l ∷ []) final → place_fits final (parts_width signals l.parts) (length places) ≡ true
+pub place-fits : (signals : List Signal) (final places : List Place) (k : PlaceKind) (home : Home) (site : Site)
+    (copy : ℕ) (l : Left) → LeftFits signals l
+    → Begins (places ++ place k home site copy l ∷ []) final
+    → place_fits final (parts_width signals l.parts) (length places) ≡ true
 place-fits signals final places k home site copy l fits begins =
     ap (λ o. option_map_or (λ (p : Place). p.width == parts_width signals l.parts) o false) (begins-at places (place k home site copy l) final begins)
     ∙ eq-eqb l.width (parts_width signals l.parts) (sym fits.of_width)
@@ -86,16 +89,20 @@ pub record BindsAfter (signals : List Signal) (final : List Place) (done : List 
 pub record ChoosesAfter (signals : List Signal) (final : List Place) (width : ℕ) (done : Chosen) (before : List Place) (x : Placed Chosen) : Type 0 where
   pub front : Begins before final
   pub widths : all_wide before ≡ true → all_wide x.places ≡ true
-  pub items : items_all_fit signals final width done.items ≡ true → items_all_fit signals final width x.value.items ≡ true
+  pub items : items_all_fit signals final width done.items ≡ true
+      → items_all_fit signals final width x.value.items ≡ true
   pub other : statement_fits signals final done.other ≡ true → statement_fits signals final x.value.other ≡ true
   pub times : (p : ℕ) → total_items p x.value.items + times_in p x.value.other + below p (length before)
       ≡ total_items p done.items + times_in p done.other + below p (length x.places)
 
-nothing-binds : (signals : List Signal) (final places : List Place) → Begins places final → Binds signals final places (placed stmt.Nothing places)
+nothing-binds : (signals : List Signal) (final places : List Place) → Begins places final
+    → Binds signals final places (placed stmt.Nothing places)
 nothing-binds signals final places begins = record { front = begins; widths = λ all. all; fits = refl; times = λ p. omega arith }
 
-set-binds : (signals : List Signal) (final : List Place) (home : Home) (names : Names) (site : Site) (left : PlainLeft) (kind : AssignKind) (value : Tree) (places : List Place) (x : Placed Stmt)
-    → NamesFit signals names → set home names site left kind value places ≡ Ok x → Begins x.places final → Binds signals final places x
+set-binds : (signals : List Signal) (final : List Place) (home : Home) (names : Names) (site : Site)
+    (left : PlainLeft) (kind : AssignKind) (value : Tree) (places : List Place) (x : Placed Stmt)
+    → NamesFit signals names → set home names site left kind value places ≡ Ok x → Begins x.places final
+    → Binds signals final places x
 set-binds signals final home names site left kind value places x fit is begins =
     between (target names left) (λ l. assigned names value l.width >>= λ e. Ok (made l e)) x (Binds signals final places x) is λ l first rest.
     between (assigned names value l.width) (λ e. Ok (made l e)) x (Binds signals final places x) rest λ e second last.
@@ -108,7 +115,8 @@ set-binds signals final home names site left kind value places x fit is begins =
     made : Left → Typed → Placed Stmt
     made l e = placed (stmt.Set (length places) (record { parts = l.parts }) e (is_later kind)) (places ++ place place_kind.Step home site 0 l ∷ [])
 
-    ends : (l : Left) (e : Typed) → LeftFits signals l → Assigns signals l e → Begins (made l e).places final → Binds signals final places (made l e)
+    ends : (l : Left) (e : Typed) → LeftFits signals l → Assigns signals l e → Begins (made l e).places final
+        → Binds signals final places (made l e)
     ends l e target assigns begins = record {
       front = begins-front places (place place_kind.Step home site 0 l ∷ []) final begins;
       widths = λ all. list_all-push (λ (p : Place). is_width p.width) places (place place_kind.Step home site 0 l) all target.width;
@@ -116,12 +124,14 @@ set-binds signals final home names site left kind value places x fit is begins =
       times = λ p. below-push p places (place place_kind.Step home site 0 l);
     }
 
-none : (signals : List Signal) (final places : List Place) (x : Placed Stmt) → ◌≡◌ {A = Result (Placed Stmt) BindErr} (Ok (placed stmt.Nothing places)) (Ok x)
+none : (signals : List Signal) (final places : List Place) (x : Placed Stmt)
+    → ◌≡◌ {A = Result (Placed Stmt) BindErr} (Ok (placed stmt.Nothing places)) (Ok x)
     → Begins x.places final → Binds signals final places x
 none signals final places x is begins =
     subst (Binds signals final places) (Ok-same is) (nothing-binds signals final places (subst (λ (y : Placed Stmt). Begins y.places final) (sym (Ok-same is)) begins))
 
-still-binds : (signals : List Signal) (final : List Place) (home : Home) (names : Names) (s : PlainStatement) (places : List Place) (x : Placed Stmt)
+still-binds : (signals : List Signal) (final : List Place) (home : Home) (names : Names) (s : PlainStatement)
+    (places : List Place) (x : Placed Stmt)
     → NamesFit signals names → set_of home names s places ≡ Ok x → Begins x.places final → Binds signals final places x
 still-binds signals final home names (assignment site left kind delay value) places x fit is begins = set-binds signals final home names site left kind value places x fit is begins
 still-binds signals final home names (empty _) places x fit is begins = none signals final places x is begins
@@ -133,7 +143,8 @@ still-binds signals final home names (choice _ _ _ _) places x fit is begins = n
 still-binds signals final home names (loop _ _ _) places x fit is begins = none signals final places x is begins
 
 -- a default
-default-fits : (signals : List Signal) (final : List Place) (s : Stmt) → statement_fits signals final s ≡ true → statement_fits signals final (as_default s) ≡ true
+default-fits : (signals : List Signal) (final : List Place) (s : Stmt) → statement_fits signals final s ≡ true
+    → statement_fits signals final (as_default s) ≡ true
 default-fits signals final stmt.Nothing fits = fits_block signals final []
 default-fits signals final (stmt.Block' tag row) fits = fits
 default-fits signals final (stmt.If' _ _ _ _ _) fits = fits
@@ -156,7 +167,8 @@ abbrev and_default : Chosen → Stmt → Chosen
 and_default done body = record { items = done.items; other = as_default body }
 
 block-ends : (signals : List Signal) (final : List Place) (done : List Stmt) (places : List Place) (x : Placed Stmt)
-    → ◌≡◌ {A = Result (Placed Stmt) BindErr} (Ok (placed (stmt.Block done) places)) (Ok x) → Begins x.places final → BindsAfter signals final done places x
+    → ◌≡◌ {A = Result (Placed Stmt) BindErr} (Ok (placed (stmt.Block done) places)) (Ok x) → Begins x.places final
+    → BindsAfter signals final done places x
 block-ends signals final done places x is begins =
     subst (BindsAfter signals final done places) (Ok-same is)
     (record {
@@ -166,7 +178,8 @@ block-ends signals final done places x is begins =
       times = λ p. ap (λ n. n + below p (length places)) (times_block p done);
     })
 
-one-more : (signals : List Signal) (final : List Place) (done : List Stmt) (places : List Place) (one x : Placed Stmt) → Binds signals final places one
+one-more : (signals : List Signal) (final : List Place) (done : List Stmt) (places : List Place) (one x : Placed Stmt)
+    → Binds signals final places one
     → BindsAfter signals final (done ++ one.value ∷ []) one.places x → BindsAfter signals final done places x
 one-more signals final done places one x first more = record {
   front = first.front;
@@ -175,14 +188,18 @@ one-more signals final done places one x first more = record {
   times = λ p. omega (arith, first.times p, more.times p, total-push p done one.value);
 }
 
-arms-end : (signals : List Signal) (final : List Place) (width : ℕ) (done : Chosen) (places : List Place) (x : Placed Chosen)
-    → ◌≡◌ {A = Result (Placed Chosen) BindErr} (Ok (placed done places)) (Ok x) → Begins x.places final → ChoosesAfter signals final width done places x
+arms-end : (signals : List Signal) (final : List Place) (width : ℕ) (done : Chosen) (places : List Place)
+    (x : Placed Chosen)
+    → ◌≡◌ {A = Result (Placed Chosen) BindErr} (Ok (placed done places)) (Ok x) → Begins x.places final
+    → ChoosesAfter signals final width done places x
 arms-end signals final width done places x is begins =
     subst (ChoosesAfter signals final width done places) (Ok-same is)
     (record { front = subst (λ (y : Placed Chosen). Begins y.places final) (sym (Ok-same is)) begins; widths = λ all. all; items = λ all. all; other = λ fits. fits; times = λ p. refl })
 
-item-more : (signals : List Signal) (final : List Place) (width : ℕ) (done : Chosen) (list : List Label) (places : List Place) (one : Placed Stmt) (x : Placed Chosen)
-    → list_all (label_fits signals width) list ≡ true → Binds signals final places one → ChoosesAfter signals final width (and_item done list one.value) one.places x
+item-more : (signals : List Signal) (final : List Place) (width : ℕ) (done : Chosen) (list : List Label)
+    (places : List Place) (one : Placed Stmt) (x : Placed Chosen)
+    → list_all (label_fits signals width) list ≡ true → Binds signals final places one
+    → ChoosesAfter signals final width (and_item done list one.value) one.places x
     → ChoosesAfter signals final width done places x
 item-more signals final width done list places one x labels first more = record {
   front = first.front;
@@ -192,8 +209,10 @@ item-more signals final width done list places one x labels first more = record 
   times = λ p. omega (arith, first.times p, more.times p, total_items-push p done.items (record { labels = list; body = one.value }));
 }
 
-default-more : (signals : List Signal) (final : List Place) (width : ℕ) (done : Chosen) (places : List Place) (one : Placed Stmt) (x : Placed Chosen)
-    → done.other ≡ stmt.Nothing → Binds signals final places one → ChoosesAfter signals final width (and_default done one.value) one.places x
+default-more : (signals : List Signal) (final : List Place) (width : ℕ) (done : Chosen) (places : List Place)
+    (one : Placed Stmt) (x : Placed Chosen)
+    → done.other ≡ stmt.Nothing → Binds signals final places one
+    → ChoosesAfter signals final width (and_default done one.value) one.places x
     → ChoosesAfter signals final width done places x
 default-more signals final width done places one x free first more = record {
   front = first.front;
@@ -204,7 +223,8 @@ default-more signals final width done places one x free first more = record {
 }
 
 -- a case from its arms
-case-binds : (signals : List Signal) (final : List Place) (home : Home) (names : Names) (kind : CaseKind) (subject : Tree) (arms : Arms) (places : List Place) (x : Placed Stmt)
+case-binds : (signals : List Signal) (final : List Place) (home : Home) (names : Names) (kind : CaseKind)
+    (subject : Tree) (arms : Arms) (places : List Place) (x : Placed Stmt)
     → NamesFit signals names → bound home names (choose kind subject arms) places ≡ Ok x → Begins x.places final
     → ((c : Context) (y : Placed Chosen) → Within c.width → ArmsNarrow names c.width arms → bound_arms home names c arms nothing_chosen places ≡ Ok y
     → Begins y.places final → ChoosesAfter signals final c.width nothing_chosen places y)
@@ -234,8 +254,10 @@ case-binds signals final home names kind subject arms places x fit is begins bin
     made e y = placed (stmt.Case e y.value.items y.value.other (is_wild_case kind)) y.places
 
 mutual
-  pub bound-binds : (signals : List Signal) (final : List Place) (home : Home) (names : Names) (s : Steps) (places : List Place) (x : Placed Stmt)
-      → NamesFit signals names → StepsFit s → bound home names s places ≡ Ok x → Begins x.places final → Binds signals final places x
+  pub bound-binds : (signals : List Signal) (final : List Place) (home : Home) (names : Names) (s : Steps)
+      (places : List Place) (x : Placed Stmt)
+      → NamesFit signals names → StepsFit s → bound home names s places ≡ Ok x → Begins x.places final
+      → Binds signals final places x
   bound-binds signals final home names nothing places x fit turns is begins = none signals final places x is begins
   bound-binds signals final home names (still s) places x fit turns is begins = still-binds signals final home names s places x fit is begins
   bound-binds signals final home names (run list) places x fit turns is begins =
@@ -266,25 +288,32 @@ mutual
       let all = turns-bind signals final home names variable turns [] places x fit fits is begins in
       record { front = all.front; widths = all.widths; fits = all.fits refl; times = λ p. omega (arith, all.times p) }
 
-  all-bind : (signals : List Signal) (final : List Place) (home : Home) (names : Names) (xs : StepList) (done : List Stmt) (places : List Place) (x : Placed Stmt)
-      → NamesFit signals names → ListFit xs → bound_all home names xs done places ≡ Ok x → Begins x.places final → BindsAfter signals final done places x
+  all-bind : (signals : List Signal) (final : List Place) (home : Home) (names : Names) (xs : StepList)
+      (done : List Stmt) (places : List Place) (x : Placed Stmt)
+      → NamesFit signals names → ListFit xs → bound_all home names xs done places ≡ Ok x → Begins x.places final
+      → BindsAfter signals final done places x
   all-bind signals final home names no_step done places x fit turns is begins = block-ends signals final done places x is begins
   all-bind signals final home names (step s xs) done places x fit turns is begins =
       between (bound home names s places) (λ one. bound_all home names xs (done ++ one.value ∷ []) one.places) x (BindsAfter signals final done places x) is λ one first rest.
       let more = all-bind signals final home names xs (done ++ one.value ∷ []) one.places x fit turns.1 rest begins in
       one-more signals final done places one x (bound-binds signals final home names s places one fit turns.0 first more.front) more
 
-  turns-bind : (signals : List Signal) (final : List Place) (home : Home) (names : Names) (variable : Identifier) (xs : Turns) (done : List Stmt) (places : List Place) (x : Placed Stmt)
-      → NamesFit signals names → TurnsFit xs → bound_turns home names variable xs done places ≡ Ok x → Begins x.places final → BindsAfter signals final done places x
+  turns-bind : (signals : List Signal) (final : List Place) (home : Home) (names : Names) (variable : Identifier)
+      (xs : Turns) (done : List Stmt) (places : List Place) (x : Placed Stmt)
+      → NamesFit signals names → TurnsFit xs → bound_turns home names variable xs done places ≡ Ok x
+      → Begins x.places final → BindsAfter signals final done places x
   turns-bind signals final home names variable no_turn done places x fit turns is begins = block-ends signals final done places x is begins
   turns-bind signals final home names variable (turn value s xs) done places x fit turns is begins =
       between (bound home (turned variable value names) s places) (λ one. bound_turns home names variable xs (done ++ one.value ∷ []) one.places) x (BindsAfter signals final done places x) is λ one first rest.
       let more = turns-bind signals final home names variable xs (done ++ one.value ∷ []) one.places x fit turns.2 rest begins in
       one-more signals final done places one x (bound-binds signals final home (turned variable value names) s places one (turns.0, fit) turns.1 first more.front) more
 
-  arms-bind : (signals : List Signal) (final : List Place) (home : Home) (names : Names) (c : Context) (had : Bool) (arms : Arms) (done : Chosen) (places : List Place) (x : Placed Chosen)
-      → NamesFit signals names → Within c.width → ArmsNarrow names c.width arms → ArmsFit had arms → (had ≡ false → done.other ≡ stmt.Nothing)
-      → bound_arms home names c arms done places ≡ Ok x → Begins x.places final → ChoosesAfter signals final c.width done places x
+  arms-bind : (signals : List Signal) (final : List Place) (home : Home) (names : Names) (c : Context) (had : Bool)
+      (arms : Arms) (done : Chosen) (places : List Place) (x : Placed Chosen)
+      → NamesFit signals names → Within c.width → ArmsNarrow names c.width arms → ArmsFit had arms
+      → (had ≡ false → done.other ≡ stmt.Nothing)
+      → bound_arms home names c arms done places ≡ Ok x → Begins x.places final
+      → ChoosesAfter signals final c.width done places x
   arms-bind signals final home names c had no_arm done places x fit within narrow turns free is begins = arms-end signals final c.width done places x is begins
   arms-bind signals final home names c had (arm labels s xs) done places x fit within narrow turns free is begins =
       between (each (label_at names c) labels []) (λ list. bound home names s places >>= λ one. bound_arms home names c xs (and_item done list one.value) one.places) x (ChoosesAfter signals final c.width done places x) is
@@ -304,7 +333,8 @@ mutual
 counted-new : (m n p t : ℕ) → t + below p m ≡ below p n → m ≤ p → p < n → t ≡ 1
 counted-new m n p t is old new = by (nat_lt p m) refl (nat_lt p n) refl is
   where
-    by : (a : Bool) → nat_lt p m ≡ a → (b : Bool) → nat_lt p n ≡ b → t + (if a then 1 else 0) ≡ (if b then 1 else 0) → t ≡ 1
+    by : (a : Bool) → nat_lt p m ≡ a → (b : Bool) → nat_lt p n ≡ b → t + (if a then 1 else 0) ≡ (if b then 1 else 0)
+        → t ≡ 1
     by true first b second is = absurd (omega (arith, ltb-true p m first, old))
     by false first true second is = omega (arith, is)
     by false first false second is = absurd (omega (arith, ltb-false p n second, new))
@@ -312,12 +342,14 @@ counted-new m n p t is old new = by (nat_lt p m) refl (nat_lt p n) refl is
 counted-old : (m n p t : ℕ) → t + below p m ≡ below p n → m ≤ n → p < m → t ≡ 0
 counted-old m n p t is long old = by (nat_lt p m) refl (nat_lt p n) refl is
   where
-    by : (a : Bool) → nat_lt p m ≡ a → (b : Bool) → nat_lt p n ≡ b → t + (if a then 1 else 0) ≡ (if b then 1 else 0) → t ≡ 0
+    by : (a : Bool) → nat_lt p m ≡ a → (b : Bool) → nat_lt p n ≡ b → t + (if a then 1 else 0) ≡ (if b then 1 else 0)
+        → t ≡ 0
     by true first true second is = omega (arith, is)
     by true first false second is = absurd (omega (arith, ltb-false p n second, old, long))
     by false first b second is = absurd (omega (arith, ltb-false p m first, old))
 
-pub body-fits : (signals : List Signal) (home : Home) (names : Names) (s : Steps) (before : List Place) (x : Placed Stmt) → NamesFit signals names → StepsFit s
+pub body-fits : (signals : List Signal) (home : Home) (names : Names) (s : Steps) (before : List Place)
+    (x : Placed Stmt) → NamesFit signals names → StepsFit s
     → bound home names s before ≡ Ok x → StatementFits signals before x
 body-fits signals home names s before x fit text is =
     let b = bound-binds signals x.places home names s before x fit text is (begins-itself x.places) in

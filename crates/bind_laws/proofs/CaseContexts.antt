@@ -43,7 +43,8 @@ narrower : (names : Names) (labels : List Tree) (a b : ℕ) → a ≤ b → AreN
 narrower names [] a b less all = tt
 narrower names (e ∷ es) a b less all = (omega (arith, less, all.0), narrower names es a b less all.1)
 
-labels-narrow : (signals : List Signal) (names : Names) (labels : List Tree) (c : Context) → NamesFit signals names → Within c.width
+labels-narrow : (signals : List Signal) (names : Names) (labels : List Tree) (c : Context) → NamesFit signals names
+    → Within c.width
     → Widens signals c.width (through (with_label names) labels c).width × AreNarrow names (through (with_label names) labels c).width labels
 labels-narrow signals names [] c fit within = (record { wider = omega arith; within = within }, tt)
 labels-narrow signals names (e ∷ es) c fit within =
@@ -53,7 +54,8 @@ labels-narrow signals names (e ∷ es) c fit within =
     let own : own_width names e ≤ next.width = le-max_right c.width (own_width names e) in
     (record { wider = omega (arith, more.0.wider, first); within = more.0.within }, (omega (arith, more.0.wider, own), more.1))
 
-arms-narrow : (signals : List Signal) (names : Names) (arms : Arms) (c : Context) → NamesFit signals names → Within c.width
+arms-narrow : (signals : List Signal) (names : Names) (arms : Arms) (c : Context) → NamesFit signals names
+    → Within c.width
     → Widens signals c.width (with_arms names arms c).width × ArmsNarrow names (with_arms names arms c).width arms
 arms-narrow signals names no_arm c fit within = (record { wider = omega arith; within = within }, tt)
 arms-narrow signals names (arm labels x rest) c fit within =
@@ -73,18 +75,21 @@ pub record Holds (signals : List Signal) (names : Names) (subject : Tree) (arms 
   pub narrow : own_width names subject ≤ (context_of names subject arms).width
   pub labels : ArmsNarrow names (context_of names subject arms).width arms
 
-pub context-holds : (signals : List Signal) (names : Names) (subject : Tree) (arms : Arms) → NamesFit signals names → Holds signals names subject arms
+pub context-holds : (signals : List Signal) (names : Names) (subject : Tree) (arms : Arms) → NamesFit signals names
+    → Holds signals names subject arms
 context-holds signals names subject arms fit =
     let start : Within (own_width names subject) = own-within signals names subject fit in
     let all = arms-narrow signals names arms (start_of names subject) fit start in
     record { within = all.0.within; narrow = all.0.wider; labels = all.1 }
 
 -- an expression that is no wider than its context is of the context's width
-pub sized-width : (signals : List Signal) (names : Names) (e : Tree) (width : ℕ) (unsigned : Bool) (x : Typed) → own_width names e ≤ width
+pub sized-width : (signals : List Signal) (names : Names) (e : Tree) (width : ℕ) (unsigned : Bool) (x : Typed)
+    → own_width names e ≤ width
     → IsSized signals names e width unsigned x → x.width ≡ width
 sized-width signals names e width unsigned x narrow sized = sized.of_width ∙ max-eq_left narrow
 
-label-fits : (signals : List Signal) (names : Names) (c : Context) (e : Tree) (done after : List Label) → NamesFit signals names → Within c.width
+label-fits : (signals : List Signal) (names : Names) (c : Context) (e : Tree) (done after : List Label)
+    → NamesFit signals names → Within c.width
     → own_width names e ≤ c.width → label_at names c e done ≡ Ok after
     → list_all (label_fits signals c.width) done ≡ true → list_all (label_fits signals c.width) after ≡ true
 label-fits signals names c e done after fit within narrow is before =
@@ -98,12 +103,14 @@ label-fits signals names c e done after fit within narrow is before =
     label : Typed → Label
     label value = record { value = value; wild = word c.width (wild_bits c e) }
 
-    pushed : (xs : List Label) → list_all (label_fits signals c.width) xs ≡ true → (x : Label) → label_fits signals c.width x ≡ true
+    pushed : (xs : List Label) → list_all (label_fits signals c.width) xs ≡ true → (x : Label)
+        → label_fits signals c.width x ≡ true
         → list_all (label_fits signals c.width) (xs ++ x ∷ []) ≡ true
     pushed [] all x one = and_from _ _ one refl
     pushed (y ∷ ys) all x one = let f = and_parts _ _ all in and_from _ _ f.0 (pushed ys f.1 x one)
 
-pub labels-fit : (signals : List Signal) (names : Names) (c : Context) (labels : List Tree) (done after : List Label) → NamesFit signals names → Within c.width
+pub labels-fit : (signals : List Signal) (names : Names) (c : Context) (labels : List Tree) (done after : List Label)
+    → NamesFit signals names → Within c.width
     → AreNarrow names c.width labels → each (label_at names c) labels done ≡ Ok after
     → list_all (label_fits signals c.width) done ≡ true → list_all (label_fits signals c.width) after ≡ true
 labels-fit signals names c [] done after fit within narrow is before = subst (λ ls. list_all (label_fits signals c.width) ls ≡ true) (Ok-same is) before

@@ -41,7 +41,8 @@ use Rattle.bind_laws.proofs.Started.{started-same, started-length, all_started-f
 use Rattle.bind_laws.proofs.TopPorts.{ascend-apart, inputs-ascend, outputs-ascend, inputs-fit, outputs-fit, roots-fit}
 
 -- ---- an instance
-port-goes : (w : Whole) (names : Names) (p : Port) (b c : Bound) → NamesFit w.signals names → NamesSignal (find names p.name.name) → port_start names p b ≡ Ok c → Goes w b c
+port-goes : (w : Whole) (names : Names) (p : Port) (b c : Bound) → NamesFit w.signals names
+    → NamesSignal (find names p.name.name) → port_start names p b ≡ Ok c → Goes w b c
 port-goes w names p b c fit named is = by p.start is
   where
     by : (o : Option Tree) → ◌≡◌ {A = Result Bound BindErr} (elim o [
@@ -51,7 +52,8 @@ port-goes w names p b c fit named is = by p.start is
     by None is = subst (Goes w b) (Ok-same is) (goes-nowhere w b)
     by (Some value) is = start-goes w names p.name.name value b c fit named is
 
-instance-goes : (w : Whole) (f : Frame) (i : Instance) (own : Scope) (children : List (List Socket)) (b c : Bound) → f.clock ≡ w.clock → OneFits w.signals i own
+instance-goes : (w : Whole) (f : Frame) (i : Instance) (own : Scope) (children : List (List Socket)) (b c : Bound)
+    → f.clock ≡ w.clock → OneFits w.signals i own
     → Every (Every (SocketFits w.signals)) children → instance_items f i own children b ≡ Ok c → Goes w b c
 instance-goes w f i own children b c clock fits fit is =
     between (each (port_start names) i.ports b) (λ more. behind i.body more) c (Goes w b c) is λ more first rest.
@@ -82,21 +84,25 @@ instance-goes w f i own children b c clock fits fit is =
 abbrev AllPorts : Whole → List (List Socket) → Type 0
 AllPorts w ports = Every (Every (SocketFits w.signals)) ports
 
-ports-fit : (w : Whole) (is : List Instance) (scopes : List Scope) → AllFit w.signals is scopes → AllPorts w (all_sockets is scopes)
+ports-fit : (w : Whole) (is : List Instance) (scopes : List Scope) → AllFit w.signals is scopes
+    → AllPorts w (all_sockets is scopes)
 ports-fit w [] scopes fits = tt
 ports-fit w (i ∷ is) [] fits = tt
 ports-fit w (i ∷ is) (s ∷ ss) fits = (fits.0.ports, ports-fit w is ss fits.1)
 
-children-fit : (w : Whole) (number : ℕ) (is : List Instance) (ports : List (List Socket)) → AllPorts w ports → AllPorts w (children_of number is ports)
+children-fit : (w : Whole) (number : ℕ) (is : List Instance) (ports : List (List Socket)) → AllPorts w ports
+    → AllPorts w (children_of number is ports)
 children-fit w number [] ports fits = tt
 children-fit w number (i ∷ is) [] fits = tt
 children-fit w number (i ∷ is) (p ∷ ps) fits = by (is_in number i) (children-fit w number is ps fits.1)
   where
-    by : (here : Bool) → AllPorts w (children_of number is ps) → AllPorts w (if here then p ∷ children_of number is ps else children_of number is ps)
+    by : (here : Bool) → AllPorts w (children_of number is ps)
+        → AllPorts w (if here then p ∷ children_of number is ps else children_of number is ps)
     by true later = (fits.0, later)
     by false later = later
 
-from-goes : (w : Whole) (f : Frame) (all : List Instance) (ports : List (List Socket)) (number : ℕ) (is : List Instance) (scopes : List Scope) (b c : Bound) → f.clock ≡ w.clock
+from-goes : (w : Whole) (f : Frame) (all : List Instance) (ports : List (List Socket)) (number : ℕ)
+    (is : List Instance) (scopes : List Scope) (b c : Bound) → f.clock ≡ w.clock
     → AllPorts w ports → AllFit w.signals is scopes → bound_from f all ports number is scopes b ≡ Ok c → Goes w b c
 from-goes w f all ports number [] scopes b c clock fit fits bound = subst (Goes w b) (Ok-same bound) (goes-nowhere w b)
 from-goes w f all ports number (i ∷ is) [] b c clock fit fits bound = subst (Goes w b) (Ok-same bound) (goes-nowhere w b)
@@ -116,7 +122,8 @@ pub record TopFits (signals : List Signal) (top : List Socket) : Type 0 where
 no-top : (signals : List Signal) → TopFits signals []
 no-top signals = record { fit = tt; number = 0; count = tt; inputs = tt }
 
-top-fits : (signals : List Signal) (is : List Instance) (scopes : List Scope) → IsFirst is → AllFit signals is scopes → TopFits signals (top_ports (all_sockets is scopes))
+top-fits : (signals : List Signal) (is : List Instance) (scopes : List Scope) → IsFirst is → AllFit signals is scopes
+    → TopFits signals (top_ports (all_sockets is scopes))
 top-fits signals [] scopes first fits = no-top signals
 top-fits signals (i ∷ is) [] first fits = no-top signals
 top-fits signals (i ∷ is) (s ∷ ss) first fits = record { fit = fits.0.ports; number = fits.0.number; count = fits.0.count; inputs = fits.0.inputs first }
@@ -129,10 +136,12 @@ none-below p = by (nat_lt p 0) refl
     by true is = absurd (omega (arith, ltb-true p 0 is))
     by false is = refl
 
-begins-well : (w : Whole) (roots : List Root) → Every (λ (r : Root). RootFits w r.input) roots → BoundFits w (nothing_bound roots)
+begins-well : (w : Whole) (roots : List Root) → Every (λ (r : Root). RootFits w r.input) roots
+    → BoundFits w (nothing_bound roots)
 begins-well w roots fit = record { drivers = refl; clocked = refl; once = λ p. none-below p; roots = fit; declared = tt; initial = tt; places = refl }
 
-initial-starts : (w : Whole) (is : List Initial) → Every (λ (i : Initial). StartFits w i.start) is → Every (StartFits w) (map (λ i. i.start) is)
+initial-starts : (w : Whole) (is : List Initial) → Every (λ (i : Initial). StartFits w i.start) is
+    → Every (StartFits w) (map (λ i. i.start) is)
 initial-starts w [] all = tt
 initial-starts w (i ∷ is) all = (all.0, initial-starts w is all.1)
 
@@ -164,7 +173,8 @@ made is name x =
     }
 
 -- the lists of a design, from what is bound at the end
-lists-from : (is : List Instance) (name : Option (List ℕ)) (x : Bound) → InstancesStand is → OfText is → length (signals_of is).signals < 2 ^ 32
+lists-from : (is : List Instance) (name : Option (List ℕ)) (x : Bound) → InstancesStand is → OfText is
+    → length (signals_of is).signals < 2 ^ 32
     → bound_from (frame_of (signals_of is) (clock_of name (top_ports (all_sockets is (signals_of is).scopes)))) is (all_sockets is (signals_of is).scopes) 0 is (signals_of is).scopes
     (nothing_bound (top_roots (top_ports (all_sockets is (signals_of is).scopes)))) ≡ Ok x
     → (w : Whole) × ListsFit (made is name x) w
@@ -212,13 +222,15 @@ lists-from is name x stand of few bound = (
         (ports-fit w is (signals_of is).scopes scopes_fit) scopes_fit bound (begins-itself x.places)).keeps
         (begins-well w (top_roots top) (roots-fit w top refl ports.fit))
 
-numbers-few : (is : List Instance) (name : Option (List ℕ)) (x : Bound) (b : Binding) → length b.signals < 2 ^ 32 → made is name x ≡ b → length (signals_of is).signals < 2 ^ 32
+numbers-few : (is : List Instance) (name : Option (List ℕ)) (x : Bound) (b : Binding) → length b.signals < 2 ^ 32
+    → made is name x ≡ b → length (signals_of is).signals < 2 ^ 32
 numbers-few is name x b few same =
     let long = started-length (x.declared ++ map (λ i. i.start) x.initial) (signals_of is).signals in
     let counted : length (made is name x).signals ≡ length b.signals = ap (λ (k : Binding). length k.signals) same in
     omega (arith, few, long, counted)
 
-pub lists-fit : (is : List Instance) (name : Option (List ℕ)) (b : Binding) → InstancesStand is → OfText is → length b.signals < 2 ^ 32 → binding is name ≡ Ok b → (w : Whole) × ListsFit b w
+pub lists-fit : (is : List Instance) (name : Option (List ℕ)) (b : Binding) → InstancesStand is → OfText is
+    → length b.signals < 2 ^ 32 → binding is name ≡ Ok b → (w : Whole) × ListsFit b w
 lists-fit is name b stand of few bound =
     let whole = signals_of is in
     let ports = all_sockets is whole.scopes in
@@ -228,7 +240,8 @@ lists-fit is name b stand of few bound =
     (lists-from is name x stand of (numbers-few is name x b few (Ok-same last)) first)
 
 -- ---- a design of the lists
-whole-is : (w : Whole) (signals : List Signal) (places : List Place) (inputs : List ℕ) → w.signals ≡ signals → w.places ≡ places → w.inputs ≡ inputs
+whole-is : (w : Whole) (signals : List Signal) (places : List Place) (inputs : List ℕ) → w.signals ≡ signals
+    → w.places ≡ places → w.inputs ≡ inputs
     → w ≡ record { signals = signals; places = places; clock = w.clock; inputs = inputs }
 whole-is w signals places inputs one two three =
     ap (λ s. whole s w.places w.clock w.inputs) one ∙ ap (λ p. whole signals p w.clock w.inputs) two ∙ ap (λ i. whole signals places w.clock i) three

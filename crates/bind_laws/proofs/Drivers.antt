@@ -47,7 +47,8 @@ use Rattle.bind_laws.proofs.GateValues.{IsBit, inputs-bits, no-inputs, gate-bit,
 use Rattle.bind_laws.proofs.Goes.{Goes, goes-nowhere, goes-on, declared-more, initial-more, words-more, driven_at-goes}
 
 -- ---- continuous assignments
-pub continuous-goes : (w : Whole) (f : Frame) (home : Home) (names : Names) (site : Site) (left : PlainLeft) (value : Tree) (b c : Bound) → NamesFit w.signals names
+pub continuous-goes : (w : Whole) (f : Frame) (home : Home) (names : Names) (site : Site) (left : PlainLeft)
+    (value : Tree) (b c : Bound) → NamesFit w.signals names
     → continuous f home names site left value b ≡ Ok c → Goes w b c
 continuous-goes w f home names site left value b c fit is =
     between (target names left) (λ l. assigned names value l.width >>= λ e. Ok (driven_at f home place_kind.Assign site 0 site.span l e b)) c (Goes w b c) is λ l first is.
@@ -57,16 +58,19 @@ continuous-goes w f home names site left value b c fit is =
     subst (Goes w b) (Ok-same last)
     (driven_at-goes w f home place_kind.Assign site 0 site.span l e b (record { target = target; value = sized.fits; wide = assigned-wide w.signals names value l.width false e sized }))
 
-pub assignment-goes : (w : Whole) (f : Frame) (home : Home) (names : Names) (a : PlainAssignment) (b c : Bound) → NamesFit w.signals names
+pub assignment-goes : (w : Whole) (f : Frame) (home : Home) (names : Names) (a : PlainAssignment) (b c : Bound)
+    → NamesFit w.signals names
     → assignment_of f home names a b ≡ Ok c → Goes w b c
 assignment-goes w f home names a b c fit is = continuous-goes w f home names a.site a.target a.value b c fit is
 
 -- ---- start values
-pub there-width : (signals : List Signal) (width : ℕ) (left right : _) (number : ℕ) → IsThere signals width left right number → width_at signals number ≡ width
+pub there-width : (signals : List Signal) (width : ℕ) (left right : _) (number : ℕ)
+    → IsThere signals width left right number → width_at signals number ≡ width
 there-width signals width left right number is =
     ap (λ o. option_map_or (λ (s : Signal). s.width) o 0) is.there ∙ is.is.of_width
 
-start-fits : (w : Whole) (names : Names) (name : List ℕ) (c : Const) → NamesFit w.signals names → NamesSignal (find names name)
+start-fits : (w : Whole) (names : Names) (name : List ℕ) (c : Const) → NamesFit w.signals names
+    → NamesSignal (find names name)
     → StartFits w (start (number_of (find names name)) (own_width_of (find names name)) c)
 start-fits w names name c fit named =
     let found = find-every (UseFits w.signals) names name (stands (meaning.Signal named.signal named.width named.signed named.left named.right)) fit named.is in
@@ -74,7 +78,8 @@ start-fits w names name c fit named =
     subst (λ o. StartFits w (start (number_of o) (own_width_of o) c)) (sym named.is)
     (word-width named.width _ within ∙ sym (there-width w.signals named.width named.left named.right named.signal found.1))
 
-pub start-goes : (w : Whole) (names : Names) (name : List ℕ) (value : Tree) (b c : Bound) → NamesFit w.signals names → NamesSignal (find names name)
+pub start-goes : (w : Whole) (names : Names) (name : List ℕ) (value : Tree) (b c : Bound) → NamesFit w.signals names
+    → NamesSignal (find names name)
     → start_at names name value b ≡ Ok c → Goes w b c
 start-goes w names name value b c fit named is =
     let own = find names name in
@@ -99,13 +104,15 @@ array-goes w names d b c is = by d.range is
         between (counted d.site.span b.words a) (λ words. Ok (with_words words b)) c (Goes w b c) is λ words second last.
         subst (Goes w b) (Ok-same last) (λ begins. record { front = begins; keeps = λ before. words-more w words b before })
 
-value-goes : (w : Whole) (f : Frame) (home : Home) (names : Names) (kind : NetKind) (d : PlainDeclarator) (value : Tree) (b c : Bound) → NamesFit w.signals names
+value-goes : (w : Whole) (f : Frame) (home : Home) (names : Names) (kind : NetKind) (d : PlainDeclarator)
+    (value : Tree) (b c : Bound) → NamesFit w.signals names
     → HasSignal names kind (record { site = d.site; name = d.name; range = d.range; value = Some value })
     → value_at f home names kind d value b ≡ Ok c → Goes w b c
 value-goes w f home names net_kind.Wire d value b c fit has is = continuous-goes w f home names d.site (name_left d.name.site d.name.name no_select) value b c fit is
 value-goes w f home names net_kind.Reg d value b c fit has is = start-goes w names d.name.name value b c fit has is
 
-pub declarator-goes : (w : Whole) (f : Frame) (home : Home) (names : Names) (kind : NetKind) (d : PlainDeclarator) (b c : Bound) → NamesFit w.signals names → HasSignal names kind d
+pub declarator-goes : (w : Whole) (f : Frame) (home : Home) (names : Names) (kind : NetKind) (d : PlainDeclarator)
+    (b c : Bound) → NamesFit w.signals names → HasSignal names kind d
     → declarator_of f home names kind d b ≡ Ok c → Goes w b c
 declarator-goes w f home names kind d b c fit has is =
     between (array_of names d b) rest c (Goes w b c) is λ more first second.
@@ -117,7 +124,8 @@ declarator-goes w f home names kind d b c fit has is =
       | Some value ↦ value_at f home names kind d value more
     ]
 
-    by : (o : Option Tree) → HasSignal names kind (record { site = d.site; name = d.name; range = d.range; value = o }) → (more : Bound)
+    by : (o : Option Tree)
+        → HasSignal names kind (record { site = d.site; name = d.name; range = d.range; value = o }) → (more : Bound)
         → ◌≡◌ {A = Result Bound BindErr} (elim o [
           | None ↦ Ok more
           | Some value ↦ value_at f home names kind d value more
@@ -135,7 +143,8 @@ signal-named span (Some (stands (meaning.Signal signal width signed left right))
     record { signal = signal; width = width; signed = signed; left = left; right = right; is = refl }
 signal-named span (Some (stands (meaning.Array _ _ _ _ _ _ _))) is = cc
 
-initial-goes : (w : Whole) (names : Names) (site : Site) (name : List ℕ) (value : Tree) (b c : Bound) → NamesFit w.signals names
+initial-goes : (w : Whole) (names : Names) (site : Site) (name : List ℕ) (value : Tree) (b c : Bound)
+    → NamesFit w.signals names
     → initial_at names site name value b ≡ Ok c → Goes w b c
 initial-goes w names site name value b c fit is = by (initial_fault site.span own) refl is
   where
@@ -163,7 +172,8 @@ same-goes : (w : Whole) (b c : Bound) → ◌≡◌ {A = Result Bound BindErr} (
 same-goes w b c is = subst (Goes w b) (Ok-same is) (goes-nowhere w b)
 
 mutual
-  pub initial_block-goes : (w : Whole) (names : Names) (s : PlainStatement) (b c : Bound) → NamesFit w.signals names → initial_block names s b ≡ Ok c → Goes w b c
+  pub initial_block-goes : (w : Whole) (names : Names) (s : PlainStatement) (b c : Bound) → NamesFit w.signals names
+      → initial_block names s b ≡ Ok c → Goes w b c
   initial_block-goes w names (block _ _ body) b c fit is = initial_all-goes w names body b c fit is
   initial_block-goes w names (assignment _ (name_left site name _) _ _ value) b c fit is = initial-goes w names site name value b c fit is
   initial_block-goes w names (assignment _ (concat_left _ _) _ _ _) b c fit is = same-goes w b c is
@@ -174,7 +184,8 @@ mutual
   initial_block-goes w names (choice _ _ _ _) b c fit is = same-goes w b c is
   initial_block-goes w names (loop _ _ _) b c fit is = same-goes w b c is
 
-  initial_all-goes : (w : Whole) (names : Names) (xs : Statements) (b c : Bound) → NamesFit w.signals names → initial_all names xs b ≡ Ok c → Goes w b c
+  initial_all-goes : (w : Whole) (names : Names) (xs : Statements) (b c : Bound) → NamesFit w.signals names
+      → initial_all names xs b ≡ Ok c → Goes w b c
   initial_all-goes w names no_statement b c fit is = same-goes w b c is
   initial_all-goes w names (statement x xs) b c fit is =
       between (initial_block names x b) (initial_all names xs) c (Goes w b c) is λ more first rest.
@@ -184,7 +195,8 @@ mutual
 abbrev OutputsFit : Whole → List Output → Type 0
 OutputsFit w os = Every (λ (o : Output). LeftFits w.signals o.left) os
 
-outputs-fit : (w : Whole) (names : Names) (es : List Tree) (before after : List Output) → NamesFit w.signals names → OutputsFit w before
+outputs-fit : (w : Whole) (names : Names) (es : List Tree) (before after : List Output) → NamesFit w.signals names
+    → OutputsFit w before
     → each (output_at names) es before ≡ Ok after → OutputsFit w after
 outputs-fit w names [] before after fit fits is = subst (λ os. OutputsFit w os) (Ok-same is) fits
 outputs-fit w names (e ∷ es) before after fit fits is =
@@ -201,7 +213,8 @@ outputs-fit w names (e ∷ es) before after fit fits is =
         subst (λ os. OutputsFit w os) (Ok-same last)
         (Every-push (λ (o : Output). LeftFits w.signals o.left) before (record { site = site_of e; left = x }) fits (target-fits w.signals names l x fit first))
 
-outputs-go : (w : Whole) (f : Frame) (home : Home) (span : Span) (copy : ℕ) (e : Typed) (os : List Output) (b : Bound) → IsBit w.signals e → OutputsFit w os
+outputs-go : (w : Whole) (f : Frame) (home : Home) (span : Span) (copy : ℕ) (e : Typed) (os : List Output) (b : Bound)
+    → IsBit w.signals e → OutputsFit w os
     → Goes w b (outputs_driven f home span copy e os b)
 outputs-go w f home span copy e [] b bit fits = goes-nowhere w b
 outputs-go w f home span copy e (o ∷ os) b bit fits =
@@ -214,7 +227,8 @@ outputs-go w f home span copy e (o ∷ os) b bit fits =
 no-outputs : (w : Whole) → OutputsFit w []
 no-outputs w = tt
 
-pub gate-goes : (w : Whole) (f : Frame) (home : Home) (names : Names) (kind : GateKind) (g : PlainGate) (b c : Bound) → NamesFit w.signals names
+pub gate-goes : (w : Whole) (f : Frame) (home : Home) (names : Names) (kind : GateKind) (g : PlainGate) (b c : Bound)
+    → NamesFit w.signals names
     → gate_of f home names kind g b ≡ Ok c → Goes w b c
 gate-goes w f home names kind g b c fit is =
     between (terminals_fit kind g) (λ _. each (output_at names) (outputs_of kind g.terminals) [] >>= after) c (Goes w b c) is λ _ _ is.

@@ -25,7 +25,8 @@ use Rattle.bind_laws.proofs.Names.{names-stand}
 abbrev pub own_width : Names → Tree → ℕ
 own_width names e = (sizing (look_in names) e).width
 
-pub own-within : (signals : List Signal) (names : Names) (e : Tree) → NamesFit signals names → Within (own_width names e)
+pub own-within : (signals : List Signal) (names : Names) (e : Tree) → NamesFit signals names
+    → Within (own_width names e)
 own-within signals names e fit = width-within (look_in names) (names-stand signals names fit).scope e
 
 -- a sized expression in a context of a width, 0 for none
@@ -35,7 +36,8 @@ pub record IsSized (signals : List Signal) (names : Names) (e : Tree) (context :
   pub fits : typed_fits signals x ≡ true
 
 pub sized_in-fits : (signals : List Signal) (names : Names) (e : Tree) (context : ℕ) (unsigned : Bool) (x : Typed)
-    → NamesFit signals names → context ≤ 128 → sized_in names e context unsigned ≡ Ok x → IsSized signals names e context unsigned x
+    → NamesFit signals names → context ≤ 128 → sized_in names e context unsigned ≡ Ok x
+    → IsSized signals names e context unsigned x
 sized_in-fits signals names e context unsigned x fit most is = by (refusal_in look e context unsigned) refl is
   where
     look : Look

@@ -43,7 +43,8 @@ first-length : (offsets : List ℤ) → 1 ≤ length offsets → length (first_o
 first-length [] some = absurd (omega (arith, some))
 first-length (k ∷ ks) some = refl
 
-narrow-slice : (signals : List Signal) (s from size : ℕ) → slice_fits signals s from size ≡ true → slice_fits signals s from 1 ≡ true
+narrow-slice : (signals : List Signal) (s from size : ℕ) → slice_fits signals s from size ≡ true
+    → slice_fits signals s from 1 ≡ true
 narrow-slice signals s from size fits =
     let f = and_parts _ _ fits in
     let g = and_parts _ _ f.0 in
@@ -51,7 +52,8 @@ narrow-slice signals s from size fits =
     let some = within-is size g.1 in
     and_from _ _ (and_from _ _ g.0 refl) (le-leb (from + 1) (width_at signals s) (omega (arith, wide, some.least)))
 
-low-part : (signals : List Signal) (n : Node) (width : ℕ) (signed : Bool) → is_part n ≡ true → node_fits signals width signed n ≡ true → node_fits signals 1 false (low_node n) ≡ true
+low-part : (signals : List Signal) (n : Node) (width : ℕ) (signed : Bool) → is_part n ≡ true
+    → node_fits signals width signed n ≡ true → node_fits signals 1 false (low_node n) ≡ true
 low-part signals (node.Const w) width signed is fits = constant-fits signals 1 false (value_of w) one_bit
 low-part signals (node.Whole s) width signed is fits =
     let f = and_parts _ _ fits in
@@ -83,13 +85,15 @@ low-part signals (node.Join' _ _) width signed is fits = cc
 low-part signals (node.Repeat' _ _ _) width signed is fits = cc
 low-part signals (node.Resize' _ _) width signed is fits = cc
 
-low-last : {shape : _} (signals : List Signal) (row : Row_of-Typed shape) → are_parts row ≡ true → parts_fit signals row ≡ true → node_fits signals 1 false (low_last row) ≡ true
+low-last : {shape : _} (signals : List Signal) (row : Row_of-Typed shape) → are_parts row ≡ true
+    → parts_fit signals row ≡ true → node_fits signals 1 false (low_last row) ≡ true
 low-last signals end_of-Typed are fit = constant-fits signals 1 false 0 one_bit
 low-last signals (more_of-Typed width signed one end_of-Typed) are fit = low-part signals one width signed (and_parts _ _ are).0 (and_parts _ _ fit).0
 low-last signals (more_of-Typed w s before (more_of-Typed width signed one rest)) are fit =
     low-last signals (more_of-Typed width signed one rest) (and_parts _ _ are).1 (and_parts _ _ fit).1
 
-low-named : (signals : List Signal) (n : Node) (width : ℕ) (signed : Bool) → is_named n ≡ true → node_fits signals width signed n ≡ true → node_fits signals 1 false (low_node n) ≡ true
+low-named : (signals : List Signal) (n : Node) (width : ℕ) (signed : Bool) → is_named n ≡ true
+    → node_fits signals width signed n ≡ true → node_fits signals 1 false (low_node n) ≡ true
 low-named signals (node.Join' _ row) width signed named fits = low-last signals row named (and_parts _ _ fits).1
 low-named signals (node.Const w) width signed named fits = low-part signals (node.Const w) width signed refl fits
 low-named signals (node.Whole s) width signed named fits = low-part signals (node.Whole s) width signed refl fits
@@ -120,7 +124,8 @@ cut-bit signals e fits = by (constant_bit e)
     by None = narrowed signals e fits
     by (Some a) = a-constant signals a
 
-low-bit : (signals : List Signal) (names : Names) (e : Tree) (x : Typed) → IsSized signals names e 0 false x → IsBit signals (low_bit e x)
+low-bit : (signals : List Signal) (names : Names) (e : Tree) (x : Typed) → IsSized signals names e 0 false x
+    → IsBit signals (low_bit e x)
 low-bit signals names (written.name site text selects) x s =
     record {
       of_width = refl;
@@ -137,7 +142,8 @@ low-bit signals names (written.binary _ _ _ _) x s = cut-bit signals x s.fits
 low-bit signals names (written.conditional _ _ _ _) x s = cut-bit signals x s.fits
 
 -- ---- the operator between inputs
-joins-fit : (kind : GateKind) → (binary_fits (joins kind) 1 1 1 ≡ true) × ((one other : Bool) → signs_fit (joins kind) false one other ≡ true)
+joins-fit : (kind : GateKind)
+    → (binary_fits (joins kind) 1 1 1 ≡ true) × ((one other : Bool) → signs_fit (joins kind) false one other ≡ true)
 joins-fit gate.And = (refl, λ _ _. refl)
 joins-fit gate.Nand = (refl, λ _ _. refl)
 joins-fit gate.Or = (refl, λ _ _. refl)
@@ -147,7 +153,8 @@ joins-fit gate.Xnor = (refl, λ _ _. refl)
 joins-fit gate.Buf = (refl, λ _ _. refl)
 joins-fit gate.Not = (refl, λ _ _. refl)
 
-joined-bit : (signals : List Signal) (kind : GateKind) (one other : Typed) → IsBit signals one → IsBit signals other → IsBit signals (sized 1 false (node.Binary (joins kind) one other))
+joined-bit : (signals : List Signal) (kind : GateKind) (one other : Typed) → IsBit signals one → IsBit signals other
+    → IsBit signals (sized 1 false (node.Binary (joins kind) one other))
 joined-bit signals kind one other first second = record {
   of_width = refl;
   fits = fits_binary signals false 1 (joins kind) one other
@@ -157,7 +164,8 @@ joined-bit signals kind one other first second = record {
       ((joins-fit kind).1 one.signed other.signed)) first.fits) second.fits;
 }
 
-both-bit : (signals : List Signal) (kind : GateKind) (one other : Typed) → IsBit signals one → IsBit signals other → IsBit signals (both (joins kind) one other)
+both-bit : (signals : List Signal) (kind : GateKind) (one other : Typed) → IsBit signals one → IsBit signals other
+    → IsBit signals (both (joins kind) one other)
 both-bit signals kind one other first second = by (constant_bit one) (constant_bit other)
   where
     joined : Typed
@@ -189,12 +197,14 @@ negated-bit signals true e bit = by (constant_bit e)
 abbrev AreBits : List Signal → Option Typed → Type 0
 AreBits signals before = (e : Typed) → before ≡ Some e → IsBit signals e
 
-with-input : (signals : List Signal) (kind : GateKind) (x : Typed) (before : Option Typed) → IsBit signals x → AreBits signals before
+with-input : (signals : List Signal) (kind : GateKind) (x : Typed) (before : Option Typed) → IsBit signals x
+    → AreBits signals before
     → IsBit signals (option_map_or (λ one. both (joins kind) one x) before x)
 with-input signals kind x None bit bits = bit
 with-input signals kind x (Some one) bit bits = both-bit signals kind one x (bits one refl) bit
 
-pub inputs-bits : (signals : List Signal) (names : Names) (kind : GateKind) (es : List Tree) (before after : Option Typed) → NamesFit signals names → AreBits signals before
+pub inputs-bits : (signals : List Signal) (names : Names) (kind : GateKind) (es : List Tree)
+    (before after : Option Typed) → NamesFit signals names → AreBits signals before
     → each (input_at names kind) es before ≡ Ok after → AreBits signals after
 inputs-bits signals names kind [] before after fit bits is = subst (AreBits signals) (Ok-same is) bits
 inputs-bits signals names kind (e ∷ es) before after fit bits is =
@@ -204,13 +214,15 @@ inputs-bits signals names kind (e ∷ es) before after fit bits is =
     subst (AreBits signals) (Ok-same made) (one-bit x (sized_in-fits signals names e 0 false x fit (lit≤ tt) sizes)))
     rest
   where
-    one-bit : (x : Typed) → IsSized signals names e 0 false x → AreBits signals (Some (option_map_or (λ one. both (joins kind) one (low_bit e x)) before (low_bit e x)))
+    one-bit : (x : Typed) → IsSized signals names e 0 false x
+        → AreBits signals (Some (option_map_or (λ one. both (joins kind) one (low_bit e x)) before (low_bit e x)))
     one-bit x s y is = subst (IsBit signals) (Some-same is) (with-input signals kind (low_bit e x) before (low-bit signals names e x s) bits)
 
 pub no-inputs : (signals : List Signal) → AreBits signals None
 no-inputs signals e is = cc
 
-pub gate-bit : (signals : List Signal) (kind : GateKind) (inputs : Option Typed) → AreBits signals inputs → IsBit signals (value_of_gate kind inputs)
+pub gate-bit : (signals : List Signal) (kind : GateKind) (inputs : Option Typed) → AreBits signals inputs
+    → IsBit signals (value_of_gate kind inputs)
 gate-bit signals kind None bits = negated-bit signals (negates kind) (constant 1 false 0) (a-constant signals 0)
 gate-bit signals kind (Some e) bits = negated-bit signals (negates kind) e (bits e refl)
 
@@ -219,7 +231,8 @@ pub record IsFor (signals : List Signal) (width : ℕ) (e : Typed) : Type 0 wher
   pub wide : width ≤ e.width
   pub fits : typed_fits signals e ≡ true
 
-pub for_width-fits : (signals : List Signal) (width : ℕ) (e : Typed) → Within width → IsBit signals e → IsFor signals width (for_width width e)
+pub for_width-fits : (signals : List Signal) (width : ℕ) (e : Typed) → Within width → IsBit signals e
+    → IsFor signals width (for_width width e)
 for_width-fits signals width e within bit = by (constant_bit e) (nat_lt 1 width) refl
   where
     by : (o : Option ℕ) (wider : Bool) → nat_lt 1 width ≡ wider → IsFor signals width (elim o [

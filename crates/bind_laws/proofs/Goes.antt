@@ -50,7 +50,9 @@ sum-push f xs x =
 
 -- a driver that fits, with the places that it makes
 pub driver-more : (w : Whole) (places : List Place) (d : Driver) (b : Bound) → driver_fits w.signals w.places d ≡ true
-    → ((p : ℕ) → times_in_driver p d + below p (length b.places) ≡ below p (length places)) → (all_wide b.places ≡ true → all_wide places ≡ true) → BoundFits w b → BoundFits w (with_driver d (with_places places b))
+    → ((p : ℕ) → times_in_driver p d + below p (length b.places) ≡ below p (length places))
+    → (all_wide b.places ≡ true → all_wide places ≡ true) → BoundFits w b
+    → BoundFits w (with_driver d (with_places places b))
 driver-more w places d b fits once widths f = record {
   drivers = list_all-push (driver_fits w.signals w.places) b.drivers d f.drivers fits;
   clocked = f.clocked;
@@ -63,7 +65,9 @@ driver-more w places d b fits once widths f = record {
 
 -- a clocked block that fits
 pub clocked-more : (w : Whole) (places : List Place) (block : Clocked) (b : Bound) → clocked_fits w block ≡ true
-    → ((p : ℕ) → times_in_clocked p block + below p (length b.places) ≡ below p (length places)) → (all_wide b.places ≡ true → all_wide places ≡ true) → BoundFits w b → BoundFits w (with_clocked block (with_places places b))
+    → ((p : ℕ) → times_in_clocked p block + below p (length b.places) ≡ below p (length places))
+    → (all_wide b.places ≡ true → all_wide places ≡ true) → BoundFits w b
+    → BoundFits w (with_clocked block (with_places places b))
 clocked-more w places block b fits once widths f = record {
   drivers = f.drivers;
   clocked = list_all-push (clocked_fits w) b.clocked block f.clocked fits;
@@ -85,7 +89,8 @@ root-more w r b fits f = record {
   places = f.places;
 }
 
-pub declared-more : (w : Whole) (x : Start) (b : Bound) → StartFits w x → BoundFits w b → BoundFits w (with_declared x b)
+pub declared-more : (w : Whole) (x : Start) (b : Bound) → StartFits w x → BoundFits w b
+    → BoundFits w (with_declared x b)
 declared-more w x b fits f = record {
   drivers = f.drivers;
   clocked = f.clocked;
@@ -96,7 +101,8 @@ declared-more w x b fits f = record {
   places = f.places;
 }
 
-pub initial-more : (w : Whole) (x : Initial) (b : Bound) → StartFits w x.start → BoundFits w b → BoundFits w (with_initial x b)
+pub initial-more : (w : Whole) (x : Initial) (b : Bound) → StartFits w x.start → BoundFits w b
+    → BoundFits w (with_initial x b)
 initial-more w x b fits f = record {
   drivers = f.drivers;
   clocked = f.clocked;
@@ -108,10 +114,12 @@ initial-more w x b fits f = record {
 }
 
 -- what only the rules want to know
-pub read-more : (w : Whole) (reads : Bool) (span : Span) (b : Bound) → BoundFits w b → BoundFits w (with_clock_read reads span b)
+pub read-more : (w : Whole) (reads : Bool) (span : Span) (b : Bound) → BoundFits w b
+    → BoundFits w (with_clock_read reads span b)
 read-more w reads span b f = record { drivers = f.drivers; clocked = f.clocked; once = f.once; roots = f.roots; declared = f.declared; initial = f.initial; places = f.places }
 
-pub misclocked-more : (w : Whole) (breaks : Bool) (span : Span) (b : Bound) → BoundFits w b → BoundFits w (with_misclocked breaks span b)
+pub misclocked-more : (w : Whole) (breaks : Bool) (span : Span) (b : Bound) → BoundFits w b
+    → BoundFits w (with_misclocked breaks span b)
 misclocked-more w breaks span b f = record { drivers = f.drivers; clocked = f.clocked; once = f.once; roots = f.roots; declared = f.declared; initial = f.initial; places = f.places }
 
 pub words-more : (w : Whole) (words : ℕ) (b : Bound) → BoundFits w b → BoundFits w (with_words words b)
@@ -119,7 +127,8 @@ words-more w words b f = record { drivers = f.drivers; clocked = f.clocked; once
 
 -- ---- drivers
 -- a driver that is no place
-pub driven-goes : (w : Whole) (f : Frame) (span : Span) (d : Driver) (b : Bound) → driver_fits w.signals w.places d ≡ true → ((p : ℕ) → times_in_driver p d ≡ 0)
+pub driven-goes : (w : Whole) (f : Frame) (span : Span) (d : Driver) (b : Bound)
+    → driver_fits w.signals w.places d ≡ true → ((p : ℕ) → times_in_driver p d ≡ 0)
     → Goes w b (driven f span d b)
 driven-goes w f span d b fits none begins = record {
   front = begins;
@@ -127,7 +136,8 @@ driven-goes w f span d b fits none begins = record {
 }
 
 -- a driver that is a place
-pub driven_at-goes : (w : Whole) (f : Frame) (home : Home) (kind : PlaceKind) (site : Site) (copy : ℕ) (span : Span) (l : Left) (e : Typed) (b : Bound)
+pub driven_at-goes : (w : Whole) (f : Frame) (home : Home) (kind : PlaceKind) (site : Site) (copy : ℕ) (span : Span)
+    (l : Left) (e : Typed) (b : Bound)
     → Assigns w.signals l e → Goes w b (driven_at f home kind site copy span l e b)
 driven_at-goes w f home kind site copy span l e b assigns begins =
     let one = place kind home site copy l in

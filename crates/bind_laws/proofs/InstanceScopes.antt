@@ -21,7 +21,8 @@ use Rattle.instance_laws.specs.OfText.{PortsApart, InstanceOf}
 use Rattle.bind_laws.proofs.Lists.{begins-itself, begins-through}
 use Rattle.bind_laws.proofs.Numbers.{Final}
 use Rattle.bind_laws.proofs.ScopeNames.{Agrees, FoundSo, found-so, fixed_all-agrees, fixed_all-fit, is_listed, named-signal}
-use Rattle.bind_laws.proofs.Numbering.{NumberedFits, PortsListed, listed-on, joined, CopiesNumber, copies-number}
+use Rattle.bind_laws.proofs.Declared.{NumberedFits, PortsListed, listed-on}
+use Rattle.bind_laws.proofs.Numbering.{joined, CopiesNumber, copies-number}
 use Rattle.bind_laws.proofs.PortNumbers.{port_knowns, PortsThere, PortsNumber, ports-number, PortsFound, ports-found, ports-unlisted, ports-listed, each-among, CountUp, IsInput, sockets-are, inputs-are}
 
 -- an instance and its scope fit
@@ -57,7 +58,8 @@ abbrev instance_with : Instance → Block → Instance
 instance_with i body = record { path = i.path; «module» = i.«module»; parent = i.parent; connections = i.connections; ports = i.ports; body = body }
 
 -- an instance from its ports and what is numbered behind them
-from-ports : (w : Final) (i : Instance) (top : Bool) (path : List ℕ) (entries : List Entry) (copies : Copies) (g : Ground) (before : List Numbered) (mid own : Scoping)
+from-ports : (w : Final) (i : Instance) (top : Bool) (path : List ℕ) (entries : List Entry) (copies : Copies)
+    (g : Ground) (before : List Numbered) (mid own : Scoping)
     → g.entries ≡ entries → (i.parent ≡ None → top ≡ true)
     → PortsStand i.ports → EntriesStand entries → Every (FoundSo entries) entries
     → PortsApart i.ports → Every (λ (p : Port). declared.find p.name.name entries ≡ Some (signal p.signal)) i.ports
@@ -92,7 +94,8 @@ from-ports w i top path entries copies g before mid own same is_first stand name
       };
 }
 
-one-numbers : (w : Final) (i : Instance) (body : Block) (before : List Numbered) → PortsStand i.ports → BlockStands body → InstanceOf (instance_with i body)
+one-numbers : (w : Final) (i : Instance) (body : Block) (before : List Numbered) → PortsStand i.ports
+    → BlockStands body → InstanceOf (instance_with i body)
     → OneNumbers w (instance_with i body) before (numbered_instance (instance_with i body) before)
 one-numbers w i (scope path entries copies) before stand stands_body of =
     let one = instance_with i (scope path entries copies) in
@@ -123,7 +126,8 @@ none-more : {X : Type 0} (xs : List X) → xs ≡ xs ++ []
 none-more [] = refl
 none-more (x ∷ xs) = ap (λ ys. x ∷ ys) (none-more xs)
 
-all-number : (w : Final) (is : List Instance) (met : Whole) → InstancesStand is → Every InstanceOf is → AllNumber w is met (through with_instance is met)
+all-number : (w : Final) (is : List Instance) (met : Whole) → InstancesStand is → Every InstanceOf is
+    → AllNumber w is met (through with_instance is met)
 all-number w [] met all of = record { signals = begins-itself met.signals; fits = λ fits. fits; more = []; scopes = none-more met.scopes; fit = λ begins. tt }
 all-number w (i ∷ is) met all of =
     let own = numbered_instance i met.signals in

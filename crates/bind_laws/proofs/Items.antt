@@ -30,7 +30,8 @@ all (x ∷ xs) = (tt, all xs)
 stays : (w : Whole) (b c : Bound) → ◌≡◌ {A = Result Bound BindErr} (Ok b) (Ok c) → Goes w b c
 stays w b c is = subst (Goes w b) (Ok-same is) (goes-nowhere w b)
 
-written-goes : (w : Whole) (g : Ground) (names : Names) (x : PlainItem) (b c : Bound) → NamesFit w.signals names → ItemFits names x → written_of g names x b ≡ Ok c → Goes w b c
+written-goes : (w : Whole) (g : Ground) (names : Names) (x : PlainItem) (b c : Bound) → NamesFit w.signals names
+    → ItemFits names x → written_of g names x b ≡ Ok c → Goes w b c
 written-goes w g names (net_item s kind _ _ _ list) b c fit fits is =
     each-keeps (Goes w) (HasSignal names kind) (declarator_of g.frame (home_of g s) names kind) (goes-nowhere w) (goes-on w)
     (λ d m n has step. declarator-goes w g.frame (home_of g s) names kind d m n fit has step) list b c fits is
@@ -56,50 +57,56 @@ written-goes w g names (if_else_item _ _ _ _) b c fit fits is = stays w b c is
 abbrev ChildrenFit : Whole → List (List Socket) → Type 0
 ChildrenFit w children = Every (Every (SocketFits w.signals)) children
 
-next-fits : (w : Whole) (children : List (List Socket)) → ChildrenFit w children → Every (SocketFits w.signals) (ports_next children)
+next-fits : (w : Whole) (children : List (List Socket)) → ChildrenFit w children
+    → Every (SocketFits w.signals) (ports_next children)
 next-fits w [] fits = tt
 next-fits w (ports ∷ rest) fits = fits.0
 
-after-fit : (w : Whole) (children : List (List Socket)) → ChildrenFit w children → ChildrenFit w (children_after children)
+after-fit : (w : Whole) (children : List (List Socket)) → ChildrenFit w children
+    → ChildrenFit w (children_after children)
 after-fit w [] fits = tt
 after-fit w (ports ∷ rest) fits = fits.1
 
 -- what is bound of a scope, and the children that are still to come
-pub record Met_goes (w : Whole) (met last : Met) : Type 0 where
+pub record ItemsGo (w : Whole) (met last : Met) : Type 0 where
   pub goes : Goes w met.bound last.bound
   pub children : ChildrenFit w last.children
 
-then-goes : (w : Whole) (met next last : Met) → Goes w met.bound next.bound → Met_goes w next last → Met_goes w met last
+then-goes : (w : Whole) (met next last : Met) → Goes w met.bound next.bound → ItemsGo w next last → ItemsGo w met last
 then-goes w met next last first rest = record { goes = goes-on w met.bound next.bound last.bound first rest.goes; children = rest.children }
 
 mutual
-  pub copies-go : (w : Whole) (g : Ground) (names : Names) (scopes : Scopes) (copies : Copies) (met last : Met) → g.frame.clock ≡ w.clock → NamesFit w.signals names
-      → CopiesFit w.signals names scopes copies → ChildrenFit w met.children → bound_copies g names scopes copies met ≡ Ok last → Met_goes w met last
-  copies-go w g names scopes no_copy met last clock fit fits children is = subst (Met_goes w met) (Ok-same is) (record { goes = goes-nowhere w met.bound; children = children })
+  pub copies-go : (w : Whole) (g : Ground) (names : Names) (scopes : Scopes) (copies : Copies) (met last : Met)
+      → g.frame.clock ≡ w.clock → NamesFit w.signals names
+      → CopiesFit w.signals names scopes copies → ChildrenFit w met.children
+      → bound_copies g names scopes copies met ≡ Ok last → ItemsGo w met last
+  copies-go w g names scopes no_copy met last clock fit fits children is = subst (ItemsGo w met) (Ok-same is) (record { goes = goes-nowhere w met.bound; children = children })
   copies-go w g names scopes (copy (written item) rest) met last clock fit fits children is =
-      between (written_of g names item met.bound) (λ b. bound_copies g names scopes rest (with_bound met b)) last (Met_goes w met last) is λ b first more.
+      between (written_of g names item met.bound) (λ b. bound_copies g names scopes rest (with_bound met b)) last (ItemsGo w met last) is λ b first more.
       then-goes w met (with_bound met b) last (written-goes w g names item met.bound b fit fits.0 first)
       (copies-go w g names scopes rest (with_bound met b) last clock fit fits.1 children more)
   copies-go w g names scopes (copy (always s sensitivity body) rest) met last clock fit fits children is =
-      between (always_block g.frame (home_of g s) names s sensitivity body met.bound) (λ b. bound_copies g names scopes rest (with_bound met b)) last (Met_goes w met last) is λ b first more.
+      between (always_block g.frame (home_of g s) names s sensitivity body met.bound) (λ b. bound_copies g names scopes rest (with_bound met b)) last (ItemsGo w met last) is λ b first more.
       then-goes w met (with_bound met b) last (always-goes w g.frame (home_of g s) names s sensitivity body met.bound b fit fits.0 clock first)
       (copies-go w g names scopes rest (with_bound met b) last clock fit fits.1 children more)
   copies-go w g names scopes (copy (child s c) rest) met last clock fit fits children is =
       between (child_of g.frame (home_of g s) names (ports_next met.children) c met.bound)
-      (λ b. bound_copies g names scopes rest (record { children = children_after met.children; bound = b })) last (Met_goes w met last) is λ b first more.
+      (λ b. bound_copies g names scopes rest (record { children = children_after met.children; bound = b })) last (ItemsGo w met last) is λ b first more.
       then-goes w met (record { children = children_after met.children; bound = b }) last
       (child-goes w g.frame (home_of g s) names (ports_next met.children) c met.bound b fit (next-fits w met.children children) first)
       (copies-go w g names scopes rest (record { children = children_after met.children; bound = b }) last clock fit fits (after-fit w met.children children) more)
   copies-go w g names scopes (copy (inner block) rest) met last clock fit fits children is =
-      between (bound_block g names (scope_next scopes) block met) (bound_copies g names (scopes_after scopes) rest) last (Met_goes w met last) is λ next first more.
+      between (bound_block g names (scope_next scopes) block met) (bound_copies g names (scopes_after scopes) rest) last (ItemsGo w met last) is λ next first more.
       let own = block-goes w g names (scope_next scopes) block met next clock fit fits.0 children first in
       then-goes w met next last own.goes (copies-go w g names (scopes_after scopes) rest next last clock fit fits.1 own.children more)
   copies-go w g names scopes (copy (turn variable value block) rest) met last clock fit fits children is =
-      between (bound_block g (turned variable value names) (scope_next scopes) block met) (bound_copies g names (scopes_after scopes) rest) last (Met_goes w met last) is λ next first more.
+      between (bound_block g (turned variable value names) (scope_next scopes) block met) (bound_copies g names (scopes_after scopes) rest) last (ItemsGo w met last) is λ next first more.
       let own = block-goes w g (turned variable value names) (scope_next scopes) block met next clock (fits.0, fit) fits.1 children first in
       then-goes w met next last own.goes (copies-go w g names (scopes_after scopes) rest next last clock fit fits.2 own.children more)
 
-  block-goes : (w : Whole) (g : Ground) (names : Names) (own : Scope) (block : Block) (met last : Met) → g.frame.clock ≡ w.clock → NamesFit w.signals names
-      → BlockFits w.signals names own block → ChildrenFit w met.children → bound_block g names own block met ≡ Ok last → Met_goes w met last
+  block-goes : (w : Whole) (g : Ground) (names : Names) (own : Scope) (block : Block) (met last : Met)
+      → g.frame.clock ≡ w.clock → NamesFit w.signals names
+      → BlockFits w.signals names own block → ChildrenFit w met.children → bound_block g names own block met ≡ Ok last
+      → ItemsGo w met last
   block-goes w g names own (scope path _ copies) met last clock fit fits children is =
       copies-go w (inside g path) (within (names_of own) names) (scopes_of own) copies met last clock (within-fit w.signals (names_of own) names fits.0 fit) fits.1 children is

@@ -55,7 +55,8 @@ pub word-width : (width number : ℕ) → Within width → width_of (word width 
 unfolding word
 word-width width number within = limited-within width within
 
-pub constant-fits : (signals : List Signal) (width : ℕ) (signed : Bool) (number : ℕ) → Within width → typed_fits signals (constant width signed number) ≡ true
+pub constant-fits : (signals : List Signal) (width : ℕ) (signed : Bool) (number : ℕ) → Within width
+    → typed_fits signals (constant width signed number) ≡ true
 constant-fits signals width signed number within =
     and_from _ _ (is-width width within) (eq-eqb (width_of (word width number)) width (word-width width number within))
 
@@ -70,7 +71,8 @@ unfolding offsets_to
 offsets-length offset zero = refl
 offsets-length offset (suc count) = omega (arith, length-append (offsets_to offset count) (offset count ∷ []), offsets-length offset count)
 
-beyond-is : (signals : List Signal) (r : Ranged) (count : ℕ) → is_signal signals r.signal ≡ true → Within count → PartIs signals (beyond r count) count
+beyond-is : (signals : List Signal) (r : Ranged) (count : ℕ) → is_signal signals r.signal ≡ true → Within count
+    → PartIs signals (beyond r count) count
 beyond-is signals r count there within =
     let offset = beyond_offset (descends r.left r.right) in
     let number = word_of 32 (is_below_0 r.left) (magnitude r.left) in
@@ -80,7 +82,8 @@ beyond-is signals r count there within =
       of_width = offsets-length offset count;
     }
 
-part-is : (signals : List Signal) (r : Ranged) (n : Node) (width : ℕ) (signed : Bool) → is_signal signals r.signal ≡ true → is_part n ≡ true
+part-is : (signals : List Signal) (r : Ranged) (n : Node) (width : ℕ) (signed : Bool)
+    → is_signal signals r.signal ≡ true → is_part n ≡ true
     → node_fits signals width signed n ≡ true → PartIs signals (part_of r n) width
 part-is signals r (node.Const w) width signed there is fits =
     let f = and_parts _ _ fits in
@@ -119,7 +122,8 @@ pub record PartsAre (signals : List Signal) (parts : List Part) (width : ℕ) : 
 one-part : (signals : List Signal) (p : Part) (width : ℕ) → PartIs signals p width → PartsAre signals (p ∷ []) width
 one-part signals p width is = record { fit = and_from _ _ is.fits refl; of_width = omega (arith, is.of_width) }
 
-row-are : {shape : _} (signals : List Signal) (r : Ranged) (row : Row_of-Typed shape) → is_signal signals r.signal ≡ true → are_parts row ≡ true
+row-are : {shape : _} (signals : List Signal) (r : Ranged) (row : Row_of-Typed shape)
+    → is_signal signals r.signal ≡ true → are_parts row ≡ true
     → parts_fit signals row ≡ true → PartsAre signals (row_parts r row) (joined_width row)
 row-are signals r end_of-Typed there are fit = record { fit = refl; of_width = refl }
 row-are signals r (more_of-Typed width signed one rest) there are fit =
@@ -129,7 +133,8 @@ row-are signals r (more_of-Typed width signed one rest) there are fit =
     let more = row-are signals r rest there a.1 f.1 in
     record { fit = and_from _ _ first.fits more.fit; of_width = omega (arith, first.of_width, more.of_width) }
 
-parts-are : (signals : List Signal) (r : Ranged) (n : Node) (width : ℕ) (signed : Bool) → is_signal signals r.signal ≡ true → is_named n ≡ true
+parts-are : (signals : List Signal) (r : Ranged) (n : Node) (width : ℕ) (signed : Bool)
+    → is_signal signals r.signal ≡ true → is_named n ≡ true
     → node_fits signals width signed n ≡ true → PartsAre signals (parts_of r n) width
 parts-are signals r (node.Join' _ row) width signed there named fits =
     let f = and_parts _ _ fits in
@@ -150,7 +155,8 @@ parts-are signals r (node.Repeat' _ _ _) width signed there named fits = cc
 parts-are signals r (node.Resize' _ _) width signed there named fits = cc
 
 -- a node that fits is of 1 to 128 bits, where a name is one
-named-width : (signals : List Signal) (n : Node) (width : ℕ) (signed : Bool) → is_named n ≡ true → node_fits signals width signed n ≡ true → is_width width ≡ true
+named-width : (signals : List Signal) (n : Node) (width : ℕ) (signed : Bool) → is_named n ≡ true
+    → node_fits signals width signed n ≡ true → is_width width ≡ true
 named-width signals (node.Join' _ row) width signed named fits = (and_parts _ _ (and_parts _ _ fits).0).0
 named-width signals (node.Const w) width signed named fits = (and_parts _ _ fits).0
 named-width signals (node.Whole s) width signed named fits = (and_parts _ _ (and_parts _ _ fits).0).0
@@ -169,10 +175,12 @@ named-width signals (node.Repeat' _ _ _) width signed named fits = cc
 named-width signals (node.Resize' _ _) width signed named fits = cc
 
 -- ---- names
-number-there : (signals : List Signal) (width : ℕ) (first last : ℤ) (number : ℕ) → IsThere signals width first last number → is_signal signals number ≡ true
+number-there : (signals : List Signal) (width : ℕ) (first last : ℤ) (number : ℕ)
+    → IsThere signals width first last number → is_signal signals number ≡ true
 number-there signals width first last number is = lt-ltb number (length signals) (slice_get_within signals number is.signal is.there)
 
-ranged-there : (signals : List Signal) (o : Option Use) (r : Ranged) → ((u : Use) → o ≡ Some u → UseFits signals u) → ranged_of o ≡ Some r → is_signal signals r.signal ≡ true
+ranged-there : (signals : List Signal) (o : Option Use) (r : Ranged) → ((u : Use) → o ≡ Some u → UseFits signals u)
+    → ranged_of o ≡ Some r → is_signal signals r.signal ≡ true
 ranged-there signals None r fit is = cc
 ranged-there signals (Some (at_turn _)) r fit is = cc
 ranged-there signals (Some outside) r fit is = cc
@@ -187,10 +195,12 @@ ranged-there signals (Some (stands (meaning.Array first count address width sign
     subst (λ (x : Ranged). is_signal signals x.signal ≡ true) (Some-same is)
     (subst (λ n. is_signal signals n ≡ true) plain (number-there signals width high low (first + 0) (u.1 0 some)))
 
-of-parts : (signals : List Signal) (l : Left) → PartsAre signals l.parts l.width → is_width l.width ≡ true → LeftFits signals l
+of-parts : (signals : List Signal) (l : Left) → PartsAre signals l.parts l.width → is_width l.width ≡ true
+    → LeftFits signals l
 of-parts signals l are width = record { parts = are.fit; of_width = are.of_width; width = width }
 
-name-fits : (signals : List Signal) (names : Names) (site : Site) (text : List ℕ) (selects : Selections) (l : Left) → NamesFit signals names
+name-fits : (signals : List Signal) (names : Names) (site : Site) (text : List ℕ) (selects : Selections) (l : Left)
+    → NamesFit signals names
     → target names (name_left site text selects) ≡ Ok l → LeftFits signals l
 name-fits signals names site text selects l fit is = by (ranged_of (find names text)) refl is
   where
@@ -218,20 +228,24 @@ pub record Gathered (signals : List Signal) (l : Left) : Type 0 where
   pub parts : list_all (part_fits signals) l.parts ≡ true
   pub of_width : l.width ≡ min 129 (parts_width signals l.parts)
 
-width-append : (signals : List Signal) (xs ys : List Part) → parts_width signals (xs ++ ys) ≡ parts_width signals xs + parts_width signals ys
+width-append : (signals : List Signal) (xs ys : List Part)
+    → parts_width signals (xs ++ ys) ≡ parts_width signals xs + parts_width signals ys
 width-append signals [] ys = omega arith
 width-append signals (x ∷ xs) ys = omega (arith, width-append signals xs ys)
 
-beside-gathered : (signals : List Signal) (done one : Left) → Gathered signals done → LeftFits signals one → Gathered signals (beside done one)
+beside-gathered : (signals : List Signal) (done one : Left) → Gathered signals done → LeftFits signals one
+    → Gathered signals (beside done one)
 beside-gathered signals done one before fits = record {
   parts = list_all-append (part_fits signals) done.parts one.parts ∙ and_from _ _ before.parts fits.parts;
   of_width = omega (arith, before.of_width, fits.of_width, width-append signals done.parts one.parts);
 }
 
-concat-fits : (signals : List Signal) (span : Span) (all l : Left) → Gathered signals all → of_width span all ≡ Ok l → LeftFits signals l
+concat-fits : (signals : List Signal) (span : Span) (all l : Left) → Gathered signals all → of_width span all ≡ Ok l
+    → LeftFits signals l
 concat-fits signals span all l gathered is = by (is_bad_width all.width) refl is
   where
-    by : (bad : Bool) → is_bad_width all.width ≡ bad → ◌≡◌ {A = Result Left BindErr} (if bad then Err (fault.Range span) else Ok all) (Ok l) → LeftFits signals l
+    by : (bad : Bool) → is_bad_width all.width ≡ bad
+        → ◌≡◌ {A = Result Left BindErr} (if bad then Err (fault.Range span) else Ok all) (Ok l) → LeftFits signals l
     by true width is = Err-Ok is
     by false width is =
         let within = good-width all.width width in
@@ -239,13 +253,15 @@ concat-fits signals span all l gathered is = by (is_bad_width all.width) refl is
         (record { parts = gathered.parts; of_width = omega (arith, gathered.of_width, within.most); width = is-width all.width within })
 
 mutual
-  pub target-fits : (signals : List Signal) (names : Names) (x : PlainLeft) (l : Left) → NamesFit signals names → target names x ≡ Ok l → LeftFits signals l
+  pub target-fits : (signals : List Signal) (names : Names) (x : PlainLeft) (l : Left) → NamesFit signals names
+      → target names x ≡ Ok l → LeftFits signals l
   target-fits signals names (name_left site text selects) l fit is = name-fits signals names site text selects l fit is
   target-fits signals names (concat_left site parts) l fit is =
       between (targets names parts nothing_named) (of_width site.span) l (LeftFits signals l) is λ all gathers whole.
       concat-fits signals site.span all l (targets-gather signals names parts nothing_named all fit (record { parts = refl; of_width = refl }) gathers) whole
 
-  targets-gather : (signals : List Signal) (names : Names) (xs : Lefts) (done l : Left) → NamesFit signals names → Gathered signals done
+  targets-gather : (signals : List Signal) (names : Names) (xs : Lefts) (done l : Left) → NamesFit signals names
+      → Gathered signals done
       → targets names xs done ≡ Ok l → Gathered signals l
   targets-gather signals names no_left done l fit before is = subst (Gathered signals) (Ok-same is) before
   targets-gather signals names (left x xs) done l fit before is =

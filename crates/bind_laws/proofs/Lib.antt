@@ -15,6 +15,7 @@ pub mod Items
 pub mod Numbers
 pub mod ScopeNames
 pub mod TextSteps
+pub mod Declared
 pub mod Numbering
 pub mod PortNumbers
 pub mod InstanceScopes

@@ -16,7 +16,8 @@ Every-append P (x ∷ xs) ys all others = (all.0, Every-append P xs ys all.1 oth
 pub Every-push : {A : Type 0} (P : A → Type 0) (xs : List A) (x : A) → Every P xs → P x → Every P (xs ++ x ∷ [])
 Every-push P xs x all one = Every-append P xs (x ∷ []) all (one, tt)
 
-pub list_all-push : {X : Type 0} (test : X → Bool) (xs : List X) (x : X) → list_all test xs ≡ true → test x ≡ true → list_all test (xs ++ x ∷ []) ≡ true
+pub list_all-push : {X : Type 0} (test : X → Bool) (xs : List X) (x : X) → list_all test xs ≡ true → test x ≡ true
+    → list_all test (xs ++ x ∷ []) ≡ true
 list_all-push test [] x all one = and_from _ _ one refl
 list_all-push test (y ∷ ys) x all one = let f = and_parts _ _ all in and_from _ _ f.0 (list_all-push test ys x f.1 one)
 
@@ -44,7 +45,8 @@ at-end [] x rest = refl
 at-end (y ∷ ys) x rest = at-end ys x rest
 
 -- the last of a front
-pub begins-at : {X : Type 0} (xs : List X) (x : X) (ys : List X) → Begins (xs ++ x ∷ []) ys → slice_get ys (length xs) ≡ Some x
+pub begins-at : {X : Type 0} (xs : List X) (x : X) (ys : List X) → Begins (xs ++ x ∷ []) ys
+    → slice_get ys (length xs) ≡ Some x
 begins-at xs x ys b = ap (λ whole. slice_get whole (length xs)) b.is ∙ at-end xs x b.rest
 
 -- ---- steps that may be refused

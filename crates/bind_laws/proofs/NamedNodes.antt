@@ -38,18 +38,21 @@ abbrev pub is_named : Node → Bool
 is_named (node.Join' _ row) = are_parts row
 is_named n = is_part n
 
-parts-row : {shape : _} (row : Row_of-Typed shape) → are_parts row ≡ list_all (λ t. is_part t.node) (items-the_row-Typed shape row)
+parts-row : {shape : _} (row : Row_of-Typed shape)
+    → are_parts row ≡ list_all (λ t. is_part t.node) (items-the_row-Typed shape row)
 parts-row end_of-Typed = refl
 parts-row (more_of-Typed width signed n rest) = ap (λ b. is_part n && b) (parts-row rest)
 
 joined-named : (ts : List Typed) → list_all (λ t. is_part t.node) ts ≡ true → is_named (node.Join ts) ≡ true
 joined-named ts all = parts-row (hidden-the_row-Typed-1 ts) ∙ ap (list_all (λ t. is_part t.node)) (items_hidden-the_row-Typed-1 ts) ∙ all
 
-signal-part : (signal : ℕ) (o : Option ℕ) (count : ℕ) (index : Typed) (offset : ℕ → ℤ) → is_named (signal_part signal o count index offset) ≡ true
+signal-part : (signal : ℕ) (o : Option ℕ) (count : ℕ) (index : Typed) (offset : ℕ → ℤ)
+    → is_named (signal_part signal o count index offset) ≡ true
 signal-part signal (Some from) count index offset = refl
 signal-part signal None count index offset = refl
 
-signal-named : (signal width : ℕ) (left right : ℤ) (all : Node) (selects : List Select) → is_named all ≡ true → is_named (signal_node signal width left right all selects) ≡ true
+signal-named : (signal width : ℕ) (left right : ℤ) (all : Node) (selects : List Select) → is_named all ≡ true
+    → is_named (signal_node signal width left right all selects) ≡ true
 signal-named signal width left right all [] whole = whole
 signal-named signal width left right all (bit_select index sized_index ∷ rest) whole =
     signal-part signal (if index.constant then start_of width 1 (distance_of left right (known index)) else None) 1 sized_index (λ _. pos 0)
@@ -58,14 +61,16 @@ signal-named signal width left right all (part_select kind one sized_one other s
     signal-part signal (if (base_of kind one other).constant then start_of width count (part_distance left right kind (known one) (known other) count) else None)
     count (base_of kind sized_one sized_other) (part_offset kind (descends left right) count)
 
-zeros-parts : (count : ℕ) (ts : List Typed) → list_all (λ t. is_part t.node) ts ≡ true → list_all (λ t. is_part t.node) (zeros_before count ts) ≡ true
+zeros-parts : (count : ℕ) (ts : List Typed) → list_all (λ t. is_part t.node) ts ≡ true
+    → list_all (λ t. is_part t.node) (zeros_before count ts) ≡ true
 zeros-parts count ts all = by (count == 0)
   where
     by : (none : Bool) → list_all (λ t. is_part t.node) (if none then ts else constant count false 0 ∷ ts) ≡ true
     by true = all
     by false = all
 
-word-part : (first count : ℕ) (low : ℤ) (index : Typed) (width size : ℕ) (distance : ℤ) → is_named (word_part first count low index width size distance) ≡ true
+word-part : (first count : ℕ) (low : ℤ) (index : Typed) (width size : ℕ) (distance : ℤ)
+    → is_named (word_part first count low index width size distance) ≡ true
 word-part first count low index width size distance = by (within == size)
   where
     within : ℕ
@@ -83,7 +88,8 @@ word-part first count low index width size distance = by (within == size)
         (zeros-parts (size - (bits_below size distance + within)) (sized within false read ∷ zeros_before (bits_below size distance) [])
         (zeros-parts (bits_below size distance) [] refl))
 
-word-named : (first count : ℕ) (low : ℤ) (width : ℕ) (left right : ℤ) (index : Typed) (selects : List Select) → is_named (word_node first count low width left right index selects) ≡ true
+word-named : (first count : ℕ) (low : ℤ) (width : ℕ) (left right : ℤ) (index : Typed) (selects : List Select)
+    → is_named (word_node first count low width left right index selects) ≡ true
 word-named first count low width left right index [] = refl
 word-named first count low width left right index (bit_select place _ ∷ _) = word-part first count low index width 1 (distance_of left right (known place))
 word-named first count low width left right index (part_select kind one _ other _ ∷ _) =
@@ -110,7 +116,8 @@ name-named None selects = refl
 name-named (Some m) selects = meaning-named m selects
 
 -- a name with its selects by itself
-pub by_itself-named : (look : Look) (site : Site) (text : List ℕ) (selects : Selections) → is_named (typed_in look (written.name site text selects) 0 false).node ≡ true
+pub by_itself-named : (look : Look) (site : Site) (text : List ℕ) (selects : Selections)
+    → is_named (typed_in look (written.name site text selects) 0 false).node ≡ true
 by_itself-named look site text selects = by e.constant (own == max 0 own) (eq-eqb own (max 0 own) (sym (max-eq_right nothing)))
   where
     e : Sizing

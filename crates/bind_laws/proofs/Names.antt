@@ -18,12 +18,14 @@ use Rattle.instance_laws.specs.Every.{Every}
 use Rattle.bind_laws.specs.Fit.{UseFits, NamesFit}
 
 -- the names of a scope hide those around it
-pub within-fit : (signals : List Signal) (own names : Names) → NamesFit signals own → NamesFit signals names → NamesFit signals (within own names)
+pub within-fit : (signals : List Signal) (own names : Names) → NamesFit signals own → NamesFit signals names
+    → NamesFit signals (within own names)
 within-fit signals [] names one other = other
 within-fit signals (k ∷ ks) names one other = within-fit signals ks (k ∷ names) one.1 (one.0, other)
 
 -- a property of what names stand for, of one that is found
-pub find-every : (P : Use → Type 0) (names : Names) (name : List ℕ) (u : Use) → Every (λ k. P k.use_of) names → find names name ≡ Some u → P u
+pub find-every : (P : Use → Type 0) (names : Names) (name : List ℕ) (u : Use) → Every (λ k. P k.use_of) names
+    → find names name ≡ Some u → P u
 find-every P [] name u all is = cc
 find-every P (k ∷ ks) name u all is = by (same_name k.name name) is (λ later. find-every P ks name u all.1 later)
   where
@@ -34,7 +36,8 @@ find-every P (k ∷ ks) name u all is = by (same_name k.name name) is (λ later.
 a-turn : (c : Const) → width_of c.bits ≡ 32 → HasRange (width_of c.bits) (pos 31) (pos 0)
 a-turn c wide = subst (λ w. HasRange w (pos 31) (pos 0)) (sym wide) (record { least = lit≤ tt; most = lit≤ tt; range = refl })
 
-meant : (signals : List Signal) (o : Option Use) (m : Meaning) → ((u : Use) → o ≡ Some u → UseFits signals u) → option_and_then meaning_of o ≡ Some m
+meant : (signals : List Signal) (o : Option Use) (m : Meaning) → ((u : Use) → o ≡ Some u → UseFits signals u)
+    → option_and_then meaning_of o ≡ Some m
     → IsMeaning m × IsAmong signals m
 meant signals None m fit is = cc
 meant signals (Some (stands x)) m fit is = subst (λ y. IsMeaning y × IsAmong signals y) (Some-same is) (fit (stands x) refl)

@@ -1,159 +1,27 @@
--- Numbering a scope: signals and names only grow, names stand for signals of the whole design, and what binding asks of the scope holds.
-use Rattle.std.proofs.Common.{◌≡◌, ℕ, ◌≤◌, Bool, true, false, List, [], ◌∷◌, ◌++◌, length, Option, Some, None, refl, sym, ◌∙◌, ap, subst, lit≤}
-use Rattle.std.specs.Prelude.{⊤, ℤ, if◌then◌else◌}
-use Rattle.design_core.specs.declared.signal.SignalKind.TheVariants as kind
-use Rattle.design_core.specs.WellFormed.{signal_fits}
+-- Numbering a scope: what its names stand for, and what binding asks of its items and of the scopes inside.
+use Rattle.std.proofs.Common.{◌≡◌, ℕ, Bool, true, false, List, [], ◌∷◌, ◌++◌, Option, Some, None, refl, sym, ◌∙◌, ap, subst, lit≤}
+use Rattle.std.specs.Prelude.{⊤, if◌then◌else◌}
 use Rattle.v_tree.specs.declared.declaration.Identifier.{Identifier}
 use Rattle.v_tree.specs.declared.item.NetKind.{NetKind}
-use Rattle.v_tree.specs.declared.item.NetKind.TheVariants as net_kind
-use Rattle.v_tree.specs.Tree.{Tree}
-use Rattle.v_tree.specs.PartTree.{PlainRange}
 use Rattle.v_tree.specs.ItemTree.{PlainDeclarator, PlainItem, port_item, net_item, integer_item, genvar_item, parameter_item, assign_item, gate_item, always_item, initial_item, instance_item, generate_item, loop_item, if_item, if_else_item}
-use Rattle.v_sizes.specs.declared.meaning.Meaning.TheVariants as meaning
-use Rattle.v_hierarchy.specs.declared.signal.Signal.{Signal as Declared}
-use Rattle.v_hierarchy.specs.declared.bounds.Bounds.{Bounds}
-use Rattle.v_hierarchy.specs.Constants.{width}
-use Rattle.v_hierarchy.specs.Stands.{IsRange}
 use Rattle.v_hierarchy.specs.Names.{Entry, Standing, signal, array, integer, genvar, constant, bounds_of, meaning_of}
 use Rattle.v_hierarchy.specs.Names as declared
 use Rattle.v_hierarchy.specs.Parameters.{is_among}
 use Rattle.v_hierarchy.specs.Items.{Copied, written, always, child, inner, turn, Block, scope, Copies, no_copy, copy}
-use Rattle.v_binding.specs.declared.known.Use.TheVariants.{Stands as stands, Outside as outside}
+use Rattle.v_binding.specs.declared.known.Use.TheVariants.{Outside as outside}
 use Rattle.v_binding.specs.Steps.{through}
 use Rattle.v_binding.specs.Names.{Known, Names, known, within, turned}
-use Rattle.v_binding.specs.Names as bound
-use Rattle.v_binding.specs.Addresses.{Addresses}
-use Rattle.v_binding.specs.Signals.{Numbered, path_in, signal_of, kind_of, word_path, words, is_looped, Scope, scoped, Scopes, no_scope, more_scopes, and_scope, Scoping, Ground, with_signal, addresses_or_one, with_array, declared_as, with_declarator, an_integer, with_integer, fixed_all, ground_of, begun, ended, numbered, numbered_copy}
+use Rattle.v_binding.specs.Signals.{is_looped, Scope, scoped, Scopes, no_scope, more_scopes, and_scope, Scoping, Ground, with_signal, declared_as, with_declarator, an_integer, with_integer, fixed_all, ground_of, begun, ended, numbered, numbered_copy}
 use Rattle.bind_scopes.specs.Standing.{EntriesStand, CopiesStand, BlockStands}
-use Rattle.instance_laws.specs.Every.{Every, IfGiven}
-use Rattle.bind_laws.specs.Fit.{UseFits, NamesFit, StepsFit, Begins}
-use Rattle.bind_laws.specs.Scopes.{NamesSignal, HasSignal, ItemFits, CopiesFit, BlockFits}
-use Rattle.instance_laws.specs.OfText.{AreApart, IsSignal, DeclaratorOf, ItemOf, CopiesOf, BlockOf}
-use Rattle.bind_laws.proofs.Lists.{Every-append, Every-push, begins-itself, begins-more, begins-through, begins-at}
-use Rattle.bind_laws.proofs.Numbers.{Final, number-there, signal-fits, words-there, words-few, words-every, addresses-some}
-use Rattle.bind_laws.proofs.ScopeNames.{entry-stands, Agrees, found-so, fixed_all-agrees, fixed_all-fit, is_listed, listed-front, listed-last, named-signal}
+use Rattle.instance_laws.specs.Every.{Every}
+use Rattle.bind_laws.specs.Fit.{UseFits, StepsFit, Begins}
+use Rattle.bind_laws.specs.Scopes.{HasSignal, ItemFits, CopiesFit, BlockFits}
+use Rattle.instance_laws.specs.OfText.{AreApart, DeclaratorOf, ItemOf, CopiesOf, BlockOf}
+use Rattle.bind_laws.proofs.Lists.{Every-push, begins-itself, begins-more, begins-through}
+use Rattle.bind_laws.proofs.Numbers.{Final}
+use Rattle.bind_laws.proofs.ScopeNames.{Agrees, found-so, fixed_all-agrees, fixed_all-fit}
 use Rattle.bind_laws.proofs.TextSteps.{steps-fit}
-
--- ---- what numbering keeps
-abbrev pub NumberedFits : Numbered → Type 0
-NumberedFits n = signal_fits n.signal ≡ true
-
--- signals and names grow by what fits the whole design and stands for what is declared
-pub record Numbers (w : Final) (entries : List Entry) (before after : Scoping) : Type 0 where
-  pub signals : Begins before.signals after.signals
-  pub names : Begins before.names after.names
-  pub fit : Begins after.signals w.numbered → NamesFit w.signals before.names → NamesFit w.signals after.names
-  pub agree : Every (Agrees entries) before.names → Every (Agrees entries) after.names
-  pub fits : Every NumberedFits before.signals → Every NumberedFits after.signals
-
-pub numbers-nothing : (w : Final) (entries : List Entry) (met : Scoping) → Numbers w entries met met
-numbers-nothing w entries met =
-    record { signals = begins-itself met.signals; names = begins-itself met.names; fit = λ _ fit. fit; agree = λ all. all; fits = λ all. all }
-
-pub numbers-on : (w : Final) (entries : List Entry) (a b c : Scoping) → Numbers w entries a b → Numbers w entries b c → Numbers w entries a c
-numbers-on w entries a b c one other = record {
-  signals = begins-through a.signals b.signals c.signals one.signals other.signals;
-  names = begins-through a.names b.names c.names one.names other.names;
-  fit = λ begins fit. other.fit begins (one.fit (begins-through b.signals c.signals w.numbered other.signals begins) fit);
-  agree = λ all. other.agree (one.agree all);
-  fits = λ all. other.fits (one.fits all);
-}
-
--- ---- one declaration
-pub signal-numbers : (w : Final) (top : Bool) (g : Ground) (name : Identifier) (s : Declared) (met : Scoping) → IsRange (bounds_of s)
-    → Numbers w g.entries met (with_signal top g name s met)
-signal-numbers w top g name s met range =
-    let b = bounds_of s in
-    let n : Numbered = record { signal = signal_of (path_in g.prefix name.name) (kind_of top s) s.signed b; home = length met.signals; span = name.site.span } in
-    let k : Known = known name.name (stands (meaning.Signal (length met.signals) (width b) s.signed b.left b.right)) in
-    record {
-      signals = begins-more met.signals (n ∷ []);
-      names = begins-more met.names (k ∷ []);
-      fit = λ begins fit. Every-push (λ (x : Known). UseFits w.signals x.use_of) met.names k fit
-          (range, number-there w (length met.signals) n (begins-at met.signals n w.numbered begins));
-      agree = λ all. Every-push (Agrees g.entries) met.names k all
-          (λ _ _. record { signal = length met.signals; width = width b; signed = s.signed; left = b.left; right = b.right; is = refl });
-      fits = λ all. Every-push NumberedFits met.signals n all (signal-fits (path_in g.prefix name.name) (kind_of top s) s.signed b range);
-    }
-
-pub signal-listed : (top : Bool) (g : Ground) (name : Identifier) (s : Declared) (met : Scoping) → is_listed (with_signal top g name s met).names name.name ≡ true
-signal-listed top g name s met =
-    listed-last met.names (known name.name (stands (meaning.Signal (length met.signals) (width (bounds_of s)) s.signed (bounds_of s).left (bounds_of s).right)))
-
-array-numbers : (w : Final) (g : Ground) (name : Identifier) (s : Declared) (r : PlainRange) (a : Addresses) (met : Scoping) → IsRange (bounds_of s) → 1 ≤ a.count
-    → declared.find name.name g.entries ≡ Some (array s r) → Numbers w g.entries met (with_array g name s a met)
-array-numbers w g name s r a met range some found = record {
-  signals = begins-more met.signals (words one a.count a.low);
-  names = begins-more met.names (k ∷ []);
-  fit = λ begins fit. Every-push (λ (x : Known). UseFits w.signals x.use_of) met.names k fit (
-    (range, some, words-few w met.signals one a.count a.low begins),
-    λ i below. words-there w met.signals one a.count a.low (width b) b.left b.right (λ _. (refl, refl, refl)) begins i below,
-  );
-  agree = λ all. Every-push (Agrees g.entries) met.names k all (λ x is. cc);
-  fits = λ all. Every-append NumberedFits met.signals (words one a.count a.low) all
-      (words-every NumberedFits one a.count a.low (λ address. signal-fits (word_path (path_in g.prefix name.name) address) kind.Reg s.signed b range));
-}
-  where
-    b : Bounds
-    b = bounds_of s
-
-    one : ℤ → Numbered
-    one = λ address. record { signal = signal_of (word_path (path_in g.prefix name.name) address) kind.Reg s.signed (bounds_of s); home = length met.signals; span = name.site.span }
-
-    k : Known
-    k = known name.name (stands (meaning.Array (length met.signals) a.count a.low (width b) s.signed b.left b.right))
-
--- ---- declarators
-declared-numbers : (w : Final) (g : Ground) (d : PlainDeclarator) (met : Scoping) → EntriesStand g.entries
-    → Numbers w g.entries met (declared_as g d (declared.find d.name.name g.entries) met)
-declared-numbers w g d met stand = by (declared.find d.name.name g.entries) refl
-  where
-    by : (o : Option Standing) → declared.find d.name.name g.entries ≡ o → Numbers w g.entries met (declared_as g d o met)
-    by (Some (signal s)) found = signal-numbers w false g d.name s met (entry-stands g.entries d.name.name (signal s) stand found)
-    by (Some (array s r)) found =
-        array-numbers w g d.name s r (addresses_or_one g.names d r) met (entry-stands g.entries d.name.name (array s r) stand found).0 (addresses-some g.names d r) found
-    by (Some integer) found = numbers-nothing w g.entries met
-    by (Some genvar) found = numbers-nothing w g.entries met
-    by (Some (constant _ _)) found = numbers-nothing w g.entries met
-    by None found = numbers-nothing w g.entries met
-
-declarator-numbers : (w : Final) (g : Ground) (d : PlainDeclarator) (met : Scoping) → EntriesStand g.entries → Numbers w g.entries met (with_declarator g d met)
-declarator-numbers w g d met stand = by (is_among d.name.name g.ports)
-  where
-    by : (port : Bool) → Numbers w g.entries met (if port then met else declared_as g d (declared.find d.name.name g.entries) met)
-    by true = numbers-nothing w g.entries met
-    by false = declared-numbers w g d met stand
-
--- the ports of a scope are among its names
-abbrev pub PortsListed : List (List ℕ) → Names → Type 0
-PortsListed ports names = (name : List ℕ) → is_among name ports ≡ true → is_listed names name ≡ true
-
-pub listed-on : (xs ys : Names) (name : List ℕ) → Begins xs ys → is_listed xs name ≡ true → is_listed ys name ≡ true
-listed-on xs ys name begins listed = subst (λ ks. is_listed ks name ≡ true) (sym begins.is) (listed-front xs begins.rest name listed)
-
-abbrev names_in : Scoping → Names
-names_in met = met.names
-
-declarator-listed : (g : Ground) (d : PlainDeclarator) (met : Scoping) → PortsListed g.ports met.names → IsSignal g.entries d.name.name
-    → is_listed (with_declarator g d met).names d.name.name ≡ true
-declarator-listed g d met ports is = by (is_among d.name.name g.ports) refl
-  where
-    by : (port : Bool) → is_among d.name.name g.ports ≡ port
-        → is_listed (names_in (if port then met else declared_as g d (declared.find d.name.name g.entries) met)) d.name.name ≡ true
-    by true among = ports d.name.name among
-    by false among = subst (λ o. is_listed (names_in (declared_as g d o met)) d.name.name ≡ true) (sym is.is) (signal-listed false g d.name is.declared met)
-
--- what binding asks of a declarator, once all names of its scope are there
-declarator-has : (w : Final) (g : Ground) (kind : NetKind) (d : PlainDeclarator) (met : Scoping) (final outer : Names) → PortsListed g.ports met.names
-    → DeclaratorOf g.entries kind d → Begins (with_declarator g d met).names final → Every (Agrees g.entries) final → HasSignal (within final outer) kind d
-declarator-has w g net_kind.Wire d met final outer ports of begins agree = tt
-declarator-has w g net_kind.Reg d met final outer ports of begins agree = by d.value of
-  where
-    by : (o : Option Tree) → IfGiven o (IsSignal g.entries d.name.name) → IfGiven o (NamesSignal (bound.find (within final outer) d.name.name))
-    by None of = tt
-    by (Some value) of =
-        named-signal g.entries of.declared d.name.name final outer of.is agree
-        (listed-on (with_declarator g d met).names final d.name.name begins (declarator-listed g d met ports of))
+use Rattle.bind_laws.proofs.Declared.{NumberedFits, Numbers, numbers-nothing, numbers-on, signal-numbers, declarator-numbers, PortsListed, listed-on, declarator-has}
 
 -- ---- scopes inside stay as they are
 abbrev scopes_in : Scoping → Scopes
@@ -177,14 +45,17 @@ declarator-inside g d met = by (is_among d.name.name g.ports) (declared.find d.n
 integer-inside : (g : Ground) (name : Identifier) (met : Scoping) → (with_integer g name met).inside ≡ met.inside
 integer-inside g name met = by (is_looped name.name g.copies)
   where
-    by : (looped : Bool) → scopes_in (if looped then hidden_integer name met else with_signal false g name an_integer met) ≡ met.inside
+    by : (looped : Bool)
+        → scopes_in (if looped then hidden_integer name met else with_signal false g name an_integer met) ≡ met.inside
     by true = refl
     by false = refl
 
-integer-numbers : (w : Final) (g : Ground) (name : Identifier) (met : Scoping) → declared.find name.name g.entries ≡ Some integer → Numbers w g.entries met (with_integer g name met)
+integer-numbers : (w : Final) (g : Ground) (name : Identifier) (met : Scoping)
+    → declared.find name.name g.entries ≡ Some integer → Numbers w g.entries met (with_integer g name met)
 integer-numbers w g name met found = by (is_looped name.name g.copies)
   where
-    by : (looped : Bool) → Numbers w g.entries met (if looped then hidden_integer name met else with_signal false g name an_integer met)
+    by : (looped : Bool)
+        → Numbers w g.entries met (if looped then hidden_integer name met else with_signal false g name an_integer met)
     by true = record {
       signals = begins-itself met.signals;
       names = begins-more met.names (known name.name outside ∷ []);
@@ -198,11 +69,14 @@ integer-numbers w g name met found = by (is_looped name.name g.copies)
 -- the names grow, and what binding asks of the item holds once all names of its scope are there
 pub record ItemNumbers (w : Final) (g : Ground) (before after : Scoping) (Asks : Names → Type 0) : Type 0 where
   pub numbers : Numbers w g.entries before after
-  pub asks : (final outer : Names) → Begins after.names final → Every (Agrees g.entries) final → Asks (within final outer)
+  pub asks : (final outer : Names) → Begins after.names final → Every (Agrees g.entries) final
+      → Asks (within final outer)
   pub inside : after.inside ≡ before.inside
 
-declarators-number : (w : Final) (g : Ground) (kind : NetKind) (list : List PlainDeclarator) (met : Scoping) → EntriesStand g.entries → PortsListed g.ports met.names
-    → Every (DeclaratorOf g.entries kind) list → ItemNumbers w g met (through (with_declarator g) list met) (λ names. Every (HasSignal names kind) list)
+declarators-number : (w : Final) (g : Ground) (kind : NetKind) (list : List PlainDeclarator) (met : Scoping)
+    → EntriesStand g.entries → PortsListed g.ports met.names
+    → Every (DeclaratorOf g.entries kind) list
+    → ItemNumbers w g met (through (with_declarator g) list met) (λ names. Every (HasSignal names kind) list)
 declarators-number w g kind [] met stand ports of = record { numbers = numbers-nothing w g.entries met; asks = λ final outer begins agree. tt; inside = refl }
 declarators-number w g kind (d ∷ ds) met stand ports of =
     let next = with_declarator g d met in
@@ -218,7 +92,8 @@ declarators-number w g kind (d ∷ ds) met stand ports of =
       inside = more.inside ∙ declarator-inside g d met;
     }
 
-integers-number : (w : Final) (g : Ground) (names : List Identifier) (met : Scoping) → Every (λ (name : Identifier). declared.find name.name g.entries ≡ Some integer) names
+integers-number : (w : Final) (g : Ground) (names : List Identifier) (met : Scoping)
+    → Every (λ (name : Identifier). declared.find name.name g.entries ≡ Some integer) names
     → ItemNumbers w g met (through (with_integer g) names met) (λ _. ⊤)
 integers-number w g [] met of = record { numbers = numbers-nothing w g.entries met; asks = λ final outer begins agree. tt; inside = refl }
 integers-number w g (name ∷ rest) met of =
@@ -233,7 +108,8 @@ integers-number w g (name ∷ rest) met of =
 nothing-asked : (w : Final) (g : Ground) (met : Scoping) → ItemNumbers w g met met (λ _. ⊤)
 nothing-asked w g met = record { numbers = numbers-nothing w g.entries met; asks = λ final outer begins agree. tt; inside = refl }
 
-item-numbers : (w : Final) (g : Ground) (item : PlainItem) (met : Scoping) → EntriesStand g.entries → PortsListed g.ports met.names → ItemOf g.entries item
+item-numbers : (w : Final) (g : Ground) (item : PlainItem) (met : Scoping) → EntriesStand g.entries
+    → PortsListed g.ports met.names → ItemOf g.entries item
     → ItemNumbers w g met (numbered_copy g (written item) met) (λ names. ItemFits names item)
 item-numbers w g (net_item _ kind _ _ _ list) met stand ports of = declarators-number w g kind list met stand ports of
 item-numbers w g (integer_item _ names) met stand ports of = integers-number w g names met of
@@ -269,14 +145,16 @@ pub record CopiesNumber (w : Final) (g : Ground) (copies : Copies) (before after
   pub numbers : Numbers w g.entries before after
   pub more : Scopes
   pub inside : after.inside ≡ joined before.inside more
-  pub fit : Begins after.signals w.numbered → (final outer : Names) → Begins after.names final → Every (Agrees g.entries) final
+  pub fit : Begins after.signals w.numbered → (final outer : Names) → Begins after.names final
+      → Every (Agrees g.entries) final
       → CopiesFit w.signals (within final outer) more copies
 
 -- what is numbered of a scope inside
 pub record BlockNumbers (w : Final) (entries : List Entry) (block : Block) (before own : Scoping) : Type 0 where
   pub signals : Begins before.signals own.signals
   pub fits : Every NumberedFits before.signals → Every NumberedFits own.signals
-  pub fit : Begins own.signals w.numbered → (outer : Names) → BlockFits w.signals outer (scoped own.names own.inside) block
+  pub fit : Begins own.signals w.numbered → (outer : Names)
+      → BlockFits w.signals outer (scoped own.names own.inside) block
 
 nothing-more : (w : Final) (g : Ground) (met : Scoping) → CopiesNumber w g no_copy met met
 nothing-more w g met = record {
@@ -287,7 +165,8 @@ nothing-more w g met = record {
 }
 
 -- an item, then the rest
-item-then : (w : Final) (g : Ground) (x : Copied) (rest : Copies) (met next last : Scoping) (Asks : Names → Type 0) → ItemNumbers w g met next Asks
+item-then : (w : Final) (g : Ground) (x : Copied) (rest : Copies) (met next last : Scoping) (Asks : Names → Type 0)
+    → ItemNumbers w g met next Asks
     → CopiesNumber w g rest next last
     → ((names : Names) (scopes : Scopes) → Asks names → CopiesFit w.signals names scopes rest → CopiesFit w.signals names scopes (copy x rest))
     → CopiesNumber w g (copy x rest) met last
@@ -301,7 +180,8 @@ item-then w g x rest met next last Asks first others both = record {
 }
 
 -- a scope inside, then the rest
-scope-then : (w : Final) (g : Ground) (x : Copied) (block : Block) (rest : Copies) (met own last : Scoping) → BlockNumbers w g.entries block met own
+scope-then : (w : Final) (g : Ground) (x : Copied) (block : Block) (rest : Copies) (met own last : Scoping)
+    → BlockNumbers w g.entries block met own
     → CopiesNumber w g rest (ended own met) last
     → ((names : Names) (scopes : Scopes) → ((outer : Names) → BlockFits w.signals outer (scoped own.names own.inside) block) → CopiesFit w.signals names scopes rest
     → CopiesFit w.signals names (more_scopes (scoped own.names own.inside) scopes) (copy x rest))
@@ -321,8 +201,10 @@ none-listed : (names : Names) → PortsListed [] names
 none-listed names name among = cc
 
 -- a scope from what is numbered of it
-block-from : (w : Final) (around : List Entry) (path : List ℕ) (entries : List Entry) (copies : Copies) (met own : Scoping) (g : Ground) → g.entries ≡ entries → EntriesStand entries → AreApart entries
-    → CopiesNumber w g copies (begun entries met.signals) own → BlockNumbers w around (scope path entries copies) met own
+block-from : (w : Final) (around : List Entry) (path : List ℕ) (entries : List Entry) (copies : Copies)
+    (met own : Scoping) (g : Ground) → g.entries ≡ entries → EntriesStand entries → AreApart entries
+    → CopiesNumber w g copies (begun entries met.signals) own
+    → BlockNumbers w around (scope path entries copies) met own
 block-from w around path entries copies met own g same stand apart all = record {
   signals = all.numbers.signals;
   fits = all.numbers.fits;
@@ -338,7 +220,8 @@ abbrev block_scoping : Block → Names → Scoping → Scoping
 block_scoping (scope path entries copies) names met = numbered (ground_of path entries copies names) copies (begun entries met.signals)
 
 mutual
-  pub copies-number : (w : Final) (g : Ground) (copies : Copies) (met : Scoping) → EntriesStand g.entries → PortsListed g.ports met.names → CopiesStand copies
+  pub copies-number : (w : Final) (g : Ground) (copies : Copies) (met : Scoping) → EntriesStand g.entries
+      → PortsListed g.ports met.names → CopiesStand copies
       → CopiesOf g.entries copies → CopiesNumber w g copies met (numbered g copies met)
   copies-number w g no_copy met stand ports all of = nothing-more w g met
   copies-number w g (copy (written item) rest) met stand ports all of =
@@ -367,7 +250,8 @@ mutual
       (copies-number w g rest (ended own met) stand ports all.1 of.1)
       (λ names scopes one others. (all.0.0, one (turned variable value names), others))
 
-  block-numbers : (w : Final) (around : List Entry) (block : Block) (names : Names) (met : Scoping) → BlockStands block → BlockOf block
+  block-numbers : (w : Final) (around : List Entry) (block : Block) (names : Names) (met : Scoping)
+      → BlockStands block → BlockOf block
       → BlockNumbers w around block met (block_scoping block names met)
   block-numbers w around (scope path entries copies) names met stand of =
       let g = ground_of path entries copies names in

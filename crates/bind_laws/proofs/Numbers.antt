@@ -44,10 +44,12 @@ pub record Final : Type 0 where
 
 -- ---- one signal
 -- the signal of a number is that of the design
-pub number-there : (w : Final) (k : ℕ) (n : Numbered) → slice_get w.numbered k ≡ Some n → IsThere w.signals n.signal.width n.signal.left n.signal.right k
+pub number-there : (w : Final) (k : ℕ) (n : Numbered) → slice_get w.numbered k ≡ Some n
+    → IsThere w.signals n.signal.width n.signal.left n.signal.right k
 number-there w k n at = let s = w.same k n at in record { signal = s.signal; there = s.is; is = s.of }
 
-pub signal-fits : (path : List ℕ) (kind : SignalKind) (signed : Bool) (b : Bounds) → IsRange b → signal_fits (signal_of path kind signed b) ≡ true
+pub signal-fits : (path : List ℕ) (kind : SignalKind) (signed : Bool) (b : Bounds) → IsRange b
+    → signal_fits (signal_of path kind signed b) ≡ true
 signal-fits path kind signed b range =
     let within : Within (width b) = record { least = range.least; most = range.most } in
     and_from _ _ (and_from _ _ (is-width (width b) within) range.range) (eq-eqb _ (width b) (word-width (width b) 0 within))
@@ -63,19 +65,22 @@ pub record WordAt (one : ℤ → Numbered) (o : Option Numbered) : Type 0 where
   pub address : ℤ
   pub is : o ≡ Some (one address)
 
-words-at : (one : ℤ → Numbered) (count : ℕ) (low : ℤ) (k : ℕ) → k < count → WordAt one (slice_get (words one count low) k)
+words-at : (one : ℤ → Numbered) (count : ℕ) (low : ℤ) (k : ℕ) → k < count
+    → WordAt one (slice_get (words one count low) k)
 unfolding words
 words-at one zero low k less = absurd (omega (arith, less))
 words-at one (suc count) low zero less = record { address = low; is = refl }
 words-at one (suc count) low (suc k) less = words-at one count (low +ℤ pos 1) k (omega (arith, less))
 
-pub words-every : (P : Numbered → Type 0) (one : ℤ → Numbered) (count : ℕ) (low : ℤ) → ((address : ℤ) → P (one address)) → Every P (words one count low)
+pub words-every : (P : Numbered → Type 0) (one : ℤ → Numbered) (count : ℕ) (low : ℤ)
+    → ((address : ℤ) → P (one address)) → Every P (words one count low)
 unfolding words
 words-every P one zero low all = tt
 words-every P one (suc count) low all = (all low, words-every P one count (low +ℤ pos 1) all)
 
 -- an element of the second of three lists
-second-at : {X : Type 0} (xs ys zs : List X) (k : ℕ) → k < length ys → slice_get ((xs ++ ys) ++ zs) (length xs + k) ≡ slice_get ys k
+second-at : {X : Type 0} (xs ys zs : List X) (k : ℕ) → k < length ys
+    → slice_get ((xs ++ ys) ++ zs) (length xs + k) ≡ slice_get ys k
 second-at {X} [] ys zs k less = ap (slice_get (ys ++ zs)) zeros ∙ front ys k less
   where
     zeros : 0 + k ≡ k
@@ -90,9 +95,11 @@ second-at (x ∷ xs) ys zs k less =
     ap (slice_get (((x ∷ xs) ++ ys) ++ zs)) next ∙ second-at xs ys zs k less
 
 -- the words that are given the next numbers
-pub words-there : (w : Final) (before : List Numbered) (one : ℤ → Numbered) (count : ℕ) (low : ℤ) (size : ℕ) (left right : ℤ)
+pub words-there : (w : Final) (before : List Numbered) (one : ℤ → Numbered) (count : ℕ) (low : ℤ) (size : ℕ)
+    (left right : ℤ)
     → ((address : ℤ) → ((one address).signal.width ≡ size) × ((one address).signal.left ≡ left) × ((one address).signal.right ≡ right))
-    → Begins (before ++ words one count low) w.numbered → (k : ℕ) → k < count → IsThere w.signals size left right (length before + k)
+    → Begins (before ++ words one count low) w.numbered → (k : ℕ) → k < count
+    → IsThere w.signals size left right (length before + k)
 words-there w before one count low size left right alike begins k less =
     let long = words-length one count low in
     let at = words-at one count low k less in
@@ -104,7 +111,8 @@ words-there w before one count low size left right alike begins k less =
     (subst (λ l. IsThere w.signals (one at.address).signal.width l right (length before + k)) same.1
     (subst (λ r. IsThere w.signals (one at.address).signal.width (one at.address).signal.left r (length before + k)) same.2 there))
 
-pub words-few : (w : Final) (before : List Numbered) (one : ℤ → Numbered) (count : ℕ) (low : ℤ) → Begins (before ++ words one count low) w.numbered
+pub words-few : (w : Final) (before : List Numbered) (one : ℤ → Numbered) (count : ℕ) (low : ℤ)
+    → Begins (before ++ words one count low) w.numbered
     → length before + count ≤ 4294967295
 words-few w before one count low begins =
     let whole : length w.numbered ≡ length ((before ++ words one count low) ++ begins.rest) = ap length begins.is in
@@ -124,7 +132,9 @@ addresses-some names d r = by (addresses_at names d.site.span r) refl
     made : ℤ → ℤ → Result Addresses BindErr
     made left right = if nat_le (count_between left right) 1024 then Ok (addresses_between left right) else Err (fault.Range d.site.span)
 
-    few : (left right : ℤ) (fits : Bool) (a : Addresses) → ◌≡◌ {A = Result Addresses BindErr} (if fits then Ok (addresses_between left right) else Err (fault.Range d.site.span)) (Ok a) → 1 ≤ a.count
+    few : (left right : ℤ) (fits : Bool) (a : Addresses)
+        → ◌≡◌ {A = Result Addresses BindErr}
+        (if fits then Ok (addresses_between left right) else Err (fault.Range d.site.span)) (Ok a) → 1 ≤ a.count
     few left right true a is = subst (λ (x : Addresses). 1 ≤ x.count) (Ok-same is) (omega arith)
     few left right false a is = Err-Ok is
 

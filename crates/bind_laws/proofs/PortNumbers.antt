@@ -32,7 +32,7 @@ use Rattle.instance_laws.specs.OfText.{PortsApart}
 use Rattle.bind_laws.proofs.Lists.{begins-through, begins-at}
 use Rattle.bind_laws.proofs.Numbers.{Final, number-there}
 use Rattle.bind_laws.proofs.ScopeNames.{same-equal, FoundSo, is_listed}
-use Rattle.bind_laws.proofs.Numbering.{Numbers, numbers-nothing, numbers-on, signal-numbers}
+use Rattle.bind_laws.proofs.Declared.{Numbers, numbers-nothing, numbers-on, signal-numbers}
 
 -- ---- what a port stands for
 abbrev pub port_use : Port → ℕ → Use
@@ -47,7 +47,8 @@ pub record PortThere (w : Final) (top : Bool) (p : Port) (n : ℕ) : Type 0 wher
   pub path : List ℕ
   pub home : ℕ
   pub span : Span
-  pub at : slice_get w.numbered n ≡ Some (record { signal = signal_of path (kind_of top p.signal) p.signal.signed (bounds_of p.signal); home = home; span = span })
+  pub at : slice_get w.numbered n
+      ≡ Some (record { signal = signal_of path (kind_of top p.signal) p.signal.signed (bounds_of p.signal); home = home; span = span })
 
 abbrev pub PortsThere : Final → Bool → List Port → ℕ → Type 0
 PortsThere w top [] n = ⊤
@@ -94,27 +95,33 @@ abbrev pub PortsFound : Names → List Port → ℕ → Type 0
 PortsFound names [] n = ⊤
 PortsFound names (p ∷ ps) n = (find names p.name.name ≡ Some (port_use p n)) × PortsFound names ps (suc n)
 
-find-behind : (front more : Names) (name : List ℕ) → is_listed front name ≡ false → find (front ++ more) name ≡ find more name
+find-behind : (front more : Names) (name : List ℕ) → is_listed front name ≡ false
+    → find (front ++ more) name ≡ find more name
 find-behind [] more name none = refl
 find-behind (k ∷ ks) more name none = by (same_name k.name name) none (λ later. find-behind ks more name later)
   where
-    by : (same : Bool) → (same || is_listed ks name) ≡ false → (is_listed ks name ≡ false → find (ks ++ more) name ≡ find more name)
+    by : (same : Bool) → (same || is_listed ks name) ≡ false
+        → (is_listed ks name ≡ false → find (ks ++ more) name ≡ find more name)
         → (if same then Some k.use_of else find (ks ++ more) name) ≡ find more name
     by true none later = cc
     by false none later = later none
 
-unlisted-push : (front : Names) (k : Known) (name : List ℕ) → is_listed front name ≡ false → same_name k.name name ≡ false → is_listed (front ++ k ∷ []) name ≡ false
+unlisted-push : (front : Names) (k : Known) (name : List ℕ) → is_listed front name ≡ false
+    → same_name k.name name ≡ false → is_listed (front ++ k ∷ []) name ≡ false
 unlisted-push [] k name none other = ap (λ b. b || false) other
 unlisted-push (x ∷ xs) k name none other = by (same_name x.name name) none (λ later. unlisted-push xs k name later other)
   where
-    by : (same : Bool) → (same || is_listed xs name) ≡ false → (is_listed xs name ≡ false → is_listed (xs ++ k ∷ []) name ≡ false) → (same || is_listed (xs ++ k ∷ []) name) ≡ false
+    by : (same : Bool) → (same || is_listed xs name) ≡ false
+        → (is_listed xs name ≡ false → is_listed (xs ++ k ∷ []) name ≡ false)
+        → (same || is_listed (xs ++ k ∷ []) name) ≡ false
     by true none later = cc
     by false none later = later none
 
 abbrev Unlisted : Names → List Port → Type 0
 Unlisted front ports = Every (λ (q : Port). is_listed front q.name.name ≡ false) ports
 
-unlisted-all : (front : Names) (k : Known) (ports : List Port) → Unlisted front ports → Every (λ (q : Port). same_name k.name q.name.name ≡ false) ports → Unlisted (front ++ k ∷ []) ports
+unlisted-all : (front : Names) (k : Known) (ports : List Port) → Unlisted front ports
+    → Every (λ (q : Port). same_name k.name q.name.name ≡ false) ports → Unlisted (front ++ k ∷ []) ports
 unlisted-all front k [] none other = tt
 unlisted-all front k (q ∷ qs) none other = (unlisted-push front k q.name.name none.0 other.0, unlisted-all front k qs none.1 other.1)
 
@@ -131,19 +138,24 @@ ports-found front (p ∷ ps) n rest none apart =
     )
 
 -- ---- a port is no parameter
-unlisted-append : (xs ys : Names) (name : List ℕ) → is_listed xs name ≡ false → is_listed ys name ≡ false → is_listed (xs ++ ys) name ≡ false
+unlisted-append : (xs ys : Names) (name : List ℕ) → is_listed xs name ≡ false → is_listed ys name ≡ false
+    → is_listed (xs ++ ys) name ≡ false
 unlisted-append [] ys name one other = other
 unlisted-append (x ∷ xs) ys name one other = by (same_name x.name name) one (λ later. unlisted-append xs ys name later other)
   where
-    by : (same : Bool) → (same || is_listed xs name) ≡ false → (is_listed xs name ≡ false → is_listed (xs ++ ys) name ≡ false) → (same || is_listed (xs ++ ys) name) ≡ false
+    by : (same : Bool) → (same || is_listed xs name) ≡ false
+        → (is_listed xs name ≡ false → is_listed (xs ++ ys) name ≡ false)
+        → (same || is_listed (xs ++ ys) name) ≡ false
     by true none later = cc
     by false none later = later none
 
-fixed-unlisted : (entries : List Entry) (e : Entry) (name : List ℕ) (s : Declared) → FoundSo entries e → declared.find name entries ≡ Some (signal s)
+fixed-unlisted : (entries : List Entry) (e : Entry) (name : List ℕ) (s : Declared) → FoundSo entries e
+    → declared.find name entries ≡ Some (signal s)
     → is_listed (fixed e.name.name e.standing) name ≡ false
 fixed-unlisted entries e name s found is = by e.standing found
   where
-    other : (x : Standing) → declared.find e.name.name entries ≡ Some x → (same : Bool) → same_name e.name.name name ≡ same → (x ≡ signal s → ⊥) → (same || false) ≡ false
+    other : (x : Standing) → declared.find e.name.name entries ≡ Some x → (same : Bool)
+        → same_name e.name.name name ≡ same → (x ≡ signal s → ⊥) → (same || false) ≡ false
     other x at true same apart = absurd (apart (Some-same (sym at ∙ ap (λ n. declared.find n entries) (same-equal e.name.name name same) ∙ is)))
     other x at false same apart = refl
 
@@ -154,13 +166,15 @@ fixed-unlisted entries e name s found is = by e.standing found
     by (array x r) at = refl
     by integer at = refl
 
-fixed_all-unlisted : (entries es : List Entry) (name : List ℕ) (s : Declared) → Every (FoundSo entries) es → declared.find name entries ≡ Some (signal s)
+fixed_all-unlisted : (entries es : List Entry) (name : List ℕ) (s : Declared) → Every (FoundSo entries) es
+    → declared.find name entries ≡ Some (signal s)
     → is_listed (fixed_all es) name ≡ false
 fixed_all-unlisted entries [] name s found is = refl
 fixed_all-unlisted entries (e ∷ es) name s found is =
     unlisted-append (fixed e.name.name e.standing) (fixed_all es) name (fixed-unlisted entries e name s found.0 is) (fixed_all-unlisted entries es name s found.1 is)
 
-pub ports-unlisted : (entries : List Entry) (ports : List Port) → Every (FoundSo entries) entries → Every (λ (p : Port). declared.find p.name.name entries ≡ Some (signal p.signal)) ports
+pub ports-unlisted : (entries : List Entry) (ports : List Port) → Every (FoundSo entries) entries
+    → Every (λ (p : Port). declared.find p.name.name entries ≡ Some (signal p.signal)) ports
     → Every (λ (q : Port). is_listed (fixed_all entries) q.name.name ≡ false) ports
 ports-unlisted entries [] found are = tt
 ports-unlisted entries (p ∷ ps) found are = (fixed_all-unlisted entries entries p.name.name p.signal found are.0, ports-unlisted entries ps found are.1)
@@ -174,7 +188,8 @@ listed-later (x ∷ xs) ys name listed = by (same_name x.name name) (listed-late
     by true later = refl
     by false later = later
 
-knowns-listed : (ports : List Port) (n : ℕ) (name : List ℕ) → is_among name (map (λ p. p.name.name) ports) ≡ true → is_listed (port_knowns ports n) name ≡ true
+knowns-listed : (ports : List Port) (n : ℕ) (name : List ℕ) → is_among name (map (λ p. p.name.name) ports) ≡ true
+    → is_listed (port_knowns ports n) name ≡ true
 knowns-listed [] n name among = absurd (false≢true among)
 knowns-listed (p ∷ ps) n name among = by (same_name name p.name.name) refl among (λ later. knowns-listed ps (suc n) name later)
   where
@@ -186,18 +201,22 @@ knowns-listed (p ∷ ps) n name among = by (same_name name p.name.name) refl amo
         (ap (λ b. b || is_listed (port_knowns ps (suc n)) p.name.name) (same-itself p.name.name))
     by false same among later = or (same_name p.name.name name) (later among)
       where
-        or : (b : Bool) → is_listed (port_knowns ps (suc n)) name ≡ true → (b || is_listed (port_knowns ps (suc n)) name) ≡ true
+        or : (b : Bool) → is_listed (port_knowns ps (suc n)) name ≡ true
+            → (b || is_listed (port_knowns ps (suc n)) name) ≡ true
         or true listed = refl
         or false listed = listed
 
-pub ports-listed : (front : Names) (ports : List Port) (n : ℕ) (name : List ℕ) → is_among name (map (λ p. p.name.name) ports) ≡ true
+pub ports-listed : (front : Names) (ports : List Port) (n : ℕ) (name : List ℕ)
+    → is_among name (map (λ p. p.name.name) ports) ≡ true
     → is_listed (front ++ port_knowns ports n) name ≡ true
 ports-listed front ports n name among = listed-later front (port_knowns ports n) name (knowns-listed ports n name among)
 
-pub each-among : (ports : List Port) → Every (λ (p : Port). is_among p.name.name (map (λ q. q.name.name) ports) ≡ true) ports
+pub each-among : (ports : List Port)
+    → Every (λ (p : Port). is_among p.name.name (map (λ q. q.name.name) ports) ≡ true) ports
 each-among ports = by ports ports (λ name among. among)
   where
-    by : (ps all : List Port) → ((name : List ℕ) → is_among name (map (λ q. q.name.name) ps) ≡ true → is_among name (map (λ q. q.name.name) all) ≡ true)
+    by : (ps all : List Port)
+        → ((name : List ℕ) → is_among name (map (λ q. q.name.name) ps) ≡ true → is_among name (map (λ q. q.name.name) all) ≡ true)
         → Every (λ (p : Port). is_among p.name.name (map (λ q. q.name.name) all) ≡ true) ps
     by [] all among = tt
     by (p ∷ ps) all among = (
@@ -223,7 +242,8 @@ pub record SocketsAre (w : Final) (ports : List Socket) (n : ℕ) : Type 0 where
   pub fit : Every (SocketFits w.signals) ports
   pub count : CountUp ports n
 
-pub sockets-are : (w : Final) (top : Bool) (names : Names) (ports : List Port) (n : ℕ) → PortsStand ports → PortsThere w top ports n → PortsFound names ports n
+pub sockets-are : (w : Final) (top : Bool) (names : Names) (ports : List Port) (n : ℕ) → PortsStand ports
+    → PortsThere w top ports n → PortsFound names ports n
     → SocketsAre w (map (socket names) ports) n
 sockets-are w top names [] n stand there found = record { fit = tt; count = tt }
 sockets-are w top names (p ∷ ps) n stand there found =
@@ -251,7 +271,8 @@ input-kind s input = by (is_input s.direction) input
     by true is = refl
     by false is = cc
 
-pub inputs-are : (w : Final) (names : Names) (ports : List Port) (n : ℕ) → PortsThere w true ports n → PortsFound names ports n → Every (IsInput w.signals) (map (socket names) ports)
+pub inputs-are : (w : Final) (names : Names) (ports : List Port) (n : ℕ) → PortsThere w true ports n
+    → PortsFound names ports n → Every (IsInput w.signals) (map (socket names) ports)
 inputs-are w names [] n there found = tt
 inputs-are w names (p ∷ ps) n there found = (first, inputs-are w names ps (suc n) there.1 found.1)
   where

@@ -71,22 +71,26 @@ port-left signals p fits = record {
 }
 
 -- ---- inputs
-input-driver : (w : Whole) (p : Socket) (e : Typed) (span : Span) → SocketFits w.signals p → typed_fits w.signals e ≡ true → p.width ≤ e.width
+input-driver : (w : Whole) (p : Socket) (e : Typed) (span : Span) → SocketFits w.signals p
+    → typed_fits w.signals e ≡ true → p.width ≤ e.width
     → driver_fits w.signals w.places (driver.Cont (record { parts = part.Whole p.signal ∷ [] }) e None span) ≡ true
 unfolding whole_port
 input-driver w p e span fits value wide =
     and_from _ _ (assignment-fits w.signals (whole_port p) e (record { target = port-left w.signals p fits; value = value; wide = wide })) refl
 
-handed-fits : (w : Whole) (names : Names) (b : Bound) (p : Socket) (e : Tree) (input : ℕ) → Every (λ (r : Root). RootFits w r.input) b.roots
+handed-fits : (w : Whole) (names : Names) (b : Bound) (p : Socket) (e : Tree) (input : ℕ)
+    → Every (λ (r : Root). RootFits w r.input) b.roots
     → handed_on names b p e ≡ Some input → RootFits w input
 handed-fits w names b p e input roots is = by (p.width == 1) (plain_name e) is
   where
-    by : (one : Bool) (o : Option (List ℕ)) → (if one then option_map_or (root_named b.roots names) o None else None) ≡ Some input → RootFits w input
+    by : (one : Bool) (o : Option (List ℕ))
+        → (if one then option_map_or (root_named b.roots names) o None else None) ≡ Some input → RootFits w input
     by true None is = cc
     by true (Some text) is = named-fits w b.roots names text input roots is
     by false o is = cc
 
-input-goes : (w : Whole) (f : Frame) (names : Names) (p : Socket) (x : Wire) (b c : Bound) → NamesFit w.signals names → SocketFits w.signals p
+input-goes : (w : Whole) (f : Frame) (names : Names) (p : Socket) (x : Wire) (b c : Bound) → NamesFit w.signals names
+    → SocketFits w.signals p
     → input_of f names p x b ≡ Ok c → Goes w b c
 input-goes w f names p x b c fit fits is =
     between (assigned names x.value p.width) (λ e. driven_by e) c (Goes w b c) is λ e first last.
@@ -123,7 +127,8 @@ pub record Reaches (signals : List Signal) (width : ℕ) (e : Typed) : Type 0 wh
   pub wide : width ≤ e.width
   pub fits : typed_fits signals e ≡ true
 
-output-value : (signals : List Signal) (p : Socket) (width : ℕ) → SocketFits signals p → width ≤ 128 → Reaches signals width (output_value p width)
+output-value : (signals : List Signal) (p : Socket) (width : ℕ) → SocketFits signals p → width ≤ 128
+    → Reaches signals width (output_value p width)
 output-value signals p width fits most = by (p.width == max width p.width) refl
   where
     whole : Typed
@@ -133,7 +138,8 @@ output-value signals p width fits most = by (p.width == max width p.width) refl
     plain = and_from _ _ (and_from _ _ (is-width p.width (socket-within signals p fits)) (socket-there signals p fits))
         (eq-eqb (width_at signals p.signal) p.width (socket-width signals p fits))
 
-    by : (same : Bool) → (p.width == max width p.width) ≡ same → Reaches signals width (if same then whole else sized (max width p.width) p.signed (node.Resize whole))
+    by : (same : Bool) → (p.width == max width p.width) ≡ same
+        → Reaches signals width (if same then whole else sized (max width p.width) p.signed (node.Resize whole))
     by true is = record { wide = omega (arith, eqb-true p.width (max width p.width) is, le-max_left width p.width); fits = plain }
     by false is = record {
       wide = le-max_left width p.width;
@@ -141,7 +147,8 @@ output-value signals p width fits most = by (p.width == max width p.width) refl
           ∙ and_from _ _ (is-width (max width p.width) (record { least = omega (arith, fits.least, le-max_right width p.width); most = max-le most fits.most })) plain;
     }
 
-output-goes : (w : Whole) (f : Frame) (home : Home) (names : Names) (copy : ℕ) (p : Socket) (x : Wire) (b c : Bound) → NamesFit w.signals names → SocketFits w.signals p
+output-goes : (w : Whole) (f : Frame) (home : Home) (names : Names) (copy : ℕ) (p : Socket) (x : Wire) (b c : Bound)
+    → NamesFit w.signals names → SocketFits w.signals p
     → output_of f home names copy p x b ≡ Ok c → Goes w b c
 output-goes w f home names copy p x b c fit fits is = by (as_left x.value) is
   where
@@ -158,16 +165,20 @@ output-goes w f home names copy p x b c fit fits is = by (as_left x.value) is
         (driven_at-goes w f home place_kind.PortOut x.site copy x.site.span l (output_value p l.width) b (record { target = t; value = v.fits; wide = v.wide }))
 
 -- ---- all of an instance
-connection-goes : (w : Whole) (f : Frame) (home : Home) (names : Names) (copy : ℕ) (p : Socket) (o : Option Wire) (b c : Bound) → NamesFit w.signals names → SocketFits w.signals p
+connection-goes : (w : Whole) (f : Frame) (home : Home) (names : Names) (copy : ℕ) (p : Socket) (o : Option Wire)
+    (b c : Bound) → NamesFit w.signals names → SocketFits w.signals p
     → connection f home names copy p o b ≡ Ok c → Goes w b c
 connection-goes w f home names copy p None b c fit fits is = subst (Goes w b) (Ok-same is) (goes-nowhere w b)
 connection-goes w f home names copy p (Some x) b c fit fits is = by p.input is
   where
-    by : (input : Bool) → ◌≡◌ {A = Result Bound BindErr} (if input then input_of f names p x b else output_of f home names copy p x b) (Ok c) → Goes w b c
+    by : (input : Bool)
+        → ◌≡◌ {A = Result Bound BindErr} (if input then input_of f names p x b else output_of f home names copy p x b)
+        (Ok c) → Goes w b c
     by true is = input-goes w f names p x b c fit fits is
     by false is = output-goes w f home names copy p x b c fit fits is
 
-order-goes : (w : Whole) (f : Frame) (home : Home) (names : Names) (copy : ℕ) (ps : List Socket) (values : List (Option Tree)) (b c : Bound) → NamesFit w.signals names → Every (SocketFits w.signals) ps
+order-goes : (w : Whole) (f : Frame) (home : Home) (names : Names) (copy : ℕ) (ps : List Socket)
+    (values : List (Option Tree)) (b c : Bound) → NamesFit w.signals names → Every (SocketFits w.signals) ps
     → by_order f home names copy ps values b ≡ Ok c → Goes w b c
 order-goes w f home names copy [] values b c fit fits is = subst (Goes w b) (Ok-same is) (goes-nowhere w b)
 order-goes w f home names copy (p ∷ ps) [] b c fit fits is = subst (Goes w b) (Ok-same is) (goes-nowhere w b)
@@ -176,19 +187,22 @@ order-goes w f home names copy (p ∷ ps) (value ∷ values) b c fit fits is =
     between (connection f home names copy p wire b) (by_order f home names copy ps values) c (Goes w b c) is λ more first rest.
     goes-on w b more c (connection-goes w f home names copy p wire b more fit fits.0 first) (order-goes w f home names copy ps values more c fit fits.1 rest)
 
-name-goes : (w : Whole) (f : Frame) (home : Home) (names : Names) (copy : ℕ) (list : List PlainConnection) (ps : List Socket) (b c : Bound) → NamesFit w.signals names → Every (SocketFits w.signals) ps
+name-goes : (w : Whole) (f : Frame) (home : Home) (names : Names) (copy : ℕ) (list : List PlainConnection)
+    (ps : List Socket) (b c : Bound) → NamesFit w.signals names → Every (SocketFits w.signals) ps
     → by_name f home names copy list ps b ≡ Ok c → Goes w b c
 name-goes w f home names copy list [] b c fit fits is = subst (Goes w b) (Ok-same is) (goes-nowhere w b)
 name-goes w f home names copy list (p ∷ ps) b c fit fits is =
     between (connection f home names copy p (wire_named p.name list) b) (by_name f home names copy list ps) c (Goes w b c) is λ more first rest.
     goes-on w b more c (connection-goes w f home names copy p (wire_named p.name list) b more fit fits.0 first) (name-goes w f home names copy list ps more c fit fits.1 rest)
 
-connected-goes : (w : Whole) (f : Frame) (home : Home) (names : Names) (copy : ℕ) (ps : List Socket) (x : PlainConnections) (b c : Bound) → NamesFit w.signals names → Every (SocketFits w.signals) ps
+connected-goes : (w : Whole) (f : Frame) (home : Home) (names : Names) (copy : ℕ) (ps : List Socket)
+    (x : PlainConnections) (b c : Bound) → NamesFit w.signals names → Every (SocketFits w.signals) ps
     → connected f home names copy ps x b ≡ Ok c → Goes w b c
 connected-goes w f home names copy ps (ordered values) b c fit fits is = order-goes w f home names copy ps values b c fit fits is
 connected-goes w f home names copy ps (named list) b c fit fits is = name-goes w f home names copy list ps b c fit fits is
 
-pub child-goes : (w : Whole) (f : Frame) (home : Home) (names : Names) (ps : List Socket) (x : Child) (b c : Bound) → NamesFit w.signals names → Every (SocketFits w.signals) ps
+pub child-goes : (w : Whole) (f : Frame) (home : Home) (names : Names) (ps : List Socket) (x : Child) (b c : Bound)
+    → NamesFit w.signals names → Every (SocketFits w.signals) ps
     → child_of f home names ps x b ≡ Ok c → Goes w b c
 child-goes w f home names ps x b c fit fits is =
     connected-goes w f (record { «module» = home.«module»; path = x.path; item = home.item }) names (length b.places) ps x.connections b c fit fits is

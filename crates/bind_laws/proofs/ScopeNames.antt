@@ -26,11 +26,13 @@ pub same-equal : (a b : List ℕ) → same_name a b ≡ true → a ≡ b
 same-equal a b same = (bytes_eq-Decides a b).0 same
 
 -- what is found stands for something
-pub entry-stands : (es : List Entry) (name : List ℕ) (s : Standing) → EntriesStand es → find name es ≡ Some s → IsMeaning (meaning_of s)
+pub entry-stands : (es : List Entry) (name : List ℕ) (s : Standing) → EntriesStand es → find name es ≡ Some s
+    → IsMeaning (meaning_of s)
 entry-stands [] name s all is = absurd (none-some s is)
 entry-stands (e ∷ es) name s all is = by (same_name e.name.name name) is (λ later. entry-stands es name s all.1 later)
   where
-    by : (same : Bool) → (if same then Some e.standing else find name es) ≡ Some s → (find name es ≡ Some s → IsMeaning (meaning_of s)) → IsMeaning (meaning_of s)
+    by : (same : Bool) → (if same then Some e.standing else find name es) ≡ Some s
+        → (find name es ≡ Some s → IsMeaning (meaning_of s)) → IsMeaning (meaning_of s)
     by true is later = subst (λ x. IsMeaning (meaning_of x)) (Some-same is) all.0
     by false is later = later is
 
@@ -38,11 +40,13 @@ entry-stands (e ∷ es) name s all is = by (same_name e.name.name name) is (λ l
 abbrev pub FoundSo : List Entry → Entry → Type 0
 FoundSo entries e = find e.name.name entries ≡ Some e.standing
 
-behind-another : (e : Entry) (es all : List Entry) → find e.name.name all ≡ None → Every (FoundSo all) es → Every (FoundSo (e ∷ all)) es
+behind-another : (e : Entry) (es all : List Entry) → find e.name.name all ≡ None → Every (FoundSo all) es
+    → Every (FoundSo (e ∷ all)) es
 behind-another e [] all none found = tt
 behind-another e (x ∷ xs) all none found = (by (same_name e.name.name x.name.name) refl, behind-another e xs all none found.1)
   where
-    by : (same : Bool) → same_name e.name.name x.name.name ≡ same → (if same then Some e.standing else find x.name.name all) ≡ Some x.standing
+    by : (same : Bool) → same_name e.name.name x.name.name ≡ same
+        → (if same then Some e.standing else find x.name.name all) ≡ Some x.standing
     by true same = absurd (none-some x.standing (sym none ∙ ap (λ n. find n all) (same-equal e.name.name x.name.name same) ∙ found.0))
     by false same = found.0
 
@@ -55,10 +59,8 @@ found-so (e ∷ es) apart = (ap (λ b. if b then Some e.standing else find e.nam
 abbrev pub Agrees : List Entry → Known → Type 0
 Agrees entries k = (s : Declared) → find k.name entries ≡ Some (signal s) → NamesSignal (Some k.use_of)
 
-signal-other : (P : Type 0) (entries : List Entry) (e : Entry) (s : Declared) → FoundSo entries e → find e.name.name entries ≡ Some (signal s) → e.standing ≡ signal s
-signal-other P entries e s found is = Some-same (sym found ∙ is)
-
-fixed-agrees : (entries : List Entry) (e : Entry) → FoundSo entries e → Every (Agrees entries) (fixed e.name.name e.standing)
+fixed-agrees : (entries : List Entry) (e : Entry) → FoundSo entries e
+    → Every (Agrees entries) (fixed e.name.name e.standing)
 fixed-agrees entries e found = by e.standing found
   where
     by : (x : Standing) → find e.name.name entries ≡ Some x → Every (Agrees entries) (fixed e.name.name x)
@@ -73,7 +75,8 @@ fixed_all-agrees entries [] found = tt
 fixed_all-agrees entries (e ∷ es) found =
     Every-append (Agrees entries) (fixed e.name.name e.standing) (fixed_all es) (fixed-agrees entries e found.0) (fixed_all-agrees entries es found.1)
 
-fixed-fits : (signals : List Signal) (name : List ℕ) (s : Standing) → IsMeaning (meaning_of s) → NamesFit signals (fixed name s)
+fixed-fits : (signals : List Signal) (name : List ℕ) (s : Standing) → IsMeaning (meaning_of s)
+    → NamesFit signals (fixed name s)
 fixed-fits signals name (constant value b) meant = ((meant, tt), tt)
 fixed-fits signals name genvar meant = (tt, tt)
 fixed-fits signals name (signal s) meant = tt
@@ -93,7 +96,8 @@ pub listed-front : (xs ys : Names) (name : List ℕ) → is_listed xs name ≡ t
 listed-front [] ys name listed = absurd (false≢true listed)
 listed-front (k ∷ ks) ys name listed = by (same_name k.name name) listed (λ later. listed-front ks ys name later)
   where
-    by : (same : Bool) → (same || is_listed ks name) ≡ true → (is_listed ks name ≡ true → is_listed (ks ++ ys) name ≡ true) → (same || is_listed (ks ++ ys) name) ≡ true
+    by : (same : Bool) → (same || is_listed ks name) ≡ true
+        → (is_listed ks name ≡ true → is_listed (ks ++ ys) name ≡ true) → (same || is_listed (ks ++ ys) name) ≡ true
     by true listed later = refl
     by false listed later = later listed
 
@@ -107,16 +111,19 @@ listed-last (x ∷ xs) k = by (same_name x.name k.name) (listed-last xs k)
 
 -- the last of a name in a scope hides those around it
 -- what is found behind names of which one has the name: one of them
-hidden : (entries : List Entry) (s : Declared) (name : List ℕ) (own names : Names) → find name entries ≡ Some (signal s) → Every (Agrees entries) own
+hidden : (entries : List Entry) (s : Declared) (name : List ℕ) (own names : Names)
+    → find name entries ≡ Some (signal s) → Every (Agrees entries) own
     → NamesSignal (bound.find names name) → NamesSignal (bound.find (within own names) name)
 hidden entries s name [] names declared all before = before
 hidden entries s name (k ∷ ks) names declared all before = hidden entries s name ks (k ∷ names) declared all.1 (by (same_name k.name name) refl)
   where
-    by : (same : Bool) → same_name k.name name ≡ same → NamesSignal (if same then Some k.use_of else bound.find names name)
+    by : (same : Bool) → same_name k.name name ≡ same
+        → NamesSignal (if same then Some k.use_of else bound.find names name)
     by true same = all.0 s (ap (λ n. find n entries) (same-equal k.name name same) ∙ declared)
     by false same = before
 
-pub named-signal : (entries : List Entry) (s : Declared) (name : List ℕ) (own names : Names) → find name entries ≡ Some (signal s) → Every (Agrees entries) own
+pub named-signal : (entries : List Entry) (s : Declared) (name : List ℕ) (own names : Names)
+    → find name entries ≡ Some (signal s) → Every (Agrees entries) own
     → is_listed own name ≡ true → NamesSignal (bound.find (within own names) name)
 named-signal entries s name [] names declared all listed = absurd (false≢true listed)
 named-signal entries s name (k ∷ ks) names declared all listed =

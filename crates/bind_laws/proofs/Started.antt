@@ -15,7 +15,7 @@ use Rattle.v_binding.specs.Signals.{Numbered}
 use Rattle.v_binding.specs.Starts.{Start, with_start, started_from, started, all_started}
 use Rattle.instance_laws.specs.Every.{Every}
 use Rattle.bind_laws.proofs.Numbers.{SameSignal, AreSame}
-use Rattle.bind_laws.proofs.Numbering.{NumberedFits}
+use Rattle.bind_laws.proofs.Declared.{NumberedFits}
 
 -- ---- signals that differ in their start values alone
 pub record Alike (s t : Signal) : Type 0 where
@@ -72,7 +72,8 @@ width-alike (s ∷ ss) [] alike k = absurd alike
 width-alike (s ∷ ss) (t ∷ ts) alike zero = alike.0.of_width
 width-alike (s ∷ ss) (t ∷ ts) alike (suc k) = width-alike ss ts alike.1 k
 
-signal-alike : (ns : List Numbered) (ts : List Signal) → AllAlike (map (λ n. n.signal) ns) ts → (k : ℕ) (n : Numbered) → slice_get ns k ≡ Some n → SameSignal n (slice_get ts k)
+signal-alike : (ns : List Numbered) (ts : List Signal) → AllAlike (map (λ n. n.signal) ns) ts → (k : ℕ) (n : Numbered)
+    → slice_get ns k ≡ Some n → SameSignal n (slice_get ts k)
 signal-alike [] ts alike k n at = cc
 signal-alike (m ∷ ms) [] alike k n at = absurd alike
 signal-alike (m ∷ ms) (t ∷ ts) alike zero n at =
@@ -98,7 +99,8 @@ pub started-length : (starts : List Start) (ns : List Numbered) → length (all_
 started-length starts ns = length-alike (map (λ n. n.signal) ns) (all_started starts ns) (through-alike starts (map (λ n. n.signal) ns)) ∙ numbers-length ns
 
 -- ---- that they fit
-start-fits : (s : Signal) (value : Bits) → signal_fits s ≡ true → width_of value ≡ s.width → signal_fits (with_start s value) ≡ true
+start-fits : (s : Signal) (value : Bits) → signal_fits s ≡ true → width_of value ≡ s.width
+    → signal_fits (with_start s value) ≡ true
 start-fits s value fits same = and_from _ _ (and_parts _ _ fits).0 (eq-eqb (width_of value) s.width same)
 
 started-fits : (number : ℕ) (x : Start) (ss : List Signal) → list_all signal_fits ss ≡ true
@@ -109,25 +111,29 @@ started-fits number x (s ∷ ss) fits wide =
     let f = and_parts _ _ fits in
     and_from _ _ (by (number == x.signal) refl f.0) (started-fits (number + 1) x ss f.1 (λ k t at is. wide (suc k) t at (omega (arith, is))))
   where
-    by : (here : Bool) → (number == x.signal) ≡ here → signal_fits s ≡ true → signal_fits (if here then with_start s x.value else s) ≡ true
+    by : (here : Bool) → (number == x.signal) ≡ here → signal_fits s ≡ true
+        → signal_fits (if here then with_start s x.value else s) ≡ true
     by true is first = start-fits s x.value first (wide 0 s refl (omega (arith, eqb-true number x.signal is)))
     by false is first = first
 
 found-width : (ss : List Signal) (k : ℕ) (s : Signal) → slice_get ss k ≡ Some s → s.width ≡ width_at ss k
 found-width ss k s at = sym (ap (λ o. option_map_or (λ (t : Signal). t.width) o 0) at)
 
-one-fits : (x : Start) (ss : List Signal) → list_all signal_fits ss ≡ true → width_of x.value ≡ width_at ss x.signal → list_all signal_fits (started x ss) ≡ true
+one-fits : (x : Start) (ss : List Signal) → list_all signal_fits ss ≡ true → width_of x.value ≡ width_at ss x.signal
+    → list_all signal_fits (started x ss) ≡ true
 one-fits x ss fits wide = started-fits 0 x ss fits (λ k s at is.
     let here : k ≡ x.signal = omega (arith, is) in
     wide ∙ sym (ap (width_at ss) here) ∙ sym (found-width ss k s at))
 
-through-fits : (xs : List Start) (ss : List Signal) → list_all signal_fits ss ≡ true → Every (λ (x : Start). width_of x.value ≡ width_at ss x.signal) xs
+through-fits : (xs : List Start) (ss : List Signal) → list_all signal_fits ss ≡ true
+    → Every (λ (x : Start). width_of x.value ≡ width_at ss x.signal) xs
     → list_all signal_fits (through started xs ss) ≡ true
 through-fits [] ss fits wide = fits
 through-fits (x ∷ xs) ss fits wide =
     through-fits xs (started x ss) (one-fits x ss fits wide.0) (moved xs wide.1)
   where
-    moved : (ys : List Start) → Every (λ (y : Start). width_of y.value ≡ width_at ss y.signal) ys → Every (λ (y : Start). width_of y.value ≡ width_at (started x ss) y.signal) ys
+    moved : (ys : List Start) → Every (λ (y : Start). width_of y.value ≡ width_at ss y.signal) ys
+        → Every (λ (y : Start). width_of y.value ≡ width_at (started x ss) y.signal) ys
     moved [] all = tt
     moved (y ∷ ys) all = (all.0 ∙ sym (width-alike ss (started x ss) (started-alike 0 x ss) y.signal), moved ys all.1)
 
@@ -136,7 +142,8 @@ numbered-fit [] all = refl
 numbered-fit (n ∷ ns) all = and_from _ _ all.0 (numbered-fit ns all.1)
 
 pub all_started-fit : (starts : List Start) (ns : List Numbered) → Every NumberedFits ns
-    → Every (λ (x : Start). width_of x.value ≡ width_at (all_started starts ns) x.signal) starts → list_all signal_fits (all_started starts ns) ≡ true
+    → Every (λ (x : Start). width_of x.value ≡ width_at (all_started starts ns) x.signal) starts
+    → list_all signal_fits (all_started starts ns) ≡ true
 all_started-fit starts ns all wide =
     through-fits starts (map (λ n. n.signal) ns) (numbered-fit ns all) (moved starts wide)
   where

@@ -18,11 +18,13 @@ use Rattle.bind_laws.specs.Whole.{below}
 abbrev pub all_fit : List Signal → List Place → List Stmt → Bool
 all_fit signals places statements = list_all (statement_fits signals places) statements
 
-block-row : {shape : _} (signals : List Signal) (places : List Place) (row : Row_of-Stmt shape) → statements_fit signals places row ≡ all_fit signals places (items-the_row-Stmt shape row)
+block-row : {shape : _} (signals : List Signal) (places : List Place) (row : Row_of-Stmt shape)
+    → statements_fit signals places row ≡ all_fit signals places (items-the_row-Stmt shape row)
 block-row signals places end_of-Stmt = refl
 block-row signals places (more_of-Stmt statement rest) = ap (λ b. statement_fits signals places statement && b) (block-row signals places rest)
 
-pub fits_block : (signals : List Signal) (places : List Place) (statements : List Stmt) → statement_fits signals places (stmt.Block statements) ≡ all_fit signals places statements
+pub fits_block : (signals : List Signal) (places : List Place) (statements : List Stmt)
+    → statement_fits signals places (stmt.Block statements) ≡ all_fit signals places statements
 fits_block signals places statements = block-row signals places (hidden-the_row-Stmt-0 statements) ∙ ap (all_fit signals places) (items_hidden-the_row-Stmt-0 statements)
 
 abbrev pub total : ℕ → List Stmt → ℕ
@@ -40,13 +42,15 @@ pub total-push : (p : ℕ) (xs : List Stmt) (x : Stmt) → total p (xs ++ x ∷ 
 total-push p [] x = omega arith
 total-push p (y ∷ ys) x = omega (arith, total-push p ys x)
 
-pub all_fit-push : (signals : List Signal) (places : List Place) (xs : List Stmt) (x : Stmt) → all_fit signals places xs ≡ true → statement_fits signals places x ≡ true
+pub all_fit-push : (signals : List Signal) (places : List Place) (xs : List Stmt) (x : Stmt)
+    → all_fit signals places xs ≡ true → statement_fits signals places x ≡ true
     → all_fit signals places (xs ++ x ∷ []) ≡ true
 all_fit-push signals places [] x all one = and_from _ _ one refl
 all_fit-push signals places (y ∷ ys) x all one = let f = and_parts _ _ all in and_from _ _ f.0 (all_fit-push signals places ys x f.1 one)
 
 -- ---- a condition
-pub times_if : (p : ℕ) (test : Typed) (on_true on_false : Stmt) → times_in p (stmt.If test on_true on_false) ≡ times_in p on_true + times_in p on_false
+pub times_if : (p : ℕ) (test : Typed) (on_true on_false : Stmt)
+    → times_in p (stmt.If test on_true on_false) ≡ times_in p on_true + times_in p on_false
 unfolding shape-the_row-Stmt-1 hidden-the_row-Stmt-1 hidden
 times_if p test on_true on_false = refl
 
@@ -63,7 +67,8 @@ items-row signals places width end_of-CaseItem = refl
 items-row signals places width (more_of-CaseItem labels body rest) =
     ap (λ b. list_all (label_fits signals width) labels && statement_fits signals places body && b) (items-row signals places width rest)
 
-pub fits_case : (signals : List Signal) (places : List Place) (subject : Typed) (items : List CaseItem) (other : Stmt) (wild : Bool)
+pub fits_case : (signals : List Signal) (places : List Place) (subject : Typed) (items : List CaseItem) (other : Stmt)
+    (wild : Bool)
     → statement_fits signals places (stmt.Case subject items other wild)
     ≡ (typed_fits signals subject && items_all_fit signals places subject.width items && statement_fits signals places other)
 unfolding shape-the_row-Stmt-1 hidden-the_row-Stmt-1 hidden
@@ -71,7 +76,8 @@ fits_case signals places subject items other wild =
     ap (λ b. typed_fits signals subject && b && statement_fits signals places other)
     (items-row signals places subject.width (hidden-the_row-CaseItem-2 items) ∙ ap (items_all_fit signals places subject.width) (items_hidden-the_row-CaseItem-2 items))
 
-pub items_fit-push : (signals : List Signal) (places : List Place) (width : ℕ) (xs : List CaseItem) (x : CaseItem) → items_all_fit signals places width xs ≡ true
+pub items_fit-push : (signals : List Signal) (places : List Place) (width : ℕ) (xs : List CaseItem) (x : CaseItem)
+    → items_all_fit signals places width xs ≡ true
     → item_fits signals places width x ≡ true → items_all_fit signals places width (xs ++ x ∷ []) ≡ true
 items_fit-push signals places width [] x all one = and_from _ _ one refl
 items_fit-push signals places width (y ∷ ys) x all one = let f = and_parts _ _ all in and_from _ _ f.0 (items_fit-push signals places width ys x f.1 one)
@@ -80,7 +86,8 @@ abbrev pub total_items : ℕ → List CaseItem → ℕ
 total_items p [] = 0
 total_items p (x ∷ xs) = times_in p x.body + total_items p xs
 
-total_items-row : {shape : _} (p : ℕ) (row : Row_of-CaseItem shape) → times_in_items p row ≡ total_items p (items-the_row-CaseItem shape row)
+total_items-row : {shape : _} (p : ℕ) (row : Row_of-CaseItem shape)
+    → times_in_items p row ≡ total_items p (items-the_row-CaseItem shape row)
 total_items-row p end_of-CaseItem = refl
 total_items-row p (more_of-CaseItem labels body rest) = ap (λ n. times_in p body + n) (total_items-row p rest)
 
@@ -90,7 +97,8 @@ unfolding shape-the_row-Stmt-1 hidden-the_row-Stmt-1 hidden
 times_case p subject items other wild =
     ap (λ n. n + times_in p other) (total_items-row p (hidden-the_row-CaseItem-2 items) ∙ ap (total_items p) (items_hidden-the_row-CaseItem-2 items))
 
-pub total_items-push : (p : ℕ) (xs : List CaseItem) (x : CaseItem) → total_items p (xs ++ x ∷ []) ≡ total_items p xs + times_in p x.body
+pub total_items-push : (p : ℕ) (xs : List CaseItem) (x : CaseItem)
+    → total_items p (xs ++ x ∷ []) ≡ total_items p xs + times_in p x.body
 total_items-push p [] x = omega arith
 total_items-push p (y ∷ ys) x = omega (arith, total_items-push p ys x)
 
@@ -111,7 +119,8 @@ below-next p n = by (nat_lt p n) refl (n == p) refl (nat_lt p (n + 1)) refl
     by false l false a true x = absurd (eqb-false n p a (omega (arith, ltb-false p n l, ltb-true p (n + 1) x)))
     by false l false a false x = refl
 
-pub below-push : {X : Type 0} (p : ℕ) (xs : List X) (x : X) → same (length xs) p + below p (length xs) ≡ below p (length (xs ++ x ∷ []))
+pub below-push : {X : Type 0} (p : ℕ) (xs : List X) (x : X)
+    → same (length xs) p + below p (length xs) ≡ below p (length (xs ++ x ∷ []))
 below-push p xs x =
     let long : length (xs ++ x ∷ []) ≡ length xs + 1 = omega (arith, length-append xs (x ∷ [])) in
     below-next p (length xs) ∙ ap (below p) (sym long)

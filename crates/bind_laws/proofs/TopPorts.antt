@@ -41,7 +41,8 @@ ascend-apart n (x ∷ xs) up = AllPairs-cons (λ one other. one ≢ other) x xs 
 abbrev one_more : Bool → ℕ → List ℕ → List ℕ
 one_more takes n xs = if takes then n ∷ xs else xs
 
-taken-ascends : (takes : Bool) (p : ℕ) (n : ℕ) (xs : List ℕ) → p ≡ n → Ascend (suc n) xs → Ascend n (one_more takes p xs)
+taken-ascends : (takes : Bool) (p : ℕ) (n : ℕ) (xs : List ℕ) → p ≡ n → Ascend (suc n) xs
+    → Ascend n (one_more takes p xs)
 taken-ascends true p n xs same up = (omega (arith, same), subst (λ m. Ascend (suc m) xs) (sym same) up)
 taken-ascends false p n xs same up = ascend-lower n (suc n) xs (omega arith) up
 
@@ -54,24 +55,29 @@ pub outputs-ascend : (ps : List Socket) (n : ℕ) → CountUp ps n → Ascend n 
 outputs-ascend [] n count = tt
 outputs-ascend (p ∷ ps) n count = by p.input (outputs-ascend ps (suc n) count.1)
   where
-    by : (input : Bool) → Ascend (suc n) (outputs_of ps) → Ascend n (if input then outputs_of ps else p.signal ∷ outputs_of ps)
+    by : (input : Bool) → Ascend (suc n) (outputs_of ps)
+        → Ascend n (if input then outputs_of ps else p.signal ∷ outputs_of ps)
     by true later = ascend-lower n (suc n) (outputs_of ps) (omega arith) later
     by false later = (omega (arith, count.0), subst (λ m. Ascend (suc m) (outputs_of ps)) (sym count.0) later)
 
-pub inputs-fit : (signals : List Signal) (clock : Option ℕ) (ps : List Socket) → Every (IsInput signals) ps → list_all (input_fits signals) (inputs_of clock ps) ≡ true
+pub inputs-fit : (signals : List Signal) (clock : Option ℕ) (ps : List Socket) → Every (IsInput signals) ps
+    → list_all (input_fits signals) (inputs_of clock ps) ≡ true
 inputs-fit signals clock [] are = refl
 inputs-fit signals clock (p ∷ ps) are = by (p.input && not (is_the_clock clock p.signal)) refl (inputs-fit signals clock ps are.1)
   where
-    by : (takes : Bool) → (p.input && not (is_the_clock clock p.signal)) ≡ takes → list_all (input_fits signals) (inputs_of clock ps) ≡ true
+    by : (takes : Bool) → (p.input && not (is_the_clock clock p.signal)) ≡ takes
+        → list_all (input_fits signals) (inputs_of clock ps) ≡ true
         → list_all (input_fits signals) (if takes then p.signal ∷ inputs_of clock ps else inputs_of clock ps) ≡ true
     by true is later = and_from _ _ (are.0 (and_parts p.input (not (is_the_clock clock p.signal)) is).0) later
     by false is later = later
 
-pub outputs-fit : (signals : List Signal) (ps : List Socket) → Every (SocketFits signals) ps → list_all (is_signal signals) (outputs_of ps) ≡ true
+pub outputs-fit : (signals : List Signal) (ps : List Socket) → Every (SocketFits signals) ps
+    → list_all (is_signal signals) (outputs_of ps) ≡ true
 outputs-fit signals [] fit = refl
 outputs-fit signals (p ∷ ps) fit = by p.input (outputs-fit signals ps fit.1)
   where
-    by : (input : Bool) → list_all (is_signal signals) (outputs_of ps) ≡ true → list_all (is_signal signals) (if input then outputs_of ps else p.signal ∷ outputs_of ps) ≡ true
+    by : (input : Bool) → list_all (is_signal signals) (outputs_of ps) ≡ true
+        → list_all (is_signal signals) (if input then outputs_of ps else p.signal ∷ outputs_of ps) ≡ true
     by true later = later
     by false later = and_from _ _ (socket-there signals p fit.0) later
 
@@ -80,12 +86,14 @@ is-among : (x : ℕ) (xs : List ℕ) → list_any (λ i. i == x) (x ∷ xs) ≡ 
 is-among x xs = ap (λ b. b || list_any (λ i. i == x) xs) (eq-eqb x x refl)
 
 -- an input that isn't the clock is among the inputs of its list
-taken : (clock : Option ℕ) (p : Socket) (ps : List Socket) → p.input ≡ true → is_the_clock clock p.signal ≡ false → list_any (λ i. i == p.signal) (inputs_of clock (p ∷ ps)) ≡ true
+taken : (clock : Option ℕ) (p : Socket) (ps : List Socket) → p.input ≡ true → is_the_clock clock p.signal ≡ false
+    → list_any (λ i. i == p.signal) (inputs_of clock (p ∷ ps)) ≡ true
 taken clock p ps input other =
     let takes : (p.input && not (is_the_clock clock p.signal)) ≡ true = and_from _ _ input (ap not other) in
     ap (λ b. list_any (λ i. i == p.signal) (if b then p.signal ∷ inputs_of clock ps else inputs_of clock ps)) takes ∙ is-among p.signal (inputs_of clock ps)
 
-behind : (x : ℕ) (takes : Bool) (n : ℕ) (xs : List ℕ) → list_any (λ i. i == x) xs ≡ true → list_any (λ i. i == x) (if takes then n ∷ xs else xs) ≡ true
+behind : (x : ℕ) (takes : Bool) (n : ℕ) (xs : List ℕ) → list_any (λ i. i == x) xs ≡ true
+    → list_any (λ i. i == x) (if takes then n ∷ xs else xs) ≡ true
 behind x false n xs later = later
 behind x true n xs later = or (n == x) later
   where
@@ -102,7 +110,8 @@ roots-of w (p ∷ ps) fit within =
     (roots-of w ps fit.1 (λ x later. within x (behind x (p.input && not (is_the_clock w.clock p.signal)) p.signal (inputs_of w.clock ps) later)))
   where
     by : (root : Bool) → (p.input && p.width == 1) ≡ root → Every (λ (r : Root). RootFits w r.input) (top_roots ps)
-        → Every (λ (r : Root). RootFits w r.input) (if root then record { signal = p.signal; input = p.signal } ∷ top_roots ps else top_roots ps)
+        → Every (λ (r : Root). RootFits w r.input)
+        (if root then record { signal = p.signal; input = p.signal } ∷ top_roots ps else top_roots ps)
     by false is later = later
     by true is later =
         let f = and_parts p.input (p.width == 1) is in (
@@ -113,5 +122,6 @@ roots-of w (p ∷ ps) fit within =
           later,
         )
 
-pub roots-fit : (w : Whole) (ps : List Socket) → w.inputs ≡ inputs_of w.clock ps → Every (SocketFits w.signals) ps → Every (λ (r : Root). RootFits w r.input) (top_roots ps)
+pub roots-fit : (w : Whole) (ps : List Socket) → w.inputs ≡ inputs_of w.clock ps → Every (SocketFits w.signals) ps
+    → Every (λ (r : Root). RootFits w r.input) (top_roots ps)
 roots-fit w ps same fit = roots-of w ps fit (λ x here. subst (λ xs. list_any (λ i. i == x) xs ≡ true) (sym same) here)
