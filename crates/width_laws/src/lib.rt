@@ -1,0 +1,4 @@
+//! Laws of what `v_widths` answers.
+#![tactic(auto)]
+
+pub mod laws;
