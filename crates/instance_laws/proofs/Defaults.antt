@@ -1,13 +1,13 @@
 -- A case has one default at most, unrolled as written.
-use Rattle.std.proofs.Common.{◌≡◌, ℕ, Bool, true, false, List, [], ◌∷◌, refl, sym, subst}
-use Rattle.std.specs.Prelude.{⊤, Result, Ok, Err}
+use Rattle.std.proofs.Common.{◌≡◌, Bool, true, false, List}
+use Rattle.std.specs.Prelude.{⊤, Result, Ok}
 use Rattle.loc_base.specs.declared.span.Span.{Span}
 use Rattle.v_tree.specs.declared.declaration.Identifier.{Identifier}
 use Rattle.v_tree.specs.StatementTree.{PlainHead, PlainStatement, empty, block, delayed, if_then, if_else, choice, loop, assignment, Statements, no_statement, statement, labelled, otherwise, CaseItems, no_item, item}
 use Rattle.v_sizes.specs.declared.meaning.Const.{Const}
 use Rattle.v_hierarchy.specs.declared.error.ElabErr.{ElabErr}
 use Rattle.v_hierarchy.specs.declared.left.Left.{Left}
-use Rattle.v_hierarchy.specs.Steps.{◌>>=◌, turned}
+use Rattle.v_hierarchy.specs.Steps.{turned}
 use Rattle.v_hierarchy.specs.Names.{Entry}
 use Rattle.v_hierarchy.specs.Unrolled.{Steps, nothing, still, run, branch, choose, repeated, StepList, no_step, step, Arms, no_arm, arm, default_arm, Turns, no_turn, turn, Looped, and_turn, at_turn, loop_turned, loop_turn, loop_variable, begun, stepped, turns, most_turns, unrolled, unrolled_all, unrolled_arms}
 use Rattle.instance_laws.specs.OfText.{OneDefault, AllOneDefault, ArmsOneDefault, TurnsOneDefault}

@@ -1,5 +1,5 @@
 -- What a scope has stays there when more is declared.
-use Rattle.std.proofs.Common.{◌≡◌, ℕ, Bool, true, false, List, [], ◌∷◌, ◌++◌, Option, Some, None, refl, sym, ◌∙◌, ap, subst}
+use Rattle.std.proofs.Common.{◌≡◌, ℕ, Bool, true, false, List, [], ◌∷◌, Option, Some, None, refl, sym, ◌∙◌, ap}
 use Rattle.std.specs.Prelude.{⊤, if◌then◌else◌, is_some, not, ◌&&◌, Result, Ok, Err}
 use Rattle.std.specs.Option.{option_or}
 use Rattle.std.proofs.lemmas.Bool.{true≢false}
@@ -10,7 +10,7 @@ use Rattle.v_hierarchy.specs.declared.error.ElabErr.{ElabErr}
 use Rattle.v_hierarchy.specs.declared.error.ElabErr.TheVariants as fault
 use Rattle.v_hierarchy.specs.declared.signal.Signal.{Signal}
 use Rattle.v_hierarchy.specs.Names.{Entry, Standing, signal, array, integer, genvar, constant, same_name, find, again, declared, may_join, joined, agree, fresh}
-use Rattle.v_hierarchy.proofs.FrameLaws.{declared-is, declared-fresh, behind, both_of}
+use Rattle.v_hierarchy.proofs.FrameLaws.{declared-is, behind, both_of}
 use Rattle.v_hierarchy.proofs.DeclaredLaws.{next_standing, Own, own-declared, other-declared, same-itself}
 use Rattle.instance_laws.specs.OfText.{IsSignal, AreApart}
 use Rattle.instance_laws.proofs.Steps.{Err-Ok, ended}

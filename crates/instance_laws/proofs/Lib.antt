@@ -5,3 +5,7 @@ mod Made
 mod Whole
 mod Grown
 mod Defaults
+mod Declaring
+mod OfItems
+mod OfHeaders
+mod OfWhole

@@ -68,7 +68,7 @@ port-stands (declared_port _ direction kind signed range name _) met after all i
     (bounds_if-range (look_in (met.names ∷ [])) range b first) all.names is
 port-stands (same_port _ name _) met after all is = ported-stands name met.before met.names after all.before all.names is
 
-abbrev ports_over : PlainModule → PlainPorts → List Entry → Result (List Entry) ElabErr
+abbrev pub ports_over : PlainModule → PlainPorts → List Entry → Result (List Entry) ElabErr
 ports_over m ports names = elim ports [
   | no_ports ↦ Ok names
   | name_ports list ↦ port_names_fit (directed_in_all (items_of m.items)) list >>= λ _. Ok names

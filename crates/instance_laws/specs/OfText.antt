@@ -1,6 +1,6 @@
 -- Instances as a text means them, beside that their names stand for something: what is declared once, and what the grammar has no
 -- other way of writing.
-use Rattle.std.specs.Prelude.{⊤, ℕ, ◌≡◌, Bool, true, false, List, [], ◌∷◌, Option, Some, None}
+use Rattle.std.specs.Prelude.{⊤, ℕ, ◌≡◌, Bool, true, false, List, [], ◌∷◌, Some, None}
 use Rattle.v_tree.specs.declared.item.NetKind.{NetKind}
 use Rattle.v_tree.specs.declared.item.NetKind.TheVariants as net_kind
 use Rattle.v_tree.specs.ItemTree.{PlainDeclarator, PlainItem, net_item, integer_item}

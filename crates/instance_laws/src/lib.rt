@@ -3,4 +3,4 @@
 
 mod laws;
 
-pub use laws::elaborated_stand;
+pub use laws::{elaborated_of_text, elaborated_stand};
