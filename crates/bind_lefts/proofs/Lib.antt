@@ -1,2 +1,6 @@
 pub mod Listed
 pub mod NodeParts
+pub mod Selects
+pub mod Rows
+pub mod LeftSteps
+pub mod WrittenLefts

@@ -1,1 +1,4 @@
 pub mod Homes
+pub mod Addressed
+pub mod Written
+pub mod TreeTargets
