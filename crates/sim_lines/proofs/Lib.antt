@@ -1,0 +1,8 @@
+pub mod ShownLaws
+pub mod RunnerLaws
+pub mod ShowsLaws
+pub mod CycleLaws
+pub mod EndLaws
+pub mod TraceLaws
+pub mod SomeLines
+mod Examples

@@ -1,0 +1,5 @@
+pub mod Lines
+pub mod Shows
+pub mod CanShow
+pub mod Laws
+pub mod Running
