@@ -1,6 +1,6 @@
 -- The first combinational block that holds a bit, from the masks of what it drives and of what it assigns on each path.
-use Rattle.std.proofs.Common.{ℕ, zero, suc, ◌≡◌, ◌≢◌, ◌<◌, ◌≤◌, ◌+◌, List, [], ◌∷◌, length, get_or, take, Bool, true, false, refl, sym, subst, ◌∙◌, ap, ap₂, arith, Some, None, ◌⊎◌, inl, inr}
-use Rattle.std.specs.Prelude.{◌&&◌, ◌||◌, not, slice_get, Contains}
+use Rattle.std.proofs.Common.{ℕ, zero, suc, ◌≡◌, ◌≢◌, ◌<◌, ◌≤◌, ◌+◌, List, [], ◌∷◌, length, get_or, take, true, false, refl, sym, subst, ◌∙◌, ap, ap₂, arith, Some, ◌⊎◌, inl, inr}
+use Rattle.std.specs.Prelude.{◌&&◌, not, slice_get, Contains}
 use Rattle.std.specs.List.{list_any}
 use Rattle.std.proofs.lemmas.Bool.{false≢true, and_parts, cases_lt}
 use Rattle.std.proofs.lemmas.List.{take_all}
@@ -11,16 +11,14 @@ use Rattle.design_core.specs.declared.driver.Driver.{Driver}
 use Rattle.design_core.specs.declared.driver.Driver.TheVariants as driver
 use Rattle.design_core.specs.declared.design.Design.{Design}
 use Rattle.design_core.specs.Valuation.{bit}
-use Rattle.design_core.specs.Drives.{driver_drives, statement_drives}
-use Rattle.design_core.specs.Reads.{assigns_either_way}
+use Rattle.design_core.specs.Drives.{driver_drives}
 use Rattle.design_core.specs.Given.{CanRun}
 use Rattle.design_core.specs.WellFormed.{driver_fits}
-use Rattle.design_bits.specs.Masks.{Adds, exceeds, has}
+use Rattle.design_bits.specs.Masks.{exceeds, has}
 use Rattle.design_bits.specs.Paths.{block_assigns}
 use Rattle.design_bits.proofs.Masks.{bit-zero}
 use Rattle.design_bits.proofs.DrivesWithin.{driver-below, width-within}
 use Rattle.design_bits.proofs.ShareLaws.{exceeds-found, exceeds-bit}
-use Rattle.design_bits.proofs.Touched.{owned}
 use Rattle.v_rules.specs.Held.{HasMore, comb_drives}
 use Rattle.v_rules.specs.Latches.{IsLatch, driver_holds}
 

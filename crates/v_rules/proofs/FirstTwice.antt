@@ -1,16 +1,13 @@
 -- The first signal that breaks the rule, from the masks of the bits that are driven too often.
-use Rattle.std.proofs.Common.{ℕ, zero, suc, ◌≡◌, ◌≢◌, ◌<◌, ◌≤◌, ◌^◌, List, [], ◌∷◌, length, get_or, Bool, true, false, sym, ◌∙◌, ap, arith, Some, None}
-use Rattle.std.specs.Prelude.{◌==◌, ◌&&◌, nat_le, if◌then◌else◌, Option, IfNone, IfSome}
+use Rattle.std.proofs.Common.{ℕ, ◌≡◌, ◌≢◌, ◌<◌, ◌≤◌, ◌^◌, List, length, get_or, Bool, true, false, sym, ◌∙◌, ap, arith, Some, None}
+use Rattle.std.specs.Prelude.{◌==◌, if◌then◌else◌, Option, IfNone, IfSome}
 use Rattle.std.specs.Int.{w128, trailing_zeros}
-use Rattle.std.specs.List.{list_all}
-use Rattle.std.proofs.lemmas.Bool.{false≢true, and_parts, leb-true, le-leb}
+use Rattle.std.proofs.lemmas.Bool.{false≢true, leb-true, le-leb}
 use Rattle.std.proofs.lemmas.Nat.Bits.{bit_at-trailing_zeros}
-use Rattle.loc_base.specs.Bits.{width_of}
-use Rattle.design_core.specs.declared.signal.Signal.{Signal}
 use Rattle.design_core.specs.declared.design.Design.{Design}
-use Rattle.design_core.specs.Valuation.{bit, width_at, distance_of}
+use Rattle.design_core.specs.Valuation.{bit}
 use Rattle.design_core.specs.Given.{CanRun}
-use Rattle.design_core.specs.WellFormed.{is_width, spans, signal_fits, input_fits}
+use Rattle.design_core.specs.WellFormed.{input_fits}
 use Rattle.design_bits.proofs.Masks.{bit-zero}
 use Rattle.v_rules.specs.Entries.{driven_times}
 use Rattle.v_rules.specs.First.{IsFirst}

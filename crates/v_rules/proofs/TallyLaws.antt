@@ -1,17 +1,13 @@
 -- Bits that are counted entry by entry.
-use Rattle.std.proofs.Common.{ℕ, zero, suc, ◌≡◌, ◌≢◌, ◌<◌, ◌≤◌, ◌+◌, List, [], ◌∷◌, length, get_or, take, Bool, true, false, cond, refl, sym, ◌∙◌, ap, subst, arith, eq-eqb, ◌⊎◌, inl, inr}
-use Rattle.std.specs.Prelude.{◌==◌, ◌&&◌, ◌||◌, nat_lt, nat_le, count_by, if◌then◌else◌, Contains}
-use Rattle.std.specs.List.{list_any}
-use Rattle.std.proofs.lemmas.Bool.{false≢true, cases_eq, lt-ltb}
+use Rattle.std.proofs.Common.{ℕ, ◌≡◌, ◌<◌, ◌+◌, List, [], ◌∷◌, length, get_or, take, Bool, true, false, cond, refl, sym, ◌∙◌, ap, subst, arith}
+use Rattle.std.specs.Prelude.{◌&&◌, ◌||◌, nat_lt, nat_le, count_by, if◌then◌else◌}
+use Rattle.std.proofs.lemmas.Bool.{lt-ltb}
 use Rattle.std.proofs.lemmas.Bool.Decides.{nat_tests}
-use Rattle.std.proofs.lemmas.List.{take_all}
-use Rattle.std.proofs.lemmas.List.Folds.{list_any-append}
-use Rattle.loc_base.proofs.ShelfBools.{equal-false, or-false, and-false}
+use Rattle.loc_base.proofs.ShelfBools.{or-false}
 use Rattle.loc_base.proofs.ShelfLists.{take-at}
 use Rattle.design_core.specs.Valuation.{bit}
 use Rattle.design_bits.specs.Masks.{Adds, has}
 use Rattle.design_bits.proofs.Masks.{bit-zero, bit-ones}
-use Rattle.design_bits.proofs.Added.{adds-same}
 use Rattle.std.proofs.lemmas.List.Sums.{sum_by-append}
 use Rattle.design_bits.proofs.Touched.{owned}
 use Rattle.v_rules.proofs.OneDriverLaws.{count_by-cons}

@@ -9,3 +9,4 @@ pub mod Races
 pub mod Sound
 pub mod Tallies
 pub mod Held
+pub mod Used

@@ -7,7 +7,9 @@ pub mod laws;
 mod one_driver;
 mod size;
 mod tally;
+mod undriven;
 
 pub use latch::first_latch;
 pub use one_driver::first_driven_twice;
 pub use size::is_too_large;
+pub use undriven::{add_drivers_reads, add_outputs, first_undriven};

@@ -1,4 +1,4 @@
-use Rattle.std.proofs.Common.{◌<◌, ◌∙◌, ap₂, sym, length, get_or}
+use Rattle.std.proofs.Common.{◌∙◌, ap₂, sym, get_or}
 use Rattle.design_bits.specs.Masks.{exceeds}
 use Rattle.v_rules.proofs.FirstLatch.{more-here, more-none}
 use Rattle.v_rules.proofs.latch.has_more.Goals as goal
