@@ -1,0 +1,4 @@
+pub mod Headed
+pub mod Places
+pub mod Declarations
+pub mod Connected

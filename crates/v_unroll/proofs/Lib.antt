@@ -1,0 +1,4 @@
+pub mod TurningLaws
+pub mod StatementViews
+pub mod GatherSteps
+pub mod LoopSteps
