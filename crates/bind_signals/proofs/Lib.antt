@@ -1,0 +1,9 @@
+pub mod StepViews
+pub mod FirstLaws
+pub mod LoopLaws
+pub mod TableLaws
+pub mod ZeroWords
+pub mod WordLaws
+pub mod ArrayLaws
+pub mod ScopingLaws
+pub mod GroundLaws
