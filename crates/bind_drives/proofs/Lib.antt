@@ -1,0 +1,4 @@
+pub mod WireLaws
+pub mod OutputLaws
+pub mod OrderLaws
+pub mod PlainNames
