@@ -132,6 +132,20 @@ impl Bound {
         self.clocked.as_slice()
     }
 
+    /// The start values of declarations.
+    pub fn declared(&self) -> &[Start]
+        ensures { result.now ≡ self.now.declared }
+    {
+        self.declared.as_slice()
+    }
+
+    /// The start values of initial blocks.
+    pub fn initial(&self) -> &[Initial]
+        ensures { result.now ≡ self.now.initial }
+    {
+        self.initial.as_slice()
+    }
+
     /// The words of all arrays.
     pub fn words(&self) -> u32
         ensures { result ≡ self.now.words }
