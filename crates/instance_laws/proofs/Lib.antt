@@ -2,10 +2,10 @@ mod Steps
 mod Entries
 mod Loops
 mod Made
-mod Whole
+pub mod Whole
 mod Grown
 mod Defaults
 mod Declaring
 mod OfItems
 mod OfHeaders
-mod OfWhole
+pub mod OfWhole
