@@ -2,6 +2,7 @@
 use Rattle.std.specs.Prelude.{ℕ, Bool, not, cond, ◌&&◌, ◌==◌, ◌+◌, ◌-◌, ◌*◌, nat_le, List, [], ◌∷◌, length, Option, Some, None, unwrap_or, Result, Ok, Err, codes}
 use Rattle.std.specs.List.{list_all}
 use Rattle.std.specs.Str.{bytes_eq}
+use Rattle.loc_base.specs.Ascii.{is_decimal, is_visible}
 use Rattle.localise_cmd.specs.declared.request.Usage.{Usage}
 use Rattle.localise_cmd.specs.declared.request.Usage.TheVariants.{Command, Words, Number, Name}
 use Rattle.localise_cmd.specs.declared.words.Awaited.{Awaited}
@@ -16,14 +17,11 @@ pub record Asked : Type 0 where
   pub size : ℕ
   pub report : List ℕ
 
-abbrev pub is_digit : ℕ → Bool
-is_digit byte = nat_le 48 byte && nat_le byte 57
-
 -- the number that digits write behind those of `value`, where no front of them writes more than `most`
 abbrev pub number_up_to : ℕ → ℕ → List ℕ → Option ℕ
 number_up_to most value [] = Some value
 number_up_to most value (byte ∷ bytes) =
-    cond (is_digit byte && nat_le (value * 10 + (byte - 48)) most) (number_up_to most (value * 10 + (byte - 48)) bytes) None
+    cond (is_decimal byte && nat_le (value * 10 + (byte - 48)) most) (number_up_to most (value * 10 + (byte - 48)) bytes) None
 
 -- a size: 1 to 10 digits, and 2 at most
 abbrev pub size_of : List ℕ → Option ℕ
@@ -37,11 +35,8 @@ abbrev pub is_file_name : List ℕ → Bool
 is_file_name word = nat_le 1 (length word) && nat_le (length word) 4096 && list_all is_file_byte word
 
 -- the name of a module: at least one byte, each printable ASCII other than the space
-abbrev pub is_name_byte : ℕ → Bool
-is_name_byte byte = nat_le 33 byte && nat_le byte 126
-
 abbrev pub is_module_name : List ℕ → Bool
-is_module_name word = nat_le 1 (length word) && list_all is_name_byte word
+is_module_name word = nat_le 1 (length word) && list_all is_visible word
 
 -- the names are names, and the report has another name than what is read
 abbrev pub are_names : List ℕ → List ℕ → List ℕ → List ℕ → Bool

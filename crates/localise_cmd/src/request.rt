@@ -1,12 +1,13 @@
 ghost use Rattle.std.specs.Prelude.{◌≡◌, ◌≢◌, ◌<◌, ◌≤◌, ◌^◌, Ok, Err, IfOk, IfErr, IfSome, true, length, map, unwrap_or, string_bytes};
 ghost use Rattle.std.specs.List.{list_all};
 ghost use Rattle.std.specs.Option.{option_map};
+ghost use Rattle.loc_base.specs.Ascii.{is_visible};
 ghost use Rattle.localise_cmd.specs.declared.request.Usage.TheVariants as usage;
-ghost use Rattle.localise_cmd.specs.Asked.{asked, asked_by, asked_of_words, are_names, is_digit, is_file_name, is_file_byte, is_module_name, is_name_byte, number_up_to, size_of};
+ghost use Rattle.localise_cmd.specs.Asked.{asked, asked_by, asked_of_words, are_names, is_file_name, is_file_byte, is_module_name, number_up_to, size_of};
 ghost use Rattle.localise_cmd.specs.Views.{asked_of, given_of, word_at, IsWithin, Within};
 
 use crate::words::{Awaited, Given, given_by};
-use loc_base::{Name, NoMemory};
+use loc_base::{Name, NoMemory, is_decimal, is_visible};
 use std::alloc::{AllocError, Global};
 
 /// Why the words give no request.
@@ -75,7 +76,7 @@ fn number_up_to(most: u32, digits: &[u8]) -> Option<u32>
 {
     let mut value = 0;
     for digit in digits {
-        if !is_digit(*digit) {
+        if !is_decimal(*digit) {
             return None;
         }
         let next = value * 10 + u32::from(*digit - b'0');
@@ -85,12 +86,6 @@ fn number_up_to(most: u32, digits: &[u8]) -> Option<u32>
         value = next;
     }
     Some(value)
-}
-
-fn is_digit(byte: u8) -> bool
-    ensures { result ≡ is_digit byte }
-{
-    48 <= byte && byte <= 57
 }
 
 /// Whether a word can be the name of a file: 1 to 4,096 bytes, none of them a control character.
@@ -127,20 +122,14 @@ fn is_module_name(word: &str) -> bool
 }
 
 fn are_name_bytes(bytes: &[u8]) -> bool
-    ensures { result ≡ list_all is_name_byte bytes.now }
+    ensures { result ≡ list_all is_visible bytes.now }
 {
     for byte in bytes {
-        if !is_name_byte(*byte) {
+        if !is_visible(*byte) {
             return false;
         }
     }
     true
-}
-
-fn is_name_byte(byte: u8) -> bool
-    ensures { result ≡ is_name_byte byte }
-{
-    33 <= byte && byte <= 126
 }
 
 /// Whether the names are names, and the report has another name than what is read.
