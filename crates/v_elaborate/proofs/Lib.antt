@@ -3,3 +3,7 @@ pub mod UnrolledRuns
 pub mod ItemRuns
 pub mod ContentLaws
 pub mod HierarchyLaws
+pub mod TurnSteps
+pub mod CopiedViews
+pub mod ItemEquations
+pub mod WalkSteps

@@ -1,1 +1,4 @@
 pub mod Laws
+pub mod Parts
+pub mod Met
+pub mod Walking
