@@ -1,0 +1,18 @@
+use Rattle.std.proofs.Common.{Some, None, refl, sym, ap, subst, ◌∙◌, inl, inr}
+use Rattle.v_binding.specs.declared.error.BindErr.TheVariants as fault
+use Rattle.v_rules.specs.First.{IsFirst}
+use Rattle.v_rules.specs.Latches.{IsLatch}
+use Rattle.bind_rules.specs.Rules.{Latches, Clocks}
+use Rattle.bind_rules.specs.Views.{beside_of}
+use Rattle.bind_rules.proofs.FirstLaws.{if-ok}
+use Rattle.bind_rules.proofs.rules.latches.Goals as goal
+
+pub returns-in-Some : goal.returns-in-Some
+returns-in-Some c =
+    inl (c.in-Some.number, subst (IsFirst (IsLatch c.args.design.now)) c.in-Some.is c.in_ok-number.ensures, ap (λ s. Some (fault.Latch s)) c.driver_span.ensures)
+
+pub returns-in-None : goal.returns-in-None
+returns-in-None c =
+    let d = c.args.design.now in
+    let b = beside_of c.args.beside in
+    if-ok c.clocks.result (Clocks d b) (Latches d b) (λ answer rest. inr (subst (IsFirst (IsLatch c.args.design.now)) c.in-None.is c.in_ok-number.ensures, rest)) c.clocks.ensures

@@ -1,0 +1,4 @@
+pub mod Beside
+pub mod Lower
+pub mod Rules
+pub mod Views
