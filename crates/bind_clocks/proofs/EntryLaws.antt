@@ -80,6 +80,7 @@ entries-more roots r table are below s = step (r.signal == s) refl
   where
     e : Option Entry
     e = Some (with_root (get_or table r.signal None) r.input)
+
     step : (b : Bool) → (r.signal == s) ≡ b → IsEntry (roots ++ r ∷ []) s (get_or (set table r.signal e) s None)
     step true same =
         let eq : r.signal ≡ s = equal-true r.signal s same in

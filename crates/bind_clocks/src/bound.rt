@@ -35,7 +35,6 @@ pub struct Bound {
 
 impl Model for Bound {
     ghost use Rattle.v_binding.specs.Bound.{Bound as Plain};
-
     ghost use Rattle.std.specs.Coded.{codes};
     ghost use Rattle.design_core.specs.contracts.expression.Node as node;
     ghost use Rattle.design_core.specs.contracts.statement.Stmt as stmt;

@@ -99,12 +99,7 @@ impl Bound {
     }
 
     /// A driver that is a place.
-    pub fn driven_at(
-        &mut self,
-        frame: &Frame,
-        home: Home<'_>,
-        made: Made,
-    ) -> Result<(), NoMemory>
+    pub fn driven_at(&mut self, frame: &Frame, home: Home<'_>, made: Made) -> Result<(), NoMemory>
         ensures { OnOk result (self.new ≡ driven_at frame.now (home_of home.entry) made.start.kind made.start.site made.start.copy made.span made.left made.value self.old) }
     {
         let Made {
