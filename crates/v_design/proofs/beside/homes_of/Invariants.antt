@@ -1,0 +1,6 @@
+use Rattle.std.proofs.Common.{◌≡◌, ◌++◌, map, drop}
+use Rattle.bind_scopes.specs.Views.{numbered_of}
+use Rattle.v_design.proofs.beside.homes_of.Given as goal
+
+abbrev pub invariant-loop-one : goal.invariant-loop-one
+invariant-loop-one l = l.homes ++ map (λ n. n.home) (map numbered_of (drop l.one-index l.signals)) ≡ map (λ n. n.home) (map numbered_of l.signals)
