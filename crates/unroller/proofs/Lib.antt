@@ -1,5 +1,11 @@
 pub mod Examples
 pub mod Entries
+pub mod ReadSteps
+pub mod TraceSteps
+pub mod GroupSteps
+pub mod FitSteps
+pub mod Kept
+pub mod Whole
 pub mod NodeSteps
 pub mod WorkSteps
 pub mod CycleLaws

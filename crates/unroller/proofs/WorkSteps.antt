@@ -1,5 +1,5 @@
 -- Steps of the loops over what is kept of a cycle.
-use Rattle.std.proofs.Common.{◌≡◌, ℕ, ◌+◌, ◌<◌, ◌≤◌, Bool, true, false, if◌then◌else◌, List, [], ◌∷◌, ◌++◌, length, map, get_or, drop, sym, ◌∙◌, ap, ap₂, arith, add-one, drop-cons, append_assoc, append-nil, length-append}
+use Rattle.std.proofs.Common.{◌≡◌, ℕ, ◌+◌, ◌<◌, ◌≤◌, Bool, true, false, if◌then◌else◌, List, [], ◌∷◌, ◌++◌, length, map, get_or, drop, sym, ◌∙◌, ap, ap₂, arith, add-one, drop-cons, append_assoc, append-nil, length-append, Some, None}
 use Rattle.std.proofs.lemmas.List.{drop_all}
 use Rattle.gate_base.specs.declared.literal.Literal.{Literal}
 use Rattle.gate_base.specs.declared.literal.Literal.TheVariants.{Known}
@@ -8,8 +8,9 @@ use Rattle.gate_base.specs.declared.node.Node.TheVariants.{Input}
 use Rattle.gate_base.specs.Nodes.{word}
 use Rattle.gate_base.proofs.Chains.{drop-literal}
 use Rattle.gate_base.proofs.Counts.{refused-more}
+use Rattle.unroller.specs.declared.free_bit.FreeBit.{FreeBit}
 use Rattle.unroller.proofs.NodeSteps.{drop-node}
-use Rattle.unroller.specs.Cycles.{Frame, translated, words_translated, is_free, frees_at, node_unrolled, nodes_unrolled}
+use Rattle.unroller.specs.Cycles.{Frame, translated, words_translated, is_free, free_bit, free_bits, and_then, frees_at, node_unrolled, nodes_unrolled}
 
 pub word-more : (now made xs : List Literal) (i : ℕ) → i < length xs
     → made ++ map (translated now) (drop i xs)
@@ -65,6 +66,29 @@ module _ (frees : List Literal) (nodes : List Node) (now : List Literal) (i : �
   frees-end end = ap (λ ns. frees ++ frees_at ns (drop i now)) (drop_all i nodes end) ∙ append-nil frees
 
 pub ruleset frees = (frees-more, frees-other, frees-end)
+
+-- one more bit
+bit-left : (bits : List FreeBit) (nodes : List Node) (i : ℕ) → i < length nodes
+    → bits ++ free_bits (drop i nodes) ≡ bits ++ and_then (free_bit (get_or nodes i (Input 0 0))) (free_bits (drop (i + 1) nodes))
+bit-left bits nodes i within = ap (λ ns. bits ++ free_bits ns) (drop-node nodes i within)
+
+pub bit-more : (bits : List FreeBit) (nodes : List Node) (i : ℕ) (bit : FreeBit) → i < length nodes
+    → free_bit (get_or nodes i (Input 0 0)) ≡ Some bit
+    → bits ++ free_bits (drop i nodes) ≡ (bits ++ bit ∷ []) ++ free_bits (drop (i + 1) nodes)
+bit-more bits nodes i bit within is =
+    bit-left bits nodes i within ∙ ap (λ o. bits ++ and_then o (free_bits (drop (i + 1) nodes))) is
+    ∙ sym (append_assoc bits (bit ∷ []) (free_bits (drop (i + 1) nodes)))
+
+pub bit-other : (bits : List FreeBit) (nodes : List Node) (i : ℕ) → i < length nodes
+    → free_bit (get_or nodes i (Input 0 0)) ≡ None
+    → bits ++ free_bits (drop i nodes) ≡ bits ++ free_bits (drop (i + 1) nodes)
+bit-other bits nodes i within is =
+    bit-left bits nodes i within ∙ ap (λ o. bits ++ and_then o (free_bits (drop (i + 1) nodes))) is
+
+pub bit-end : (bits : List FreeBit) (nodes : List Node) (i : ℕ) → length nodes ≤ i → bits ++ free_bits (drop i nodes) ≡ bits
+bit-end bits nodes i end = ap (λ ns. bits ++ free_bits ns) (drop_all i nodes end) ∙ append-nil bits
+
+pub ruleset bits = (bit-more, bit-other, bit-end)
 
 -- as many literals as nodes
 pub length-nodes : (frame : Frame) (rest : List Node) (nodes : List Node) (now : List Literal)

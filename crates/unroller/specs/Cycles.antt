@@ -1,6 +1,6 @@
 -- One cycle of a circuit in an unrolled form (bounded model checking: Biere, Cimatti, Clarke, Zhu 1999): which literal of the
 -- form each node of the circuit is there, and which nodes are new.
-use Rattle.std.specs.Prelude.{ℕ, Bool, true, false, if◌then◌else◌, List, [], ◌∷◌, ◌++◌, map, get_or, slice_get}
+use Rattle.std.specs.Prelude.{ℕ, Bool, false, if◌then◌else◌, List, [], ◌∷◌, ◌++◌, map, get_or, slice_get, Option, Some, None, is_some}
 use Rattle.std.specs.Option.{option_map_or}
 use Rattle.loc_base.specs.declared.bits.Bits.{Bits}
 use Rattle.loc_base.specs.Bits.{bit_of}
@@ -9,6 +9,7 @@ use Rattle.gate_base.specs.declared.literal.Literal.TheVariants.{Known, Of}
 use Rattle.gate_base.specs.declared.node.Node.{Node}
 use Rattle.gate_base.specs.declared.node.Node.TheVariants.{Input, State, And, Free}
 use Rattle.gate_base.specs.Literals.{opposite}
+use Rattle.unroller.specs.declared.free_bit.FreeBit.{FreeBit}
 use Rattle.gate_base.specs.Nodes.{Made, Word, made, word, and_made, free_made}
 
 -- a literal of the circuit, where its nodes are these literals of the form
@@ -51,12 +52,26 @@ nodes_unrolled frame nodes now [] = word nodes now
 nodes_unrolled frame nodes now (node ∷ rest) =
     let m = node_unrolled frame nodes now node in nodes_unrolled frame m.nodes (now ++ m.bit ∷ []) rest
 
+-- the bit of a place that a node is
+abbrev pub free_bit : Node → Option FreeBit
+free_bit (Input input bit) = None
+free_bit (State state bit) = None
+free_bit (And left right) = None
+free_bit (Free moment place bit computed) = Some (record { place = place; bit = bit })
+
+-- one more, where there is one
+abbrev pub and_then : Option FreeBit → List FreeBit → List FreeBit
+and_then None bits = bits
+and_then (Some bit) bits = bit ∷ bits
+
+-- the bits of places among some nodes
+abbrev pub free_bits : List Node → List FreeBit
+free_bits [] = []
+free_bits (node ∷ nodes) = and_then (free_bit node) (free_bits nodes)
+
 -- a node is a bit of a place
 abbrev pub is_free : Node → Bool
-is_free (Input input bit) = false
-is_free (State state bit) = false
-is_free (And left right) = false
-is_free (Free moment place bit computed) = true
+is_free node = is_some (free_bit node)
 
 -- the literals of the bits of places, in the order of the circuit's nodes
 abbrev pub frees_at : List Node → List Literal → List Literal

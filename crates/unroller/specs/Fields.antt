@@ -14,6 +14,8 @@ frame_of f = record { moment = f.moment; samples = f.samples; states = f.states;
 abbrev pub unrolling_of : Work → Unrolling
 unrolling_of w = record {
   base = w.base;
+  each = w.each;
+  bits = w.bits;
   definitions = w.maker.nodes;
   ends = w.ends;
   outputs = w.outputs;

@@ -1,14 +1,17 @@
 //! The definitions, and what is kept of each cycle, so far.
 
-ghost use Rattle.std.specs.Prelude.{◌≡◌, ◌<◌, ◌++◌, ◌∷◌, [], IfErr, IfOk, OnOk, length, map};
+ghost use Rattle.std.specs.Prelude.{◌≡◌, ◌+◌, ◌<◌, ◌≤◌, ◌++◌, ◌∷◌, [], IfErr, IfOk, OnOk, length, map};
 ghost use Rattle.gate_base.specs.Arena.{UnlessNoMemory};
-ghost use Rattle.gate_base.specs.Nodes.{counted};
-ghost use Rattle.unroller.specs.Cycles.{frees_at, is_free, translated, words_translated};
+ghost use Rattle.gate_base.specs.Nodes.{counted, sources_in};
+ghost use Rattle.unroller.specs.Cycles.{free_bit, free_bits, frees_at, translated, words_translated};
+ghost use Rattle.unroller.specs.Reads.{AreKept};
 ghost use Rattle.unroller.specs.Unrolls.{with_cycle};
 ghost use Rattle.unroller.specs.Fields.{cycle_of, frame_of, unrolling_of};
 
 use crate::frame::{Frame, translated};
+use crate::free_bit::FreeBit;
 use crate::nodes::nodes;
+use crate::unrolled::Unrolled;
 use bit_circuit::Circuit;
 use design_core::Checked;
 use gate_base::{Literal, MakeErr, Maker, Node};
@@ -19,6 +22,8 @@ use std::alloc::Global;
 pub(crate) struct Work {
     pub alloc: Global,
     pub base: u32,
+    pub each: usize,
+    pub bits: Items<FreeBit>,
     pub maker: Maker,
     pub ends: Items<u32>,
     pub outputs: Rows<Literal>,
@@ -32,6 +37,8 @@ impl Drop for Work {
         let Work {
             alloc: _,
             base: _,
+            each: _,
+            bits: _,
             maker: _,
             ends: _,
             outputs: _,
@@ -83,27 +90,41 @@ fn frees_at(alloc: Global, nodes: &[Node], now: &[Literal]) -> Result<Items<Lite
 {
     let mut frees = Items::new(alloc);
     for i in 0..nodes.len() {
-        if is_free(nodes[i]) {
+        if free_bit(nodes[i]).is_some() {
             frees.push(now[i])?;
         }
     }
     Ok(frees)
 }
 
-/// Whether a node is a bit of a place.
-fn is_free(node: Node) -> bool
-    ensures { result ≡ is_free node }
+/// The bit of a place that a node is.
+fn free_bit(node: Node) -> Option<FreeBit>
+    ensures { result ≡ free_bit node }
 {
     match node {
         Node::Free {
             moment: _,
-            place: _,
-            bit: _,
+            place,
+            bit,
             computed: _,
-        } => true,
-        Node::Input { input: _, bit: _ } | Node::State { state: _, bit: _ } => false,
-        Node::And { left: _, right: _ } => false,
+        } => Some(FreeBit { place, bit }),
+        Node::Input { input: _, bit: _ } | Node::State { state: _, bit: _ } => None,
+        Node::And { left: _, right: _ } => None,
     }
+}
+
+/// The bits of places among some nodes.
+#[tactic(auto, using(crate::proofs::WorkSteps::bits))]
+pub(crate) fn free_bits(alloc: Global, nodes: &[Node]) -> Result<Items<FreeBit>, NoMemory>
+    ensures { IfOk result (λ bits. bits ≡ free_bits nodes.now) }
+{
+    let mut bits = Items::new(alloc);
+    for i in 0..nodes.len() {
+        if let Some(bit) = free_bit(nodes[i]) {
+            bits.push(bit)?;
+        }
+    }
+    Ok(bits)
 }
 
 impl Work {
@@ -135,5 +156,40 @@ impl Work {
         let mut next = Rows::new(self.alloc);
         words_translated(self.alloc, now.as_slice(), circuit.next(), &mut next)?;
         Ok(next)
+    }
+
+    /// The form that was made, in the memory in which it was made.
+    #[tactic(auto, using(gate_base::proofs::Counts::counts))]
+    pub(crate) fn into_unrolled(self, hints: Items<usize>) -> Unrolled
+        requires kept { AreKept (unrolling_of self) }
+        requires some { 1 ≤ self.base }
+        requires room { self.base + self.maker.limit ≤ 4000001 }
+        requires definitions { sources_in self.maker.nodes ≡ 0 }
+        ensures { result ≡ unrolling_of self }
+    {
+        let Work {
+            alloc: _,
+            base,
+            each,
+            bits,
+            maker,
+            ends,
+            outputs,
+            expected,
+            frees,
+            firsts,
+        } = self;
+        Unrolled {
+            base,
+            each,
+            bits,
+            hints,
+            definitions: maker.into_nodes(),
+            ends,
+            outputs,
+            expected,
+            frees,
+            firsts,
+        }
     }
 }

@@ -1,0 +1,4 @@
+pub mod Clauses
+pub mod Limits
+pub mod Variables
+pub mod Fields

@@ -1,0 +1,30 @@
+-- What the variables of literals are; only private contracts cite it.
+use Rattle.std.specs.Prelude.{ℕ, ◌≡◌, ◌==◌, ◌+◌, ◌-◌, ◌<◌, ◌^◌, Bool, true, if◌then◌else◌, List, [], ◌∷◌, ◌++◌, length, get_or}
+use Rattle.clause_base.specs.declared.literal.Lit.{Lit}
+use Rattle.clause_base.specs.Literal.{positive, has_distinct_variables}
+use Rattle.gate_base.specs.declared.literal.Literal.{Literal}
+use Rattle.gate_base.specs.declared.literal.Literal.TheVariants.{Known, Of}
+
+-- the variables of these literals are numbers of 32 bits
+abbrev pub HaveVariables : ℕ → List Literal → Type 0
+HaveVariables base [] = Unit {0}
+HaveVariables base (Known value ∷ xs) = HaveVariables base xs
+HaveVariables base (Of node negated ∷ xs) = (base + node < 2 ^ 32) × HaveVariables base xs
+
+-- each variable is below a number
+abbrev pub AreBelow : ℕ → List Lit → Type 0
+AreBelow n [] = Unit {0}
+AreBelow n (l ∷ ls) = (l.var < n) × AreBelow n ls
+
+-- the selectors of each place are of distinct variables, all below a number
+pub record AreSelectors (base : ℕ) (rows : List (List Lit)) : Type 0 where
+  pub below : (place : ℕ) → AreBelow base (get_or rows place [])
+  pub distinct : (place : ℕ) → has_distinct_variables (get_or rows place []) ≡ true
+
+-- whether the last of some literals is of a variable
+abbrev pub ends_with : ℕ → List Lit → Bool
+ends_with v xs = (get_or xs (length xs - 1) (positive 0)).var == v
+
+-- some literals with a variable behind them, where it isn't the last of them
+abbrev pub once : ℕ → List Lit → List Lit
+once v xs = if ends_with v xs then xs else xs ++ positive v ∷ []

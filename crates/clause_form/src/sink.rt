@@ -1,0 +1,180 @@
+//! Clauses that are counted, or counted and kept.
+
+ghost use Rattle.std.specs.Prelude.{[], ◌∷◌, ◌++◌, ◌≡◌, ◌<◌, ◌≤◌, IfErr, IfOk, IsTrue, MatchOption, None, OnOk, Some, false, if◌then◌else◌, true};
+ghost use Rattle.clause_base.specs.Literal.{AllDistinct, has_distinct_variables};
+ghost use Rattle.clause_form.specs.Clauses.{clause_of, literals_in, simplified};
+ghost use Rattle.clause_form.specs.Limits.{IsRefused};
+ghost use Rattle.clause_form.specs.Variables.{HaveVariables};
+
+use crate::error::FormErr;
+use clause_base::{Clauses, Lit};
+use gate_base::Literal;
+use loc_base::NoMemory;
+use std::alloc::Global;
+
+/// How many literals the clauses of a form may have.
+pub(crate) const LITERALS: u64 = 64_000_000;
+
+/// How many literals the clauses have so far and, where `writes` is true, the clauses.
+pub(crate) struct Sink {
+    /// The variable of the first definition.
+    pub base: u32,
+    pub writes: bool,
+    pub count: u64,
+    pub clauses: Clauses,
+    /// The literals of the clause at hand.
+    pub literals: Vec<Lit>,
+    pub ghost within: { count ≤ 64000000 },
+}
+
+impl Drop for Sink {
+    fn drop(self) {
+        let Sink {
+            base: _,
+            writes: _,
+            count: _,
+            clauses: _,
+            literals: _,
+        } = self;
+    }
+}
+
+/// How many literals clauses have, and `None` where they are too many.
+#[tactic(auto, using(crate::proofs::SinkSteps::counts))]
+pub(crate) fn literals_of(clauses: &Clauses) -> Option<u64>
+    ensures { MatchOption result (64000000 < literals_in clauses.now) (λ count. (count ≡ literals_in clauses.now) × (count ≤ 64000000)) }
+{
+    let mut count = 0;
+    for place in 0..clauses.len() {
+        let weight = (clauses.clause(place).len() as u64).max(1);
+        if weight > LITERALS - count {
+            return None;
+        }
+        count += weight;
+    }
+    Some(count)
+}
+
+/// The literals of a clause, without those that are false; whether none is true.
+#[tactic(auto, using(crate::proofs::SinkSteps::drafts))]
+fn simplify(literals: &mut Vec<Lit>, base: u32, all: &[Literal]) -> Result<bool, NoMemory>
+    requires { HaveVariables base all.now }
+    ensures { IfOk result (λ there. simplified base all.now ≡ (if there then Some literals.new.items else None)) }
+{
+    literals.clear();
+    for i in 0..all.len() {
+        match all[i] {
+            Literal::Known(true) => return Ok(false),
+            Literal::Known(false) => {}
+            Literal::Of { node, negated } => {
+                let var = base + node;
+                literals.push(Lit { var, negated })?;
+            }
+        }
+    }
+    Ok(true)
+}
+
+/// The clause of some literals and selectors; whether there is one.
+#[tactic(auto, using(crate::proofs::SinkSteps::drafted))]
+fn draft(
+    literals: &mut Vec<Lit>,
+    base: u32,
+    all: &[Literal],
+    selectors: &[Lit],
+) -> Result<bool, NoMemory>
+    requires { HaveVariables base all.now }
+    ensures { IfOk result (λ there. clause_of base all.now selectors.now ≡ (if there then literals.new.items ∷ [] else [])) }
+{
+    if !simplify(literals, base, all)? {
+        return Ok(false);
+    }
+    literals.extend_from_slice(selectors)?;
+    Ok(true)
+}
+
+/// Appends a clause, where clauses are kept.
+fn keep(clauses: &mut Clauses, writes: bool, literals: &[Lit]) -> Result<(), NoMemory>
+    requires { IsTrue (has_distinct_variables literals.now) }
+    ensures { OnOk result (clauses.new ≡ (if writes then clauses.old ++ literals.now ∷ [] else clauses.old)) }
+{
+    if writes {
+        clauses.push(literals)?;
+    }
+    Ok(())
+}
+
+impl Sink {
+    ghost use Rattle.clause_form.specs.Fields.{after, sunk_of};
+
+    /// Clauses that are only counted, behind so many literals.
+    pub(crate) fn counting(alloc: Global, base: u32, count: u64) -> Sink
+        requires { count ≤ 64000000 }
+        ensures { sunk_of result ≡ record { base = base; writes = false; count = count; clauses = [] } }
+    {
+        Sink {
+            base,
+            writes: false,
+            count,
+            clauses: Clauses::new(alloc),
+            literals: Vec::new(alloc),
+        }
+    }
+
+    /// Clauses that are kept, behind some with so many literals.
+    pub(crate) fn keeping(alloc: Global, base: u32, count: u64, clauses: Clauses) -> Sink
+        requires { count ≤ 64000000 }
+        ensures { sunk_of result ≡ record { base = base; writes = true; count = count; clauses = clauses } }
+    {
+        Sink {
+            base,
+            writes: true,
+            count,
+            clauses,
+            literals: Vec::new(alloc),
+        }
+    }
+
+    /// The clauses that were kept.
+    pub(crate) fn into_clauses(self) -> Clauses
+        ensures clauses { result ≡ self.clauses }
+        ensures within { self.count ≤ 64000000 }
+    {
+        let Sink {
+            base: _,
+            writes: _,
+            count: _,
+            clauses,
+            literals: _,
+        } = self;
+        clauses
+    }
+
+    /// Takes the clause at hand.
+    fn take(&mut self) -> Result<(), FormErr>
+        requires { IsTrue (has_distinct_variables self.old.literals.items) }
+        ensures ok { OnOk result (sunk_of self.new ≡ after (sunk_of self.old) (self.old.literals.items ∷ [])) }
+        ensures err { IfErr result (λ e. IsRefused e (64000000 < (after (sunk_of self.old) (self.old.literals.items ∷ [])).count)) }
+    {
+        let weight = (self.literals.len() as u64).max(1);
+        if weight > LITERALS - self.count {
+            return Err(FormErr::Literals);
+        }
+        keep(&mut self.clauses, self.writes, &self.literals)?;
+        self.count += weight;
+        Ok(())
+    }
+
+    /// Takes the clause of some literals and selectors.
+    pub(crate) fn push(&mut self, literals: &[Literal], selectors: &[Lit]) -> Result<(), FormErr>
+        requires variables { HaveVariables self.old.base literals.now }
+        requires distinct { AllDistinct (clause_of self.old.base literals.now selectors.now) }
+        ensures ok { OnOk result (sunk_of self.new ≡ after (sunk_of self.old) (clause_of self.old.base literals.now selectors.now)) }
+        ensures err { IfErr result (λ e. IsRefused e (64000000 < (after (sunk_of self.old) (clause_of self.old.base literals.now selectors.now)).count)) }
+    {
+        if draft(&mut self.literals, self.base, literals, selectors)? {
+            self.take()?;
+        }
+        Ok(())
+    }
+}
