@@ -3,6 +3,7 @@
 `vcd2fst` make of the same run.
 
     bench/dumps.py [PROGRAM] [--runs N] [--families A,B,..] [--megabytes A,B,..]
+    bench/dumps.py --waves [PROGRAM] [--runs N]
     bench/dumps.py --judge [PROGRAM] [--seeds N]
 
 PROGRAM is crates/dump_trace/out/dump_trace where it isn't given. A family is one shape of dump at growing sizes:
@@ -15,6 +16,10 @@ PROGRAM is crates/dump_trace/out/dump_trace where it isn't given. A family is on
 `ours` is the processor's time, user and system, the least of N runs (3), with the text on standard input; `MB more` the most memory
 that the program held beyond the text; `ns/byte` says whether a byte costs the same at every size. `vcd2fst` (Debian's package
 gtkwave) is timed once on the same file, in the same run. A dump with more than 100,000 cycles is refused, but read to its end.
+
+With `--waves` dumps of 64 ports, of 1 to 64 bits, that change in each cycle are read and written again as waves, at growing numbers of
+cycles. `write s` is the time by the clock of the writing alone, the least of N runs; `vcd2fst s` is the processor's time that vcd2fst takes
+for the dump that was written. What is read of it must be what was read of the first.
 
 With `--judge` a small design is run by Icarus (Debian's iverilog) on N seeds (20). Its dump, and the same dump put through `vcd2fst`
 and back by `fst2vcd`, must be read as one trace, and that trace must be what the run printed just before each rising edge.
@@ -142,9 +147,54 @@ def compare_times(given):
                     timed(given, folder, name, name, family(path, int(size) * MEGABYTE), path)
 
 
+PORTS_OF_WAVES = [("in" if n % 2 else "out", "p%d" % n, n + 1) for n in range(64)]
+
+
+def changing(path, cycles):
+    """A dump in which 64 ports change in each cycle of a clock."""
+    variables = [("clk", 1)] + [(name, width) for _direction, name, width in PORTS_OF_WAVES]
+    source = random.Random(cycles)
+    with open(path, "w") as out:
+        out.write(header(variables))
+        for cycle in range(cycles):
+            lines = ["#%d\n0!\n" % (10 * cycle)]
+            for number, (_name, width) in enumerate(variables[1:], 1):
+                lines.append("b%s %s\n" % (bin(source.getrandbits(width))[2:], code(number)))
+            out.write("".join(lines) + "#%d\n1!\n" % (10 * cycle + 5))
+
+
+def waves(given):
+    ports = [str(word) for port in PORTS_OF_WAVES for word in port]
+    program = os.path.abspath(given.program)
+    print("%-8s %8s %8s %9s %9s" % ("cycles", "MB wave", "write s", "us/cycle", "vcd2fst s"))
+    with tempfile.TemporaryDirectory() as folder:
+        path, wave = os.path.join(folder, "made.vcd"), os.path.join(folder, "wave.vcd")
+        for cycles in (10000, 30000, 100000):
+            changing(path, cycles)
+            least = None
+            for _ in range(given.runs):
+                with open(path) as text, open(wave, "w") as out:
+                    run = subprocess.run([program, "clk", "wave", *ports], stdin=text, stdout=out, stderr=subprocess.PIPE, text=True, check=True)
+                least = min(int(run.stderr), least) if least is not None else int(run.stderr)
+            rows = []
+            for name in (path, wave):
+                with open(name) as text:
+                    rows.append(subprocess.run([program, "clk", "rows", *ports], stdin=text, capture_output=True, check=True).stdout)
+            if rows[0] != rows[1]:
+                sys.exit("%d cycles: another trace is read of the wave" % cycles)
+            fst = "-"
+            if shutil.which("vcd2fst"):
+                before = os.times()
+                subprocess.run(["vcd2fst", "-v", wave, "-f", os.path.join(folder, "wave.fst")], check=True, capture_output=True)
+                after = os.times()
+                fst = "%.2f" % (after.children_user + after.children_system - before.children_user - before.children_system)
+            size = os.path.getsize(wave) / MEGABYTE
+            print("%-8d %8.1f %8.2f %9.2f %9s" % (cycles, size, least / 1000, 1000 * least / cycles, fst), flush=True)
+
+
 # A design with registers of several widths, a part-select, an output that is unknown at first, and a scope below. The bench changes
 # inputs away from the edge, and prints all ports just before it. Odd seeds have a real variable, even ones a dump that is switched off
-# at times: of a real variable Icarus then writes `rNaN`, which is refused.
+# at times: of a real variable Icarus then writes `rNaN`.
 BENCH = """`timescale 1ns/1ps
 module low(input [6:0] a, output [6:0] y); assign y = a ^ {a[0], a[6:1]}; endmodule
 module dut(input clk, input en, input [6:0] d, input [70:0] w, output reg [70:0] q, output [6:0] y, output [1:0] part, output late);
@@ -226,6 +276,7 @@ def main():
     parser = argparse.ArgumentParser(description=__doc__, formatter_class=argparse.RawDescriptionHelpFormatter)
     parser.add_argument("program", nargs="?", default=BUILT)
     parser.add_argument("--judge", action="store_true")
+    parser.add_argument("--waves", action="store_true")
     parser.add_argument("--seeds", type=int, default=20)
     parser.add_argument("--runs", type=int, default=3)
     parser.add_argument("--families", default="datapath,scalars,stamps,declared")
@@ -235,6 +286,8 @@ def main():
         sys.exit("no program at %s: build it by `rt run` in crates/dump_trace" % given.program)
     if given.judge:
         judge(given)
+    elif given.waves:
+        waves(given)
     else:
         compare_times(given)
 

@@ -2,7 +2,8 @@
 //! these ports, and prints its trace or why it holds none.
 //!
 //! CLOCK is the clock's name, or `-` where there is none. SHOWN is `rows` for a line a cycle, `count` for their number
-//! alone, or `time` for the milliseconds too, on standard error.
+//! alone, `time` for the milliseconds too, on standard error, or `wave` for the trace as a dump of its own, with the
+//! milliseconds of its writing on standard error.
 #![tactic(auto)]
 
 mod design;
@@ -11,11 +12,21 @@ mod failure;
 use crate::design::{clock_of, design_of};
 use crate::failure::Failure;
 use design_core::{Design, Trace};
+use loc_base::Name;
 use std::env;
 use std::io::{self, BufWriter, Read, Write};
 use std::process::ExitCode;
 use std::time::Instant;
 use vcd_traces::{VcdErr, has_ports, samples};
+use vcd_waves::{Wave, has_rows, wave_text};
+
+/// What the program is asked: what it shows of a dump, for a design with a clock or none.
+#[derive(Drop)]
+struct Request<'a> {
+    shown: &'a str,
+    design: &'a Design,
+    clock: Option<&'a Name>,
+}
 
 /// The words behind the program's name.
 fn words(rt: &HostRuntime) -> Result<Vec<String>, Failure> {
@@ -58,11 +69,47 @@ fn print_rows(rt: &HostRuntime, design: &Design, trace: &Trace) -> Result<(), Fa
     Ok(())
 }
 
+/// Writes the dump of a trace, no place of which is freed.
+fn write_wave(rt: &HostRuntime, request: &Request, trace: &Trace) -> Result<(), Failure> {
+    let Some(top) = Name::new(rt.alloc(), b"top")? else {
+        return Err(Failure::Words);
+    };
+    let wave = Wave {
+        top: &top,
+        design: request.design,
+        clock: request.clock,
+        trace,
+        places: &[],
+        chosen: &[],
+    };
+    if !has_rows(&wave) {
+        return Err(Failure::Words);
+    }
+    let begin = Instant::now(rt)?;
+    let text = wave_text(rt.alloc(), &wave)?;
+    let end = Instant::now(rt)?;
+    eprintln!(rt; "{}", end.duration_since(begin).as_millis())?;
+    let mut out = io::writer(rt);
+    out.write_all(text.as_slice())?;
+    Ok(())
+}
+
+/// Prints a trace.
+fn print_trace(rt: &HostRuntime, request: &Request, trace: &Trace) -> Result<(), Failure> {
+    if request.shown == "wave" {
+        return write_wave(rt, request, trace);
+    }
+    println!(rt; "cycles {}", trace.cycles)?;
+    if request.shown == "rows" {
+        print_rows(rt, request.design, trace)?;
+    }
+    Ok(())
+}
+
 /// Prints a trace or why there is none, and gives the exit status.
 fn print_answer(
     rt: &HostRuntime,
-    shown: &str,
-    design: &Design,
+    request: &Request,
     answer: &Result<Trace, VcdErr>,
 ) -> Result<u8, Failure> {
     match answer {
@@ -71,10 +118,7 @@ fn print_answer(
             Ok(1)
         }
         Ok(trace) => {
-            println!(rt; "cycles {}", trace.cycles)?;
-            if shown == "rows" {
-                print_rows(rt, design, trace)?;
-            }
+            print_trace(rt, request, trace)?;
             Ok(0)
         }
     }
@@ -87,18 +131,25 @@ fn run(rt: &HostRuntime) -> Result<u8, Failure> {
         return Err(Failure::Words);
     };
     let design = design_of(rt.alloc(), clock, ports)?;
-    let clock = clock_of(rt.alloc(), clock)?;
+    let named = clock_of(rt.alloc(), clock)?;
+    let (shown, clock) = (shown.as_str(), named.as_ref());
     let text = input(rt)?;
     if !has_ports(&design) {
         return Err(Failure::Words);
     }
     let begin = Instant::now(rt)?;
-    let answer = samples(rt.alloc(), text.as_slice(), &design, clock.as_ref());
+    let answer = samples(rt.alloc(), text.as_slice(), &design, clock);
     let end = Instant::now(rt)?;
-    if shown.as_str() == "time" {
+    if shown == "time" {
         eprintln!(rt; "{}", end.duration_since(begin).as_millis())?;
     }
-    print_answer(rt, shown, &design, &answer)
+    let design = &design;
+    let request = Request {
+        shown,
+        design,
+        clock,
+    };
+    print_answer(rt, &request, &answer)
 }
 
 fn main(rt: HostRuntime) -> ExitCode {

@@ -145,7 +145,7 @@ fn ports_that_lack_or_differ_are_named(rt: HostRuntime) -> Result<(), Fail> {
 }
 
 /// Inputs with unknown bits, and clocks that never rise.
-const UNKNOWN: [Row; 9] = [
+const UNKNOWN: [Row; 10] = [
     (b"#0 0! b11 \" bx # #5 1!", b"1: 3 0/0"),
     (b"#0 0! b11 \" bx01 # #5 1! bx \"", b"1: 3 1/3"),
     (b"#0 0! bx1 \" #5 1!", b"UnknownInput { cycle: 0, port: 1 }"),
@@ -153,6 +153,10 @@ const UNKNOWN: [Row; 9] = [
     (
         b"#0 0! b1 \" #5 1! #10 0! z\" #15 1!",
         b"UnknownInput { cycle: 1, port: 1 }",
+    ),
+    (
+        b"#0 0! b1 \" #5 1! #10 0! #15 1! #20 0! bx \" #25 1! #30 0! #35 1!",
+        b"UnknownInput { cycle: 2, port: 1 }",
     ),
     (b"#0 0! b1 \"", b"NoCycle"),
     (b"#0 1! b1 \" #5 1!", b"NoCycle"),

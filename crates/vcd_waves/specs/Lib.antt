@@ -1,3 +1,5 @@
 pub mod Lines
+pub mod ReadBack
+pub mod Runs
 pub mod Values
 pub mod Variables
