@@ -3,6 +3,7 @@ pub mod Marks
 pub mod Tracking
 pub mod TakingIn
 pub mod Resolving
+mod Moving
 mod Shrinking
 pub mod Learning
 pub mod FreshLemmas

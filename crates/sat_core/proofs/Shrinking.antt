@@ -1,7 +1,7 @@
 -- Leaving out a literal whose reason's other literals are in the set.
-use Rattle.std.proofs.Common.{◌≡◌, ◌≢◌, ℕ, zero, suc, ◌+◌, ◌-◌, ◌<◌, ◌≤◌, Bool, true, false, not, ◌&&◌, ◌||◌, eqb, List, [], ◌∷◌, ◌++◌, length, get_or, set, take, Some, refl, sym, ap, ◌∙◌, subst, arith, ⊎_elim}
-use Rattle.std.specs.List.{remove}
-use Rattle.std.proofs.lemmas.Bool.{false≢true, both_ways, cases_eq, eq-eqb, ne_eqb, and_parts, and_from, or_parts, or_from, or_cases, false_from_ne_true, not_from_false, not-true}
+use Rattle.std.proofs.Common.{◌≡◌, ◌≢◌, ℕ, ◌+◌, ◌-◌, ◌<◌, ◌≤◌, Bool, true, false, not, ◌&&◌, ◌||◌, eqb, List, [], ◌∷◌, ◌++◌, length, get_or, set, take, Some, refl, sym, ap, ◌∙◌, subst, arith, ⊎_elim}
+use Rattle.std.specs.Prelude.{IsPermutation}
+use Rattle.std.proofs.lemmas.Bool.{false≢true, both_ways, cases_eq, eq-eqb, ne_eqb, and_parts, or_cases, false_from_ne_true, not-true}
 use Rattle.std.proofs.lemmas.List.{length-set, take_more}
 use Rattle.loc_base.proofs.ShelfBools.{and-false, and-true, or-false}
 use Rattle.clause_base.specs.declared.literal.Lit.{Lit}
@@ -17,35 +17,16 @@ use Rattle.sat_core.specs.Derivation.{is_false, marked, set_of, has_level, is_pr
 use Rattle.sat_core.proofs.Sets.{Derives-push, is_false-true}
 use Rattle.sat_core.proofs.Marks.{marked-set_same, marked-set_other, count_agree}
 use Rattle.sat_core.proofs.Tracking.{entry_at, same_lit_other}
+use Rattle.sat_core.proofs.Moving.{has-moved, distinct-moved}
 use Rattle.sat_core.proofs.Resolving.{ReplacesAt-from, reason_forces, no_entry, level_at, valued_variable, kept_literal}
-
--- a variable that the literals lack stays so
-has_variable-remove_none : (ls : List Lit) (i v : ℕ) → has_variable ls v ≡ false → has_variable (remove ls i) v ≡ false
-has_variable-remove_none [] zero v h = refl
-has_variable-remove_none [] (suc i) v h = refl
-has_variable-remove_none (x ∷ xs) zero v h = (or_parts (eqb x.var v) (has_variable xs v) h).1
-has_variable-remove_none (x ∷ xs) (suc i) v h =
-    let parts = or_parts (eqb x.var v) (has_variable xs v) h in
-    or_from (eqb x.var v) (has_variable (remove xs i) v) parts.0 (has_variable-remove_none xs i v parts.1)
-
--- the variables stay distinct
-distinct-remove : (ls : List Lit) (i : ℕ) → has_distinct_variables ls ≡ true → has_distinct_variables (remove ls i) ≡ true
-distinct-remove [] zero h = refl
-distinct-remove [] (suc i) h = refl
-distinct-remove (x ∷ xs) zero h = (and_parts (not (has_variable xs x.var)) (has_distinct_variables xs) h).1
-distinct-remove (x ∷ xs) (suc i) h =
-    let parts = and_parts (not (has_variable xs x.var)) (has_distinct_variables xs) h in
-    and_from (not (has_variable (remove xs i) x.var)) (has_distinct_variables (remove xs i))
-    (not_from_false (has_variable (remove xs i) x.var) (has_variable-remove_none xs i x.var (not-true (has_variable xs x.var) parts.0))) (distinct-remove xs i parts.1)
 
 -- a literal of a variable that the literals lack is none of theirs
 has_none : (ls : List Lit) (m : Lit) → has_variable ls m.var ≡ false → has ls m ≡ false
 has_none ls m h = false_from_ne_true (has ls m) (λ p. both_ways (has_variable ls m.var) h (has_variable-has ls m p))
 
--- the literals but for one: those of other variables
-has-remove : (ls : List Lit) (i : ℕ) (d m : Lit) → i < length ls → has_distinct_variables ls ≡ true → has (remove ls i) m ≡ (has ls m && not (eqb m.var (get_or ls i d).var))
-has-remove [] i d m l h = absurd (omega (arith, l))
-has-remove (x ∷ xs) zero d m l h =
+-- the literals but for the first: those of other variables
+has-rest : (x m : Lit) (xs : List Lit) → has_distinct_variables (x ∷ xs) ≡ true → has xs m ≡ (has (x ∷ xs) m && not (eqb m.var x.var))
+has-rest x m xs h =
     let parts = and_parts (not (has_variable xs x.var)) (has_distinct_variables xs) h in
     ⊎_elim
     (λ e. let t : eqb m.var x.var ≡ true = eq-eqb m.var x.var e in
@@ -53,17 +34,6 @@ has-remove (x ∷ xs) zero d m l h =
     (λ n. let t : eqb m.var x.var ≡ false = ne_eqb m.var x.var n in
     sym (ap (λ b. (same_lit x m || has xs m) && not b) t ∙ (and-true (same_lit x m || has xs m) ∙ ap (λ b. b || has xs m) (same_lit_other x m n))))
     (cases_eq m.var x.var)
-has-remove (x ∷ xs) (suc i) d m l h =
-    let parts = and_parts (not (has_variable xs x.var)) (has_distinct_variables xs) h in
-    let k : i < length xs = omega (arith, l) in
-    ap (λ b. same_lit x m || b) (has-remove xs i d m k parts.1) ∙ ⊎_elim
-    (λ e. let t : eqb m.var (get_or xs i d).var ≡ true = eq-eqb m.var (get_or xs i d).var e in
-    let apart : m.var ≡ x.var → ⊥ = λ s. both_ways (has_variable xs x.var) (not-true (has_variable xs x.var) parts.0) (subst (λ v. has_variable xs v ≡ true) (sym e ∙ s) (has_variable-has xs (get_or xs i d) (has_at xs i d k))) in
-    ap (λ b. b || (has xs m && not (eqb m.var (get_or xs i d).var))) (same_lit_other x m apart)
-    ∙ (ap (λ b. has xs m && not b) t ∙ (and-false (has xs m) ∙ sym (ap (λ b. (same_lit x m || has xs m) && not b) t ∙ and-false (same_lit x m || has xs m)))))
-    (λ n. let t : eqb m.var (get_or xs i d).var ≡ false = ne_eqb m.var (get_or xs i d).var n in
-    ap (λ b. same_lit x m || (has xs m && not b)) t ∙ (ap (λ b. same_lit x m || b) (and-true (has xs m)) ∙ sym (ap (λ b. (same_lit x m || has xs m) && not b) t ∙ and-true (same_lit x m || has xs m))))
-    (cases_eq m.var (get_or xs i d).var)
 
 not_flip : (p q : Bool) → not p ≡ q → p ≡ not q
 not_flip true true g = absurd (false≢true g)
@@ -118,17 +88,17 @@ Derives-left t marks literals chain present i n d h r l c v =
     Derives-push t.clauses chain n marks (set marks (x.var - 1) false) (values_of t.entries) (opposite x) v (f.0.above, f.0.within) f.1 k.1.1.1
     (ReplacesAt-from t marks (set marks (x.var - 1) false) (numbered t.clauses n) x.var h r.size (Replaces-covered marks (numbered t.clauses n) x.var (subst (λ s. IsVariable s x.var) (sym r.size) k.0) c.others))
 
--- what is left of the literals
-pub Tracks-left : (t : TrailState) (marks : List Bool) (literals : List Lit) (present i : ℕ) (d : Lit) → IsTrail t → Tracks t marks literals present → i < length literals → Tracks t (set marks ((get_or literals i d).var - 1) false) (remove literals i) present
-Tracks-left t marks literals present i d h r l = record {
+-- what is left of the literals, in any order
+pub Tracks-left : (t : TrailState) (marks : List Bool) (literals rest : List Lit) (present i : ℕ) (d : Lit) → IsTrail t → Tracks t marks literals present → i < length literals → IsPermutation literals (get_or literals i d ∷ rest) → Tracks t (set marks ((get_or literals i d).var - 1) false) rest present
+Tracks-left t marks literals rest present i d h r l moved = record {
   size = length-set marks (x.var - 1) false ∙ r.size;
-  members = λ m. has-remove literals i d m l r.distinct ∙ ⊎_elim
+  members = λ m. has-left m ∙ ⊎_elim
       (λ e. ap (λ b. has literals m && not b) (eq-eqb m.var x.var e) ∙ (and-false (has literals m) ∙ sym (ap (λ b. (b && is_false (values_of t.entries) m) && not (is_present t m.var)) (ap (marked (set marks (x.var - 1) false)) e ∙ gone))))
       (λ n. ap (λ b. has literals m && not b) (ne_eqb m.var x.var n) ∙ (and-true (has literals m) ∙ (r.members m ∙ ap (λ b. b && not (is_present t m.var)) (other m n))))
       (cases_eq m.var x.var);
-  variables = λ v p. ⊎_elim (λ q. variable record { var = v; negated = false } q) (λ q. variable record { var = v; negated = true } q) (has_either (remove literals i) record { var = v; negated = false } p);
+  variables = λ v p. ⊎_elim (λ q. variable record { var = v; negated = false } q) (λ q. variable record { var = v; negated = true } q) (has_either rest record { var = v; negated = false } p);
   valued = λ v low high p. ⊎_elim (λ e. absurd (both_ways (marked (set marks (x.var - 1) false) v) (ap (marked (set marks (x.var - 1) false)) e ∙ gone) p)) (λ n. r.valued v low high (sym (marked-set_other marks x.var v false k.0.above low n) ∙ p)) (cases_eq v x.var);
-  distinct = distinct-remove literals i r.distinct;
+  distinct = (and_parts (not (has_variable rest x.var)) (has_distinct_variables rest) apart).1;
   count = r.count ∙ sym (count_agree (counts t marks) (counts t (set marks (x.var - 1) false)) t.entries (λ j e w. agree j e w));
 }
   where
@@ -137,6 +107,12 @@ Tracks-left t marks literals present i d h r l = record {
 
     k : IsVariable t.vars x.var × ((is_present t x.var ≡ false) × (IsFalseIn (values_of t.entries) x × (marked marks x.var ≡ true)))
     k = kept_at t marks literals present i d h r l
+
+    apart : has_distinct_variables (x ∷ rest) ≡ true
+    apart = distinct-moved literals (x ∷ rest) moved r.distinct
+
+    has-left : (m : Lit) → has rest m ≡ (has literals m && not (eqb m.var x.var))
+    has-left m = has-rest x m rest apart ∙ ap (λ b. b && not (eqb m.var x.var)) (has-moved literals (x ∷ rest) m moved)
 
     gone : marked (set marks (x.var - 1) false) x.var ≡ false
     gone = marked-set_same marks x.var false record { above = k.0.above; within = omega (arith, k.0.within, r.size) }
@@ -149,9 +125,9 @@ Tracks-left t marks literals present i d h r l = record {
             ap (λ b. b && is_false (values_of t.entries) m) (sym (marked-set_other marks x.var m.var false k.0.above v.above n))
         at false q = rw q (and-false (marked marks m.var) ∙ sym (and-false (marked (set marks (x.var - 1) false) m.var)))
 
-    variable : (m : Lit) → has (remove literals i) m ≡ true → marked (set marks (x.var - 1) false) m.var ≡ true
+    variable : (m : Lit) → has rest m ≡ true → marked (set marks (x.var - 1) false) m.var ≡ true
     variable m p =
-        let parts = and_parts (has literals m) (not (eqb m.var x.var)) (sym (has-remove literals i d m l r.distinct) ∙ p) in
+        let parts = and_parts (has literals m) (not (eqb m.var x.var)) (sym (has-left m) ∙ p) in
         let n : m.var ≢ x.var = λ e. both_ways (eqb m.var x.var) (not-true (eqb m.var x.var) parts.1) (eq-eqb m.var x.var e) in
         let v = kept_literal t marks literals present m h r parts.0 in
         marked-set_other marks x.var m.var false k.0.above v.0.above n ∙ r.variables m.var (has_variable-has literals m parts.0)

@@ -99,7 +99,7 @@ impl Analysis {
         ensures leaves { OnOk result (Leaves trail.now self.old.marked.items self.new.marked.items) }
     {
         self.chain.push(number)?;
-        let l = self.literals.remove(place);
+        let l = self.literals.swap_remove(place);
         self.marked[l.var as usize - 1] = false;
         Ok(())
     }

@@ -1,13 +1,19 @@
-//! Tests of widths, signs and constants.
+//! Tests of sized expressions.
 #![tactic(auto)]
 
 #[cfg(test)]
-mod agreement;
+mod contexts;
 #[cfg(test)]
-mod names;
+mod deep;
+#[cfg(test)]
+mod named;
 #[cfg(test)]
 mod refusals;
 #[cfg(test)]
+mod simulated;
+#[cfg(test)]
 mod sizes;
 #[cfg(test)]
-mod table;
+mod slices;
+#[cfg(test)]
+mod tests;

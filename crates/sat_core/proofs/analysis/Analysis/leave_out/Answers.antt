@@ -1,5 +1,7 @@
 use Rattle.std.proofs.Common.{◌-◌, ◌++◌, ◌∷◌, [], false, set, sym, subst, arith}
-use Rattle.std.specs.List.{remove}
+use Rattle.std.specs.List.{swap_remove}
+use Rattle.std.specs.Prelude.{IsPermutation}
+use Rattle.std.proofs.lemmas.List.Sorted.{IsPermutation-swap_remove}
 use Rattle.clause_base.specs.declared.literal.Lit.{Lit}
 use Rattle.trail_core.specs.TrailState.{values_of}
 use Rattle.sat_core.specs.Derivation.{set_of, Tracks, Derives, Leaves}
@@ -8,26 +10,28 @@ use Rattle.sat_core.proofs.analysis.Analysis.leave_out.Goals as goal
 
 pub overflow_sub-l : goal.overflow_sub-l
 overflow_sub-l c =
-    (kept_variable_at c.args.trail.now c.args.self.now.marked.items c.args.self.now.literals.items c.args.self.now.present c.args.place c.remove-l.result c.requires.trail c.requires.tracks c.requires.place c.remove-l.ensures.value).above
+    (kept_variable_at c.args.trail.now c.args.self.now.marked.items c.args.self.now.literals.items c.args.self.now.present c.args.place c.swap_remove-l.result c.requires.trail c.requires.tracks c.requires.place c.swap_remove-l.ensures.value).above
 
 pub index_mut-requires : goal.index_mut-requires
 index_mut-requires c =
-    let k = kept_variable_at c.args.trail.now c.args.self.now.marked.items c.args.self.now.literals.items c.args.self.now.present c.args.place c.remove-l.result c.requires.trail c.requires.tracks c.requires.place c.remove-l.ensures.value in
+    let k = kept_variable_at c.args.trail.now c.args.self.now.marked.items c.args.self.now.literals.items c.args.self.now.present c.args.place c.swap_remove-l.result c.requires.trail c.requires.tracks c.requires.place c.swap_remove-l.ensures.value in
     omega (arith, k.above, k.within, c.requires.tracks.size)
 
 pub returns-clause-tracks : goal.returns-clause-tracks
 returns-clause-tracks c =
-    subst (λ ls. Tracks c.args.trail.now (set c.args.self.now.marked.items (c.remove-l.result.var - 1) false) ls c.args.self.now.present) (sym c.remove-l.ensures.items)
-    (subst (λ (x : Lit). Tracks c.args.trail.now (set c.args.self.now.marked.items (x.var - 1) false) (remove c.args.self.now.literals.items c.args.place) c.args.self.now.present) (sym c.remove-l.ensures.value)
-    (Tracks-left c.args.trail.now c.args.self.now.marked.items c.args.self.now.literals.items c.args.self.now.present c.args.place c.remove-l.result c.requires.trail c.requires.tracks c.requires.place))
+    let moved = IsPermutation-swap_remove c.args.self.now.literals.items c.args.place c.swap_remove-l.result c.requires.place c.swap_remove-l.ensures.value in
+    subst (λ ls. Tracks c.args.trail.now (set c.args.self.now.marked.items (c.swap_remove-l.result.var - 1) false) ls c.args.self.now.present) (sym c.swap_remove-l.ensures.items)
+    (subst (λ (x : Lit). Tracks c.args.trail.now (set c.args.self.now.marked.items (x.var - 1) false) (swap_remove c.args.self.now.literals.items c.args.place c.swap_remove-l.result) c.args.self.now.present) (sym c.swap_remove-l.ensures.value)
+    (Tracks-left c.args.trail.now c.args.self.now.marked.items c.args.self.now.literals.items (swap_remove c.args.self.now.literals.items c.args.place c.swap_remove-l.result) c.args.self.now.present c.args.place c.swap_remove-l.result c.requires.trail c.requires.tracks c.requires.place
+    (subst (λ x. IsPermutation c.args.self.now.literals.items (x ∷ swap_remove c.args.self.now.literals.items c.args.place c.swap_remove-l.result)) c.swap_remove-l.ensures.value moved)))
 
 pub returns-clause-derives : goal.returns-clause-derives
 returns-clause-derives c =
-    subst (λ ns. Derives c.args.trail.now.clauses ns (set_of (set c.args.self.now.marked.items (c.remove-l.result.var - 1) false) (values_of c.args.trail.now.entries))) (sym c.in_ok-push.ensures.items)
-    (subst (λ (x : Lit). Derives c.args.trail.now.clauses (c.args.self.now.chain.items ++ c.args.number ∷ []) (set_of (set c.args.self.now.marked.items (x.var - 1) false) (values_of c.args.trail.now.entries))) (sym c.remove-l.ensures.value)
-    (Derives-left c.args.trail.now c.args.self.now.marked.items c.args.self.now.literals.items c.args.self.now.chain.items c.args.self.now.present c.args.place c.args.number c.remove-l.result c.requires.trail c.requires.tracks c.requires.place (c.requires.covers c.remove-l.result) c.requires.derives))
+    subst (λ ns. Derives c.args.trail.now.clauses ns (set_of (set c.args.self.now.marked.items (c.swap_remove-l.result.var - 1) false) (values_of c.args.trail.now.entries))) (sym c.in_ok-push.ensures.items)
+    (subst (λ (x : Lit). Derives c.args.trail.now.clauses (c.args.self.now.chain.items ++ c.args.number ∷ []) (set_of (set c.args.self.now.marked.items (x.var - 1) false) (values_of c.args.trail.now.entries))) (sym c.swap_remove-l.ensures.value)
+    (Derives-left c.args.trail.now c.args.self.now.marked.items c.args.self.now.literals.items c.args.self.now.chain.items c.args.self.now.present c.args.place c.args.number c.swap_remove-l.result c.requires.trail c.requires.tracks c.requires.place (c.requires.covers c.swap_remove-l.result) c.requires.derives))
 
 pub returns-clause-leaves : goal.returns-clause-leaves
 returns-clause-leaves c =
-    subst (λ (x : Lit). Leaves c.args.trail.now c.args.self.now.marked.items (set c.args.self.now.marked.items (x.var - 1) false)) (sym c.remove-l.ensures.value)
-    (Leaves-more c.args.trail.now c.args.self.now.marked.items c.args.self.now.marked.items c.args.self.now.literals.items c.args.self.now.present c.args.place c.remove-l.result c.requires.trail c.requires.tracks c.requires.place (Leaves-none c.args.trail.now c.args.self.now.marked.items))
+    subst (λ (x : Lit). Leaves c.args.trail.now c.args.self.now.marked.items (set c.args.self.now.marked.items (x.var - 1) false)) (sym c.swap_remove-l.ensures.value)
+    (Leaves-more c.args.trail.now c.args.self.now.marked.items c.args.self.now.marked.items c.args.self.now.literals.items c.args.self.now.present c.args.place c.swap_remove-l.result c.requires.trail c.requires.tracks c.requires.place (Leaves-none c.args.trail.now c.args.self.now.marked.items))
