@@ -3,3 +3,6 @@ pub mod Tables
 pub mod Lists
 pub mod Looks
 pub mod Fields
+pub mod Waits
+pub mod Conditions
+pub mod Parted

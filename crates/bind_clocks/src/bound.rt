@@ -3,13 +3,12 @@ ghost use Rattle.std.specs.Prelude.{◌≡◌, [], ◌∷◌, ◌++◌, IfOk, On
 ghost use Rattle.v_binding.specs.Binding.{nothing_bound};
 ghost use Rattle.v_binding.specs.Bound.{with_places, with_driver, with_clocked, with_words, with_declared, with_initial, with_root, with_misclocked, with_clock_read};
 ghost use Rattle.v_binding.specs.Clocks.{root_of, root_named, signal_of};
-ghost use Rattle.bind_names.specs.Seen.{names_in};
+ghost use Rattle.bind_scopes.specs.Seen.{names_in};
 ghost use Rattle.bind_clocks.specs.Lists.{AreLists};
 
 use crate::looked::Looked;
 use crate::roots::Roots;
-use bind_names::Names;
-use bind_parts::{Initial, Root, Start};
+use bind_scopes::{Initial, Names, Root, Start};
 use design_core::{Clocked, Driver, Place};
 use loc_base::{Items, Name, NoMemory, Span};
 use std::alloc::Global;

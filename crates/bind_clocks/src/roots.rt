@@ -5,7 +5,7 @@ ghost use Rattle.v_binding.specs.Clocks.{root_of};
 ghost use Rattle.bind_clocks.specs.Rooted.{has_root};
 ghost use Rattle.bind_clocks.specs.Tables.{with_root};
 
-use bind_parts::Root;
+use bind_scopes::Root;
 use loc_base::{Items, NoMemory};
 use std::alloc::Global;
 use std::marker::Model;

@@ -1,2 +1,4 @@
+pub mod Parts
+pub mod Wires
 pub mod Registers
 pub mod Grounds

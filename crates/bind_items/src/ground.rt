@@ -1,12 +1,12 @@
 //! Where items stand.
 ghost use Rattle.std.specs.Prelude.{◌≡◌};
 ghost use Rattle.v_binding.specs.Items.{home_of};
-ghost use Rattle.bind_lefts.specs.Homes as homes;
+ghost use Rattle.bind_statements.specs.Homes as homes;
 ghost use Rattle.bind_items.specs.Grounds.{ground_of};
 
+use crate::Scene;
 use bind_clocks::Frame;
-use bind_drives::Scene;
-use bind_lefts::Home;
+use bind_statements::Home;
 use loc_base::Name;
 use v_tree::Site;
 

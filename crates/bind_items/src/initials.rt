@@ -3,13 +3,12 @@ ghost use Rattle.std.specs.Prelude.{◌≡◌, map, Ok, OnOk, IfErr};
 ghost use Rattle.v_tree.specs.Tree.{tree_of};
 ghost use Rattle.v_tree.specs.StatementTree.{statement_of, statements_of};
 ghost use Rattle.v_binding.specs.Assignments.{initial_fault, initial_at, initial_block, initial_all};
-ghost use Rattle.bind_names.specs.Seen.{names_in};
-ghost use Rattle.bind_names.specs.Refuses.{Refuses};
+ghost use Rattle.bind_scopes.specs.Seen.{names_in};
+ghost use Rattle.bind_scopes.specs.Refuses.{Refuses};
 
 use crate::starts::register_of;
 use bind_clocks::Bound;
-use bind_names::Names;
-use bind_parts::{Initial, Start};
+use bind_scopes::{Initial, Names, Start};
 use loc_base::{Name, Span};
 use v_binding::{BindErr, Use};
 use v_sizes::Meaning;
@@ -55,7 +54,7 @@ fn initial_at(
 
 /// The start values that a statement of an initial block gives.
 #[cycle(initial)]
-#[tactic(auto, using(crate::proofs::StatementViews::statement_views, bind_lefts::proofs::LeftSteps::left_steps))]
+#[tactic(auto, using(crate::proofs::StatementViews::statement_views, bind_statements::proofs::LeftSteps::left_steps))]
 pub(crate) fn initial_block(
     names: &Names<'_>,
     statement: &Statement,

@@ -4,13 +4,12 @@ ghost use Rattle.v_tree.specs.Tree.{tree_of};
 ghost use Rattle.v_sizes.specs.Scopes.{look_of};
 ghost use Rattle.v_binding.specs.Names.{find};
 ghost use Rattle.v_binding.specs.Assignments.{width_of, number_of, start_at};
-ghost use Rattle.bind_names.specs.Seen.{names_in};
-ghost use Rattle.bind_names.specs.Refuses.{Refuses};
+ghost use Rattle.bind_scopes.specs.Seen.{names_in};
+ghost use Rattle.bind_scopes.specs.Refuses.{Refuses};
 ghost use Rattle.bind_items.specs.Registers.{number_in, width_in};
 
 use bind_clocks::Bound;
-use bind_names::Names;
-use bind_parts::Start;
+use bind_scopes::{Names, Start};
 use loc_base::Name;
 use v_binding::BindErr;
 use v_sizes::{Meaning, Scope};

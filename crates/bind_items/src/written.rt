@@ -5,17 +5,17 @@ ghost use Rattle.v_binding.specs.Steps.{each};
 ghost use Rattle.v_binding.specs.Assignments.{declarator_of, assignment_of};
 ghost use Rattle.v_binding.specs.Gates.{gate_of};
 ghost use Rattle.v_binding.specs.Items.{written_of};
-ghost use Rattle.bind_names.specs.Seen.{names_in};
-ghost use Rattle.bind_names.specs.Refuses.{Refuses};
-ghost use Rattle.bind_lefts.specs.Homes.{home_of};
+ghost use Rattle.bind_scopes.specs.Seen.{names_in};
+ghost use Rattle.bind_scopes.specs.Refuses.{Refuses};
+ghost use Rattle.bind_statements.specs.Homes.{home_of};
 ghost use Rattle.bind_items.specs.Grounds.{ground_of};
 
 use crate::declarations::{Declared, declarator};
 use crate::ground::Ground;
 use crate::initials::initial_block;
+use crate::{Scene, WrittenGate, assignment, gate};
 use bind_clocks::Bound;
-use bind_drives::{Scene, WrittenGate, assignment, gate};
-use bind_names::Names;
+use bind_scopes::Names;
 use v_binding::BindErr;
 use v_tree::{Declarator, GateInstance, GateKind, Item, NetAssignment, NetKind};
 

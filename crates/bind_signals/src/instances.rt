@@ -4,7 +4,7 @@ ghost use Rattle.v_hierarchy.specs.Names.{bounds_of};
 ghost use Rattle.v_hierarchy.specs.Views.{port_of, block_of, instance_of, instances_of};
 ghost use Rattle.v_binding.specs.Signals.{with_port, is_top, numbered_instance, signals_of};
 ghost use Rattle.v_binding.specs.Steps.{through};
-ghost use Rattle.bind_names.specs.Seen.{names_in};
+ghost use Rattle.bind_scopes.specs.Seen.{names_in};
 ghost use Rattle.bind_scopes.specs.Standing.{PortsStand, BlockStands, InstancesStand};
 ghost use Rattle.bind_scopes.specs.Views.{numbered_of, whole_of};
 ghost use Rattle.bind_signals.specs.Scopings.{scoping_of};

@@ -5,7 +5,7 @@ ghost use Rattle.v_sizes.specs.Word.{word};
 ghost use Rattle.v_hierarchy.specs.Stands.{IsRange};
 ghost use Rattle.v_binding.specs.Signals.{path_in, signal_of, kind_in, kind_of, word_path};
 
-use bind_sockets::is_input;
+use bind_scopes::is_input;
 use design_core::{Signal, SignalKind};
 use itoa::Buffer;
 use loc_base::{Bits, Bytes, Name, NoMemory};

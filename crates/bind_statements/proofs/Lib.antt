@@ -1,3 +1,9 @@
+pub mod Listed
+pub mod NodeParts
+pub mod Selects
+pub mod Rows
+pub mod LeftSteps
+pub mod WrittenLefts
 pub mod StatementViews
 pub mod StepViews
 pub mod WildSteps

@@ -5,12 +5,12 @@ ghost use Rattle.v_tree.specs.PartTree.{left_of};
 ghost use Rattle.v_tree.specs.StatementTree.{statement_of};
 ghost use Rattle.v_binding.specs.Places.{placed};
 ghost use Rattle.v_binding.specs.Statements.{is_later, set, set_of};
-ghost use Rattle.bind_names.specs.Refuses.{Refuses};
-ghost use Rattle.bind_names.specs.Seen.{names_in};
-ghost use Rattle.bind_lefts.specs.Homes.{home_of};
+ghost use Rattle.bind_scopes.specs.Refuses.{Refuses};
+ghost use Rattle.bind_scopes.specs.Seen.{names_in};
+ghost use Rattle.bind_statements.specs.Homes.{home_of};
 
-use bind_lefts::{Home, Start, target};
-use bind_names::Names;
+use crate::{Home, Start, target};
+use bind_scopes::Names;
 use design_core::{Place, PlaceKind, Stmt, Target};
 use loc_base::{Items, NoMemory};
 use std::mem;

@@ -6,11 +6,11 @@ ghost use Rattle.v_sizes.specs.Sizing.{sizing};
 ghost use Rattle.v_binding.specs.Names.{look_in};
 ghost use Rattle.v_binding.specs.Steps.{through};
 ghost use Rattle.v_binding.specs.Cases as case;
-ghost use Rattle.bind_names.specs.Seen.{names_in};
+ghost use Rattle.bind_scopes.specs.Seen.{names_in};
 ghost use Rattle.bind_statements.specs.Contexts.{context_of, with_arm};
 
 use crate::case_context::CaseContext;
-use bind_names::Names;
+use bind_scopes::Names;
 use loc_base::NoMemory;
 use v_hierarchy::Arm;
 use v_tree::Expr;

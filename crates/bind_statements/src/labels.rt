@@ -3,13 +3,13 @@ ghost use Rattle.std.specs.Prelude.{◌≡◌, [], map, Ok, IfOk, IfErr, OnOk};
 ghost use Rattle.v_tree.specs.Tree.{tree_of};
 ghost use Rattle.v_binding.specs.Steps.{each};
 ghost use Rattle.v_binding.specs.Cases.{label_at};
-ghost use Rattle.bind_names.specs.Refuses.{Refuses};
-ghost use Rattle.bind_names.specs.Seen.{names_in};
+ghost use Rattle.bind_scopes.specs.Refuses.{Refuses};
+ghost use Rattle.bind_scopes.specs.Seen.{names_in};
 ghost use Rattle.bind_statements.specs.Contexts.{context_of};
 
 use crate::case_context::CaseContext;
 use crate::wild::wild_word;
-use bind_names::Names;
+use bind_scopes::Names;
 use design_core::Label;
 use loc_base::Items;
 use v_binding::BindErr;

@@ -5,13 +5,14 @@ ghost use Rattle.v_hierarchy.specs.Views.{steps_of, arm_of, turn_of, step_list_o
 ghost use Rattle.v_binding.specs.Names.{turned};
 ghost use Rattle.v_binding.specs.Places.{placed};
 ghost use Rattle.v_binding.specs.Statements as written;
-ghost use Rattle.bind_names.specs.Refuses.{Refuses};
-ghost use Rattle.bind_names.specs.Seen.{names_in};
-ghost use Rattle.bind_lefts.specs.Homes.{home_of};
+ghost use Rattle.bind_scopes.specs.Refuses.{Refuses};
+ghost use Rattle.bind_scopes.specs.Seen.{names_in};
+ghost use Rattle.bind_statements.specs.Homes.{home_of};
 ghost use Rattle.bind_statements.specs.Arms.{chosen_of, bound_arm, FitArm};
 ghost use Rattle.bind_statements.specs.Contexts.{context_of};
 ghost use Rattle.bind_scopes.specs.Turns.{FitTurns, AllFit, ArmsFit, TurnsFit};
 
+use crate::Home;
 use crate::assignment::still;
 use crate::case_context::CaseContext;
 use crate::case_sizes::case_context;
@@ -19,8 +20,7 @@ use crate::chosen::{
     BoundArm, Chosen, case_statement, chosen_with, if_statement, is_wild_case, nothing_chosen,
 };
 use crate::labels::labels_at;
-use bind_lefts::Home;
-use bind_names::Names;
+use bind_scopes::Names;
 use design_core::{CaseItem, Place, Stmt};
 use loc_base::Items;
 use v_binding::{BindErr, Known, Use};

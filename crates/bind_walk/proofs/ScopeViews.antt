@@ -1,7 +1,7 @@
 -- The plain data of a scope.
 use Rattle.std.proofs.Common.{◌≡◌, map}
 use Rattle.v_binding.specs.Signals as signals
-use Rattle.bind_names.specs.Held.{known_of}
+use Rattle.bind_scopes.specs.Held.{known_of}
 use Rattle.bind_scopes.specs.declared.scope.Scope.{Scope, out-Scope}
 use Rattle.bind_scopes.specs.declared.scope.Scope.TheFolds.{fold_out-Scope}
 use Rattle.bind_scopes.specs.Views.{scope_of, in_order, scope_step}

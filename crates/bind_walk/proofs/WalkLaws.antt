@@ -10,7 +10,7 @@ use Rattle.v_binding.specs.declared.error.BindErr.{BindErr}
 use Rattle.v_binding.specs.Steps.{◌>>=◌}
 use Rattle.v_binding.specs.declared.known.Known as code
 use Rattle.v_binding.specs.Names.{Known, Names, within}
-use Rattle.bind_names.specs.Held.{known_of}
+use Rattle.bind_scopes.specs.Held.{known_of}
 use Rattle.v_binding.specs.Signals.{Scope, Scopes, no_scope}
 use Rattle.v_binding.specs.Blocks.{always_block}
 use Rattle.v_binding.specs.Connections.{Socket}

@@ -3,12 +3,11 @@ ghost use Rattle.std.specs.Prelude.{◌≡◌, ◌≤◌, length, map, drop, OnO
 ghost use Rattle.v_binding.specs.Names.{within};
 ghost use Rattle.v_binding.specs.Signals.{no_scope};
 ghost use Rattle.v_binding.specs.Items.{scope_next};
-ghost use Rattle.bind_names.specs.Held.{known_of};
-ghost use Rattle.bind_names.specs.Seen.{names_in};
+ghost use Rattle.bind_scopes.specs.Held.{known_of};
+ghost use Rattle.bind_scopes.specs.Seen.{names_in};
 ghost use Rattle.bind_scopes.specs.Views.{scope_of};
 
-use bind_names::Names;
-use bind_scopes::Scope;
+use bind_scopes::{Names, Scope};
 use loc_base::{Items, NoMemory};
 use std::alloc::Global;
 use v_binding::Known;

@@ -4,9 +4,9 @@ ghost use Rattle.loc_base.specs.Bits.{width_of};
 ghost use Rattle.v_hierarchy.specs.Views.{child_of, copied_of, copies_of, block_of};
 ghost use Rattle.v_binding.specs.Names.{turned};
 ghost use Rattle.v_binding.specs.Items.{scope_next, ports_next, bound_copies, bound_block};
-ghost use Rattle.bind_names.specs.Seen.{names_in};
-ghost use Rattle.bind_lefts.specs.Homes as homes;
-ghost use Rattle.bind_names.specs.Refuses.{Refuses};
+ghost use Rattle.bind_scopes.specs.Seen.{names_in};
+ghost use Rattle.bind_statements.specs.Homes as homes;
+ghost use Rattle.bind_scopes.specs.Refuses.{Refuses};
 ghost use Rattle.bind_scopes.specs.Views.{scope_of, scopes_of, socket_of};
 ghost use Rattle.bind_scopes.specs.Standing.{BlockStands, CopiesStand, CopiedStands};
 ghost use Rattle.bind_items.specs.Grounds.{ground_of};
@@ -14,12 +14,10 @@ ghost use Rattle.bind_walk.specs.Copies.{met_of, joined_at, copy_at, scopes_behi
 
 use crate::children::Children;
 use crate::own::{enter, leave, nameless};
-use bind_blocks::{Always, always_block};
+use crate::{Always, always_block};
 use bind_clocks::Bound;
-use bind_drives::{Joined, Scene, child};
-use bind_items::{Ground, written_item};
-use bind_names::Names;
-use bind_scopes::Scope;
+use bind_items::{Ground, Joined, Scene, child, written_item};
+use bind_scopes::{Names, Scope};
 use loc_base::{Items, NoMemory};
 use v_binding::{BindErr, Known, Use};
 use v_hierarchy::{Block, Child, Copied};

@@ -1,1 +1,4 @@
+pub mod RootLaws
+pub mod WalkLaws
+pub mod BindingLaws
 mod MeansLaws

@@ -1,2 +1,4 @@
+pub mod Whole
+pub mod Views
 pub mod Means
 pub mod Made

@@ -1,9 +1,17 @@
 //! The design that a text means: what its instances bind, where it breaks no rule (IEEE 1364-2005, clauses 4 to 9 and 12; IEEE
 //! 1364.1-2002, clause 5).
+//!
+//! From the instances of a text to what they bind: signals, places, drivers and blocks, or why there are none (IEEE 1364-2005,
+//! clause 12).
 #![tactic(auto)]
 
 mod beside;
+mod binding;
+mod copies;
 mod listed;
 mod meant;
+mod top;
+mod walk;
 
+pub use binding::{Binding, bind};
 pub use meant::design;

@@ -2,8 +2,8 @@ use Rattle.std.proofs.Common.{◌≡◌, drop, map}
 use Rattle.v_tree.specs.ItemTree as tree
 use Rattle.v_binding.specs.Steps.{each}
 use Rattle.v_binding.specs.Gates.{gate_of}
-use Rattle.bind_names.specs.Seen.{names_in}
-use Rattle.bind_lefts.specs.Homes.{home_of}
+use Rattle.bind_scopes.specs.Seen.{names_in}
+use Rattle.bind_statements.specs.Homes.{home_of}
 use Rattle.bind_items.proofs.written.gates.Given as goal
 
 abbrev pub invariant-loop-one : goal.invariant-loop-one

@@ -2,7 +2,7 @@ use Rattle.std.proofs.Common.{◌≡◌, map, drop}
 use Rattle.v_hierarchy.specs.Views.{port_of}
 use Rattle.v_binding.specs.Steps.{through}
 use Rattle.v_binding.specs.Signals.{with_port}
-use Rattle.bind_names.specs.Seen.{names_in}
+use Rattle.bind_scopes.specs.Seen.{names_in}
 use Rattle.bind_scopes.specs.Standing.{PortsStand}
 use Rattle.bind_signals.specs.Scopings.{scoping_of}
 use Rattle.bind_signals.specs.Grounds.{ground_in}

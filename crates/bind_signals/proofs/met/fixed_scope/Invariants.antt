@@ -1,7 +1,7 @@
 use Rattle.std.proofs.Common.{◌≡◌, ◌++◌, map, drop}
 use Rattle.v_hierarchy.specs.Views.{entry_of}
 use Rattle.v_binding.specs.Signals.{fixed_all}
-use Rattle.bind_names.specs.Held.{known_of}
+use Rattle.bind_scopes.specs.Held.{known_of}
 use Rattle.bind_scopes.specs.Standing.{EntriesStand}
 use Rattle.bind_signals.proofs.met.fixed_scope.Given as goal
 

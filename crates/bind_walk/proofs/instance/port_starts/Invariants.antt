@@ -2,7 +2,7 @@ use Rattle.std.proofs.Common.{◌≡◌, drop, map}
 use Rattle.v_hierarchy.specs.Views.{port_of}
 use Rattle.v_binding.specs.Steps.{each}
 use Rattle.v_binding.specs.Binding.{port_start}
-use Rattle.bind_names.specs.Seen.{names_in}
+use Rattle.bind_scopes.specs.Seen.{names_in}
 use Rattle.bind_walk.proofs.instance.port_starts.Given as goal
 
 abbrev pub invariant-loop-port : goal.invariant-loop-port

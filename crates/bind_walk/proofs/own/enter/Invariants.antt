@@ -1,7 +1,7 @@
 use Rattle.std.proofs.Common.{◌≡◌, drop, map}
 use Rattle.v_binding.specs.Names.{within}
-use Rattle.bind_names.specs.Held.{known_of}
-use Rattle.bind_names.specs.Seen.{names_in}
+use Rattle.bind_scopes.specs.Held.{known_of}
+use Rattle.bind_scopes.specs.Seen.{names_in}
 use Rattle.bind_walk.proofs.own.enter.Given as goal
 
 abbrev pub invariant-loop-known : goal.invariant-loop-known

@@ -1,5 +1,5 @@
 use Rattle.std.proofs.Common.{sym, ap, ◌∙◌, drop, arith}
-use Rattle.bind_names.specs.Seen.{names_in}
+use Rattle.bind_scopes.specs.Seen.{names_in}
 use Rattle.bind_walk.proofs.WalkLaws.{dropped-some, dropped-once}
 use Rattle.bind_walk.proofs.own.leave.Goals as goal
 

@@ -1,5 +1,5 @@
 use Rattle.std.proofs.Common.{◌≡◌, drop}
-use Rattle.bind_names.specs.Seen.{names_in}
+use Rattle.bind_scopes.specs.Seen.{names_in}
 use Rattle.bind_walk.proofs.own.leave.Given as goal
 
 abbrev pub invariant-loop-place : goal.invariant-loop-place

@@ -1,7 +1,7 @@
 use Rattle.std.proofs.Common.{◌≡◌, drop, map}
 use Rattle.v_hierarchy.specs.Views.{copied_of, copies_of}
 use Rattle.v_binding.specs.Items.{bound_copies}
-use Rattle.bind_names.specs.Seen.{names_in}
+use Rattle.bind_scopes.specs.Seen.{names_in}
 use Rattle.bind_scopes.specs.Views.{scopes_of}
 use Rattle.bind_scopes.specs.Standing.{CopiesStand}
 use Rattle.bind_items.specs.Grounds.{ground_of}

@@ -1,7 +1,7 @@
 use Rattle.std.proofs.Common.{map, ◌∙◌, ap, ap₂}
 use Rattle.bind_rules.specs.Beside.{clock_fault}
 use Rattle.bind_scopes.specs.Views.{numbered_of}
-use Rattle.v_bind.specs.Views.{binding_of}
+use Rattle.v_design.specs.Views.{binding_of}
 use Rattle.v_design.proofs.MeansLaws.{same-beside}
 use Rattle.v_design.proofs.listed.design_of.Goals as goal
 

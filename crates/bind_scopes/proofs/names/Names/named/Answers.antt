@@ -1,0 +1,28 @@
+use Rattle.std.proofs.Common.{map}
+use Rattle.v_tree.specs.Tree.{Tree, selection_of, selections_of}
+use Rattle.v_tree.specs.Tree as written
+use Rattle.v_sizes.specs.Scopes.{look_of}
+use Rattle.bind_scopes.specs.Seen.{names_in}
+use Rattle.bind_scopes.proofs.NamedWidth.{typed-most}
+use Rattle.bind_scopes.proofs.BySelf.{accepted, refused-by}
+use Rattle.bind_scopes.proofs.names.Names.named.Goals as goal
+
+pub returns-in-Ok-clause-ok : goal.returns-in-Ok-clause-ok
+returns-in-Ok-clause-ok c =
+    accepted (names_in c.args.self.now) (written.name c.args.site c.args.name.now (selections_of (map selection_of c.args.selects.now)))
+    (look_of c.scope.result.now) c.in-Ok.typed c.scope.ensures c.in-Ok.ensures.ok c.in-Ok.ensures.accepted
+
+pub returns-in-Ok-clause-most : goal.returns-in-Ok-clause-most
+returns-in-Ok-clause-most c =
+    typed-most c.scope.result.now (written.name c.args.site c.args.name.now (selections_of (map selection_of c.args.selects.now)))
+    c.in-Ok.typed c.in-Ok.ensures.ok c.in-Ok.ensures.accepted
+
+pub returns-in_ok-bare-in-Err : goal.returns-in_ok-bare-in-Err
+returns-in_ok-bare-in-Err c = record {
+  ok = tt;
+  most = tt;
+  err =
+      refused-by (names_in c.args.self.now) (written.name c.args.site c.args.name.now (selections_of (map selection_of c.args.selects.now)))
+      (look_of c.scope.result.now) (look_of c.in_ok-bare-in-Err.bare) c.in-Err.wrong c.name_refusal-beside.result c.refusal_beside.result
+      c.scope.ensures c.in_ok-bare-in-Err.ensures c.in-Err.ensures.refused c.name_refusal-beside.ensures c.refusal_beside.ensures;
+}

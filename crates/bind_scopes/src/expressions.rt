@@ -1,0 +1,178 @@
+//! Expressions and constants where they stand (IEEE 1364-2005, clause 5).
+ghost use Rattle.std.specs.Prelude.{◌≡◌, ◌≤◌, ◌⊎◌, map, false, Some, Ok, IfOk, IfErr};
+ghost use Rattle.v_tree.specs.Tree.{tree_of, selection_of, selections_of};
+ghost use Rattle.v_tree.specs.Tree as written;
+ghost use Rattle.v_sizes.specs.declared.error.WidthErr.TheVariants.{NoMemory as OutOfMemory};
+ghost use Rattle.v_sizes.specs.Scopes.{look_of};
+ghost use Rattle.v_sizes.specs.Context.{refusal_in};
+ghost use Rattle.v_sizes.specs.Sizing.{sizing};
+ghost use Rattle.v_binding.specs.Names.{look_in};
+ghost use Rattle.v_binding.specs.Expressions.{sized_in, assigned, by_itself, constant_at, index_at};
+ghost use Rattle.v_binding.specs.Faults.{is_unknown, fault_beside};
+ghost use Rattle.bind_scopes.specs.Refuses.{Refuses, refusal_beside};
+ghost use Rattle.v_sizes.specs.declared.error.WidthErr.TheVariants as width_fault;
+ghost use Rattle.bind_scopes.specs.Seen.{names_in};
+
+use crate::names::Names;
+use design_core::Typed;
+use loc_base::{Name, NoMemory, Span};
+use std::alloc::Global;
+use v_binding::BindErr;
+use v_hierarchy::{index_of, site_of};
+use v_sizes::{Const, WidthErr};
+use v_tree::{Expr, Select, Site};
+use v_widths::{Scope, Size, constant_in, own_size, typed, typed_name};
+
+/// Whether a name that spans this is refused as unknown.
+fn is_unknown(span: Span, fault: Option<WidthErr>) -> bool
+    ensures { result ≡ is_unknown span fault }
+{
+    match fault {
+        Some(WidthErr::UnknownName(other)) => span.from == other.from && span.to == other.to,
+        _ => false,
+    }
+}
+
+/// The fault of a name that is refused as unknown, by that where the variables of loops are registers.
+fn name_fault(span: Span, bare: Option<WidthErr>) -> BindErr
+    ensures { result ≡ fault_beside bare (width_fault.UnknownName span) }
+{
+    if is_unknown(span, bare) {
+        BindErr::UnknownName(span)
+    } else {
+        BindErr::NotConstant(span)
+    }
+}
+
+/// The fault of an expression by that where the variables of loops are registers, unless memory was wanting there.
+fn refusal_beside(bare: Option<WidthErr>, wrong: WidthErr) -> BindErr
+    ensures { result ≡ refusal_beside bare wrong }
+{
+    if let Some(WidthErr::NoMemory) = bare {
+        return BindErr::NoMemory;
+    }
+    match wrong {
+        WidthErr::UnknownName(span) => name_fault(span, bare),
+        WidthErr::NotConstant(_)
+        | WidthErr::ZeroDivisor(_)
+        | WidthErr::Range(_)
+        | WidthErr::NoMemory => wrong.into(),
+    }
+}
+
+/// Why a name with its selects is refused by itself, if it is.
+fn name_refusal(
+    alloc: Global,
+    scope: &Scope<'_>,
+    site: Site,
+    name: &Name,
+    selects: &[Select],
+) -> Option<WidthErr>
+    ensures { (result ≡ Some OutOfMemory) ⊎ (refusal_in (look_of scope.now) (written.name site name.now (selections_of (map selection_of selects.now))) 0 false ≡ result) }
+{
+    match typed_name(alloc, scope, site, name, selects) {
+        Ok(_) => None,
+        Err(wrong) => Some(wrong),
+    }
+}
+
+impl<'t> Names<'t> {
+    /// The sized expression in a context of a width, 0 for none; `unsigned` where what stands beside it makes it so.
+    pub fn sized_in(&self, e: &Expr, context: u8, unsigned: bool) -> Result<Typed, BindErr>
+        requires { context ≤ 128 }
+        ensures ok { IfOk result (λ t. sized_in (names_in self.now) (tree_of e.now) context unsigned ≡ Ok t) }
+        ensures err { IfErr result (λ fault. Refuses (sized_in (names_in self.now) (tree_of e.now) context unsigned) fault) }
+    {
+        let alloc = self.allocator();
+        match typed(alloc, e, self.scope(), context, unsigned) {
+            Ok(typed) => Ok(typed),
+            Err(WidthErr::UnknownName(span)) => {
+                let bare = self.bare()?;
+                match typed(alloc, e, &bare, context, unsigned) {
+                    Ok(_) => Err(name_fault(span, None)),
+                    Err(WidthErr::NoMemory) => Err(BindErr::NoMemory),
+                    Err(fault) => Err(name_fault(span, Some(fault))),
+                }
+            }
+            Err(fault) => Err(fault.into()),
+        }
+    }
+
+    /// The width and the sign that an expression has by itself, also where it is refused.
+    pub fn own_size(&self, e: &Expr) -> Result<Size, NoMemory>
+        ensures width { IfOk result (λ s. s.width ≡ (sizing (look_in (names_in self.now)) (tree_of e.now)).width) }
+        ensures signed { IfOk result (λ s. s.signed ≡ (sizing (look_in (names_in self.now)) (tree_of e.now)).signed) }
+        ensures least { IfOk result (λ s. 1 ≤ s.width) }
+        ensures most { IfOk result (λ s. s.width ≤ 128) }
+    {
+        let own = own_size(self.allocator(), e, self.scope())?;
+        Ok(own)
+    }
+
+    /// The right side of an assignment to so many bits.
+    pub fn assigned(&self, e: &Expr, width: u8) -> Result<Typed, BindErr>
+        requires { width ≤ 128 }
+        ensures ok { IfOk result (λ t. assigned (names_in self.now) (tree_of e.now) width ≡ Ok t) }
+        ensures err { IfErr result (λ fault. Refuses (assigned (names_in self.now) (tree_of e.now) width) fault) }
+    {
+        self.sized_in(e, width, false)
+    }
+
+    /// An expression by itself.
+    pub fn by_itself(&self, e: &Expr) -> Result<Typed, BindErr>
+        ensures ok { IfOk result (λ t. by_itself (names_in self.now) (tree_of e.now) ≡ Ok t) }
+        ensures err { IfErr result (λ fault. Refuses (by_itself (names_in self.now) (tree_of e.now)) fault) }
+    {
+        self.sized_in(e, 0, false)
+    }
+
+    /// A name with its selects by itself, where no expression stands, but a name: on a left side, or in an event list.
+    pub fn named(&self, site: Site, name: &Name, selects: &[Select]) -> Result<Typed, BindErr>
+        ensures ok { IfOk result (λ t. by_itself (names_in self.now) (written.name site name.now (selections_of (map selection_of selects.now))) ≡ Ok t) }
+        ensures err { IfErr result (λ fault. Refuses (by_itself (names_in self.now) (written.name site name.now (selections_of (map selection_of selects.now)))) fault) }
+        ensures most { IfOk result (λ t. t.width ≤ 128) }
+    {
+        let alloc = self.allocator();
+        match typed_name(alloc, self.scope(), site, name, selects) {
+            Ok(typed) => Ok(typed),
+            Err(wrong) => {
+                let bare = self.bare()?;
+                let beside = name_refusal(alloc, &bare, site, name, selects);
+                Err(refusal_beside(beside, wrong))
+            }
+        }
+    }
+
+    /// The constant in an assignment of a width, 0 for none.
+    pub fn constant_at(&self, e: &Expr, width: u8) -> Result<Const, BindErr>
+        requires { width ≤ 128 }
+        ensures ok { IfOk result (λ c. constant_at (names_in self.now) (tree_of e.now) width ≡ Ok c) }
+        ensures err { IfErr result (λ fault. Refuses (constant_at (names_in self.now) (tree_of e.now) width) fault) }
+    {
+        let alloc = self.allocator();
+        match constant_in(alloc, e, self.scope(), width) {
+            Ok(value) => Ok(value),
+            Err(WidthErr::UnknownName(span)) => {
+                let bare = self.bare()?;
+                match constant_in(alloc, e, &bare, width) {
+                    Ok(_) => Err(name_fault(span, None)),
+                    Err(WidthErr::NoMemory) => Err(BindErr::NoMemory),
+                    Err(fault) => Err(name_fault(span, Some(fault))),
+                }
+            }
+            Err(fault) => Err(fault.into()),
+        }
+    }
+
+    /// A whole number of 32 bits.
+    pub fn index_at(&self, e: &Expr) -> Result<i32, BindErr>
+        ensures ok { IfOk result (λ n. index_at (names_in self.now) (tree_of e.now) ≡ Ok n) }
+        ensures err { IfErr result (λ fault. Refuses (index_at (names_in self.now) (tree_of e.now)) fault) }
+    {
+        let value = self.constant_at(e, 0)?;
+        match index_of(value) {
+            Some(index) => Ok(index),
+            None => Err(BindErr::Range(site_of(e).span)),
+        }
+    }
+}

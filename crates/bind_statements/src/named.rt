@@ -1,0 +1,139 @@
+//! What a name with its selects is assigned by, or why it can't be a left side (IEEE 1364-2005, 6.1 and 9.2.1).
+ghost use Rattle.std.specs.Prelude.{◌≡◌, ◌≤◌, map, Some, Ok, IfOk, IfErr, OnOk};
+ghost use Rattle.v_tree.specs.Tree.{selection_of, selections_of};
+ghost use Rattle.v_binding.specs.Lefts.{indexes_at, index_of, has_two, no_left_side, part_of, parts_of, name_target};
+ghost use Rattle.bind_scopes.specs.Refuses.{Refuses};
+ghost use Rattle.bind_scopes.specs.Seen.{names_in};
+
+use crate::parts::{part_of, ranged_of};
+use bind_scopes::Names;
+use design_core::{Node, Part, Typed};
+use loc_base::{Items, Name, NoMemory, Span};
+use std::alloc::Global;
+use v_binding::{BindErr, Left, Ranged, Use};
+use v_tree::{Select, Site};
+
+/// The indexes of a select, each by itself.
+#[tactic(auto, using(v_widths::proofs::TreeSteps::select_steps))]
+fn index_of(names: &Names<'_>, select: &Select) -> Result<(), BindErr>
+    ensures ok { OnOk result (index_of (names_in names.now) (selection_of select.now) ≡ Ok tt) }
+    ensures err { IfErr result (λ fault. Refuses (index_of (names_in names.now) (selection_of select.now)) fault) }
+{
+    match select {
+        Select::Bit { site: _, index } => {
+            let _index = names.by_itself(index)?;
+            Ok(())
+        }
+        Select::Part {
+            site: _,
+            kind: _,
+            left,
+            right,
+        } => {
+            let _left = names.by_itself(left)?;
+            let _right = names.by_itself(right)?;
+            Ok(())
+        }
+    }
+}
+
+/// The indexes of the selects, from the left.
+fn indexes_at(names: &Names<'_>, selects: &[Select]) -> Result<(), BindErr>
+    ensures ok { OnOk result (indexes_at (names_in names.now) (selections_of (map selection_of selects.now)) ≡ Ok tt) }
+    ensures err { IfErr result (λ fault. Refuses (indexes_at (names_in names.now) (selections_of (map selection_of selects.now))) fault) }
+{
+    for select in selects {
+        index_of(names, select)?;
+    }
+    Ok(())
+}
+
+/// Whether there are two selects or more.
+#[tactic(auto, using(crate::proofs::Selects::two_selects))]
+fn has_two(selects: &[Select]) -> bool
+    ensures { result ≡ has_two (selections_of (map selection_of selects.now)) }
+{
+    selects.len() >= 2
+}
+
+/// Why a name that stands for something is no left side.
+fn use_fault(span: Span, own: Use, selects: &[Select]) -> BindErr
+    ensures { result ≡ no_left_side span (Some own) (selections_of (map selection_of selects.now)) }
+{
+    match own {
+        Use::Stands(_) => BindErr::UnknownName(span),
+        Use::AtTurn(_) | Use::Outside => {
+            if has_two(selects) {
+                BindErr::UnknownName(span)
+            } else {
+                BindErr::NotConstant(span)
+            }
+        }
+    }
+}
+
+/// Why a name is no left side.
+fn no_left_side(span: Span, name: Option<Use>, selects: &[Select]) -> BindErr
+    ensures { result ≡ no_left_side span name (selections_of (map selection_of selects.now)) }
+{
+    match name {
+        Some(own) => use_fault(span, own, selects),
+        None => BindErr::UnknownName(span),
+    }
+}
+
+/// The parts of a word with bits beside it that it doesn't have.
+#[tactic(auto, using(crate::proofs::Rows::row_laws))]
+fn row_parts(alloc: Global, own: Ranged, row: Items<Typed>) -> Result<Items<Part>, NoMemory>
+    ensures { IfOk result (λ parts. parts ≡ map (λ e. part_of own e.node) row) }
+{
+    let mut parts = Items::new(alloc);
+    for typed in row.into_vec() {
+        let part = part_of(alloc, own, typed.node)?;
+        parts.push(part)?;
+    }
+    Ok(parts)
+}
+
+/// The parts of what a name is as an expression.
+#[tactic(auto, using(crate::proofs::Rows::row_laws))]
+fn parts_of(alloc: Global, own: Ranged, node: Node) -> Result<Items<Part>, NoMemory>
+    ensures { IfOk result (λ parts. parts ≡ parts_of own node) }
+{
+    if let Node::Join(row) = node {
+        return row_parts(alloc, own, row);
+    }
+    let part = part_of(alloc, own, node)?;
+    let mut parts = Items::new(alloc);
+    parts.push(part)?;
+    Ok(parts)
+}
+
+/// The left side that a name with its selects is.
+pub(crate) fn name_target(
+    names: &Names<'_>,
+    site: Site,
+    name: &Name,
+    selects: &[Select],
+) -> Result<Left, BindErr>
+    ensures ok { IfOk result (λ l. name_target (names_in names.now) site name.now (selections_of (map selection_of selects.now)) ≡ Ok l) }
+    ensures err { IfErr result (λ fault. Refuses (name_target (names_in names.now) site name.now (selections_of (map selection_of selects.now))) fault) }
+    ensures most { IfOk result (λ l. l.width ≤ 128) }
+{
+    let own = names.find(name);
+    match ranged_of(own) {
+        Some(ranged) => {
+            let typed = names.named(site, name, selects)?;
+            let parts = parts_of(names.allocator(), ranged, typed.node)?;
+            Ok(Left {
+                parts,
+                width: typed.width,
+                named: ranged.signal,
+            })
+        }
+        None => {
+            indexes_at(names, selects)?;
+            Err(no_left_side(site.span, own, selects))
+        }
+    }
+}

@@ -1,0 +1,34 @@
+-- Which design a text means, and what is known of a design that is read.
+use Rattle.std.specs.Prelude.{ℕ, ◌≡◌, ◌≢◌, ◌<◌, ◌^◌, List, length, Option, IfErr, Result}
+use Rattle.design_core.specs.declared.design.Design.{Design}
+use Rattle.design_core.specs.WellFormed.{IsWellFormed}
+use Rattle.design_core.specs.DrivenOnce.{IsDrivenOnce}
+use Rattle.design_core.specs.Reads.{IsOrder}
+use Rattle.front_end.specs.declared.reader.DesignErr.{DesignErr}
+use Rattle.front_end.specs.declared.reader.Ordered.{Ordered}
+use Rattle.front_end.specs.Refusals.{design_status}
+
+-- which design a text means, by the top's name and the clock
+abbrev pub Meaning : Type 1
+Meaning = List ℕ → List ℕ → Option (List ℕ) → Design → Type 0
+
+-- and why it means none
+abbrev pub Refusing : Type 1
+Refusing = List ℕ → List ℕ → Option (List ℕ) → DesignErr → Type 0
+
+-- a design with an order of its drivers: it has one cycle for all samples, states and choices, and its signals and outputs have
+-- numbers
+pub record IsReady (d : Design) (order : List ℕ) : Type 0 where
+  pub well_formed : IsWellFormed d
+  pub once : IsDrivenOnce d
+  pub ordered : IsOrder d order
+  pub signals : length d.signals.items < 2 ^ 32
+  pub outputs : length d.outputs.items < 2 ^ 32
+
+-- a refusal that is no want of memory has a cause
+abbrev pub Refuses : (DesignErr → Type 0) → DesignErr → Type 0
+Refuses R fault = design_status fault ≢ 7 → R fault
+
+-- a design was read, or memory was wanted
+abbrev pub IsRead : Result Ordered DesignErr → Type 0
+IsRead result = IfErr result (λ fault. design_status fault ≡ 7)

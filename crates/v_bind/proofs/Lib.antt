@@ -1,3 +1,0 @@
-pub mod RootLaws
-pub mod WalkLaws
-pub mod BindingLaws

@@ -1,0 +1,5 @@
+pub mod Sizes
+pub mod Circles
+pub mod SameLists
+pub mod OneMeaning
+mod Answers

@@ -1,0 +1,13 @@
+//! The front end for Verilog: from the text of a design to the design with an order of its drivers, or why there is none
+//! (IEEE 1364-2005, clauses 3 to 9, 12 and 19; IEEE 1364.1-2002, clause 5).
+#![tactic(auto)]
+
+mod circle;
+mod design;
+mod laws;
+mod order;
+mod text;
+mod verilog;
+
+pub use laws::{no_refusal, one_design};
+pub use verilog::Verilog;
