@@ -1,14 +1,16 @@
-//! `localise find DESIGN TOP TRACE`: lists every minimal set of suspect statements whose values, freely chosen in each
-//! cycle, make the trace right.
+//! `localise COMMAND ..`: finds the statements of a design that can make its traces right, or simulates them.
 #![tactic(auto)]
 
 use io_ports::{FileShelf, OutSink};
+use loc_base::FreeGate;
 use localise_cmd::run_words;
 use std::alloc::{AllocError, Global};
 use std::env;
 use std::env::{Args, Env};
 use std::io::ErrorKind;
 use std::process::ExitCode;
+use std::thread::Threads;
+use suspect_map::{Blocks, Gates, Granularity, InstanceOutputs, Modules, Statements};
 
 /// The words behind the program's name.
 fn behind_name(alloc: Global, mut words: Args) -> Result<Vec<String>, AllocError> {
@@ -33,8 +35,8 @@ fn first_word<E: Env>(env: &E, alloc: Global) -> Result<Vec<String>, AllocError>
     Ok(words)
 }
 
-/// The words behind the program's name. Where they aren't all UTF-8 they ask for nothing, and so does the first alone: for
-/// a command that isn't known, or for want of the words behind it.
+/// The words behind the program's name. Where they aren't all UTF-8 they ask for nothing, and so does the first
+/// alone: for a command that isn't known, or for want of the words behind it.
 fn words_of(rt: &HostRuntime) -> Result<Vec<String>, AllocError> {
     match env::args(rt) {
         Ok(words) => behind_name(rt.alloc(), words),
@@ -43,13 +45,30 @@ fn words_of(rt: &HostRuntime) -> Result<Vec<String>, AllocError> {
     }
 }
 
-fn main(rt: HostRuntime) -> ExitCode {
+/// Carries out the words behind the program's name, with the five kinds of suspects of Verilog texts.
+/// `threads` is the runtime, as what starts threads.
+fn status_of<R: Threads + Sync>(threads: &R, rt: &HostRuntime) -> Result<u8, AllocError> {
     let alloc = rt.alloc();
-    let mut shelf = FileShelf::new(&rt, alloc);
-    let mut out = OutSink::new(&rt);
-    let status = match words_of(&rt) {
-        Ok(words) => run_words(alloc, words.as_slice(), &mut shelf, &mut out),
-        Err(AllocError) => 7,
-    };
-    ExitCode::from(status)
+    let words = words_of(rt)?;
+    let mut kinds: Vec<Box<dyn Granularity>> = Vec::new(alloc);
+    kinds.push(Box::new(alloc, Statements)?)?;
+    kinds.push(Box::new(alloc, Blocks)?)?;
+    kinds.push(Box::new(alloc, Gates)?)?;
+    kinds.push(Box::new(alloc, InstanceOutputs)?)?;
+    kinds.push(Box::new(alloc, Modules)?)?;
+    let mut shelf = FileShelf::new(rt, alloc);
+    let mut out = OutSink::new(rt);
+    Ok(run_words(
+        threads,
+        alloc,
+        words.as_slice(),
+        kinds.as_slice(),
+        &mut shelf,
+        &mut out,
+        &FreeGate,
+    ))
+}
+
+fn main(rt: HostRuntime) -> ExitCode {
+    ExitCode::from(status_of(&rt, &rt).unwrap_or(7))
 }

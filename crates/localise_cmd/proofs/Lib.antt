@@ -1,10 +1,2 @@
-pub mod Ready
-pub mod SameModule
-pub mod SourceTexts
-pub mod AlikeDesigns
-pub mod Refusing
-pub mod ShownSets
-pub mod Ended
-pub mod Outcomes
-pub mod Statuses
-pub mod InOrder
+pub mod Keeping
+pub mod Cases

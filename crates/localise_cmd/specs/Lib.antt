@@ -1,11 +1,3 @@
-pub mod Words
-pub mod Asked
-pub mod Views
-pub mod Lines
-pub mod Report
-pub mod Means
-pub mod Inputs
-pub mod Listed
-pub mod Outcome
-pub mod Ends
-pub mod Statuses
+pub mod Usage
+pub mod Commands
+pub mod Prints

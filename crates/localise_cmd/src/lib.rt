@@ -1,17 +1,8 @@
-//! The commands of the program, from the words behind its name to the lines and texts that it writes.
+//! The top call: what the words behind the program's name ask for is read, and carried out by its command.
 #![tactic(auto)]
 
-mod ending;
-mod inputs;
 mod lines;
-mod listing;
-mod outcome;
-mod prints;
-mod refusal;
-mod report;
-mod request;
+mod requests;
 mod run;
-mod sources;
-mod words;
 
 pub use run::run_words;

@@ -1,4 +1,4 @@
-//! Tests of `localise_cmd`: runs over a shelf and a sink in memory.
+//! Tests of `localise_cmd`: the words of each command, over a shelf and a sink in memory.
 #![tactic(auto)]
 
 #[cfg(test)]

@@ -1,4 +1,0 @@
-pub mod WireLaws
-pub mod OutputLaws
-pub mod OrderLaws
-pub mod PlainNames

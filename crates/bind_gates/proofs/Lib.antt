@@ -1,2 +1,0 @@
-pub mod BitSteps
-pub mod TerminalSteps

@@ -1,4 +1,0 @@
-pub mod Homes
-pub mod Addressed
-pub mod Written
-pub mod TreeTargets

@@ -1,3 +1,0 @@
-pub mod Held
-pub mod Seen
-pub mod Refuses

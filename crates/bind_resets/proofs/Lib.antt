@@ -1,4 +1,0 @@
-pub mod StepLaws
-pub mod NameLaws
-pub mod EdgeLaws
-pub mod ArmLaws

@@ -1,3 +1,0 @@
-pub mod NamesBack
-pub mod SocketLaws
-pub mod ChildLaws

@@ -1,7 +1,0 @@
-use Rattle.std.proofs.Common.{◌≡◌, ◌-◌, map, length, drop}
-use Rattle.bind_names.specs.Held.{known_of}
-use Rattle.bind_names.specs.Seen.{names_in}
-use Rattle.bind_sockets.proofs.sockets.names_of.Given as goal
-
-abbrev pub invariant-loop-back : goal.invariant-loop-back
-invariant-loop-back l = names_in l.names ≡ map known_of (drop (length l.list - l.back) l.list)

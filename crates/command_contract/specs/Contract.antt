@@ -1,0 +1,90 @@
+-- What a command promises of a run that ends with a status: one record, a field for each promise. What it is to print and to
+-- write, and when it is refused, is the command's own case.
+use Rattle.std.specs.Prelude.{ℕ, ◌≡◌, ◌≤◌, ◌⊎◌, ◌++◌, Bool, true, List, Option}
+use Rattle.io_ports.specs.Faults.{Rose}
+
+-- texts by their names
+abbrev pub Texts : Type 0
+Texts = List ℕ → Option (List ℕ)
+
+-- the counts of faults of the shelf and of the sink, before a run and after it
+pub record Counts : Type 0 where
+  pub shelf : ℕ
+  pub now_shelf : ℕ
+  pub sink : ℕ
+  pub now_sink : ℕ
+
+-- a run: the texts that it may read, the texts that stand written and the text on the sink before and after it, the counts of
+-- faults, and whether shelf and sink tell their texts
+pub record Run : Type 0 where
+  pub texts : Texts
+  pub written : Texts
+  pub now_written : Texts
+  pub printed : List ℕ
+  pub now_printed : List ℕ
+  pub counts : Counts
+  pub told : Bool
+
+abbrev pub NoneRose : Counts → Type 0
+NoneRose counts = (counts.now_shelf ≡ counts.shelf) × (counts.now_sink ≡ counts.sink)
+
+abbrev pub OneRose : Counts → Type 0
+OneRose counts = Rose counts.shelf counts.now_shelf ⊎ Rose counts.sink counts.now_sink
+
+-- ---- a command
+pub record Case : Type 1 where
+  -- the statuses of its answers
+  pub MayAnswer : ℕ → Type 0
+  -- what a run that answers leaves, by its status
+  pub Answered : Run → ℕ → Type 0
+  -- a run is refused, with a status and a line
+  pub Refused : Run → ℕ → List ℕ → Type 0
+  -- what a run leaves that a fault of writing ends, with the count that rose
+  pub Stopped : Run → Type 0
+  -- what a run leaves that want of memory ends
+  pub Cut : Run → Type 0
+  -- the names of the texts that it may write
+  pub Writes : List ℕ → Type 0
+  -- nothing stands against a run
+  pub Ready : Run → Type 0
+
+-- ---- the promises
+-- 2: the words ask for nothing; 3: a text is refused; 4: a limit is passed; 5: a text can't be read
+abbrev pub IsRefusal : ℕ → Type 0
+IsRefusal status = (status ≡ 2) ⊎ ((status ≡ 3) ⊎ ((status ≡ 4) ⊎ (status ≡ 5)))
+
+-- an answer, a refusal, a fault of writing, or want of memory
+abbrev pub IsStatus : Case → ℕ → Type 0
+IsStatus c status = c.MayAnswer status ⊎ (IsRefusal status ⊎ ((status ≡ 6) ⊎ (status ≡ 7)))
+
+-- nothing was printed but a refusal's line, whose cause holds, and nothing was written
+pub record EndsRefused (c : Case) (run : Run) (status : ℕ) : Type 0 where
+  pub line : List ℕ
+  pub refused : c.Refused run status line
+  pub printed : run.now_printed ≡ run.printed ++ line
+  pub nothing_written : run.now_written ≡ run.written
+
+-- the counts of faults: none rose at an answer and at 2 to 4, the shelf's alone at 5, one at 6, and the sink's did not at 7
+pub record Causes (c : Case) (counts : Counts) (status : ℕ) : Type 0 where
+  pub answer : c.MayAnswer status → NoneRose counts
+  pub none : status ≤ 4 → NoneRose counts
+  pub read : status ≡ 5 → Rose counts.shelf counts.now_shelf × (counts.now_sink ≡ counts.sink)
+  pub write : status ≡ 6 → OneRose counts
+  pub memory : status ≡ 7 → counts.now_sink ≡ counts.sink
+
+pub record Keeps (c : Case) (run : Run) (status : ℕ) : Type 0 where
+  pub is_status : IsStatus c status
+  -- an answer: what is due was done
+  pub answered : run.told ≡ true → c.MayAnswer status → c.Answered run status
+  -- 2 to 5: for the cause that is printed
+  pub refused : run.told ≡ true → IsRefusal status → EndsRefused c run status
+  -- 6: writing failed
+  pub stopped : run.told ≡ true → status ≡ 6 → c.Stopped run
+  -- 7: memory was wanted
+  pub cut : run.told ≡ true → status ≡ 7 → c.Cut run
+  -- a text that it may not write is as it was
+  pub others : run.told ≡ true → (name : List ℕ) → ¬ c.Writes name → run.now_written name ≡ run.written name
+  -- the counts of faults
+  pub causes : Causes c run.counts status
+  -- where nothing stands against it and no count rises the run answers, or memory was wanted
+  pub complete : run.told ≡ true → c.Ready run → ¬ OneRose run.counts → c.MayAnswer status ⊎ (status ≡ 7)

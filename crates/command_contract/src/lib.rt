@@ -1,0 +1,2 @@
+//! What every command of the program promises: definitions alone (`specs/Contract.antt`).
+#![tactic(auto)]

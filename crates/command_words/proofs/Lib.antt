@@ -1,0 +1,5 @@
+mod Examples
+pub mod Reading
+pub mod Numerals
+pub mod Holding
+pub mod Commands

@@ -1,0 +1,9 @@
+pub mod Requests
+pub mod Means
+pub mod Refusals
+pub mod Lines
+pub mod Report
+pub mod Finding
+pub mod Inputs
+pub mod Listed
+pub mod Ends

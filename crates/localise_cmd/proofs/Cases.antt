@@ -1,0 +1,71 @@
+-- What the words ask for, as a case.
+use Rattle.std.proofs.Common.{ℕ, ◌≡◌, ◌++◌, ◌⊎◌, List, [], true, sym, subst, refl, ◌∙◌, inl, inr, arith, Result, Ok, Err}
+use Rattle.std.proofs.lemmas.List.{append-nil}
+use Rattle.refusal_lines.specs.Refusals.{memory_line}
+use Rattle.command_contract.specs.Contract.{Keeps, Run}
+use Rattle.command_words.specs.declared.requests.Usage.{Usage}
+use Rattle.command_words.specs.Asked.{Asked, FindAsked, SimAsked, find, sim}
+use Rattle.find_cmd.proofs.BeforeList.{memory-fails}
+use Rattle.find_cmd.specs.Requests.{Asked as Finding}
+use Rattle.find_cmd.specs.Finding.{finding}
+use Rattle.front_end.specs.Means.{Meaning, Refusing}
+use Rattle.sim_cmd.specs.Requests.{Asked as Simulating}
+use Rattle.sim_cmd.specs.Simulation.{simulation}
+use Rattle.localise_cmd.specs.Usage.{no_request}
+use Rattle.localise_cmd.specs.Commands.{case_of, finding_of, simulating_of}
+use Rattle.localise_cmd.proofs.Keeping.{AllowsMemory}
+
+-- ---- a command
+module _ (M : Meaning) (R : Refusing) (asked : Result Asked Usage) (run : Run) (status : ℕ) where
+  pub find-keeps : (words : FindAsked) (request : Finding) → asked ≡ Ok (find words) → request ≡ finding_of words
+      → Keeps (finding request) run status → Keeps (case_of M R asked) run status
+  find-keeps words request is same keeps =
+      subst (λ (a : Result Asked Usage). Keeps (case_of M R a) run status) (sym is)
+      (subst (λ (r : Finding). Keeps (finding r) run status) same keeps)
+
+  pub sim-keeps : (words : SimAsked) (request : Simulating) → asked ≡ Ok (sim words) → request ≡ simulating_of words
+      → Keeps (simulation M R request) run status → Keeps (case_of M R asked) run status
+  sim-keeps words request is same keeps =
+      subst (λ (a : Result Asked Usage). Keeps (case_of M R a) run status) (sym is)
+      (subst (λ (r : Simulating). Keeps (simulation M R r) run status) same keeps)
+
+  pub no_request-keeps : (usage : Usage) → asked ≡ Err usage → Keeps (no_request usage) run status
+      → Keeps (case_of M R asked) run status
+  no_request-keeps usage is keeps =
+      subst (λ (a : Result Asked Usage). Keeps (case_of M R a) run status) (sym is) keeps
+
+-- ---- want of memory before anything is read
+pub allows-memory : (M : Meaning) (R : Refusing) (asked : Result Asked Usage) (run : Run)
+    → run.now_written ≡ run.written → run.counts.now_shelf ≡ run.counts.shelf → AllowsMemory (case_of M R asked) run
+allows-memory M R (Ok (find asked)) run written shelf = record {
+  answer = λ status is. is;
+  stopped = λ told rose front. inr (inr (memory-fails (finding_of asked) run rose shelf front written));
+  cut = λ told text. inr (record {
+    printed = elim text [ inl same ↦ inl same | inr put ↦ inr (put, shelf) ];
+    nothing_written = written;
+  });
+}
+allows-memory M R (Ok (sim asked)) run written shelf = record {
+  answer = λ status is. is;
+  stopped = λ told rose front. record {
+    due = memory_line;
+    is_due = inr (inr (inr (inl refl)));
+    printed = front;
+    sink_failed = rose;
+    nothing_written = written;
+  };
+  cut = λ told text. elim text [
+    | inl same ↦ record {
+      front = [];
+      may_stand = inl refl;
+      printed = same ∙ sym (append-nil run.printed);
+      nothing_written = written;
+    }
+    | inr put ↦ record { front = memory_line; may_stand = inr (inl refl); printed = put; nothing_written = written }
+  ];
+}
+allows-memory M R (Err usage) run written shelf = record {
+  answer = λ status may. absurd may;
+  stopped = λ told rose front. record { sink_failed = rose; printed = inr front; nothing_written = written };
+  cut = λ told text. record { printed = text; nothing_written = written };
+}

@@ -1,0 +1,138 @@
+-- The promises of a run that prints one line: what is wrong with the words, or that memory was wanted before anything
+-- was read.
+use Rattle.std.proofs.Common.{ℕ, ◌≡◌, ◌++◌, ◌⊎◌, Bool, true, List, [], ap, sym, refl, ◌∙◌, arith, inl, inr}
+use Rattle.io_ports.specs.Faults.{Rose}
+use Rattle.io_ports.specs.Shelf.{AppendsFront}
+use Rattle.refusal_lines.specs.Refusals.{memory_line}
+use Rattle.command_contract.specs.Contract.{Case, Causes, Counts, IsRefusal, IsStatus, Keeps, NoneRose, OneRose, Run}
+use Rattle.command_words.specs.declared.requests.Usage.{Usage}
+use Rattle.localise_cmd.specs.declared.lines.Printed.{Printed}
+use Rattle.localise_cmd.specs.declared.lines.Printed.TheVariants.{Whole, Failed, NoMemory}
+use Rattle.localise_cmd.specs.Usage.{SaysUsage, UsageCut, UsageStopped, no_request, usage_line}
+use Rattle.localise_cmd.specs.Prints.{PrintCause, Prints, printed_status}
+
+-- 6 and 7 are no refusals
+six-no_refusal : IsRefusal 6 → ⊥
+six-no_refusal (inl e) = omega (arith, e)
+six-no_refusal (inr (inl e)) = omega (arith, e)
+six-no_refusal (inr (inr (inl e))) = omega (arith, e)
+six-no_refusal (inr (inr (inr e))) = omega (arith, e)
+
+seven-no_refusal : IsRefusal 7 → ⊥
+seven-no_refusal (inl e) = omega (arith, e)
+seven-no_refusal (inr (inl e)) = omega (arith, e)
+seven-no_refusal (inr (inr (inl e))) = omega (arith, e)
+seven-no_refusal (inr (inr (inr e))) = omega (arith, e)
+
+-- ---- words that ask for nothing
+pub usage-keeps : (usage : Usage) (run : Run) (printed : Printed)
+    → (run.told ≡ true → Prints (usage_line usage) run.printed run.now_printed printed)
+    → PrintCause run.counts.sink run.counts.now_sink printed
+    → run.now_written ≡ run.written → run.counts.now_shelf ≡ run.counts.shelf
+    → Keeps (no_request usage) run (printed_status 2 printed)
+usage-keeps usage run Whole text cause written shelf = record {
+  is_status = inr (inl (inl refl));
+  answered = λ told may. absurd may;
+  refused = λ told is. record {
+    line = usage_line usage;
+    refused = record { has_status = refl; has_line = refl };
+    printed = text told;
+    nothing_written = written;
+  };
+  stopped = λ told e. absurd (omega (arith, e));
+  cut = λ told e. absurd (omega (arith, e));
+  others = λ told name no. ap (λ texts. texts name) written;
+  causes = record {
+    answer = λ may. absurd may;
+    none = λ low. (shelf, cause);
+    read = λ e. absurd (omega (arith, e));
+    write = λ e. absurd (omega (arith, e));
+    memory = λ e. absurd (omega (arith, e));
+  };
+  complete = λ told ready none. absurd ready;
+}
+usage-keeps usage run Failed text cause written shelf = record {
+  is_status = inr (inr (inl refl));
+  answered = λ told may. absurd may;
+  refused = λ told is. absurd (six-no_refusal is);
+  stopped = λ told e. record { sink_failed = cause; printed = inl (text told); nothing_written = written };
+  cut = λ told e. absurd (omega (arith, e));
+  others = λ told name no. ap (λ texts. texts name) written;
+  causes = record {
+    answer = λ may. absurd may;
+    none = λ low. absurd (omega (arith, low));
+    read = λ e. absurd (omega (arith, e));
+    write = λ e. inr cause;
+    memory = λ e. absurd (omega (arith, e));
+  };
+  complete = λ told ready none. absurd ready;
+}
+usage-keeps usage run NoMemory text cause written shelf = record {
+  is_status = inr (inr (inr refl));
+  answered = λ told may. absurd may;
+  refused = λ told is. absurd (seven-no_refusal is);
+  stopped = λ told e. absurd (omega (arith, e));
+  cut = λ told e. record { printed = inl (text told); nothing_written = written };
+  others = λ told name no. ap (λ texts. texts name) written;
+  causes = record {
+    answer = λ may. absurd may;
+    none = λ low. absurd (omega (arith, low));
+    read = λ e. absurd (omega (arith, e));
+    write = λ e. absurd (omega (arith, e));
+    memory = λ e. cause;
+  };
+  complete = λ told ready none. absurd ready;
+}
+
+-- ---- want of memory before anything is read
+-- what a case says of such a run: its only answer is 0, and it allows `memory`, a front of it, or nothing
+pub record AllowsMemory (c : Case) (run : Run) : Type 0 where
+  pub answer : (status : ℕ) → c.MayAnswer status → status ≡ 0
+  pub stopped : run.told ≡ true → Rose run.counts.sink run.counts.now_sink
+      → AppendsFront memory_line run.printed run.now_printed → c.Stopped run
+  pub cut : run.told ≡ true → (run.now_printed ≡ run.printed) ⊎ (run.now_printed ≡ run.printed ++ memory_line)
+      → c.Cut run
+
+at-seven : (c : Case) (run : Run) → AllowsMemory c run → run.now_written ≡ run.written
+    → run.counts.now_sink ≡ run.counts.sink
+    → (run.told ≡ true → (run.now_printed ≡ run.printed) ⊎ (run.now_printed ≡ run.printed ++ memory_line))
+    → Keeps c run 7
+at-seven c run allows written sink text = record {
+  is_status = inr (inr (inr refl));
+  answered = λ told may. absurd (let zero = allows.answer 7 may in omega (arith, zero));
+  refused = λ told is. absurd (seven-no_refusal is);
+  stopped = λ told e. absurd (omega (arith, e));
+  cut = λ told e. allows.cut told (text told);
+  others = λ told name no. ap (λ texts. texts name) written;
+  causes = record {
+    answer = λ may. absurd (let zero = allows.answer 7 may in omega (arith, zero));
+    none = λ low. absurd (omega (arith, low));
+    read = λ e. absurd (omega (arith, e));
+    write = λ e. absurd (omega (arith, e));
+    memory = λ e. sink;
+  };
+  complete = λ told ready none. inr refl;
+}
+
+pub memory-keeps : (c : Case) (run : Run) (printed : Printed) → AllowsMemory c run
+    → (run.told ≡ true → Prints memory_line run.printed run.now_printed printed)
+    → PrintCause run.counts.sink run.counts.now_sink printed → run.now_written ≡ run.written
+    → Keeps c run (printed_status 7 printed)
+memory-keeps c run Whole allows text cause written = at-seven c run allows written cause (λ told. inr (text told))
+memory-keeps c run NoMemory allows text cause written = at-seven c run allows written cause (λ told. inl (text told))
+memory-keeps c run Failed allows text cause written = record {
+  is_status = inr (inr (inl refl));
+  answered = λ told may. absurd (let zero = allows.answer 6 may in omega (arith, zero));
+  refused = λ told is. absurd (six-no_refusal is);
+  stopped = λ told e. allows.stopped told cause (text told);
+  cut = λ told e. absurd (omega (arith, e));
+  others = λ told name no. ap (λ texts. texts name) written;
+  causes = record {
+    answer = λ may. absurd (let zero = allows.answer 6 may in omega (arith, zero));
+    none = λ low. absurd (omega (arith, low));
+    read = λ e. absurd (omega (arith, e));
+    write = λ e. inr cause;
+    memory = λ e. absurd (omega (arith, e));
+  };
+  complete = λ told ready none. absurd (none (inr cause));
+}

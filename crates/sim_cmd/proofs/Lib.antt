@@ -1,0 +1,6 @@
+pub mod Ready
+pub mod Loaded
+pub mod Ending
+pub mod Statuses
+pub mod Counting
+pub mod Keeping

@@ -1,0 +1,140 @@
+-- The case of a simulation: it prints the lines of the traces, for the design and the traces that the texts mean.
+use Rattle.std.specs.Prelude.{ℕ, ◌+◌, ◌≡◌, ◌≢◌, ◌<◌, ◌⊎◌, List, [], ◌++◌, All, length, take, slice_get}
+use Rattle.std.specs.Prelude.{Bool, Option, Some, IsSomeAnd}
+use Rattle.io_ports.specs.Faults.{Rose}
+use Rattle.io_ports.specs.Shelf.{AppendsFront}
+use Rattle.command_contract.specs.Contract.{Case, Counts, Run, Texts}
+use Rattle.design_core.specs.declared.design.Design.{Design}
+use Rattle.design_core.specs.declared.trace.Trace.{Trace}
+use Rattle.vcd_reading.specs.declared.error.VcdErr.TheVariants as vcd
+use Rattle.vcd_traces.specs.Samples.{IsRefused}
+use Rattle.refusal_lines.specs.Refusals.{memory_line}
+use Rattle.sim_lines.specs.Lines.{AreLines, Line, text_of}
+use Rattle.front_end.specs.Means.{Meaning, Refuses, Refusing}
+use Rattle.sim_cmd.specs.declared.refusal.LoadFault.{LoadFault}
+use Rattle.sim_cmd.specs.declared.refusal.LoadFault.TheVariants as load
+use Rattle.sim_cmd.specs.declared.refusal.DesignFault.{DesignFault}
+use Rattle.sim_cmd.specs.declared.refusal.DesignFault.TheVariants as design
+use Rattle.sim_cmd.specs.declared.refusal.TraceFault.{TraceFault}
+use Rattle.sim_cmd.specs.declared.refusal.TraceFault.TheVariants as trace
+use Rattle.sim_cmd.specs.Requests.{Asked}
+use Rattle.sim_cmd.specs.Means.{IsReadAnd, Means, MeansDesign, MeanTraces, MeansTrace, most_bytes}
+use Rattle.sim_cmd.specs.Refusals.{design_fault_line, design_fault_status, trace_fault_line, trace_fault_status}
+
+-- ---- what is simulated
+pub record Simulated (M : Meaning) (asked : Asked) (texts : Texts) (lines : List Line) : Type 0 where
+  pub design : Design
+  pub traces : List Trace
+  pub means : Means M asked texts design traces
+  pub are : AreLines design 1 traces lines
+
+-- ---- refusals
+-- a text that isn't handed over: too big only where it is; of a fault and of want of memory nothing is said here
+abbrev pub LoadCause : Option (List ℕ) → LoadFault → Type 0
+LoadCause text load.Size = IsSomeAnd text (λ bytes. most_bytes < length bytes)
+LoadCause text load.Fault = Unit {0}
+LoadCause text load.NoMemory = Unit {0}
+
+-- the design's text is refused: it isn't handed over, or it is, and means no design
+abbrev pub DesignCause : Refusing → Asked → Texts → DesignFault → Type 0
+DesignCause R asked texts (design.Load fault) = LoadCause (texts asked.design) fault
+DesignCause R asked texts (design.Text fault) =
+    IsReadAnd (texts asked.design) (λ text. Refuses (R text asked.top asked.clock) fault)
+
+-- and that of a trace
+abbrev pub TraceCause : Option (List ℕ) → Design → Option (List ℕ) → TraceFault → Type 0
+TraceCause text d clock (trace.Load fault) = LoadCause text fault
+TraceCause text d clock (trace.Text fault) =
+    IsReadAnd text (λ bytes. fault ≢ vcd.NoMemory → IsRefused bytes d clock fault)
+
+-- the design's text means a design, those of the traces before one mean traces of it, and that one's is refused
+pub record TraceRefused (M : Meaning) (asked : Asked) (texts : Texts)
+    (d : Design) (place : ℕ) (name : List ℕ) (fault : TraceFault) : Type 0 where
+  pub design : MeansDesign M asked texts d
+  pub before : List Trace
+  pub mean : MeanTraces texts asked.clock d (take place asked.traces) before
+  pub at : slice_get asked.traces place ≡ Some name
+  pub cause : TraceCause (texts name) d asked.clock fault
+
+-- a refusal with its status and its line: traces are counted from 1
+pub data Refused (M : Meaning) (R : Refusing) (asked : Asked) (texts : Texts) : ℕ → List ℕ → Type 0 where
+  for_design : (fault : DesignFault) → DesignCause R asked texts fault
+      → Refused M R asked texts (design_fault_status fault) (design_fault_line asked.design fault)
+  for_trace : (d : Design) (place : ℕ) (name : List ℕ) (fault : TraceFault)
+      → TraceRefused M asked texts d place name fault
+      → Refused M R asked texts (trace_fault_status fault) (trace_fault_line d.signals.items name (place + 1) fault)
+
+-- ---- want of memory, and a put that fails
+-- some of the lines, from the first one on, and `memory`, where there was memory for that
+pub record SomeLines (M : Meaning) (asked : Asked) (texts : Texts) (front : List ℕ) : Type 0 where
+  pub lines : List Line
+  pub simulated : Simulated M asked texts lines
+  pub count : ℕ
+  pub is : (front ≡ text_of (take count lines)) ⊎ (front ≡ text_of (take count lines) ++ memory_line)
+
+abbrev pub MayStand : Meaning → Asked → Texts → List ℕ → Type 0
+MayStand M asked texts front = (front ≡ []) ⊎ ((front ≡ memory_line) ⊎ SomeLines M asked texts front)
+
+-- all lines, or a refusal's, or what stands where memory was wanted
+abbrev pub IsDue : Meaning → Refusing → Asked → Texts → List ℕ → Type 0
+IsDue M R asked texts due =
+    ((lines : List Line) × Simulated M asked texts lines × (due ≡ text_of lines))
+    ⊎ (((status : ℕ) × Refused M R asked texts status due) ⊎ MayStand M asked texts due)
+
+-- ---- the case
+-- all lines are printed, each once and in order, and nothing is written
+pub record IsDone (M : Meaning) (asked : Asked) (run : Run) : Type 0 where
+  pub lines : List Line
+  pub simulated : Simulated M asked run.texts lines
+  pub printed : run.now_printed ≡ run.printed ++ text_of lines
+  pub nothing_written : run.now_written ≡ run.written
+
+-- the sink failed: a front of what was due is printed, and nothing is written
+pub record IsStopped (M : Meaning) (R : Refusing) (asked : Asked) (run : Run) : Type 0 where
+  pub due : List ℕ
+  pub is_due : IsDue M R asked run.texts due
+  pub printed : AppendsFront due run.printed run.now_printed
+  pub sink_failed : Rose run.counts.sink run.counts.now_sink
+  pub nothing_written : run.now_written ≡ run.written
+
+-- memory was wanted: some of what was due is printed, in whole lines, and nothing is written
+pub record IsCut (M : Meaning) (asked : Asked) (run : Run) : Type 0 where
+  pub front : List ℕ
+  pub may_stand : MayStand M asked run.texts front
+  pub printed : run.now_printed ≡ run.printed ++ front
+  pub nothing_written : run.now_written ≡ run.written
+
+-- the design's text means a design, and for each design that it means each of the traces' texts means a trace of it
+pub record IsReady (M : Meaning) (asked : Asked) (texts : Texts) : Type 0 where
+  pub design : Design
+  pub means : MeansDesign M asked texts design
+  pub traces : (d : Design) → MeansDesign M asked texts d
+      → All (λ name. (found : Trace) × MeansTrace texts asked.clock d name found) asked.traces
+
+-- its only answer is 0, and it may write no text
+abbrev pub simulation : Meaning → Refusing → Asked → Case
+simulation M R asked = record {
+  MayAnswer = λ status. status ≡ 0;
+  Answered = λ run status. IsDone M asked run;
+  Refused = λ run. Refused M R asked run.texts;
+  Stopped = IsStopped M R asked;
+  Cut = IsCut M asked;
+  Writes = λ name. ⊥;
+  Ready = λ run. IsReady M asked run.texts;
+}
+
+-- ---- a run, from what shelf and sink tell before and after it
+abbrev pub counts_of : ℕ → ℕ → ℕ → ℕ → Counts
+counts_of shelf now_shelf sink now_sink =
+    record { shelf = shelf; now_shelf = now_shelf; sink = sink; now_sink = now_sink }
+
+abbrev pub run_of : Bool → Texts → Texts → Texts → List ℕ → List ℕ → Counts → Run
+run_of told texts written now_written printed now_printed counts = record {
+  texts = texts;
+  written = written;
+  now_written = now_written;
+  printed = printed;
+  now_printed = now_printed;
+  counts = counts;
+  told = told;
+}
