@@ -1,7 +1,8 @@
 #!/usr/bin/env python3
-"""Runs the built program on each example and compares what it prints with expected.txt, and both with a list that this
-script makes by itself: it reads the design and the dump in its own way and tries every set of assignments with every
-choice of values.
+"""Runs the built program on each example and compares what it prints with expected.txt, and both with what this script
+finds by itself. Of the examples for `find` it makes the list: it reads the design and the dump in its own way and tries
+every set of assignments with every choice of values. Of `uart`, for `sim`, it has the lines from Icarus Verilog, where
+that is installed: a run of the design, sampled before each rising edge, beside what the dump wants.
 
     examples/check.py [PROGRAM]
 
@@ -12,6 +13,7 @@ one isn't.
 import itertools
 import os
 import re
+import shutil
 import subprocess
 import sys
 import tempfile
@@ -128,11 +130,72 @@ def check(program, name):
     return not faults
 
 
+def read_samples(path, scope, clock):
+    """The levels of a scope's variables before each rising edge of the clock, as numbers by name; None where one is unknown."""
+    with open(path) as text:
+        header, body = text.read().split("$enddefinitions $end")
+    names, scopes = {}, []
+    for section in header.split("$end\n"):
+        words = section.split()
+        if words[:1] == ["$scope"]:
+            scopes.append(words[2])
+        elif words[:1] == ["$upscope"]:
+            scopes.pop()
+        elif words[:1] == ["$var"] and scopes[-1] == scope:
+            names[words[3]] = words[4]
+    samples, now = [], {}
+    for changes in re.split(r"^#\d+$", body, flags=re.MULTILINE)[1:]:
+        before = dict(now)
+        for vector, code, level, other in re.findall(r"^b(\S+) (\S+)$|^([01xz])(\S+)$", changes, re.MULTILINE):
+            digits, name = (vector, code) if vector else (level, other)
+            now[names[name]] = int(digits, 2) if set(digits) <= set("01") else None
+        if before.get(clock) == 0 and now[clock] == 1:
+            samples.append(before)
+    return samples
+
+
+def simulated(folder, icarus):
+    """What `sim` is to print of the transmitter."""
+    with tempfile.TemporaryDirectory() as scratch:
+        test = os.path.join(scratch, "test")
+        texts = [os.path.join(folder, name) for name in ("record.v", "uart_tx.v")]
+        subprocess.run([icarus, *texts, "-o", test], check=True)
+        subprocess.run([test], cwd=scratch, check=True, capture_output=True)
+        given = read_samples(os.path.join(scratch, "uart_tx.vcd"), "transmitter", "clk")
+    wanted = read_samples(os.path.join(folder, "uart_tx.vcd"), "transmitter", "clk")
+    lines, end = [], "trace 1 ok"
+    for cycle, (now, right) in enumerate(zip(given, wanted)):
+        lines.append("1 %d tx=%x busy=%x" % (cycle, now["tx"], now["busy"]))
+        wrong = [name for name in ("tx", "busy") if right[name] is not None and right[name] != now[name]]
+        if wrong and end == "trace 1 ok":
+            end = "trace 1 miss %d %s" % (cycle, wrong[0])
+    return "".join(line + "\n" for line in lines + [end])
+
+
+def check_simulation(program):
+    folder = os.path.join(HERE, "uart")
+    design, dump = os.path.join(folder, "uart_tx.v"), os.path.join(folder, "uart_tx.vcd")
+    with open(os.path.join(folder, "expected.txt")) as text:
+        expected = text.read()
+    run = subprocess.run([program, "sim", design, "uart_tx", dump, "--clock", "clk"], capture_output=True, text=True)
+    faults = []
+    if run.returncode != 0:
+        faults.append("status %d" % run.returncode)
+    if run.stdout != expected:
+        faults.append("printed other lines than expected.txt")
+    icarus = shutil.which("iverilog")
+    if icarus and simulated(folder, icarus) != expected:
+        faults.append("expected.txt isn't what Icarus Verilog gives")
+    beside = "right, as Icarus Verilog has it" if icarus else "as expected.txt has it"
+    print("uart: %s" % (", ".join(faults) or "%d lines, %s" % (len(expected.splitlines()), beside)))
+    return not faults
+
+
 def main():
     program = os.path.abspath(sys.argv[1] if len(sys.argv) > 1 else BUILT)
     if not os.path.exists(program):
         sys.exit("no program at %s; build it first" % program)
-    rights = [check(program, name) for name in EXAMPLES]
+    rights = [check_simulation(program)] + [check(program, name) for name in EXAMPLES]
     print("%d examples right" % sum(rights))
     sys.exit(0 if all(rights) else 1)
 
