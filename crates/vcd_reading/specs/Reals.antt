@@ -38,9 +38,9 @@ is_at_end (Some (byte ∷ bytes)) = false
 unfoldable pub is_decimal_number : List ℕ → Bool
 is_decimal_number bytes = is_at_end (option_and_then past_exponent (option_and_then past_fraction (past_digits bytes)))
 
--- `inf` and `nan` as C prints them, and `NaN` as Icarus Verilog writes a real while the dump is switched off
+-- `inf` and `nan`, as C's `%g` prints them
 abbrev pub is_no_number : List ℕ → Bool
-is_no_number bytes = same_bytes bytes (codes "inf") || same_bytes bytes (codes "nan") || same_bytes bytes (codes "NaN")
+is_no_number bytes = same_bytes bytes (codes "inf") || same_bytes bytes (codes "nan")
 
 -- a sign if any, and a decimal number or what stands for none
 unfoldable pub is_real : List ℕ → Bool

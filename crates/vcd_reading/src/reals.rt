@@ -80,10 +80,10 @@ fn is_decimal_number(bytes: &[u8]) -> bool
 fn is_no_number(bytes: &[u8]) -> bool
     ensures { result ≡ is_no_number bytes.now }
 {
-    bytes == b"inf".as_slice() || bytes == b"nan".as_slice() || bytes == b"NaN".as_slice()
+    bytes == b"inf".as_slice() || bytes == b"nan".as_slice()
 }
 
-/// Whether a word is a real number: a sign if any, and a decimal number, `inf`, `nan` or `NaN`.
+/// Whether a word is a real number: a sign if any, and a decimal number, `inf` or `nan`.
 #[tactic(auto, unfolding(crate::specs::Reals::is_real))]
 pub fn is_real(bytes: &[u8]) -> bool
     ensures { result ≡ is_real bytes.now }

@@ -50,6 +50,15 @@ pub fn follower(rt: &impl Abort, alloc: Global) -> Result<Design, Fail> {
     Ok(design)
 }
 
+/// A clock, inputs `a` of 2 bits and `b` of 3, and an output `q` of 4 bits.
+pub fn joiner(rt: &impl Abort, alloc: Global) -> Result<Design, Fail> {
+    let mut design = design(rt, alloc, &[("clk", 1), ("a", 2), ("b", 3), ("q", 4)])?;
+    design.inputs.push(1)?;
+    design.inputs.push(2)?;
+    design.outputs.push(3)?;
+    Ok(design)
+}
+
 /// The samples and the expected values, these with their known bits.
 fn rows(alloc: Global, trace: &Trace) -> Result<String, Fail> {
     let mut text = format!(in alloc; "{}:", trace.cycles)?;

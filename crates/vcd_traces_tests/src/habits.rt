@@ -88,7 +88,7 @@ const CHANGES: [Row; 17] = [
         b"1: 1 3/15",
     ),
     (
-        b"#0 0! 1\" b11 # r-1.5e+3 $ Rinf $ rnan $ rNaN $ s $ sidle $ s1! % #5 1!",
+        b"#0 0! 1\" b11 # r-1.5e+3 $ Rinf $ rnan $ s $ sidle $ s1! % #5 1!",
         b"1: 1 3/15",
     ),
     (

@@ -1,5 +1,5 @@
 //! Each refusal, with its numbers, beside the nearest dump that is read.
-use crate::design::{Frame, Row, all_are, answer, design, follower, stepper};
+use crate::design::{Frame, Row, all_are, answer, design, follower, joiner, stepper};
 use design_core::Design;
 use std::alloc::Global;
 use std::test::Fail;
@@ -45,12 +45,13 @@ fn a_dump_that_is_cut_ends_too_soon(rt: HostRuntime) -> Result<(), Fail> {
 }
 
 /// Words that are wrong behind a header of 175 bytes.
-const WRONG: [Row; 19] = [
+const WRONG: [Row; 20] = [
     (b"#0 0! hello", b"Syntax { offset: 181 }"),
     (b"#0 b012 %", b"Syntax { offset: 178 }"),
     (b"#0 b2", b"Syntax { offset: 178 }"),
     (b"#0 b", b"Syntax { offset: 178 }"),
     (b"#0 r1.5e !", b"Syntax { offset: 178 }"),
+    (b"#0 rNaN !", b"Syntax { offset: 178 }"),
     (b"#0 0?", b"Syntax { offset: 178 }"),
     (b"#0 b0 ?", b"Syntax { offset: 181 }"),
     (b"#0 r1.5 ?", b"Syntax { offset: 183 }"),
@@ -168,6 +169,36 @@ const UNKNOWN: [Row; 10] = [
 fn an_unknown_input_is_named_by_cycle_and_port(rt: HostRuntime) -> Result<(), Fail> {
     let design = follower(&rt, rt.alloc())?;
     all_are(&rt, rt.alloc(), &design, Frame::changes(), &UNKNOWN)
+}
+
+/// Two inputs with unknown bits, of which the dump declares and changes the second first.
+const TWO_UNKNOWN: [Row; 5] = [
+    (b"#0 0! #5 1!", b"UnknownInput { cycle: 0, port: 1 }"),
+    (
+        b"#0 0! bx \" bx ' #5 1!",
+        b"UnknownInput { cycle: 0, port: 1 }",
+    ),
+    (
+        b"#0 0! bx \" b1 ' #5 1!",
+        b"UnknownInput { cycle: 0, port: 2 }",
+    ),
+    (
+        b"#0 0! b1 \" b1 ' #5 1! #10 0! bz \" #15 1! #20 0! bz ' #25 1!",
+        b"UnknownInput { cycle: 1, port: 2 }",
+    ),
+    (b"#0 0! b1 \" b1 ' #5 1! bx \" bx '", b"1: 1 1 0/0"),
+];
+
+#[test]
+fn of_two_unknown_inputs_the_first_cycle_and_there_the_first_port_is_named(
+    rt: HostRuntime,
+) -> Result<(), Fail> {
+    let design = joiner(&rt, rt.alloc())?;
+    let frame = Frame {
+        front: b"$scope module m $end $var wire 1 ! clk $end $var wire 3 \" b $end $var wire 2 ' a $end $var wire 4 # q $end $upscope $end $enddefinitions $end ",
+        back: b"",
+    };
+    all_are(&rt, rt.alloc(), &design, frame, &TWO_UNKNOWN)
 }
 
 /// A dump of an output `q` of 1 bit that has so many stamps.
