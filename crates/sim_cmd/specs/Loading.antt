@@ -42,11 +42,11 @@ LoadsTrace text (Err (trace.Text fault)) = ⊥
 
 -- a text that is there is refused
 abbrev pub RefusesText : (DesignErr → Type 0) → DesignFault → Type 0
-RefusesText R (design.Load fault) = ⊥
+RefusesText R (design.Load _) = ⊥
 RefusesText R (design.Text fault) = Refuses R fault
 
 abbrev pub RefusesDump : List ℕ → Design → Option (List ℕ) → TraceFault → Type 0
-RefusesDump text d clock (trace.Load fault) = ⊥
+RefusesDump text d clock (trace.Load _) = ⊥
 RefusesDump text d clock (trace.Text fault) = fault ≢ vcd.NoMemory → IsRefused text d clock fault
 
 -- the count of the shelf's faults
