@@ -85,7 +85,7 @@ stands-stopped X Y d order k trace number run t state V next old now new e low b
     subst (λ ls. Shows {X = Y} ls old new (Err e)) all (shows-stopped X Y (before.front ++ line ∷ []) later old new e some)
 
 -- what a step makes is a cycle of the design
-made : (d : Design) (order : List ℕ) → IsSimulable d order → (trace : Trace) (t : ℕ) (before after : Simulated) → before.design ≡ d → before.order ≡ order
+pub made : (d : Design) (order : List ℕ) → IsSimulable d order → (trace : Trace) (t : ℕ) (before after : Simulated) → before.design ≡ d → before.order ≡ order
     → Steps (samples_at before.design trace t) no_choice before after
     → Cycle d (samples_at d trace t) before.state (choice_at no_place no_values t) after.values after.state
 made d order k trace t before after design ordered steps =

@@ -1,80 +1,56 @@
--- How a trace ends: what replaying it with no values answers, and nothing else.
-use Rattle.std.proofs.Common.{ℕ, zero, suc, ◌+◌, ◌≡◌, ◌<◌, ◌≤◌, List, [], ◌∷◌, length, ap, sym, refl, subst, ◌∙◌, arith, ◌⊎◌, inl, inr, Option, Some, None}
-use Rattle.std.specs.Prelude.{Bool, slice_get, IfSome}
+-- Where a trace first is not right, cycle by cycle, and that it ends in one way.
+use Rattle.std.proofs.Common.{ℕ, ◌+◌, ◌≡◌, ◌<◌, ◌≤◌, List, [], ◌∷◌, ◌++◌, length, ap, sym, refl, subst, ◌∙◌, arith, ◌⊎◌, inl, inr, Option, Some, None}
+use Rattle.std.specs.Prelude.{IfSome}
 use Rattle.std.specs.Option.{option_map}
-use Rattle.std.proofs.Math.Path.{fun_ext}
 use Rattle.std.proofs.lemmas.Bool.{cases_lt}
 use Rattle.std.proofs.lemmas.Option.{slice_get_within}
-use Rattle.loc_base.proofs.ShelfOptions.{Some-same}
 use Rattle.design_core.specs.declared.design.Design.{Design}
 use Rattle.design_core.specs.declared.trace.Trace.{Trace}
-use Rattle.design_core.specs.declared.values.Values.{Values}
-use Rattle.design_core.specs.Run.{Choices, Meets}
-use Rattle.design_core.specs.Explained.{choices_in, cycles_before, is_one_of, number_for, row_at}
-use Rattle.cycle_sim.specs.declared.miss.Miss.{Miss}
-use Rattle.cycle_sim.specs.Simulated.{IsSimulable}
-use Rattle.cycle_sim.specs.Misses.{MissesAt, Replays}
-use Rattle.cycle_sim.proofs.Running.{meets-no_miss}
+use Rattle.design_core.specs.Valuation.{Valuation}
+use Rattle.design_core.specs.Cycle.{Cycle}
+use Rattle.design_core.specs.Run.{choice_at, expected_at, samples_at, start_state}
+use Rattle.cycle_sim.specs.Simulated.{IsSimulable, Simulated, Steps}
+use Rattle.cycle_sim.proofs.Running.{RunTo, meets-no_miss, run-begin, run-end, run-misses, run-next}
+use Rattle.sim_lines.specs.declared.lines.Wrong.{Wrong}
 use Rattle.sim_lines.specs.Lines.{IsEnd, no_place, no_values}
-use Rattle.sim_lines.specs.Running.{place_of}
+use Rattle.sim_lines.specs.Running.{EndAfter, no_choice, place_of}
+use Rattle.sim_lines.proofs.CycleLaws.{made}
 
--- values of no place free none, and choose nothing
-none-freed : (values : Values) → values.places.items ≡ [] → is_one_of values.places.items ≡ no_place
-none-freed values none = ap is_one_of none ∙ fun_ext (λ p. refl)
+-- so many cycles of a trace were made, and where they first are not right is known
+abbrev pub EndTo : Design → Trace → ℕ → Valuation → Option Wrong → Type 0
+EndTo d trace t state None = (front : List Valuation) × RunTo d trace no_place no_values t state front
+EndTo d trace t state (Some miss) = IsEnd d trace (Some (miss.cycle, miss.output))
 
-nothing-chosen : (traces : List Trace) (values : Values) (j : ℕ) → values.places.items ≡ [] → choices_in traces values j ≡ no_values
-nothing-chosen traces values j none =
-    fun_ext (λ t. fun_ext (λ p. ap (λ places. number_for places (row_at values (cycles_before traces j + t)) p) none))
+pub end-begin : (d : Design) (trace : Trace) (state : Valuation) → state ≡ start_state d → EndTo d trace 0 state None
+end-begin d trace state start = ([], run-begin d trace no_place no_values state start)
 
--- the only trace
-only-trace : (trace other : Trace) (j : ℕ) → slice_get (trace ∷ []) j ≡ Some other → (j ≡ 0) × (trace ≡ other)
-only-trace trace other zero at = (refl, Some-same at)
-only-trace trace other (suc j) at = absurd (cc)
+-- one cycle more
+next-end : (d : Design) (order : List ℕ) → IsSimulable d order → (trace : Trace) (t : ℕ) (state V next : Valuation) (one other : Option Wrong) → t < trace.cycles
+    → Cycle d (samples_at d trace t) state (choice_at no_place no_values t) V next → EndAfter d (expected_at d trace t) V t one other
+    → EndTo d trace t state one → EndTo d trace (t + 1) next other
+next-end d order k trace t state V next (Some miss) other low cycle after is = subst (λ o. EndTo d trace (t + 1) next o) (sym after) is
+next-end d order k trace t state V next None None low cycle after (front, to) = (front ++ V ∷ [], run-next d trace no_place no_values t state V next front low to cycle after)
+next-end d order k trace t state V next None (Some miss) low cycle (now, wrong) (front, to) =
+    subst (λ u. IsEnd d trace (Some (u, miss.output))) (sym now) (run-misses d order k trace no_place no_values t miss.output state V next front low to cycle wrong)
 
-meets-here : (d : Design) (trace : Trace) (freed : ℕ → Bool) (c : Choices) → freed ≡ no_place → c ≡ no_values → Meets d trace freed c → Meets d trace no_place no_values
-meets-here d trace freed c one other meets =
-    subst (λ (v : Choices). Meets d trace no_place v) other (subst (λ (f : ℕ → Bool). Meets d trace f c) one meets)
+pub end-next : (d : Design) (order : List ℕ) → IsSimulable d order → (trace : Trace) (t : ℕ) (before after : Simulated) (one other : Option Wrong) → before.design ≡ d → before.order ≡ order
+    → t < trace.cycles → Steps (samples_at before.design trace t) no_choice before after
+    → (now : Design) → now ≡ d → EndAfter now (expected_at now trace t) after.values t one other
+    → EndTo d trace t before.state one → EndTo d trace (t + 1) after.state other
+end-next d order k trace t before after one other design ordered low steps now same checked is =
+    next-end d order k trace t before.state after.values after.state one other low (made d order k trace t before after design ordered steps)
+    (subst (λ (D : Design). EndAfter D (expected_at D trace t) after.values t one other) same checked) is
 
-misses-here : (d : Design) (trace : Trace) (freed : ℕ → Bool) (c : Choices) (t i : ℕ) → freed ≡ no_place → c ≡ no_values → MissesAt d trace freed c t i → MissesAt d trace no_place no_values t i
-misses-here d trace freed c t i one other misses =
-    subst (λ (v : Choices). MissesAt d trace no_place v t i) other (subst (λ (f : ℕ → Bool). MissesAt d trace f c t i) one misses)
-
-misses-there : (d : Design) (trace : Trace) (freed : ℕ → Bool) (c : Choices) (t i : ℕ) → freed ≡ no_place → c ≡ no_values → MissesAt d trace no_place no_values t i → MissesAt d trace freed c t i
-misses-there d trace freed c t i one other misses =
-    subst (λ (f : ℕ → Bool). MissesAt d trace f c t i) (sym one) (subst (λ (v : Choices). MissesAt d trace no_place v t i) (sym other) misses)
-
--- what the replay of one trace answers
-pub end-of : (d : Design) (trace : Trace) (values : Values) → values.places.items ≡ [] → (answer : Option Miss) → Replays d (trace ∷ []) values answer
-    → IsEnd d trace (option_map place_of answer)
-end-of d trace values none None all =
-    meets-here d trace (is_one_of values.places.items) (choices_in (trace ∷ []) values 0) (none-freed values none) (nothing-chosen (trace ∷ []) values 0 none) (all 0 trace refl)
-end-of d trace values none (Some miss) is = (
-  subst (λ (x : Trace). MissesAt d x no_place no_values miss.cycle miss.output) (sym here.1)
-      (misses-here d is.misses.trace freed (choices_in (trace ∷ []) values miss.trace) miss.cycle miss.output (none-freed values none) (nothing-chosen (trace ∷ []) values miss.trace none) is.misses.misses),
-  λ u j other. refuses u j other,
-)
-  where
-    freed : ℕ → Bool
-    freed = is_one_of values.places.items
-
-    here : (miss.trace ≡ 0) × (trace ≡ is.misses.trace)
-    here = only-trace trace is.misses.trace miss.trace is.misses.is_trace
-
-    refuses : (u j : ℕ) → MissesAt d trace no_place no_values u j → (u < miss.cycle) ⊎ ((u ≡ miss.cycle) × (j < miss.output)) → ⊥
-    refuses u j other sooner =
-        is.least (record { trace = 0; cycle = u; output = j })
-        (record {
-          trace = trace;
-          is_trace = refl;
-          misses = misses-there d trace freed (choices_in (trace ∷ []) values 0) u j (none-freed values none) (nothing-chosen (trace ∷ []) values 0 none) other;
-        })
-        (inr (sym here.0, sooner))
+-- all cycles were made
+pub end-last : (d : Design) (trace : Trace) (t : ℕ) (state : Valuation) (end : Option Wrong) → t ≡ trace.cycles → EndTo d trace t state end → IsEnd d trace (option_map place_of end)
+end-last d trace t state None all (front, to) = run-end d trace no_place no_values t state front all to
+end-last d trace t state (Some miss) all is = is
 
 -- the output of a miss is one
 pub miss-within : (d : Design) (trace : Trace) (t i : ℕ) → IsEnd d trace (Some (t, i)) → i < length d.outputs.items
 miss-within d trace t i is = slice_get_within d.outputs.items i is.0.output is.0.is_output
 
-pub output-within : (d : Design) (trace : Trace) (answer : Option Miss) → IsEnd d trace (option_map place_of answer)
+pub output-within : (d : Design) (trace : Trace) (answer : Option Wrong) → IsEnd d trace (option_map place_of answer)
     → IfSome answer (λ m. m.output < length d.outputs.items)
 output-within d trace None is = tt
 output-within d trace (Some miss) is = miss-within d trace miss.cycle miss.output is

@@ -6,3 +6,4 @@ pub mod EndLaws
 pub mod TraceLaws
 pub mod SomeLines
 mod Examples
+pub mod CheckLaws

@@ -21,6 +21,7 @@ use Rattle.design_core.proofs.RunLaws.{run-exists}
 use Rattle.cycle_sim.specs.Simulated.{IsSimulable}
 use Rattle.cycle_sim.specs.Replaying.{FirstWrong, RightBefore}
 use Rattle.cycle_sim.proofs.Running.{RunTo, run-begin, run-end, run-misses, run-next}
+use Rattle.sim_lines.proofs.CheckLaws.{right-next}
 use Rattle.sim_lines.specs.Lines.{AreLines, AreLinesOf, IsEnd, Line, cycle_lines, end_line, no_place, no_values}
 
 -- ---- an output
@@ -104,18 +105,6 @@ right-at c bits none b masked = at (cases_lt b 128)
 -- ---- a cycle
 nothing : (entry : Checked) → None ≡ Some entry → ⊥
 nothing entry e = cc
-
-right-next : (d : Design) (expected : List Checked) (V : Valuation) (n : ℕ) → RightBefore d expected V n
-    → ((output : ℕ) (checked : Checked) → slice_get d.outputs.items n ≡ Some output → slice_get expected n ≡ Some checked
-    → (b : ℕ) → IsTrue (bit_of checked.mask b) → V output b ≡ bit_of checked.value b)
-    → RightBefore d expected V (n + 1)
-right-next d expected V n before here i output checked b low is_output is_checked masked = at (cases_lt i n)
-  where
-    at : (i < n) ⊎ (n ≤ i) → V output b ≡ bit_of checked.value b
-    at (inl lower) = before i output checked b lower is_output is_checked masked
-    at (inr higher) =
-        let same : n ≡ i = omega (arith, higher, low) in
-        here output checked (ap (slice_get d.outputs.items) same ∙ is_output) (ap (slice_get expected) same ∙ is_checked) b masked
 
 first-step : (d : Design) (expected : List Checked) (V : Valuation) (n : ℕ) → n < length d.outputs.items → RightBefore d expected V n
     → (RightBefore d expected V (n + 1) → (answer : Option ℕ) × FirstWrong d expected V answer) → (answer : Option ℕ) × FirstWrong d expected V answer

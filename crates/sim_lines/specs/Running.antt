@@ -1,11 +1,15 @@
 -- Private, for the functions inside this crate: what is known while a trace is simulated.
-use Rattle.std.specs.Prelude.{ℕ, ◌≡◌, ◌<◌, Bool, false, List, [], length, All}
+use Rattle.std.specs.Prelude.{ℕ, ◌≡◌, ◌<◌, Bool, false, List, length, All, Option, Some, None}
 use Rattle.loc_base.specs.declared.bits.Bits.{Bits}
 use Rattle.loc_base.specs.Bits.{value_of}
 use Rattle.design_core.specs.declared.design.Design.{Design}
 use Rattle.design_core.specs.After.{Choice}
-use Rattle.cycle_sim.specs.declared.miss.Miss.{Miss}
+use Rattle.design_core.specs.declared.trace.Checked.{Checked}
+use Rattle.design_core.specs.Run.{IsRight}
+use Rattle.design_core.specs.Valuation.{Valuation}
+use Rattle.cycle_sim.specs.Replaying.{FirstWrong}
 use Rattle.cycle_sim.specs.Simulator.{IsSim, held_by}
+use Rattle.sim_lines.specs.declared.lines.Wrong.{Wrong}
 use Rattle.sim_lines.specs.declared.runner.Runner.{Runner}
 use Rattle.sim_lines.specs.Lines.{no_place}
 use Rattle.sim_lines.specs.CanShow.{CanShow}
@@ -32,8 +36,6 @@ pub record IsRunner (r : Runner) : Type 0 where
   pub sim : IsSim r.sim
   pub design : r.design.now ≡ design_of r
   pub frees : FreesNone (design_of r) r.freed.items r.choice.items
-  pub places : r.nothing.places.items ≡ []
-  pub rows : r.nothing.rows.items ≡ []
   pub can : CanShow (design_of r) (order_of r)
 
 -- it runs the same design in the same order
@@ -46,5 +48,11 @@ abbrev pub no_choice : Choice
 no_choice = record { frees = no_place; chosen = λ p. 0 }
 
 -- where a miss is in its trace
-abbrev pub place_of : Miss → ℕ × ℕ
+abbrev pub place_of : Wrong → ℕ × ℕ
 place_of miss = (miss.cycle, miss.output)
+
+-- where a trace first is not right up to a cycle, by where it first is not before it
+abbrev pub EndAfter : Design → List Checked → Valuation → ℕ → Option Wrong → Option Wrong → Type 0
+EndAfter d expected V t (Some miss) after = after ≡ Some miss
+EndAfter d expected V t None None = IsRight d expected V
+EndAfter d expected V t None (Some miss) = (miss.cycle ≡ t) × FirstWrong d expected V (Some miss.output)

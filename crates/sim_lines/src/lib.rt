@@ -2,6 +2,7 @@
 //! is not.
 #![tactic(auto)]
 
+mod checks;
 pub mod laws;
 mod lines;
 mod runner;

@@ -6,7 +6,7 @@ ghost use Rattle.cycle_sim.specs.Simulator.{IsSim, held_by};
 ghost use Rattle.sim_lines.specs.Lines.{name_at, shown, shown_text, cycle_line, end_line, output_name, line_text};
 ghost use Rattle.sim_lines.specs.Running.{AreSignals, place_of};
 
-use cycle_sim::{Miss, Sim};
+use cycle_sim::Sim;
 use design_core::Design;
 use loc_base::NoMemory;
 use printed_text::{push_bytes, push_number, push_value};
@@ -16,6 +16,13 @@ use printed_text::{push_bytes, push_number, push_value};
 pub(crate) struct Moment {
     pub(crate) trace: u32,
     pub(crate) cycle: u32,
+}
+
+/// The first cycle of a trace in which an output is not right, with the first such output. Both are counted from 0.
+#[derive(Clone, Copy)]
+pub(crate) struct Wrong {
+    pub(crate) cycle: u32,
+    pub(crate) output: u32,
 }
 
 /// Appends the name of a signal.
@@ -80,7 +87,7 @@ pub(crate) fn push_cycle(
 }
 
 /// Appends where a trace first is not right: ` miss C NAME`.
-fn push_miss(text: &mut Vec<u8>, design: &Design, miss: Miss) -> Result<(), NoMemory>
+fn push_miss(text: &mut Vec<u8>, design: &Design, miss: Wrong) -> Result<(), NoMemory>
     requires outputs { AreSignals design.now design.now.outputs.items }
     requires output { miss.output < length design.now.outputs.items }
     ensures { OnOk result (text.new.items ≡ text.old.items ++ codes " miss " ++ decimal miss.cycle ++ codes " " ++ output_name design.now miss.output) }
@@ -96,7 +103,7 @@ pub(crate) fn push_end(
     text: &mut Vec<u8>,
     design: &Design,
     trace: u32,
-    miss: Option<Miss>,
+    miss: Option<Wrong>,
 ) -> Result<(), NoMemory>
     requires outputs { AreSignals design.now design.now.outputs.items }
     requires output { IfSome miss (λ m. m.output < length design.now.outputs.items) }

@@ -1,25 +1,25 @@
 //! A design that is simulated as it is, no place of it freed.
-ghost use Rattle.std.specs.Prelude.{◌≡◌, ◌<◌, ℕ, false, All, IfOk, IfSome, Option, length, true};
+ghost use Rattle.std.specs.Prelude.{◌≡◌, ◌<◌, false, All, IfOk, IfSome, None, length, true};
 ghost use Rattle.std.specs.Option.{option_map};
 ghost use Rattle.loc_base.specs.Bits.{value_of};
-ghost use Rattle.design_core.specs.Run.{samples_at};
+ghost use Rattle.design_core.specs.Run.{expected_at, samples_at};
 ghost use Rattle.design_core.specs.TraceFits.{IsTraceOf};
 ghost use Rattle.cycle_sim.specs.Simulated.{Steps, at_start};
 ghost use Rattle.cycle_sim.specs.Simulator.{held_by};
 ghost use Rattle.io_ports.specs.Sink.{SinkAppends, SinkCause};
-ghost use Rattle.sim_lines.specs.Lines.{IsEnd, cycle_line, end_line, line_text};
+ghost use Rattle.sim_lines.specs.Lines.{cycle_line, end_line, line_text};
 ghost use Rattle.sim_lines.specs.CanShow.{CanShow};
-ghost use Rattle.sim_lines.specs.Running.{IsRunner, IsSameRunner, design_of, order_of, no_choice, place_of};
+ghost use Rattle.sim_lines.specs.Running.{EndAfter, IsRunner, IsSameRunner, design_of, order_of, no_choice, place_of};
 
-use crate::lines::{Moment, push_cycle, push_end};
-use cycle_sim::{Miss, Sim, replay};
+use crate::checks::first_wrong;
+use crate::lines::{Moment, Wrong, push_cycle, push_end};
+use cycle_sim::Sim;
 use design_core::types::Order;
-use design_core::{Design, Trace, Values};
+use design_core::{Design, Trace};
 use io_ports::{Sink, SinkFault};
 use loc_base::{Bits, NoMemory};
 use plain_values::row;
 use std::alloc::Global;
-use std::slice;
 
 /// A simulator of a design, with what says that no place is freed, and the room of a line.
 #[derive(Drop)]
@@ -29,8 +29,6 @@ pub(crate) struct Runner<'a> {
     /// An entry for each place: that it is not freed, and a word that no one reads.
     pub(crate) freed: Vec<bool>,
     pub(crate) choice: Vec<Bits>,
-    /// The values of no place.
-    pub(crate) nothing: Values,
     pub(crate) line: Vec<u8>,
 }
 
@@ -74,16 +72,11 @@ impl<'a> Runner<'a> {
         let sim = Sim::new(alloc, design, order)?;
         let freed = none_freed(alloc, design.places.len())?;
         let choice = none_chosen(alloc, design.places.len())?;
-        let nothing = Values {
-            places: Vec::new(alloc),
-            rows: Vec::new(alloc),
-        };
         Ok(Runner {
             design,
             sim,
             freed,
             choice,
-            nothing,
             line: Vec::new(alloc),
         })
     }
@@ -148,35 +141,54 @@ impl<'a> Runner<'a> {
         self.sim.reset();
     }
 
-    /// The first miss of a trace.
-    fn first_miss(&mut self, trace: &Trace) -> Option<Miss>
-        requires runner { IsRunner self.old }
-        requires trace { IsTraceOf (design_of self.old) trace.now }
-        ensures runner { IsRunner self.new }
-        ensures same { IsSameRunner self.old self.new }
-        ensures end { IsEnd (design_of self.old) trace.now (option_map place_of result) }
-        ensures output { IfSome result (λ m. m.output < length (design_of self.old).outputs.items) }
+    /// Where the cycle of a number, which was made, is not right.
+    fn wrong_in(&self, trace: &Trace, cycle: u32) -> Option<Wrong>
+        requires runner { IsRunner self.now }
+        requires trace { IsTraceOf (design_of self.now) trace.now }
+        requires time { cycle < trace.now.cycles }
+        ensures { EndAfter (design_of self.now) (expected_at (design_of self.now) trace.now cycle) (held_by self.now.sim).values cycle None result }
     {
-        replay(&mut self.sim, slice::from_ref(trace), &self.nothing)
+        let expected = row(&trace.expected, self.design.outputs.len(), cycle as usize);
+        match first_wrong(self.design, &self.sim, expected) {
+            Some(output) => Some(Wrong { cycle, output }),
+            None => None,
+        }
+    }
+
+    /// Where a trace first is not right up to the cycle of a number, which was made, by where it first is not before it.
+    pub(crate) fn end_after(
+        &self,
+        before: Option<Wrong>,
+        trace: &Trace,
+        cycle: u32,
+    ) -> Option<Wrong>
+        requires runner { IsRunner self.now }
+        requires trace { IsTraceOf (design_of self.now) trace.now }
+        requires time { cycle < trace.now.cycles }
+        ensures { EndAfter (design_of self.now) (expected_at (design_of self.now) trace.now cycle) (held_by self.now.sim).values cycle before result }
+    {
+        match before {
+            Some(miss) => Some(miss),
+            None => self.wrong_in(trace, cycle),
+        }
     }
 
     /// Prints how a trace ends.
     pub(crate) fn show_end<O: Sink>(
         &mut self,
-        trace: &Trace,
         number: u32,
+        miss: Option<Wrong>,
         out: &mut O,
     ) -> Result<(), SinkFault>
         requires runner { IsRunner self.old }
-        requires trace { IsTraceOf (design_of self.old) trace.now }
+        requires output { IfSome miss (λ m. m.output < length (design_of self.old).outputs.items) }
         ensures runner { IsRunner self.new }
         ensures same { IsSameRunner self.old self.new }
         ensures tells { O.tells out.new ≡ O.tells out.old }
-        ensures text { O.tells out.old ≡ true → (end : Option (ℕ × ℕ)) → IsEnd (design_of self.old) trace.now end
-            → SinkAppends (line_text (end_line (design_of self.old) number end)) (O.written out.old) (O.written out.new) result }
+        ensures text { O.tells out.old ≡ true
+            → SinkAppends (line_text (end_line (design_of self.old) number (option_map place_of miss))) (O.written out.old) (O.written out.new) result }
         ensures cause { SinkCause (O.faults out.old) (O.faults out.new) result }
     {
-        let miss = self.first_miss(trace);
         self.line.clear();
         push_end(&mut self.line, self.design, number, miss)?;
         out.put(&self.line)

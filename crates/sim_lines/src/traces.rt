@@ -1,17 +1,18 @@
 //! The lines of traces, one after another.
-ghost use Rattle.std.specs.Prelude.{◌≡◌, ◌<◌, List, Some, length, slice_get, true};
+ghost use Rattle.std.specs.Prelude.{◌≡◌, ◌<◌, IfOk, List, Some, length, slice_get, true};
+ghost use Rattle.std.specs.Option.{option_map};
 ghost use Rattle.design_core.specs.Run.{IsRun};
 ghost use Rattle.design_core.specs.Valuation.{Valuation};
 ghost use Rattle.design_core.specs.TraceFits.{IsTraceOf};
 ghost use Rattle.cycle_sim.specs.Simulated.{at_start};
 ghost use Rattle.cycle_sim.specs.Simulator.{held_by};
 ghost use Rattle.io_ports.specs.Sink.{SinkCause};
-ghost use Rattle.sim_lines.specs.Lines.{AreLines, AreLinesOf, Line as SomeLine, cycle_lines, no_place, no_values};
+ghost use Rattle.sim_lines.specs.Lines.{AreLines, AreLinesOf, IsEnd, Line as SomeLine, cycle_lines, no_place, no_values};
 ghost use Rattle.sim_lines.specs.Shows.{Shows};
 ghost use Rattle.sim_lines.specs.CanShow.{AreShown, CanShow};
-ghost use Rattle.sim_lines.specs.Running.{IsRunner, IsSameRunner, design_of, order_of};
+ghost use Rattle.sim_lines.specs.Running.{IsRunner, IsSameRunner, design_of, order_of, place_of};
 
-use crate::lines::Moment;
+use crate::lines::{Moment, Wrong};
 use crate::runner::Runner;
 use design_core::types::Order;
 use design_core::{Design, Trace};
@@ -26,13 +27,13 @@ pub struct Simulation<'a> {
     pub traces: &'a [Trace],
 }
 
-/// Prints the outputs in each cycle of a trace.
+/// Prints the outputs in each cycle of a trace, and answers where it first is not right.
 fn show_cycles<O: Sink>(
     runner: &mut Runner,
     trace: &Trace,
     number: u32,
     out: &mut O,
-) -> Result<(), SinkFault>
+) -> Result<Option<Wrong>, SinkFault>
     requires runner { IsRunner runner.old }
     requires start { held_by runner.old.sim ≡ at_start (design_of runner.old) (order_of runner.old) }
     requires trace { IsTraceOf (design_of runner.old) trace.now }
@@ -41,16 +42,19 @@ fn show_cycles<O: Sink>(
     ensures tells { O.tells out.new ≡ O.tells out.old }
     ensures text { O.tells out.old ≡ true → (run : List Valuation) → IsRun (design_of runner.old) trace.now no_place no_values run
         → Shows (cycle_lines (design_of runner.old) number 0 run) (O.written out.old) (O.written out.new) result }
+    ensures end { IfOk result (λ miss. IsEnd (design_of runner.old) trace.now (option_map place_of miss)) }
     ensures cause { SinkCause (O.faults out.old) (O.faults out.new) result }
 {
+    let mut miss = None;
     for cycle in 0..trace.cycles {
         let moment = Moment {
             trace: number,
             cycle,
         };
         runner.show_cycle(trace, moment, out)?;
+        miss = runner.end_after(miss, trace, cycle);
     }
-    Ok(())
+    Ok(miss)
 }
 
 /// Prints the lines of a trace: its cycles, and then how it ends.
@@ -70,8 +74,8 @@ fn show_trace<O: Sink>(
     ensures cause { SinkCause (O.faults out.old) (O.faults out.new) result }
 {
     runner.reset();
-    show_cycles(runner, trace, number, out)?;
-    runner.show_end(trace, number, out)
+    let miss = show_cycles(runner, trace, number, out)?;
+    runner.show_end(number, miss, out)
 }
 
 /// The trace of a number.
