@@ -1,0 +1,13 @@
+pub mod ClauseValues
+pub mod Definitions
+pub mod Checks
+pub mod Splits
+pub mod Cycles
+pub mod Frees
+pub mod Columns
+pub mod SameRuns
+pub mod Selecting
+pub mod Within
+pub mod Turned
+pub mod Moments
+pub mod Equivalence
