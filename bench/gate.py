@@ -1,16 +1,20 @@
 #!/usr/bin/env python3
 """Runs the gate and prints the processor seconds that each crate took: its proof, its tests, its must-fail edits.
 
-usage: bench/gate.py [COMMAND..]     at the top of the repository; COMMAND is `rt ci` where none is given
-       bench/gate.py --join LOG..    one table of those that earlier runs of it, each of some crates, wrote to these files
+usage: bench/gate.py [--into FILE] [COMMAND..]     at the top of the repository; COMMAND is `rt ci` where none is given
+       bench/gate.py [--into FILE] --join LOG..    one table of those that earlier runs of it, each of some crates, wrote
+                                                   to these files
 
 The command's own output goes through. The prover's processes are looked at twice a second, so what a process took after
 the last look at it is missed: a sum may be low by some hundredths. Only what is proved in this run is counted: begin with
-`rt ci --anew` for the cost from nothing. Below the table stands the dearest chain of crates, each of which waits for the
-proof of the one before: no number of processors makes the gate shorter than that. The exit status is the command's.
+`rt ci --anew` for the cost from nothing. Below the table stands what an edit took in the mean of its crate, and the dearest
+chain of crates, each of which waits for the proof of the one before: no number of processors makes the gate shorter than
+that. With `--into` all of this takes the place of the table of such a run that FILE has, up to the end of its paragraph on
+the dearest chain (docs/architecture.md has one). The exit status is the command's.
 """
 
 import os
+import re
 import subprocess
 import sys
 import time
@@ -110,25 +114,62 @@ def row(name, seconds):
     return f"| {name} | " + " | ".join(cells) + " |"
 
 
-def show(crates):
+def an_edit(crates):
+    """What an edit took in the mean of its crate: in the cheapest, in the dearest, and in all."""
+    each = []
+    for name, seconds in crates.items():
+        folder = f"crates/{name}/must-fail"
+        edits = len(os.listdir(folder)) if os.path.isdir(folder) else 0
+        if edits and seconds["edits"]:
+            each.append((seconds["edits"] / edits, name, edits, seconds["edits"]))
+    if not each:
+        return "No edit was tried."
+    (least, cheap, *_), (most, dear, *_) = min(each), max(each)
+    mean = sum(it[3] for it in each) / sum(it[2] for it in each)
+    return f"An edit took {mean:.0f} processor seconds in the mean, {least:.0f} in that of `{cheap}` to {most:.0f} in that of `{dear}`."
+
+
+def report(crates, clock):
+    """The table, dearest crate first, and what is said below it."""
     whole = Counter()
     for seconds in crates.values():
         whole += seconds
-    print("\n| crate | " + " | ".join(KINDS) + " | all |")
-    print("|---" * (len(KINDS) + 2) + "|")
-    for name, seconds in sorted(crates.items(), key=lambda entry: -sum(entry[1].values())):
-        print(row(name, seconds))
-    print(row("all", whole))
+    lines = ["| crate | " + " | ".join(KINDS) + " | all |", "|---" * (len(KINDS) + 2) + "|"]
+    lines += [row(name, seconds) for name, seconds in sorted(crates.items(), key=lambda entry: -sum(entry[1].values()))]
     seconds, chain = dearest_chain(crates, crates_below())
-    print(f"\ndearest chain: {seconds:.0f} processor seconds, {', '.join(chain)}")
+    chain = "(" + ", ".join(f"`{name}`" for name in chain) + ")"
+    lines += [row("all", whole), "", *clock, an_edit(crates), f"The dearest chain of crates took {seconds:.0f} {chain}."]
+    return "\n".join(lines) + "\n"
+
+
+def put_into(file, text):
+    """Puts the text in the place of that of an earlier run."""
+    with open(file) as it:
+        old = it.read()
+    head = re.escape("| crate | " + " | ".join(KINDS) + " | all |")
+    new, found = re.subn(rf"^{head}\n.*?^The dearest chain of crates .*?(\n(?=\n)|\Z)", lambda _: text, old, count=1, flags=re.M | re.S)
+    if not found:
+        sys.exit(f"bench/gate.py: {file} has no table of such a run")
+    with open(file, "w") as it:
+        it.write(new)
+
+
+def show(crates, clock, into):
+    text = report(crates, clock)
+    print(f"\n{text}", end="")
+    if into:
+        put_into(into, text)
 
 
 def main():
-    if sys.argv[1:2] == ["--join"]:
-        show(tables_in(sys.argv[2:]))
+    words, into = sys.argv[1:], None
+    if words[:1] == ["--into"]:
+        into, words = words[1], words[2:]
+    if words[:1] == ["--join"]:
+        show(tables_in(words[1:]), [], into)
         return 0
     begun = time.time()
-    gate = subprocess.Popen(sys.argv[1:] or ["rt", "ci"])
+    gate = subprocess.Popen(words or ["rt", "ci"])
     seen = {}
     while gate.poll() is None:
         look(gate.pid, seen)
@@ -136,8 +177,7 @@ def main():
     crates = {}
     for crate, kind, seconds in seen.values():
         crates.setdefault(crate, Counter())[kind] += seconds
-    show(crates)
-    print(f"{time.time() - begun:.0f} seconds by the clock, {os.cpu_count()} processors")
+    show(crates, [f"The run took {time.time() - begun:.0f} seconds by the clock on {os.cpu_count()} processors."], into)
     return gate.returncode
 
 
