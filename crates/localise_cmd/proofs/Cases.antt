@@ -1,5 +1,5 @@
 -- What the words ask for, as a case.
-use Rattle.std.proofs.Common.{ℕ, ◌≡◌, ◌++◌, ◌⊎◌, List, [], true, sym, subst, refl, ◌∙◌, inl, inr, arith, Result, Ok, Err}
+use Rattle.std.proofs.Common.{ℕ, ◌≡◌, [], sym, subst, refl, ◌∙◌, inl, inr, Result, Ok, Err}
 use Rattle.std.proofs.lemmas.List.{append-nil}
 use Rattle.refusal_lines.specs.Refusals.{memory_line}
 use Rattle.command_contract.specs.Contract.{Keeps, Run}

@@ -1,14 +1,14 @@
 -- The promises of a run that prints one line: what is wrong with the words, or that memory was wanted before anything
 -- was read.
-use Rattle.std.proofs.Common.{ℕ, ◌≡◌, ◌++◌, ◌⊎◌, Bool, true, List, [], ap, sym, refl, ◌∙◌, arith, inl, inr}
+use Rattle.std.proofs.Common.{ℕ, ◌≡◌, ◌++◌, ◌⊎◌, true, ap, refl, arith, inl, inr}
 use Rattle.io_ports.specs.Faults.{Rose}
 use Rattle.io_ports.specs.Shelf.{AppendsFront}
 use Rattle.refusal_lines.specs.Refusals.{memory_line}
-use Rattle.command_contract.specs.Contract.{Case, Causes, Counts, IsRefusal, IsStatus, Keeps, NoneRose, OneRose, Run}
+use Rattle.command_contract.specs.Contract.{Case, IsRefusal, Keeps, Run}
 use Rattle.command_words.specs.declared.requests.Usage.{Usage}
 use Rattle.localise_cmd.specs.declared.lines.Printed.{Printed}
 use Rattle.localise_cmd.specs.declared.lines.Printed.TheVariants.{Whole, Failed, NoMemory}
-use Rattle.localise_cmd.specs.Usage.{SaysUsage, UsageCut, UsageStopped, no_request, usage_line}
+use Rattle.localise_cmd.specs.Usage.{no_request, usage_line}
 use Rattle.localise_cmd.specs.Prints.{PrintCause, Prints, printed_status}
 
 -- 6 and 7 are no refusals

@@ -1,9 +1,10 @@
 -- Which case the words behind the program's name are: that of the command that they ask for, or of words that ask for
--- nothing.
-use Rattle.std.specs.Prelude.{Result, Ok, Err}
-use Rattle.command_contract.specs.Contract.{Case}
+-- nothing; and what is promised of a run of the program.
+use Rattle.std.specs.Prelude.{ℕ, List, Result, Ok, Err}
+use Rattle.command_contract.specs.Contract.{Case, Keeps, Run}
 use Rattle.command_words.specs.declared.requests.Usage.{Usage}
 use Rattle.command_words.specs.Asked.{Asked, FindAsked, SimAsked, find, sim}
+use Rattle.command_words.specs.Words.{asked as asked_by}
 use Rattle.find_cmd.specs.Requests.{Asked as Finding}
 use Rattle.find_cmd.specs.Finding.{finding}
 use Rattle.front_end.specs.Means.{Meaning, Refusing}
@@ -35,3 +36,7 @@ abbrev pub case_of : Meaning → Refusing → Result Asked Usage → Case
 case_of M R (Ok (find asked)) = finding (finding_of asked)
 case_of M R (Ok (sim asked)) = simulation M R (simulating_of asked)
 case_of M R (Err usage) = no_request usage
+
+-- a run for these words that ends with a status keeps the promises of their case
+unfoldable pub KeepsWords : Meaning → Refusing → List (List ℕ) → Run → ℕ → Type 0
+KeepsWords M R words run status = Keeps (case_of M R (asked_by words)) run status

@@ -1,5 +1,5 @@
 -- Private, for the functions inside this crate: what is left by a run that prints one line and nothing else.
-use Rattle.std.specs.Prelude.{ℕ, ◌≡◌, ◌++◌, Bool, true, List}
+use Rattle.std.specs.Prelude.{ℕ, ◌≡◌, ◌++◌, List}
 use Rattle.io_ports.specs.Faults.{Rose}
 use Rattle.io_ports.specs.Shelf.{AppendsFront}
 use Rattle.localise_cmd.specs.declared.lines.Printed.{Printed}

@@ -1,9 +1,7 @@
 //! A run of the program.
-ghost use Rattle.std.specs.Prelude.{◌≡◌, ◌&&◌, map, string_bytes};
-ghost use Rattle.command_contract.specs.Contract.{Keeps};
-ghost use Rattle.command_words.specs.Words.{asked};
+ghost use Rattle.std.specs.Prelude.{◌&&◌, map, string_bytes};
 ghost use Rattle.find_cmd.specs.Finding.{counts_of, run_of};
-ghost use Rattle.localise_cmd.specs.Commands.{case_of};
+ghost use Rattle.localise_cmd.specs.Commands.{KeepsWords};
 ghost use Rattle.verilog_front_end.specs.Meaning.{Means};
 ghost use Rattle.verilog_front_end.specs.Refusals.{IsRefusal};
 
@@ -28,7 +26,7 @@ fn carry_out<F: FrontEnd, S: Shelf, O: Sink>(
     shelf: &mut S,
     out: &mut O,
 ) -> u8
-    ensures { Keeps (case_of F.means F.refuses (asked (map string_bytes words.now)))
+    ensures { KeepsWords F.means F.refuses (map string_bytes words.now)
         (run_of (S.tells shelf.old && O.tells out.old) (S.texts shelf.old) (S.written shelf.old) (S.written shelf.new)
         (O.written out.old) (O.written out.new)
         (counts_of (S.faults shelf.old) (S.faults shelf.new) (O.faults out.old) (O.faults out.new)))
@@ -69,7 +67,7 @@ pub fn run_words<R: Threads + Sync, S: Shelf, O: Sink, G: Gate + Sync>(
     out: &mut O,
     _gate: &G,
 ) -> u8
-    ensures { Keeps (case_of Means IsRefusal (asked (map string_bytes words.now)))
+    ensures { KeepsWords Means IsRefusal (map string_bytes words.now)
         (run_of (S.tells shelf.old && O.tells out.old) (S.texts shelf.old) (S.written shelf.old) (S.written shelf.new)
         (O.written out.old) (O.written out.new)
         (counts_of (S.faults shelf.old) (S.faults shelf.new) (O.faults out.old) (O.faults out.new)))

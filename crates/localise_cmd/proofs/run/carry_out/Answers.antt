@@ -1,4 +1,4 @@
-use Rattle.std.proofs.Common.{◌≡◌, ℕ, refl, sym, subst, map}
+use Rattle.std.proofs.Common.{ℕ, refl, sym, subst, map}
 use Rattle.std.specs.Prelude.{◌&&◌, string_bytes}
 use Rattle.std.proofs.lemmas.Bool.{and_parts}
 use Rattle.command_contract.specs.Contract.{Keeps, Run}
@@ -8,13 +8,14 @@ use Rattle.find_cmd.specs.Finding.{counts_of, run_of}
 use Rattle.find_cmd.specs.Requests.{asked_of as asked_of_find}
 use Rattle.sim_cmd.specs.Requests.{asked_of as asked_of_sim}
 use Rattle.localise_cmd.specs.Usage.{no_request}
-use Rattle.localise_cmd.specs.Commands.{case_of}
+use Rattle.localise_cmd.specs.Commands.{KeepsWords, case_of}
 use Rattle.localise_cmd.specs.Prints.{printed_status}
 use Rattle.localise_cmd.proofs.Keeping.{memory-keeps, usage-keeps}
 use Rattle.localise_cmd.proofs.Cases.{allows-memory, find-keeps, no_request-keeps, sim-keeps}
 use Rattle.localise_cmd.proofs.run.carry_out.Goals as goal
 
 pub returns-in-Ok-Find : goal.returns-in-Ok-Find
+unfolding KeepsWords
 returns-in-Ok-Find g c =
     let gives = rw c.in-Ok-Find.field-0-is at c.in-Ok-Find.ensures.gives in
     find-keeps g.F.FrontEnd.means g.F.FrontEnd.refuses (asked (map string_bytes c.args.words.now)) _ c.find.result
@@ -22,6 +23,7 @@ returns-in-Ok-Find g c =
     c.find_request.ensures c.find.ensures.keeps
 
 pub returns-in-Ok-Sim : goal.returns-in-Ok-Sim
+unfolding KeepsWords
 returns-in-Ok-Sim g c =
     let gives = rw c.in-Ok-Sim.field-0-is at c.in-Ok-Sim.ensures.gives in
     sim-keeps g.F.FrontEnd.means g.F.FrontEnd.refuses (asked (map string_bytes c.args.words.now)) _ c.simulate.result
@@ -29,6 +31,7 @@ returns-in-Ok-Sim g c =
     c.sim_request.ensures c.simulate.ensures
 
 pub returns-in-Err-Usage : goal.returns-in-Err-Usage
+unfolding KeepsWords
 returns-in-Err-Usage g c =
     let usage = c.in-Err-Usage.usage in
     let shelf = c.args.shelf.now in
@@ -46,6 +49,7 @@ returns-in-Err-Usage g c =
     c.status.result usage gives (subst (λ (n : ℕ). Keeps (no_request usage) r n) (sym c.status.ensures) keeps)
 
 pub returns-in-Err-NoMemory : goal.returns-in-Err-NoMemory
+unfolding KeepsWords
 returns-in-Err-NoMemory g c =
     let words = asked (map string_bytes c.args.words.now) in
     let shelf = c.args.shelf.now in
