@@ -37,7 +37,8 @@ behind node nodes column place bit same each of = record {
   count = of.count ∙ ap length (sym (each (take of.at nodes)));
 }
 
-node-of : (nodes : List Node) (column place bit : ℕ) → slice_get (free_bits nodes) column ≡ Some (free place bit) → NodeOf nodes column place bit
+node-of : (nodes : List Node) (column place bit : ℕ) → slice_get (free_bits nodes) column ≡ Some (free place bit)
+    → NodeOf nodes column place bit
 node-of [] column place bit there = cc
 node-of (Input input b ∷ nodes) column place bit there =
     behind (Input input b) nodes column place bit refl (λ ns. refl) (node-of nodes column place bit there)

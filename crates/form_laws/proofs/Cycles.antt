@@ -117,7 +117,8 @@ start-held e nodes start s b =
 
 -- the literals of the circuit's nodes in a cycle; those of the outputs, and what is expected of them; each literal of the
 -- circuit means its value
-pub record CycleStands (e : Source) (circuit : BitNet) (final : Unrolling) (moment : ℕ) (source : Source) (expected : List Checked) : Type 0 where
+pub record CycleStands (e : Source) (circuit : BitNet) (final : Unrolling) (moment : ℕ) (source : Source)
+    (expected : List Checked) : Type 0 where
   pub now : List Literal
   pub outputs : row final.outputs final.each moment ≡ words_translated now circuit.outputs
   pub expected_is : row final.expected final.each moment ≡ expected
@@ -132,9 +133,11 @@ length-expected : (circuit : BitNet) (trace : Trace) (t : ℕ) → IsTraceOf (le
 length-expected circuit trace t fits low =
     let width = length circuit.outputs in
     let from = t * width in
-    let within : from + width ≤ length trace.expected.items = row-within trace.cycles width t (length trace.expected.items) low fits.expected in
+    let within : from + width ≤ length trace.expected.items =
+    row-within trace.cycles width t (length trace.expected.items) low fits.expected in
     let count : from + width - from ≡ width = omega arith in
-    length-take-le (from + width - from) (drop from trace.expected.items) (omega (arith, within, length-drop from trace.expected.items)) ∙ count
+    length-take-le (from + width - from) (drop from trace.expected.items)
+    (omega (arith, within, length-drop from trace.expected.items)) ∙ count
 
 module _ (e : Source) (circuit : BitNet) (grouped : ℕ → Bool) (frees : FreesGrouped e grouped) where
   -- the bits that are chosen in a trace, by the number of its first cycle
@@ -203,7 +206,8 @@ module _ (e : Source) (circuit : BitNet) (grouped : ℕ → Bool) (frees : Frees
 
       long-cycle : Long circuit v
       long-cycle =
-          let rows : length v.ends * u.each ≡ length u.ends * u.each + u.each = ap (λ n. n * u.each) ends-cycle ∙ one-more (length u.ends) u.each in
+          let rows : length v.ends * u.each ≡ length u.ends * u.each + u.each =
+          ap (λ n. n * u.each) ends-cycle ∙ one-more (length u.ends) u.each in
           record {
             each = long.each;
             outputs = omega (arith, rows, long.outputs, length-outputs, length-append u.outputs (words_translated m.bits circuit.outputs));
@@ -231,7 +235,8 @@ module _ (e : Source) (circuit : BitNet) (grouped : ℕ → Bool) (frees : Frees
             outputs = subst (λ n. row final.outputs final.each n ≡ words_translated m.bits circuit.outputs) at rows;
             expected_is = subst (λ n. row final.expected final.each n ≡ expected_in (length circuit.outputs) trace t) at checked;
             means = λ l. keep after.definitions
-                (subst (λ s. Means e m.nodes (translated m.bits l) (bit_value s circuit.nodes l)) as-given (cycle-literals of held_as frees l));
+                (subst (λ s. Means e m.nodes (translated m.bits l) (bit_value s circuit.nodes l)) as-given
+                (cycle-literals of held_as frees l));
           }
 
       next-held : AreHeld e v.definitions (words_translated m.bits circuit.next) (before (t + 1))
@@ -316,7 +321,8 @@ module _ (e : Source) (circuit : BitNet) (grouped : ℕ → Bool) (frees : Frees
       let fits = All-head (IsTraceOf (length circuit.outputs)) trace traces fit in
       let begun : Long circuit (with_trace u) = record { each = long.each; outputs = long.outputs; expected = long.expected } in
       let start : length u.ends ≡ length u.ends + 0 = omega arith in
-      let one = cycles-tie trace fits (length u.ends) trace.cycles (with_trace u) (map constant_word circuit.start) 0 (omega arith) begun start
+      let one = cycles-tie trace fits (length u.ends) trace.cycles (with_trace u) (map constant_word circuit.start) 0 (omega arith)
+      begun start
       (start-held e u.definitions circuit.start) in
       let v = behind u trace in
       let rest = traces-tie traces v (All-tail (IsTraceOf (length circuit.outputs)) trace traces fit) one.long in
@@ -341,7 +347,9 @@ module _ (e : Source) (circuit : BitNet) (grouped : ℕ → Bool) (frees : Frees
           let place : length u.ends ≡ length u.ends + 0 = omega arith in
           let same : trace ≡ other = Some-same there in
           subst (λ (x : Trace). t < x.cycles → StandsAt x (length u.ends + 0) final t) same
-          (λ less. subst (λ n. StandsAt trace n final t) place (here final (after-then v r final behind_v after) t (omega arith) (omega (arith, less)))) low
+          (λ less. subst (λ n. StandsAt trace n final t) place
+          (here final (after-then v r final behind_v after) t (omega arith) (omega (arith, less)))) low
       stands-at v r number behind_v here rest final after (suc i) other there t low =
-          let place : length v.ends + cycles_of (take i traces) ≡ length u.ends + (trace.cycles + cycles_of (take i traces)) = omega (arith, number) in
+          let place : length v.ends + cycles_of (take i traces) ≡ length u.ends + (trace.cycles + cycles_of (take i traces)) =
+          omega (arith, number) in
           subst (λ n. StandsAt other n final t) place (rest final after i other there t low)

@@ -78,7 +78,8 @@ value-at e known (first ∷ nodes) (suc j) node there fits =
     (value-at e (known ++ b ∷ []) nodes j node there (subst (λ n. NodeFits n node) (sym number) fits))
 
 -- operands stand before the nodes that use them
-pub ordered-at : (i : ℕ) (nodes : List Node) (j : ℕ) (node : Node) → AreOrderedFrom i nodes → slice_get nodes j ≡ Some node → NodeFits (i + j) node
+pub ordered-at : (i : ℕ) (nodes : List Node) (j : ℕ) (node : Node) → AreOrderedFrom i nodes → slice_get nodes j ≡ Some node
+    → NodeFits (i + j) node
 ordered-at i [] j node ordered there = cc
 ordered-at i (first ∷ nodes) zero node ordered there =
     let same : first ≡ node = Some-is there in

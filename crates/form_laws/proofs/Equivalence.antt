@@ -99,7 +99,8 @@ module _ (of : Asked) (can : CanBeAsked of) where
     within = room;
     rest = cycles_clauses u selectors 0 0 u.ends;
     splits = refl;
-    apart = λ i d below. λ j l within. apart-from (get_or (get_or (cycles_clauses u selectors 0 0 u.ends) i d) j l) (named i d below j l within);
+    apart = λ i d below. λ j l within.
+        apart-from (get_or (get_or (cycles_clauses u selectors 0 0 u.ends) i d) j l) (named i d below j l within);
   }
     where
       apart-from : (l : Lit) → IsNamed n u.base (u.base + length u.definitions) l → IsNoCounter (n + 1) of.k n l.var
@@ -111,7 +112,8 @@ module _ (of : Asked) (can : CanBeAsked of) where
   is-within =
       All-append (IsWithin (variables_of u)) (selector_clauses n of.k) (cycles_clauses u selectors 0 0 u.ends)
       (counter-named n of.k (variables_of u) room 0 n (omega arith))
-      (λ i d below. λ j l within. within-from (get_or (get_or (cycles_clauses u selectors 0 0 u.ends) i d) j l) (named i d below j l within))
+      (λ i d below. λ j l within.
+        within-from (get_or (get_or (cycles_clauses u selectors 0 0 u.ends) i d) j l) (named i d below j l within))
     where
       within-from : (l : Lit) → IsNamed n u.base (u.base + length u.definitions) l → (1 ≤ l.var) × (l.var ≤ variables_of u)
       within-from l (inl selector) = (selector.0, omega (arith, selector.1, room))
@@ -149,7 +151,8 @@ module _ (of : Asked) (can : CanBeAsked of) where
       met-from : OutputsOf a → AllMet
       met-from hold i trace there t low =
           let within : first_of of.traces i + t < length u.ends = omega (arith, low, ends-are, cycles-within of.traces i trace there) in
-          cycle-right a e of.circuit u has (first_of of.traces i + t) _ _ (stands i trace there t low) (hold (first_of of.traces i + t) within)
+          cycle-right a e of.circuit u has (first_of of.traces i + t) _ _ (stands i trace there t low)
+          (hold (first_of of.traces i + t) within)
 
       outputs-from : AllMet → OutputsOf a
       outputs-from met t within =
@@ -193,7 +196,8 @@ module _ (of : Asked) (can : CanBeAsked of) where
     has =
         definitions-from a u.base selectors e u.definitions kept.ordered no_sources (λ place. refl)
         (λ i node there. hold.definitions i node (omega arith) there)
-        (λ i moment place bit computed there is_free. chosen-own a of.circuit can.circuit u bits-are owned i moment place bit computed there)
+        (λ i moment place bit computed there is_free.
+          chosen-own a of.circuit can.circuit u bits-are owned i moment place bit computed there)
 
     outputs-hold : OutputsOf e free a
     outputs-hold t within =
@@ -211,8 +215,8 @@ module _ (of : Asked) (can : CanBeAsked of) where
     value-of-literal (Of node negated) = refl
 
     -- bits that are the model's meet the trace
-    model-meets : (set : List ℕ) → Selects a n set → (number : ℕ) (trace : Trace) (chosen : Chosen) → slice_get of.traces number ≡ Some trace
-        → AreOfModel a u (freed_by of.groups set) number trace chosen → CircuitMeets of.circuit trace (freed_by of.groups set) chosen
+    model-meets : (set : List ℕ) → Selects a n set → (number : ℕ) (trace : Trace) (chosen : Chosen)
+        → slice_get of.traces number ≡ Some trace → AreOfModel a u (freed_by of.groups set) number trace chosen → CircuitMeets of.circuit trace (freed_by of.groups set) chosen
     model-meets set selects number trace chosen there is_model =
         subst (λ freed. CircuitMeets of.circuit trace freed chosen) (frees-set set selects)
         (meets-alike of.circuit trace e.frees (λ t. e.chosen (first_of of.traces number + t)) chosen alike (met number trace there))
@@ -228,14 +232,17 @@ module _ (of : Asked) (can : CanBeAsked of) where
             record { column = read.column; of_bit = in_bits; is = refl } in
             chosen-at a of.circuit can.circuit u bits-are moment read.column place bit in_bits
             ∙ ap (λ m. literal_in a u.base (get_or (get_or u.frees m []) read.column (Known false))) (sym number_is)
-            ∙ sym (value-of-literal literal) ∙ sym (is_model t place bit (unrolled_lit u.base literal) low (ap (λ freed. freed place) (sym (frees-set set selects)) ∙ is_free) is_at)
+            ∙ sym (value-of-literal literal)
+            ∙ sym (is_model t place bit (unrolled_lit u.base literal) low
+            (ap (λ freed. freed place) (sym (frees-set set selects)) ∙ is_free) is_at)
 
     -- so the set works
     works : (set : List ℕ) → Selects a n set → CircuitWorks of.circuit of.traces (freed_by of.groups set)
     works set selects trace member =
         let (i, there) = Contains-place of.traces trace member in (
           (λ t. e.chosen (first_of of.traces i + t)),
-          subst (λ freed. CircuitMeets of.circuit trace freed (λ t. e.chosen (first_of of.traces i + t))) (frees-set set selects) (met i trace there),
+          subst (λ freed. CircuitMeets of.circuit trace freed (λ t. e.chosen (first_of of.traces i + t)))
+              (frees-set set selects) (met i trace there),
         )
 
   -- ---- from choices to an assignment
@@ -261,7 +268,8 @@ module _ (of : Asked) (can : CanBeAsked of) where
 
     begun-selects : Selects begun n set
     begun-selects i some few =
-        if-true (nat_le i n) (is_member set i) (get_or (values chosen_source [] u.definitions) (i - u.base) false) (is_member set i) (le-leb i n few) refl
+        if-true (nat_le i n) (is_member set i) (get_or (values chosen_source [] u.definitions) (i - u.base) false) (is_member set i)
+        (le-leb i n few) refl
 
     freed-grouped : FreesGrouped chosen_source (is_grouped of.groups)
     freed-grouped place none = sym (selectors-free begun of.groups set begun-selects place) ∙ none-selected begun of.groups place 1 none
@@ -284,7 +292,8 @@ module _ (of : Asked) (can : CanBeAsked of) where
         let past : n < u.base + i = omega (arith, base-is) in
         let place : u.base + i - u.base ≡ i = omega arith in
         same (u.base + i) (inr (omega (arith, base-is)))
-        ∙ if-false (nat_le (u.base + i) n) (is_member set (u.base + i)) (get_or (values chosen_source [] u.definitions) (u.base + i - u.base) false)
+        ∙ if-false (nat_le (u.base + i) n) (is_member set (u.base + i))
+        (get_or (values chosen_source [] u.definitions) (u.base + i - u.base) false)
         (get_or (values chosen_source [] u.definitions) i false) (lt-leb (u.base + i) n past)
         (ap (λ k. get_or (values chosen_source [] u.definitions) k false) place)
 

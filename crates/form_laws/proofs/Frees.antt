@@ -63,7 +63,11 @@ and-shape : (frame : Frame) (nodes : List Node) (own : Option FreeBit) (x y : Li
     ⊎ Adds (FreeFits frame nodes own (made_unless nodes (And x y) o).bit) nodes (made_unless nodes (And x y) o)
 unfolding made_unless pushed
 and-shape frame nodes own x y (Some literal) = inl refl
-and-shape frame nodes own x y None = inr (record { added = And x y; is = refl; fits = λ moment place bit computed same. absurd (no_free moment place bit computed same) })
+and-shape frame nodes own x y None = inr (record {
+  added = And x y;
+  is = refl;
+  fits = λ moment place bit computed same. absurd (no_free moment place bit computed same);
+})
   where
     no_free : (moment place bit : ℕ) (computed : Literal) → And x y ≡ Free moment place bit computed → ⊥
     no_free moment place bit computed same = cc

@@ -31,7 +31,8 @@ free-alike false true p q r same is = cc
 free-alike false false p q r same is = refl
 
 module _ (e f : Source) where
-  node-alike : (known : List Bool) (node : Node) (rest : List Node) → AreAlike e f (IsRead (node ∷ rest)) → node_value e known node ≡ node_value f known node
+  node-alike : (known : List Bool) (node : Node) (rest : List Node) → AreAlike e f (IsRead (node ∷ rest))
+      → node_value e known node ≡ node_value f known node
   unfolding node_value
   node-alike known (Input input bit) rest alike = alike.inputs input bit
   node-alike known (State state bit) rest alike = alike.states state bit
@@ -64,7 +65,8 @@ module _ (e f : Source) where
 module _ (circuit : BitNet) (trace : Trace) (freed : ℕ → Bool) (one other : Chosen) where
   -- the two choose the same where a run reads
   abbrev pub ChooseAlike : Type 0
-  ChooseAlike = (t place bit : ℕ) → t < trace.cycles → IsRead circuit.nodes place bit → freed place ≡ true → one t place bit ≡ other t place bit
+  ChooseAlike = (t place bit : ℕ) → t < trace.cycles → IsRead circuit.nodes place bit → freed place ≡ true
+      → one t place bit ≡ other t place bit
 
   module _ (same : ChooseAlike) where
     cycle-alike : (t : ℕ) → t < trace.cycles → (state : ℕ → ℕ → Bool) (l : Literal)

@@ -43,7 +43,8 @@ module _ (a : ℕ → Bool) (place : ℕ) where
     has : has_place group place ≡ true
     is : a (first + at) ≡ true
 
-  first-satisfied : (is : Bool) (first : ℕ) (rest : List Lit) → is ≡ true → a first ≡ true → is_satisfied a (with_first is first rest) ≡ true
+  first-satisfied : (is : Bool) (first : ℕ) (rest : List Lit) → is ≡ true → a first ≡ true
+      → is_satisfied a (with_first is first rest) ≡ true
   first-satisfied true first rest is here = or_left (a first) (is_satisfied a rest) here
   first-satisfied false first rest is here = cc
 
@@ -146,7 +147,9 @@ module _ (a : ℕ → Bool) (groups : List Group) (set : List ℕ) (selects : Se
   from-freed : freed_by groups set place ≡ true → is_satisfied a (selectors_of groups place) ≡ true
   from-freed freed =
       let (m, member, has) = list_any-found (suspect_has (places_in groups) place) set freed in
-      let (some, at_place) = and_parts (nat_le 1 m) (option_map_or (λ places. list_any (λ p. p == place) places) (slice_get (places_in groups) (m - 1)) false) has in
+      let (some, at_place) =
+      and_parts (nat_le 1 m)
+      (option_map_or (λ places. list_any (λ p. p == place) places) (slice_get (places_in groups) (m - 1)) false) has in
       let first : 1 ≤ m = leb-true 1 m some in
       let s : Suspect groups place (m - 1) = suspect-of groups place (m - 1) at_place in
       let number : 1 + (m - 1) ≡ m = omega (arith, first) in
@@ -163,7 +166,8 @@ module _ (a : ℕ → Bool) (groups : List Group) (set : List ℕ) (selects : Se
 pub none-selected : (a : ℕ → Bool) (groups : List Group) (place first : ℕ) → is_grouped groups place ≡ false
     → is_satisfied a (selectors_from first groups place) ≡ false
 none-selected a [] place first none = refl
-none-selected a (g ∷ groups) place first none = at (has_place g place) (is_grouped groups place) none (none-selected a groups place (first + 1))
+none-selected a (g ∷ groups) place first none =
+    at (has_place g place) (is_grouped groups place) none (none-selected a groups place (first + 1))
   where
     at : (has rest : Bool) → (has || rest) ≡ false
         → (rest ≡ false → is_satisfied a (selectors_from (first + 1) groups place) ≡ false)

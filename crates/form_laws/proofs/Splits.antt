@@ -44,7 +44,8 @@ slice_get-drop (x ∷ xs) (suc n) i = slice_get-drop xs n i ∙ ap (slice_get (x
     suc-more = omega arith
 
 -- an element of a part of a list
-pub slice_get-range : {X : Type 0} (xs : List X) (from end i : ℕ) → from + i < end → slice_get (slice_range xs from end) i ≡ slice_get xs (from + i)
+pub slice_get-range : {X : Type 0} (xs : List X) (from end i : ℕ) → from + i < end
+    → slice_get (slice_range xs from end) i ≡ slice_get xs (from + i)
 slice_get-range xs from end i less = slice_get-take (drop from xs) (end - from) i (omega (arith, less)) ∙ slice_get-drop xs from i
 
 -- what is there of a part is within it
@@ -136,7 +137,8 @@ module _ (Q : List Lit → Type 0) (u : Unrolling) (selectors : ℕ → List Lit
         outputs = λ i less. outputs-at i less (All-behind Q nodes words here) behind.outputs;
       }
     where
-      outputs-at : (i : ℕ) → i < suc (length ends) → OutputsHold t → ((j : ℕ) → j < length ends → OutputsHold (t + 1 + j)) → OutputsHold (t + i)
+      outputs-at : (i : ℕ) → i < suc (length ends) → OutputsHold t → ((j : ℕ) → j < length ends → OutputsHold (t + 1 + j))
+          → OutputsHold (t + i)
       outputs-at zero less one rest = let place : t ≡ t + 0 = omega arith in subst OutputsHold place one
       outputs-at (suc i) less one rest =
           let place : t + 1 + i ≡ t + suc i = omega arith in subst OutputsHold place (rest i (omega (arith, less)))
@@ -156,7 +158,8 @@ module _ (Q : List Lit → Type 0) (u : Unrolling) (selectors : ℕ → List Lit
       (subst OutputsHold first (hold.outputs 0 (omega arith))))
       (cycles-hold (t + 1) end ends ascend.1 (record {
         definitions = λ i node after there. hold.definitions i node (omega (arith, after, ascend.0)) there;
-        outputs = λ i less. let place : t + suc i ≡ t + 1 + i = omega arith in subst OutputsHold place (hold.outputs (suc i) (omega (arith, less)));
+        outputs = λ i less.
+            let place : t + suc i ≡ t + 1 + i = omega arith in subst OutputsHold place (hold.outputs (suc i) (omega (arith, less)));
       }))
     where
       part : (j : ℕ) (node : Node) → slice_get (slice_range u.definitions from end) j ≡ Some node

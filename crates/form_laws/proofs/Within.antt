@@ -65,7 +65,8 @@ module _ (n base count : ℕ) where
   option-named (Some clause) selectors is rest =
       All-cons Named (clause ++ selectors) [] (All-append (IsNamed n base (base + count)) clause selectors is rest) (All-nil Named)
 
-  clause-named : (xs : List Literal) (selectors : List Lit) → IsWordBelow count xs → Named selectors → All Named (clause_of base xs selectors)
+  clause-named : (xs : List Literal) (selectors : List Lit) → IsWordBelow count xs → Named selectors
+      → All Named (clause_of base xs selectors)
   clause-named xs selectors below rest = option-named (simplified base xs) selectors (simplified-named xs below) rest
 
   none-named : Named []
@@ -152,7 +153,8 @@ selectors-named n base end first (group ∷ groups) place some few =
     at (list_any (λ p. p == place) group.places) (selectors-named n base end (first + 1) groups place (omega arith) (omega (arith, few)))
   where
     at : (is : Bool) → AreNamed n base end (selectors_from (first + 1) groups place)
-        → AreNamed n base end (if is then positive first ∷ selectors_from (first + 1) groups place else selectors_from (first + 1) groups place)
+        → AreNamed n base end
+        (if is then positive first ∷ selectors_from (first + 1) groups place else selectors_from (first + 1) groups place)
     at true rest =
         All-cons (IsNamed n base end) (positive first) (selectors_from (first + 1) groups place) (inl (some, omega (arith, few))) rest
     at false rest = rest
@@ -206,7 +208,8 @@ module _ (n k vars : ℕ) (room : n + starts k (n + 1) ≤ vars) where
       on = literal.opposite x ∷ negative (at_least first k i (m - 1)) ∷ positive (at_least first k (i + 1) m) ∷ []
 
       last : All Counted (positive (at_least first k (i + 1) m) ∷ [])
-      last = All-cons Counted (positive (at_least first k (i + 1) m)) [] (counter-within (i + 1) m (omega (arith, low)) some few) (All-nil Counted)
+      last =
+          All-cons Counted (positive (at_least first k (i + 1) m)) [] (counter-within (i + 1) m (omega (arith, low)) some few) (All-nil Counted)
 
       carries-at : (nat_le m (width k i) ≡ true) ⊎ (nat_le m (width k i) ≡ false) → All (All Counted) (carries first k i m)
       carries-at (inl is) =
@@ -214,7 +217,8 @@ module _ (n k vars : ℕ) (room : n + starts k (n + 1) ≤ vars) where
           (All-cons (All Counted) carry []
           (All-cons Counted (negative (at_least first k i m)) (positive (at_least first k (i + 1) m) ∷ [])
           (counter-within i m (omega (arith, low)) some (leb-true m (width k i) is)) last) (All-nil (All Counted)))
-      carries-at (inr other) = subst (All (All Counted)) (sym (if-false (nat_le m (width k i)) (carry ∷ []) [] [] other refl)) (All-nil (All Counted))
+      carries-at (inr other) =
+          subst (All (All Counted)) (sym (if-false (nat_le m (width k i)) (carry ∷ []) [] [] other refl)) (All-nil (All Counted))
 
       counts-at : (nat_le m 1 ≡ true) ⊎ (nat_le m 1 ≡ false) → All Counted (counts_on first k i x m)
       counts-at (inl is) =
@@ -223,7 +227,8 @@ module _ (n k vars : ℕ) (room : n + starts k (n + 1) ≤ vars) where
       counts-at (inr other) =
           let more : 1 < m = leb-false m 1 other in
           subst (All Counted) (sym (if-false (nat_le m 1) begin on on other refl))
-          (All-cons Counted (literal.opposite x) (negative (at_least first k i (m - 1)) ∷ positive (at_least first k (i + 1) m) ∷ []) x_within
+          (All-cons Counted (literal.opposite x)
+          (negative (at_least first k i (m - 1)) ∷ positive (at_least first k (i + 1) m) ∷ []) x_within
           (All-cons Counted (negative (at_least first k i (m - 1))) (positive (at_least first k (i + 1) m) ∷ [])
           (counter-within i (m - 1) (omega (arith, low)) (omega (arith, more)) (less-wide m more few)) last))
 
@@ -245,5 +250,6 @@ module _ (n k vars : ℕ) (room : n + starts k (n + 1) ≤ vars) where
   counter-named i (suc count) few =
       All-append (All Counted) (pairs (n + 1) k i (positive (i + 1)) 1 (width k (i + 1)))
       (counter_from (n + 1) k (i + 1) (literals_from (i + 1 + 1) count))
-      (pairs-within i (omega (arith, few)) (positive (i + 1)) (omega arith, omega (arith, few, room)) 1 (width k (i + 1)) (omega arith) (omega arith))
+      (pairs-within i (omega (arith, few)) (positive (i + 1)) (omega arith, omega (arith, few, room)) 1 (width k (i + 1))
+      (omega arith) (omega arith))
       (counter-named (i + 1) count (omega (arith, few)))
