@@ -6,6 +6,8 @@ pub mod Digests
 pub mod Increasing
 pub mod Lexed
 pub mod Merged
+pub mod OneAnswer
+pub mod Pieced
 pub mod Reading
 pub mod Seen
 pub mod Spelling

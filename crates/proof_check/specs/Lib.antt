@@ -8,3 +8,5 @@ pub mod LineReader
 pub mod Took
 pub mod Lines
 pub mod Errors
+pub mod Claims
+pub mod Pieced

@@ -1,20 +1,16 @@
-ghost use Rattle.std.specs.Prelude.{◌≡◌, ◌+◌, ◌<◌, ◌≤◌, ◌^◌, ◌↔◌, [], length, map, take, cond, slice_index_or, IsTrue, IsNone, IfSome, IfOk, MatchOption};
-ghost use Rattle.clause_base.specs.Literal.{AllDistinct, AreWithin};
-ghost use Rattle.clause_base.specs.Acceptance.{clauses_of, blocks_in, is_block_kind, IsAcceptedAt, IsAccepted, IsLeastRefused, Follows};
-ghost use Rattle.proof_check.specs.Marks.{AreStampedUpTo, AreInTable};
+ghost use Rattle.std.specs.Prelude.{◌≡◌, ◌+◌, ◌<◌, ◌^◌, ◌↔◌, length, take, IsNone, IfSome, IfOk};
+ghost use Rattle.clause_base.specs.Literal.{AreWithin};
+ghost use Rattle.clause_base.specs.Acceptance.{clauses_of, IsAccepted, IsLeastRefused, Follows};
+ghost use Rattle.proof_check.specs.Marks.{AreStampedUpTo};
+ghost use Rattle.proof_check.specs.Claims.{FoundIn, IsPiece};
 
-use crate::chain::is_given;
+use crate::claim::{BadStep, Claim, Piece};
 use crate::marks::{BLANK, Mark};
-use clause_base::{Clause, Clauses, Form, Lit, Log, StepKind};
+use crate::piece::{answer_of, first_refused, whole_of};
+use clause_base::{Clause, Form, Log};
 use loc_base::NoMemory;
 use std::alloc::Global;
 use std::marker::Model;
-
-/// A step that is refused: its number, counted from 1.
-#[derive(Clone, Copy, Debug, PartialEq, Eq)]
-pub struct BadStep {
-    pub n: u32,
-}
 
 /// The room that the check of a log takes. Contracts see it as the number of variables that it has room for.
 #[derive(Drop)]
@@ -41,6 +37,19 @@ impl Checker {
         Ok(Checker { marks })
     }
 
+    /// The first step of the piece that isn't accepted.
+    pub(crate) fn first_refused(&mut self, claim: &Claim, piece: Piece) -> Option<BadStep>
+        requires piece { IsPiece claim.now.log.now piece }
+        requires few { length claim.now.log.now + 1 < 2 ^ 32 }
+        requires earlier_within { AreWithin self.old (clauses_of claim.now.form.now.clauses (take piece.from claim.now.log.now)) }
+        requires blocks_within { AreWithin self.old claim.now.blocks.now }
+        ensures found { FoundIn claim.now.form.now.clauses claim.now.blocks.now claim.now.log.now piece.from piece.end result }
+        ensures vars { self.new ≡ self.old }
+    {
+        clear(&mut self.marks);
+        first_refused(&mut self.marks, claim, piece)
+    }
+
     /// The least step that isn't accepted after the form and the blocks; where each step is and blocks are left over,
     /// one more than the number of steps. It takes no memory, and time in proportion to the literals of the clauses that
     /// the chains name.
@@ -54,9 +63,9 @@ impl Checker {
         ensures sound { IsNone result → Follows form.now.clauses blocks.now log.now }
         ensures vars { self.new ≡ self.old }
     {
-        let _distinct = form.clauses.len();
-        clear(&mut self.marks);
-        least_refused(&mut self.marks, &form.clauses, blocks, log)
+        let claim = Claim { form, blocks, log };
+        let found = self.first_refused(&claim, whole_of(log));
+        answer_of(&claim, found)
     }
 }
 
@@ -67,78 +76,4 @@ fn clear(marks: &mut [Mark])
     for mark in marks.iter_mut() {
         *mark = BLANK;
     }
-}
-
-/// Whether the clause is the block after the first `seen` ones.
-fn is_next_block(blocks: &[Clause], seen: usize, clause: &[Lit]) -> bool
-    ensures { IsTrue result ↔ ((seen < length blocks.now) × (clause.now ≡ slice_index_or blocks.now seen [])) }
-{
-    match blocks.get(seen) {
-        Some(block) => block.literals() == clause,
-        None => false,
-    }
-}
-
-/// Whether the step at `place` is accepted after those before it, of which `seen` are blocks.
-fn is_accepted(
-    marks: &mut [Mark],
-    form: &Clauses,
-    blocks: &[Clause],
-    log: &Log,
-    place: usize,
-    seen: usize,
-) -> bool
-    requires place { place < length log.now }
-    requires few { length log.now < 2 ^ 32 }
-    requires seen { seen ≡ blocks_in (take place log.now) }
-    requires stamps { AreStampedUpTo place marks.old }
-    requires in_table { AreInTable marks.old (clauses_of form.now (take place log.now)) }
-    ensures accepted { IsTrue result ↔ IsAcceptedAt form.now blocks.now log.now place }
-    ensures stamps { AreStampedUpTo (place + 1) marks.new }
-{
-    match log.kind(place) {
-        StepKind::Block => is_next_block(blocks, seen, log.clause(place)),
-        StepKind::Learned | StepKind::Derived => is_given(marks, form, log, place),
-    }
-}
-
-/// How many blocks there are with a step of that kind after `seen` of them.
-fn with_step(seen: usize, kind: StepKind) -> usize
-    requires { seen < 2 ^ 63 }
-    ensures { result ≡ seen + cond (is_block_kind kind) 1 0 }
-{
-    match kind {
-        StepKind::Block => seen + 1,
-        StepKind::Learned | StepKind::Derived => seen,
-    }
-}
-
-fn least_refused(
-    marks: &mut [Mark],
-    form: &Clauses,
-    blocks: &[Clause],
-    log: &Log,
-) -> Option<BadStep>
-    requires few { length log.now + 1 < 2 ^ 32 }
-    requires stamps { AreStampedUpTo 0 marks.old }
-    requires form_in_table { AreInTable marks.old form.now }
-    requires blocks_in_table { AreInTable marks.old blocks.now }
-    ensures answer { MatchOption result (IsAccepted form.now blocks.now log.now) (λ bad. IsLeastRefused form.now blocks.now log.now bad.n) }
-    ensures distinct { AllDistinct (map (λ step. step.clause) log.now) }
-{
-    let mut seen = 0;
-    for place in 0..log.len() {
-        if !is_accepted(marks, form, blocks, log, place, seen) {
-            return Some(BadStep {
-                n: place as u32 + 1,
-            });
-        }
-        seen = with_step(seen, log.kind(place));
-    }
-    if seen < blocks.len() {
-        return Some(BadStep {
-            n: log.len() as u32 + 1,
-        });
-    }
-    None
 }

@@ -3,7 +3,7 @@ use Rattle.std.proofs.lemmas.Bool.{ltb-true}
 use Rattle.std.proofs.lemmas.List.{get_or_read}
 use Rattle.std.proofs.lemmas.Slice.Eq.{slice_eq-Decides}
 use Rattle.clause_base.proofs.Sets.{lit_eq-Decides}
-use Rattle.proof_check.proofs.checker.is_next_block.Goals as goal
+use Rattle.proof_check.proofs.piece.is_next_block.Goals as goal
 
 pub returns-in-Some : goal.returns-in-Some
 returns-in-Some c =

@@ -1,0 +1,5 @@
+use Rattle.proof_check.proofs.OneAnswer.{one-answer}
+use Rattle.proof_check.proofs.laws.one_answer.Goals as goal
+
+pub returns : goal.returns
+returns c = one-answer
