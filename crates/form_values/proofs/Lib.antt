@@ -1,0 +1,4 @@
+pub mod PlaceSteps
+pub mod WordSteps
+pub mod RowSteps
+pub mod Meets

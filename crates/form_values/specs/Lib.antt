@@ -1,0 +1,2 @@
+pub mod ModelValues
+pub mod Places
