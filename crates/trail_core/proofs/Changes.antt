@@ -13,6 +13,7 @@ use Rattle.clause_base.specs.Acceptance.{numbered}
 use Rattle.trail_core.specs.declared.entry.Entry.{Entry}
 use Rattle.trail_core.specs.Values.{Values, IsUnassignedIn, IsUnit, Rests, open_at_two, IsVariable}
 use Rattle.trail_core.specs.TrailState.{TrailState, IsTrail, IsJustified, IsReason, IsNumber, AllRest, MayAdd, at_start, asserting, with_clause, entry_of, values_of, level_in, up_to, decisions, is_decision}
+use Rattle.trail_core.specs.Watching.{IsOpen}
 use Rattle.trail_core.proofs.Lists.{find_found, find-take_some}
 use Rattle.trail_core.proofs.Levels.{IsLeveled, up_to_front, up_to_all}
 use Rattle.trail_core.proofs.Truth.{values-up_to_none}
@@ -59,11 +60,22 @@ unassigned_below t v k m h s l = at_entry (entry_of (up_to k t.entries) v) refl
         let equal : e.decision_level ≡ m = cc in
         absurd (omega (arith, leb-true e.decision_level k low, equal))
 
--- the added clause rests below the present level
+-- the added clause has two unassigned literals below the present level
+pub new_open : (t : TrailState) (c : List Lit) (k : ℕ) → IsTrail t → MayAdd t c → k < t.level → IsOpen (values_of (up_to k t.entries)) c
+new_open t c k h (at_start z) l = absurd (omega (arith, z, l))
+new_open t c k h (asserting u m unit has_m other level) l = record {
+  one = u;
+  two = m;
+  has_one = unit.member;
+  has_two = has_m;
+  apart = λ e. other (sym e);
+  one_free = values-up_to_none t.entries k u.var h.leveled unit.unassigned;
+  two_free = unassigned_below t m.var k t.level h level l;
+}
+
+-- so it rests there
 new_rests : (t : TrailState) (c : List Lit) (k : ℕ) → IsTrail t → MayAdd t c → k < t.level → Rests (values_of (up_to k t.entries)) c
-new_rests t c k h (at_start z) l = absurd (omega (arith, z))
-new_rests t c k h (asserting u m unit has_m other level) l =
-    open_at_two u m unit.member has_m (λ e. other (sym e)) (values-up_to_none t.entries k u.var h.leveled unit.unassigned) (unassigned_below t m.var k t.level h level l)
+new_rests t c k h m l = let o = new_open t c k h m l in open_at_two o.one o.two o.has_one o.has_two o.apart o.one_free o.two_free
 
 -- a clause may be added
 pub IsTrail-with_clause : (t : TrailState) (c : List Lit) → IsTrail t → IsWithin t.vars c → IsTrue (has_distinct_variables c) → MayAdd t c → IsTrail (with_clause t c)

@@ -1,6 +1,6 @@
 -- The literal at which propagation goes on.
 use Rattle.std.proofs.Common.{◌≡◌, ℕ, zero, suc, ◌+◌, ◌<◌, ◌≤◌, Bool, true, false, not, cond, eqb, List, [], ◌∷◌, ◌++◌, length, get_or, take, drop, Option, Some, None, refl, sym, ap, ◌∙◌, subst, arith}
-use Rattle.std.specs.Prelude.{slice_get}
+use Rattle.std.specs.Prelude.{IsSome, slice_get}
 use Rattle.std.specs.Option.{option_map, option_or}
 use Rattle.std.proofs.lemmas.Bool.{eq-eqb}
 use Rattle.std.proofs.lemmas.List.{take-append-drop, drop_more}
@@ -10,7 +10,10 @@ use Rattle.clause_base.specs.declared.literal.Lit.{Lit}
 use Rattle.clause_base.specs.Literal.{opposite}
 use Rattle.trail_core.specs.declared.entry.Entry.{Entry}
 use Rattle.trail_core.specs.TrailState.{TrailState, IsTrail, entry_of, values_of, level_in}
-use Rattle.trail_core.specs.Visits.{IsGone}
+use Rattle.trail_core.specs.declared.watches.Pair.{Pair}
+use Rattle.trail_core.specs.declared.watches.Watches.{Watches}
+use Rattle.trail_core.specs.Visits.{IsGone, HasRoom, WatchesWell, IsDone}
+use Rattle.trail_core.proofs.Keeping.{kept_rests}
 use Rattle.trail_core.proofs.Listing.{at_any}
 
 -- an entry is that of its variable
@@ -26,6 +29,7 @@ entry_there es g d l none =
 -- the opposite of the literal at the place is gone
 pub gone_at : (t : TrailState) (g : ℕ) (d : Entry) → IsTrail t → g < length t.entries → (get_or t.entries g d).decision_level ≡ t.level → IsGone t g (opposite (get_or t.entries g d).lit)
 gone_at t g d h l level = record {
+  variable = (h.justified g d l).variable;
   is_false = ap (option_map (λ (x : Entry). not x.lit.negated)) there;
   level = ap (option_map (λ (x : Entry). x.decision_level)) there ∙ ap Some level;
   later = (h.justified g d l).unassigned;
@@ -48,3 +52,26 @@ gone_told t g l h present q =
     let m = option_map-some (λ (e : Entry). e.lit) (slice_get t.entries g) l q in
     let p = got t.entries g m.0 m.1 in
     subst (λ x. IsGone t g (opposite x)) (ap (λ (e : Entry). e.lit) (p.1 m.0) ∙ m.2) (gone_at t g m.0 h p.0 (present g m.0 (omega arith) p.0))
+
+-- a literal is told of each place of the trail
+pub told_there : (es : List Entry) (g : ℕ) → g < length es → IsSome (option_map (λ (e : Entry). e.lit) (slice_get es g))
+told_there [] g l = absurd (omega (arith, l))
+told_there (e ∷ es) zero l = refl
+told_there (e ∷ es) (suc g) l = told_there es g (omega (arith, l))
+
+-- all is done
+pub done_at : (t : TrailState) (w : Watches) → WatchesWell t w w.gone_over → length t.clauses ≤ length w.pairs.items → length t.entries ≤ w.gone_over → IsDone t w
+done_at t w h all over = record { pairs = all; entries = over; rest = kept_rests t w.pairs.items w.lists.items w.gone_over empty all over h.kept }
+  where
+    none : Lit
+    none = record { var = 0; negated = false }
+
+    empty : Pair
+    empty = record { first = none; second = none }
+
+-- one entry more was gone over
+pub well_counted : (t : TrailState) (w : Watches) (k g : ℕ) → WatchesWell t w g → WatchesWell t record { pairs = w.pairs; lists = w.lists; gone_over = k } g
+well_counted t w k g h = record {
+  kept = h.kept;
+  room = record { lists = h.room.lists; pairs = h.room.pairs; numbers = h.room.numbers; room = h.room.room; unpaired = h.room.unpaired };
+}

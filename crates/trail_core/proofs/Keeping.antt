@@ -9,6 +9,7 @@ use Rattle.trail_core.specs.declared.entry.Entry.{Entry}
 use Rattle.trail_core.specs.declared.watches.Pair.{Pair}
 use Rattle.trail_core.specs.Values.{IsTrueIn, IsFalseIn, Rests, satisfied, open_at_two}
 use Rattle.trail_core.specs.TrailState.{TrailState, IsTrail, IsNumber, AllRest, entry_of, values_of, level_in, up_to, back_at, with_decision}
+use Rattle.trail_core.specs.Listing.{Listing}
 use Rattle.trail_core.specs.Watching.{IsCovered, IsWatch, IsSettled, IsPaired, settled, watched, IsKept}
 use Rattle.trail_core.proofs.Lists.{find-take_some, find-filter_passes, find-filter_keeps, filter_at}
 use Rattle.trail_core.proofs.Levels.{IsLeveled, up_to_front, up_to-length}
@@ -48,7 +49,7 @@ covered_front old new w o b f h c = record {
 pub part_front : (old new : List Entry) (g : ℕ) → IsFront old new → g ≤ length old → take g new ≡ take g old
 part_front old new g f l = sym (take-take g (length old) new l) ∙ ap (take g) f
 
-pub watch_front : (old new : List Entry) (g : ℕ) (lists : List (List ℕ)) (n : ℕ) (x y : Lit) → IsFront old new → g ≤ length old → IsWatch old g lists n x y → IsWatch new g lists n x y
+pub watch_front : (old new : List Entry) (g : ℕ) (lists : List Listing) (n : ℕ) (x y : Lit) → IsFront old new → g ≤ length old → IsWatch old g lists n x y → IsWatch new g lists n x y
 watch_front old new g lists n x y f l w = record {
   listed = w.listed;
   covered = λ h.
@@ -65,11 +66,11 @@ settled_front old new c f s = record {
 }
 
 pub paired_map : (old new : List Entry) (W V : Lit → Lit → Type 0) (c : List Lit) (p : Pair) → (IsSettled old c → IsSettled new c) → ((x y : Lit) → W x y → V x y) → IsPaired old W c p → IsPaired new V c p
-paired_map old new W V c p f g (settled s) = settled (f s)
+paired_map old new W V c p f g (settled s z) = settled (f s) z
 paired_map old new W V c p f g (watched a b n u v) = watched a b n (g p.first p.second u) (g p.second p.first v)
 
 -- a decision, where all entries were gone over
-pub kept_decided : (t : TrailState) (l : Lit) (pairs : List Pair) (lists : List (List ℕ)) (g : ℕ) → g ≡ length t.entries → IsKept t pairs lists g → IsKept (with_decision t l) pairs lists g
+pub kept_decided : (t : TrailState) (l : Lit) (pairs : List Pair) (lists : List Listing) (g : ℕ) → g ≡ length t.entries → IsKept t pairs lists g → IsKept (with_decision t l) pairs lists g
 kept_decided t l pairs lists g q h = record {
   few = h.few;
   entries = omega (arith, q, size);
@@ -86,7 +87,7 @@ kept_decided t l pairs lists g q h = record {
     size = length_push t.entries e
 
 -- an entry of a low level stays
-back_keeps : (old : List Entry) (k v : ℕ) (e : Entry) → entry_of old v ≡ Some e → e.decision_level ≤ k → entry_of (up_to k old) v ≡ entry_of old v
+pub back_keeps : (old : List Entry) (k v : ℕ) (e : Entry) → entry_of old v ≡ Some e → e.decision_level ≤ k → entry_of (up_to k old) v ≡ entry_of old v
 back_keeps old k v e h l = find-filter_keeps (λ (x : Entry). eqb x.lit.var v) (λ (x : Entry). leb x.decision_level k) old e h (le-leb _ _ l) ∙ sym h
 
 pub settled_back : (old : List Entry) (k : ℕ) (c : List Lit) → IsSettled old c → IsSettled (up_to k old) c
@@ -95,7 +96,7 @@ settled_back old k c s =
     let same : entry_of (up_to k old) s.literal.var ≡ entry_of old s.literal.var = back_keeps old k s.literal.var e.value e.is (omega (arith, e.gives)) in
     record { literal = s.literal; member = s.member; is_true = ap (option_map value_of) same ∙ s.is_true; level = ap (option_map level_of) same ∙ s.level }
 
-pub watch_back : (old : List Entry) (k g h : ℕ) (lists : List (List ℕ)) (n : ℕ) (x y : Lit) → IsLeveled old → h ≤ g → h ≤ length (up_to k old) → IsWatch old g lists n x y → IsWatch (up_to k old) h lists n x y
+pub watch_back : (old : List Entry) (k g h : ℕ) (lists : List Listing) (n : ℕ) (x y : Lit) → IsLeveled old → h ≤ g → h ≤ length (up_to k old) → IsWatch old g lists n x y → IsWatch (up_to k old) h lists n x y
 watch_back old k g h lists n x y leveled low short w = record { listed = w.listed; covered = covered }
   where
     front : up_to k old ≡ take (length (up_to k old)) old
@@ -121,7 +122,7 @@ watch_back old k g h lists n x y leveled low short w = record { listed = w.liste
         }
 
 -- going back
-pub kept_back : (t : TrailState) (k : ℕ) (pairs : List Pair) (lists : List (List ℕ)) (g h : ℕ) → IsTrail t → k ≤ t.level → h ≤ g → h ≤ length (up_to k t.entries) → (h ≡ g) ⊎ (h ≡ length (up_to k t.entries)) → IsKept t pairs lists g → IsKept (back_at t k) pairs lists h
+pub kept_back : (t : TrailState) (k : ℕ) (pairs : List Pair) (lists : List Listing) (g h : ℕ) → IsTrail t → k ≤ t.level → h ≤ g → h ≤ length (up_to k t.entries) → (h ≡ g) ⊎ (h ≡ length (up_to k t.entries)) → IsKept t pairs lists g → IsKept (back_at t k) pairs lists h
 kept_back t k pairs lists g h trail level low short which kept = record {
   few = kept.few;
   entries = short;
@@ -149,8 +150,8 @@ cases_value (Some false) true = inr (inl refl)
 cases_value (Some false) false = inl refl
 
 -- a paired clause rests, where all entries were gone over
-pub paired_rests : (es : List Entry) (g : ℕ) (lists : List (List ℕ)) (n : ℕ) (c : List Lit) (p : Pair) → length es ≤ g → IsPaired es (IsWatch es g lists n) c p → Rests (values_of es) c
-paired_rests es g lists n c p l (settled s) = satisfied s.literal s.member s.is_true
+pub paired_rests : (es : List Entry) (g : ℕ) (lists : List Listing) (n : ℕ) (c : List Lit) (p : Pair) → length es ≤ g → IsPaired es (IsWatch es g lists n) c p → Rests (values_of es) c
+paired_rests es g lists n c p l (settled s z) = satisfied s.literal s.member s.is_true
 paired_rests es g lists n c p l (watched a b apart u v) =
     let all : take g es ≡ es = take_all g es l in
     elim (cases_value (values_of es p.first.var) p.first.negated) [
@@ -165,7 +166,7 @@ paired_rests es g lists n c p l (watched a b apart u v) =
     ]
 
 -- where each clause is paired, and all entries were gone over, all clauses rest
-pub kept_rests : (t : TrailState) (pairs : List Pair) (lists : List (List ℕ)) (g : ℕ) (d : Pair) → length t.clauses ≤ length pairs → length t.entries ≤ g → IsKept t pairs lists g → AllRest t.clauses (values_of t.entries)
+pub kept_rests : (t : TrailState) (pairs : List Pair) (lists : List Listing) (g : ℕ) (d : Pair) → length t.clauses ≤ length pairs → length t.entries ≤ g → IsKept t pairs lists g → AllRest t.clauses (values_of t.entries)
 kept_rests t pairs lists g d all over h n k =
     let q : n - 1 + 1 ≡ n = omega (arith, k.above) in
     subst (λ m. Rests (values_of t.entries) (numbered t.clauses m)) q

@@ -7,11 +7,15 @@ pub mod Fields
 pub mod Back
 pub mod BackFields
 pub mod Looks
-pub mod RoundLemmas
+pub mod Propagating
 pub mod Keeping
 pub mod Listing
+pub mod Counting
 pub mod Visiting
 pub mod Passing
 pub mod Placing
+pub mod Choosing
 pub mod Giving
 pub mod Going
+pub mod Widening
+pub mod Calls

@@ -5,7 +5,8 @@ use Rattle.std.proofs.lemmas.List.{get_or-set_same, get_or-set_other, get_or-tak
 use Rattle.clause_base.specs.declared.literal.Lit.{Lit}
 use Rattle.clause_base.specs.Literal.{same_lit}
 use Rattle.clause_base.proofs.Sets.{lit_ext, same_lit-true, same_lit_itself}
-use Rattle.trail_core.specs.Watching.{code_of, list_of, Stands, IsListed}
+use Rattle.trail_core.specs.Listing.{Listing, nothing}
+use Rattle.trail_core.specs.Watching.{code_of, list_of, room_of, with_list, AreNumbers, Stands, IsListed}
 
 sign_code : (a b : ℕ) (s t : Bool) → 2 * a + cond s 1 0 ≡ 2 * b + cond t 1 0 → (a ≡ b) × (s ≡ t)
 sign_code a b true true h = (omega (arith, h), refl)
@@ -23,11 +24,59 @@ cases_lit l m = elim (cases_Bool (same_lit l m)) [
   | inr f ↦ inr (λ e. both_ways (same_lit l m) f (ap (same_lit l) (sym e) ∙ same_lit_itself l))
 ]
 
-pub list_set_same : (lists : List (List ℕ)) (l : Lit) (xs : List ℕ) → code_of l < length lists → list_of (set lists (code_of l) xs) l ≡ xs
-list_set_same lists l xs h = get_or-set_same lists (code_of l) xs [] h
+pub list_set_same : (lists : List Listing) (l : Lit) (xs : List ℕ) → code_of l < length lists → list_of (with_list lists l xs) l ≡ xs
+list_set_same lists l xs h = ap (λ (x : Listing). x.numbers) (get_or-set_same lists (code_of l) record { numbers = xs; room = room_of lists l } nothing h)
 
-pub list_set_other : (lists : List (List ℕ)) (l m : Lit) (xs : List ℕ) → m ≢ l → list_of (set lists (code_of l) xs) m ≡ list_of lists m
-list_set_other lists l m xs n = get_or-set_other lists (code_of l) (code_of m) xs [] (λ e. n (code_same m l e))
+pub list_set_other : (lists : List Listing) (l m : Lit) (xs : List ℕ) → m ≢ l → list_of (with_list lists l xs) m ≡ list_of lists m
+list_set_other lists l m xs n = ap (λ (x : Listing). x.numbers) (get_or-set_other lists (code_of l) (code_of m) record { numbers = xs; room = room_of lists l } nothing (λ e. n (code_same m l e)))
+
+pub with_list-length : (lists : List Listing) (l : Lit) (xs : List ℕ) → length (with_list lists l xs) ≡ length lists
+with_list-length lists l xs = length-set lists (code_of l) record { numbers = xs; room = room_of lists l }
+
+-- the room stays
+pub with_list-room : (lists : List Listing) (l m : Lit) (xs : List ℕ) → code_of l < length lists → room_of (with_list lists l xs) m ≡ room_of lists m
+with_list-room lists l m xs h = elim (cases_lit m l) [
+  | inl e ↦ subst (λ z. room_of (with_list lists l xs) z ≡ room_of lists z) (sym e) (ap (λ (x : Listing). x.room) (get_or-set_same lists (code_of l) new nothing h))
+  | inr d ↦ ap (λ (x : Listing). x.room) (get_or-set_other lists (code_of l) (code_of m) new nothing (λ e. d (code_same m l e)))
+]
+  where
+    new : Listing
+    new = record { numbers = xs; room = room_of lists l }
+
+-- the numbers are those of clauses, where those that are put in are
+pub with_list-numbers : (lists : List Listing) (l m : Lit) (xs : List ℕ) (count : ℕ) → code_of l < length lists → AreNumbers xs count → AreNumbers (list_of lists m) count → AreNumbers (list_of (with_list lists l xs) m) count
+with_list-numbers lists l m xs count h a b = elim (cases_lit m l) [
+  | inl e ↦ subst (λ z. AreNumbers (list_of (with_list lists l xs) z) count) (sym e) (subst (λ ys. AreNumbers ys count) (sym (list_set_same lists l xs h)) a)
+  | inr d ↦ subst (λ ys. AreNumbers ys count) (sym (list_set_other lists l m xs d)) b
+]
+
+pub numbers_push : (xs : List ℕ) (n count : ℕ) → 1 ≤ n → n ≤ count → AreNumbers xs count → AreNumbers (xs ++ n ∷ []) count
+numbers_push xs n count low high h i l = elim (cases_lt i (length xs)) [
+  | inl b ↦ rw (get_or_append_left xs (n ∷ []) 0 i b) (h i b)
+  | inr b ↦ rw (get_or_push xs n 0 i (omega (arith, b, l, length_push xs n))) (low, high)
+]
+
+pub numbers_set : (xs : List ℕ) (at n count : ℕ) → 1 ≤ n → n ≤ count → AreNumbers xs count → AreNumbers (set xs at n) count
+numbers_set xs at n count low high h i l = elim (cases_eq i at) [
+  | inl e ↦ rw (e, get_or-set_same xs at n 0 (omega (arith, e, l, length-set xs at n))) (low, high)
+  | inr d ↦ rw (get_or-set_other xs at i n 0 d) (h i (omega (arith, l, length-set xs at n)))
+]
+
+pub numbers_take : (xs : List ℕ) (k count : ℕ) → k ≤ length xs → AreNumbers xs count → AreNumbers (take k xs) count
+numbers_take xs k count l h i b = rw (get_or-take k xs i 0 (omega (arith, b, length-take-le k xs l))) (h i (omega (arith, b, l, length-take-le k xs l)))
+
+-- a test that holds counts for one
+pub counts_one : (b : Bool) → b ≡ true → 1 ≤ cond b 1 0
+counts_one true e = omega arith
+counts_one false e = absurd (both_ways false refl e)
+
+-- how many numbers the lists have, where one more is put into one of them
+pub with_list-held : (lists : List Listing) (l m : Lit) (xs : List ℕ) → code_of l < length lists → length xs ≤ length (list_of lists l) + 1 → length (list_of (with_list lists l xs) m) ≤ length (list_of lists m) + cond (same_lit l m) 1 0
+with_list-held lists l m xs h n = elim (cases_lit m l) [
+  | inl e ↦ subst (λ z. length (list_of (with_list lists l xs) z) ≤ length (list_of lists z) + cond (same_lit l z) 1 0) (sym e)
+      (omega (arith, n, counts_one (same_lit l l) (same_lit_itself l), ap length (list_set_same lists l xs h)))
+  | inr d ↦ omega (arith, ap length (list_set_other lists l m xs d))
+]
 
 -- a number in a list stands in the same list under another name
 pub stands_in : (xs ys : List ℕ) (from n : ℕ) → xs ≡ ys → Stands xs from (length xs) n → Stands ys from (length ys) n
@@ -53,17 +102,17 @@ stands_last xs n = record {
 }
 
 -- a number put at the end of one list stays listed in all, and is listed there
-pub listed_push : (lists : List (List ℕ)) (l x : Lit) (m n : ℕ) → code_of l < length lists → IsListed lists x n → IsListed (set lists (code_of l) (list_of lists l ++ m ∷ [])) x n
+pub listed_push : (lists : List Listing) (l x : Lit) (m n : ℕ) → code_of l < length lists → IsListed lists x n → IsListed (with_list lists l (list_of lists l ++ m ∷ [])) x n
 listed_push lists l x m n h s = elim (cases_lit x l) [
-  | inl e ↦ subst (λ z. IsListed (set lists (code_of l) (list_of lists l ++ m ∷ [])) z n) (sym e)
-      (stands_in (list_of lists l ++ m ∷ []) (list_of (set lists (code_of l) (list_of lists l ++ m ∷ [])) l) 0 n (sym (list_set_same lists l (list_of lists l ++ m ∷ []) h))
+  | inl e ↦ subst (λ z. IsListed (with_list lists l (list_of lists l ++ m ∷ [])) z n) (sym e)
+      (stands_in (list_of lists l ++ m ∷ []) (list_of (with_list lists l (list_of lists l ++ m ∷ [])) l) 0 n (sym (list_set_same lists l (list_of lists l ++ m ∷ []) h))
       (stands_push (list_of lists l) m n (subst (λ z. IsListed lists z n) e s)))
-  | inr d ↦ stands_in (list_of lists x) (list_of (set lists (code_of l) (list_of lists l ++ m ∷ [])) x) 0 n (sym (list_set_other lists l x (list_of lists l ++ m ∷ []) d)) s
+  | inr d ↦ stands_in (list_of lists x) (list_of (with_list lists l (list_of lists l ++ m ∷ [])) x) 0 n (sym (list_set_other lists l x (list_of lists l ++ m ∷ []) d)) s
 ]
 
-pub listed_last : (lists : List (List ℕ)) (l : Lit) (n : ℕ) → code_of l < length lists → IsListed (set lists (code_of l) (list_of lists l ++ n ∷ [])) l n
+pub listed_last : (lists : List Listing) (l : Lit) (n : ℕ) → code_of l < length lists → IsListed (with_list lists l (list_of lists l ++ n ∷ [])) l n
 listed_last lists l n h =
-    stands_in (list_of lists l ++ n ∷ []) (list_of (set lists (code_of l) (list_of lists l ++ n ∷ [])) l) 0 n (sym (list_set_same lists l (list_of lists l ++ n ∷ []) h)) (stands_last (list_of lists l) n)
+    stands_in (list_of lists l ++ n ∷ []) (list_of (with_list lists l (list_of lists l ++ n ∷ [])) l) 0 n (sym (list_set_same lists l (list_of lists l ++ n ∷ []) h)) (stands_last (list_of lists l) n)
 
 -- the numbers kept so far, with one more written behind them
 pub kept_front : (xs : List ℕ) (kept m n : ℕ) → Stands xs 0 kept n → Stands (set xs kept m) 0 (kept + 1) n

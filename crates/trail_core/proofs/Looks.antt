@@ -1,13 +1,13 @@
 -- One look at a clause.
-use Rattle.std.proofs.Common.{◌≡◌, ◌≢◌, ℕ, suc, ◌+◌, ◌<◌, ◌≤◌, Bool, true, false, not, List, [], ◌∷◌, ◌++◌, length, get_or, take, drop, Option, Some, None, refl, sym, ap, ◌∙◌, subst, arith, ⊎_elim}
+use Rattle.std.proofs.Common.{◌≡◌, ◌≢◌, ℕ, suc, ◌+◌, ◌<◌, ◌≤◌, Bool, true, false, not, List, [], ◌∷◌, ◌++◌, length, get_or, take, drop, Option, Some, None, refl, sym, ap, ◌∙◌, subst, arith, ⊎_elim, inl, inr}
 use Rattle.std.specs.Prelude.{is_some}
 use Rattle.std.specs.Bool.{beq}
-use Rattle.std.proofs.lemmas.Bool.{false≢true, both_ways, or_cases, or_left, or_right}
+use Rattle.std.proofs.lemmas.Bool.{false≢true, both_ways, cases_Bool, or_cases, or_left, or_right}
 use Rattle.std.proofs.lemmas.List.{take-append-drop, drop_more, take_more, take_all}
 use Rattle.loc_base.proofs.ShelfOptions.{is_some-false, is_some-split}
 use Rattle.clause_base.specs.declared.literal.Lit.{Lit}
-use Rattle.clause_base.specs.Literal.{IsWithin, same_lit, has, has_variable, has_distinct_variables}
-use Rattle.clause_base.proofs.Sets.{same_lit-true, same_lit_itself, has-append, has-push, has_variable-has, distinct_parts}
+use Rattle.clause_base.specs.Literal.{IsWithin, same_lit, opposite, has, has_variable, has_distinct_variables}
+use Rattle.clause_base.proofs.Sets.{lit_ext, has-IsConsistent, same_lit-true, same_lit_itself, has-append, has-push, has_variable-has, distinct_parts}
 use Rattle.trail_core.specs.Values.{Values, IsFalseIn, IsUnassignedIn, IsFalsified, IsUnit, Rests, satisfied, open_at_two, IsVariable}
 
 -- what the literals gone over are: all false, or unit
@@ -111,3 +111,30 @@ variable_of vars (x ∷ xs) l h t =
     (λ same. subst (λ (y : Lit). IsVariable vars y.var) (same_lit-true x l same) (variable_at vars (x ∷ xs) 0 x h (omega arith)))
     (λ later. variable_of vars xs l (λ k d m. h (suc k) d (omega arith)) later)
     (or_cases (same_lit x l) (has xs l) t)
+
+-- literals of other variables than one are false: one more that was gone over
+pub others_more : (values : Values) (c : List Lit) (i : ℕ) (d : Lit) (v : ℕ) → i < length c → ((m : Lit) → has (take i c) m ≡ true → m.var ≢ v → IsFalseIn values m) → ((get_or c i d).var ≢ v → IsFalseIn values (get_or c i d)) → (m : Lit) → has (take (i + 1) c) m ≡ true → m.var ≢ v → IsFalseIn values m
+others_more values c i d v l h last m k = in_push (λ (x : Lit). x.var ≢ v → IsFalseIn values x) (take i c) (get_or c i d) m (h m) last (ap (λ xs. has xs m) (sym (take_more c i d l)) ∙ k)
+
+-- all of them
+pub others_all : (values : Values) (c e : List Lit) (i v : ℕ) → e ≡ c → length e ≤ i → ((m : Lit) → has (take i e) m ≡ true → m.var ≢ v → IsFalseIn values m) → (m : Lit) → has c m ≡ true → m.var ≢ v → IsFalseIn values m
+others_all values c e i v q l h m k = h m (ap (λ xs. has xs m) (take_all i e l ∙ q) ∙ k)
+
+-- a clause has one literal of a variable at most
+pub distinct_same : (c : List Lit) (l m : Lit) → has_distinct_variables c ≡ true → has c l ≡ true → has c m ≡ true → l.var ≡ m.var → l ≡ m
+distinct_same c l m d a b e = elim (cases_Bool (beq l.negated m.negated)) [
+  | inl t ↦ lit_ext l m e (same_by l.negated m.negated t)
+  | inr f ↦ absurd (both_ways (has c (opposite l)) (has-IsConsistent c d l a) (ap (has c) (sym (lit_ext m (opposite l) (sym e) (other_by l.negated m.negated f))) ∙ b))
+]
+  where
+    same_by : (x y : Bool) → beq x y ≡ true → x ≡ y
+    same_by true true h = refl
+    same_by true false h = absurd (false≢true h)
+    same_by false true h = absurd (false≢true h)
+    same_by false false h = refl
+
+    other_by : (x y : Bool) → beq x y ≡ false → y ≡ not x
+    other_by true true h = absurd (false≢true (sym h))
+    other_by true false h = refl
+    other_by false true h = refl
+    other_by false false h = absurd (false≢true (sym h))

@@ -1,33 +1,40 @@
 -- A pass over the list of a literal that became false.
-use Rattle.std.proofs.Common.{◌≡◌, ◌≢◌, ℕ, ◌+◌, ◌-◌, ◌<◌, ◌≤◌, Bool, true, false, not, List, [], ◌∷◌, ◌++◌, length, get_or, set, take, Option, Some, None, refl, sym, ap, ◌∙◌, subst, arith, ◌⊎◌, inl, inr}
+use Rattle.std.proofs.Common.{◌≡◌, ◌≢◌, ℕ, ◌+◌, ◌-◌, ◌*◌, ◌<◌, ◌≤◌, Bool, true, false, not, cond, leb, List, [], ◌∷◌, ◌++◌, length, get_or, set, take, drop, Option, Some, None, refl, sym, ap, ◌∙◌, subst, arith, ◌⊎◌, inl, inr}
 use Rattle.std.specs.Prelude.{IfSome}
 use Rattle.std.specs.Option.{option_map}
-use Rattle.std.proofs.lemmas.Bool.{cases_lt, cases_eq}
-use Rattle.std.proofs.lemmas.List.{get_or-take, take_more}
+use Rattle.std.specs.Vec.{vec_capacity}
+use Rattle.std.proofs.lemmas.Bool.{cases_lt, cases_eq, cases_Bool, lt-leb}
+use Rattle.std.proofs.lemmas.List.{get_or-take, get_or-drop, take_more, take-append-drop, length-drop, length-take-le, append-nil}
+use Rattle.std.proofs.lemmas.List.Elements.{filter-append}
 use Rattle.clause_base.specs.declared.literal.Lit.{Lit}
 use Rattle.clause_base.specs.Acceptance.{numbered}
-use Rattle.clause_base.proofs.Sets.{lit_ext}
+use Rattle.clause_base.specs.Literal.{same_lit}
+use Rattle.clause_base.proofs.Sets.{lit_ext, same_lit-true, same_lit_itself}
 use Rattle.trail_core.specs.declared.entry.Entry.{Entry}
 use Rattle.trail_core.specs.declared.watches.Pair.{Pair}
 use Rattle.trail_core.specs.declared.watches.Watches.{Watches}
 use Rattle.trail_core.specs.declared.watch.Sweep.{Sweep}
 use Rattle.trail_core.specs.declared.visit.Seen.{Seen}
 use Rattle.trail_core.specs.declared.visit.Seen.TheVariants as seen
-use Rattle.trail_core.specs.Values.{IsFalseIn}
-use Rattle.trail_core.specs.TrailState.{TrailState, IsTrail, Propagates, values_of, level_in}
-use Rattle.trail_core.specs.Rounds.{Falsifies}
-use Rattle.trail_core.specs.Watching.{IsCovered, IsWatch, IsSettled, IsPaired, Stands, IsListed, IsKept, list_of, code_of}
-use Rattle.trail_core.specs.Visits.{IsGone, IsOther, IsVisited, IsKnown, IsWatchNow, IsGoing, Visits, VisitsAs, Holds, AreKept}
+use Rattle.trail_core.specs.Listing.{Listing}
+use Rattle.trail_core.specs.Values.{IsFalseIn, IsVariable}
+use Rattle.trail_core.specs.TrailState.{TrailState, IsTrail, Propagates, values_of, level_in, up_to}
+use Rattle.trail_core.specs.Look.{Falsifies}
+use Rattle.trail_core.specs.Watching.{with_list, room_of, unwatched, AreNumbers, IsOpen, IsCovered, IsWatch, IsSettled, IsPaired, Stands, IsListed, IsKept, list_of, code_of}
+use Rattle.trail_core.specs.Visits.{IsGone, IsOther, IsVisited, IsKnown, IsWatchNow, IsGoing, Visits, VisitsAs, Holds, HasRoom, WatchesWell, IsFreeBelow, held_in, held_at, leaving}
 use Rattle.trail_core.proofs.Truth.{values-take_some}
 use Rattle.trail_core.proofs.LayoutLemmas.{entry_of_push_other}
-use Rattle.trail_core.proofs.RoundLemmas.{Propagates-none}
+use Rattle.trail_core.proofs.Propagating.{Propagates-none}
 use Rattle.trail_core.proofs.Keeping.{IsFront, part_front, values_front, level_front, covered_front, watch_front, settled_front, paired_map}
-use Rattle.trail_core.proofs.Listing.{cases_lit, list_set_same, list_set_other, stands_in, kept_front, kept_last, rest_after, rest_set, kept_left}
+use Rattle.trail_core.proofs.Listing.{cases_lit, list_set_same, list_set_other, stands_in, kept_front, kept_last, rest_after, rest_set, kept_left, with_list-length, with_list-room, with_list-numbers, numbers_take}
+use Rattle.trail_core.proofs.Lists.{filter_none}
+use Rattle.trail_core.proofs.Counting.{same_lit-false}
 use Rattle.trail_core.proofs.Visiting.{some_same}
 
 -- the same literals at the beginning of the entries
 gone_front : (t new : TrailState) (g : ℕ) (gone : Lit) → Propagates t new → g < length t.entries → IsGone t g gone → IsGone new g gone
 gone_front t new g gone p l h = record {
+  variable = subst (λ v. IsVariable v gone.var) (sym p.vars) h.variable;
   is_false = values_front t.entries new.entries gone.var gone.negated p.prefix h.is_false;
   level = level_front t.entries new.entries gone.var gone.negated p.prefix h.is_false ∙ (h.level ∙ ap Some (sym p.level));
   later = ap (λ es. values_of es gone.var) (part_front t.entries new.entries g p.prefix (omega (arith, l))) ∙ h.later;
@@ -44,39 +51,90 @@ present_front t new g p h at d low high = elim (cases_lt at (length t.entries)) 
   | inr m ↦ p.leveled at d m high ∙ sym p.level
 ]
 
+-- a literal of a variable has a list
+pub code_within : (t : TrailState) (w : Watches) (held : Lit → ℕ) (l : Lit) → HasRoom t w held → IsVariable t.vars l.var → code_of l < length w.lists.items
+code_within t w held l h v = omega (arith, h.lists, v.within, cond_le l.negated)
+  where
+    cond_le : (b : Bool) → cond b 1 0 ≤ 1
+    cond_le true = omega arith
+    cond_le false = omega arith
+
+-- at the beginning of a pass all places are in use as they were
+held_begin : (lists : List Listing) (gone l : Lit) → held_at lists record { gone = gone; kept = 0; conflict = None } 0 l ≤ length (list_of lists l)
+held_begin lists gone l = elim (cases_Bool (same_lit l gone)) [
+  | inl t ↦ let e : l ≡ gone = same_lit-true l gone t in rw t (subst (λ z. 0 + (length (list_of lists gone) - 0) ≤ length (list_of lists z)) (sym e) (omega arith))
+  | inr f ↦ rw f (omega arith)
+]
+
+-- in a pass, the places in use of the list that is gone over, and of another one
+pub held_gone : (lists : List Listing) (s : Sweep) (place : ℕ) → held_at lists s place s.gone ≡ s.kept + (length (list_of lists s.gone) - place)
+held_gone lists s place = rw (same_lit_itself s.gone) refl
+
+pub held_other : (lists : List Listing) (s : Sweep) (place : ℕ) (l : Lit) → l ≢ s.gone → held_at lists s place l ≡ length (list_of lists l)
+held_other lists s place l d = rw (same_lit-false l s.gone d) refl
+
+-- the entries up to a lower level stay
+pub up_to_propagates : (t new : TrailState) (k : ℕ) → Propagates t new → k < t.level → up_to k new.entries ≡ up_to k t.entries
+up_to_propagates t new k p l =
+    let high : up_to k (drop (length t.entries) new.entries) ≡ [] =
+    filter_none (λ (e : Entry). leb e.decision_level k) (drop (length t.entries) new.entries) (λ i d m.
+    let q : length t.entries + i < length new.entries = omega (arith, m, length-drop (length t.entries) new.entries) in
+    let level : (get_or new.entries (length t.entries + i) d).decision_level ≡ t.level = p.leveled (length t.entries + i) d (omega arith) q in
+    rw (get_or-drop (length t.entries) new.entries i d) (lt-leb (get_or new.entries (length t.entries + i) d).decision_level k (omega (arith, level, l)))) in
+    ap (up_to k) (sym (take-append-drop (length t.entries) new.entries) ∙ ap (λ es. es ++ drop (length t.entries) new.entries) p.prefix)
+    ∙ (filter-append (λ (e : Entry). leb e.decision_level k) t.entries (drop (length t.entries) new.entries) ∙ (ap (λ es. up_to k t.entries ++ es) high ∙ append-nil (up_to k t.entries)))
+
+-- a clause without a pair is as open as before
+pub free_propagates : (t new : TrailState) (n : ℕ) → Propagates t new → IsFreeBelow t n → IsFreeBelow new n
+free_propagates t new n p h k l =
+    let low : k < t.level = omega (arith, l, p.level) in
+    subst (λ cs. IsOpen (values_of (up_to k new.entries)) (numbered cs n)) (sym p.clauses) (subst (λ es. IsOpen (values_of es) (numbered t.clauses n)) (sym (up_to_propagates t new k p low)) (h k low))
+
 -- the pass begins
-pub going_begin : (t : TrailState) (w : Watches) (gone : Lit) → IsTrail t → AreKept t w w.gone_over → IsGone t w.gone_over gone → w.gone_over < length t.entries → code_of gone < length w.lists.items → IsGoing t w record { gone = gone; kept = 0; conflict = None } 0
-going_begin t w gone trail kept is l c = record {
+pub going_begin : (t : TrailState) (w : Watches) (gone : Lit) → IsTrail t → WatchesWell t w w.gone_over → IsGone t w.gone_over gone → w.gone_over < length t.entries → IsGoing t w record { gone = gone; kept = 0; conflict = None } 0
+going_begin t w gone trail well is l = record {
   trail = trail;
-  few = kept.few;
+  few = well.kept.few;
   entries = l;
-  present = kept.present;
+  present = well.kept.present;
   gone = is;
-  list = c;
+  list = code_within t w (held_in w.lists.items) gone well.room is.variable;
   kept = omega arith;
   conflict = tt;
+  room = record {
+    lists = well.room.lists;
+    pairs = well.room.pairs;
+    numbers = well.room.numbers;
+    room = λ x v. omega (arith, well.room.room x v, held_begin w.lists.items gone x);
+    unpaired = well.room.unpaired;
+  };
   paired = λ i d m. paired_map t.entries t.entries (IsWatch t.entries w.gone_over w.lists.items (i + 1)) (IsWatchNow t.entries w.gone_over w.lists.items s 0 (i + 1)) (numbered t.clauses (i + 1)) (get_or w.pairs.items i d) (λ z. z)
-      (λ x y u. record { at_gone = λ e. inr (subst (λ z. Stands (list_of w.lists.items z) 0 (length (list_of w.lists.items z)) (i + 1)) e u.listed); elsewhere = λ _. u }) (kept.paired i d m);
+      (λ x y u. record { at_gone = λ e. inr (subst (λ z. Stands (list_of w.lists.items z) 0 (length (list_of w.lists.items z)) (i + 1)) e u.listed); elsewhere = λ _. u }) (well.kept.paired i d m);
 }
   where
     s : Sweep
     s = record { gone = gone; kept = 0; conflict = None }
 
 -- what a visit needs
-pub going_known : (t : TrailState) (w : Watches) (s : Sweep) (place n : ℕ) → IsGoing t w s place → (1 ≤ n) × (n ≤ length w.pairs.items) → IsKnown t w n s.gone
-going_known t w s place n h b = record {
+pub going_known : (t : TrailState) (w : Watches) (s : Sweep) (place n : ℕ) → IsGoing t w s place → place < length (list_of w.lists.items s.gone) → get_or (list_of w.lists.items s.gone) place 0 ≡ n → IsKnown t w n s.gone
+going_known t w s place n h l e = record {
   above = b.0;
   within = b.1;
   number = record { above = b.0; within = omega (arith, b.1, h.few) };
   entries = omega (arith, h.entries);
   is_gone = h.gone;
   trail = h.trail;
+  lists = h.room.lists;
+  room = λ x d v. omega (arith, h.room.room x v, held_other w.lists.items s place x d);
   paired = λ d.
       let q : n - 1 + 1 ≡ n = omega (arith, b.0) in
       subst (λ m. IsPaired t.entries (IsOther t.entries w.gone_over w.lists.items s.gone m) (numbered t.clauses m) (get_or w.pairs.items (n - 1) d)) q
       (paired_map t.entries t.entries (IsWatchNow t.entries w.gone_over w.lists.items s place (n - 1 + 1)) (IsOther t.entries w.gone_over w.lists.items s.gone (n - 1 + 1)) (numbered t.clauses (n - 1 + 1)) (get_or w.pairs.items (n - 1) d) (λ z. z) (λ x y u. u.elsewhere)
       (h.paired (n - 1) d (omega (arith, b.0, b.1))));
 }
+  where
+    b : (1 ≤ n) × (n ≤ length w.pairs.items)
+    b = subst (λ m. (1 ≤ m) × (m ≤ length w.pairs.items)) e (h.room.numbers s.gone place l)
 
 -- how the list of the literal that is gone changes at a place, where the number stands
 pub record Turns (xs ys : List ℕ) (kept after place n : ℕ) : Type 0 where
@@ -108,6 +166,12 @@ pub record Follows (t new : TrailState) (a b w : Watches) (s r : Sweep) (place n
   pub lists : length w.lists.items ≡ length b.lists.items
   pub others : (l : Lit) → l ≢ s.gone → list_of w.lists.items l ≡ list_of b.lists.items l
   pub turns : Turns (list_of b.lists.items s.gone) (list_of w.lists.items s.gone) s.kept r.kept place n
+  pub within : place < length (list_of a.lists.items s.gone)
+  pub rooms : (l : Lit) → room_of w.lists.items l ≡ room_of b.lists.items l
+  pub numbers : (l : Lit) → AreNumbers (list_of b.lists.items l) (length b.pairs.items) → AreNumbers (list_of w.lists.items l) (length b.pairs.items)
+  pub same_length : length (list_of w.lists.items s.gone) ≡ length (list_of b.lists.items s.gone)
+  pub counted : r.kept + leaving k ≤ s.kept + 1
+  pub capacity : vec_capacity w.pairs ≡ vec_capacity a.pairs
   pub conflict : IfSome r.conflict (λ m. Falsifies new m)
   pub before : r.conflict ≡ None → s.conflict ≡ None
   pub own : (x y : Lit) → x ≡ s.gone → Holds k (IsCovered new.entries x y) → Stands (list_of w.lists.items s.gone) 0 r.kept n × (r.conflict ≡ None → IsCovered new.entries x y)
@@ -123,6 +187,13 @@ going_next t new a b w s r place n k h f = record {
   list = subst (λ l. code_of l < length w.lists.items) (sym f.gone) (omega (arith, h.list, f.lists, f.visits.lists));
   kept = f.turns.le;
   conflict = f.conflict;
+  room = record {
+    lists = f.lists ∙ (f.visits.lists ∙ (h.room.lists ∙ ap (λ v. 2 * v + 2) (sym f.visits.appends.vars)));
+    pairs = omega (arith, ap length f.visits.appends.clauses, h.room.pairs, f.capacity);
+    numbers = λ l. subst (AreNumbers (list_of w.lists.items l)) (sym (ap length f.pairs)) (f.numbers l (subst (AreNumbers (list_of b.lists.items l)) (sym f.visits.size) (f.visits.numbers l (h.room.numbers l))));
+    room = room;
+    unpaired = λ n' k' low high. free_propagates t new n' f.visits.appends (λ j u. h.room.unpaired n' j (omega (arith, low, ap length f.pairs, f.visits.size)) (omega (arith, high, ap length f.visits.appends.clauses)) u) k';
+  };
   paired = λ i d m. elim (cases_eq (i + 1) n) [
     | inl e ↦ own_paired i d e m
     | inr e ↦ other_paired i d e m
@@ -137,6 +208,26 @@ going_next t new a b w s r place n k h f = record {
 
     now : Lit → Lit → ℕ → Type 0
     now x y m = IsWatchNow new.entries w.gone_over w.lists.items r (place + 1) m x y
+
+    counts : (l : Lit) → unwatched new.clauses w.pairs.items l ≡ unwatched t.clauses b.pairs.items l
+    counts l = ap (λ cs. unwatched cs w.pairs.items l) f.visits.appends.clauses ∙ ap (λ ps. unwatched t.clauses ps l) f.pairs
+
+    rooms : (l : Lit) → room_of w.lists.items l ≡ room_of a.lists.items l
+    rooms l = f.rooms l ∙ f.visits.rooms l
+
+    at_gone : IsVariable t.vars s.gone.var → r.kept + (length (list_of w.lists.items s.gone) - (place + 1)) + unwatched new.clauses w.pairs.items s.gone ≤ room_of w.lists.items s.gone
+    at_gone v = omega (arith, h.room.room s.gone v, held_gone a.lists.items s place, counts s.gone, rooms s.gone, f.counted, f.same_length, ap length f.visits.same, f.within, f.visits.left)
+
+    room : (l : Lit) → IsVariable new.vars l.var → held_at w.lists.items r (place + 1) l + unwatched new.clauses w.pairs.items l ≤ room_of w.lists.items l
+    room l v =
+        let u : IsVariable t.vars l.var = subst (λ m. IsVariable m l.var) f.visits.appends.vars v in
+        elim (cases_lit l s.gone) [
+          | inl e ↦
+              let g : held_at w.lists.items r (place + 1) r.gone ≡ r.kept + (length (list_of w.lists.items r.gone) - (place + 1)) = held_gone w.lists.items r (place + 1) in
+              let q : held_at w.lists.items r (place + 1) s.gone ≡ r.kept + (length (list_of w.lists.items s.gone) - (place + 1)) = subst (λ z. held_at w.lists.items r (place + 1) z ≡ r.kept + (length (list_of w.lists.items z) - (place + 1))) f.gone g in
+              subst (λ z. held_at w.lists.items r (place + 1) z + unwatched new.clauses w.pairs.items z ≤ room_of w.lists.items z) (sym e) (omega (arith, q, at_gone (subst (λ z. IsVariable t.vars z.var) e u)))
+          | inr d ↦ omega (arith, held_other w.lists.items r (place + 1) l (λ e. d (e ∙ f.gone)), ap length (f.others l d), f.visits.spare l d, counts l, rooms l, h.room.room l u, held_other a.lists.items s place l d)
+        ]
 
     -- what holds of a literal but the one that is gone
     other_watch : (m : ℕ) (x y : Lit) → IsOther new.entries a.gone_over b.lists.items s.gone m x y → IsOther new.entries w.gone_over w.lists.items r.gone m x y
@@ -200,29 +291,61 @@ false_before es g d gone x l f v n h = elim (cases_eq x.var gone.var) [
 pub record Ends (t : TrailState) (a w : Watches) (s : Sweep) (place : ℕ) : Type 0 where
   pub over : length (list_of a.lists.items s.gone) ≤ place
   pub pairs : w.pairs.items ≡ a.pairs.items
+  pub capacity : vec_capacity w.pairs ≡ vec_capacity a.pairs
   pub gone_over : w.gone_over ≡ a.gone_over
-  pub lists : w.lists.items ≡ set a.lists.items (code_of s.gone) (take s.kept (list_of a.lists.items s.gone))
+  pub lists : w.lists.items ≡ with_list a.lists.items s.gone (take s.kept (list_of a.lists.items s.gone))
   pub short : s.kept ≤ length (list_of a.lists.items s.gone)
 
-pub ends_from : (t : TrailState) (a w : Watches) (s : Sweep) (place end : ℕ) (gone : Lit) → IsGoing t a s place → s.gone ≡ gone → end ≡ length (list_of a.lists.items gone) → end ≤ place → place ≤ end → w.pairs ≡ a.pairs → w.gone_over ≡ a.gone_over → w.lists.items ≡ set a.lists.items (code_of s.gone) (take s.kept (list_of a.lists.items s.gone)) → Ends t a w s place
+pub ends_from : (t : TrailState) (a w : Watches) (s : Sweep) (place end : ℕ) (gone : Lit) → IsGoing t a s place → s.gone ≡ gone → end ≡ length (list_of a.lists.items gone) → end ≤ place → place ≤ end → w.pairs ≡ a.pairs → w.gone_over ≡ a.gone_over → w.lists.items ≡ with_list a.lists.items s.gone (take s.kept (list_of a.lists.items s.gone)) → Ends t a w s place
 ends_from t a w s place end gone h q e low high p g l =
     let size : end ≡ length (list_of a.lists.items s.gone) = subst (λ x. end ≡ length (list_of a.lists.items x)) (sym q) e in
-    record { over = omega (arith, size, low); pairs = ap (λ v. v.items) p; gone_over = g; lists = l; short = omega (arith, size, high, h.kept) }
+    record { over = omega (arith, size, low); pairs = ap (λ v. v.items) p; capacity = ap vec_capacity p; gone_over = g; lists = l; short = omega (arith, size, high, h.kept) }
 
 ended_listed : (t : TrailState) (a w : Watches) (s : Sweep) (place n : ℕ) (x y : Lit) → IsGoing t a s place → Ends t a w s place → IsWatchNow t.entries a.gone_over a.lists.items s place n x y → IsListed w.lists.items x n
 ended_listed t a w s place n x y h e u = subst (λ ls. IsListed ls x n) (sym e.lists) (elim (cases_lit x s.gone) [
-  | inl q ↦ subst (λ z. IsListed (set a.lists.items (code_of s.gone) left) z n) (sym q) (elim (u.at_gone q) [
-    | inl p ↦ stands_in left (list_of (set a.lists.items (code_of s.gone) left) s.gone) 0 n (sym (list_set_same a.lists.items s.gone left h.list)) (kept_left (list_of a.lists.items s.gone) s.kept n e.short p.0)
+  | inl q ↦ subst (λ z. IsListed (with_list a.lists.items s.gone left) z n) (sym q) (elim (u.at_gone q) [
+    | inl p ↦ stands_in left (list_of (with_list a.lists.items s.gone left) s.gone) 0 n (sym (list_set_same a.lists.items s.gone left h.list)) (kept_left (list_of a.lists.items s.gone) s.kept n e.short p.0)
     | inr p ↦ absurd (omega (arith, p.low, p.within, e.over))
   ])
-  | inr d ↦ stands_in (list_of a.lists.items x) (list_of (set a.lists.items (code_of s.gone) left) x) 0 n (sym (list_set_other a.lists.items s.gone x left d)) (u.elsewhere d).listed
+  | inr d ↦ stands_in (list_of a.lists.items x) (list_of (with_list a.lists.items s.gone left) x) 0 n (sym (list_set_other a.lists.items s.gone x left d)) (u.elsewhere d).listed
 ])
   where
     left : List ℕ
     left = take s.kept (list_of a.lists.items s.gone)
 
-pub ends_rests : (t : TrailState) (a w : Watches) (s : Sweep) (place : ℕ) (d : Entry) → IsGoing t a s place → Ends t a w s place → s.conflict ≡ None → IsKept t w.pairs.items w.lists.items (w.gone_over + 1)
-ends_rests t a w s place d h e none = record {
+-- the room that is left
+ends_room : (t : TrailState) (a w : Watches) (s : Sweep) (place : ℕ) → IsGoing t a s place → Ends t a w s place → HasRoom t w (held_in w.lists.items)
+ends_room t a w s place h e = record {
+  lists = ap length e.lists ∙ (with_list-length a.lists.items s.gone left ∙ h.room.lists);
+  pairs = omega (arith, e.capacity, h.room.pairs);
+  numbers = λ l. subst (AreNumbers (list_of w.lists.items l)) (sym (ap length e.pairs)) (subst (λ ls. AreNumbers (list_of ls l) (length a.pairs.items)) (sym e.lists)
+      (with_list-numbers a.lists.items s.gone l left (length a.pairs.items) h.list (numbers_take (list_of a.lists.items s.gone) s.kept (length a.pairs.items) e.short (h.room.numbers s.gone)) (h.room.numbers l)));
+  room = room;
+  unpaired = λ n k low. h.room.unpaired n k (omega (arith, low, ap length e.pairs));
+}
+  where
+    left : List ℕ
+    left = take s.kept (list_of a.lists.items s.gone)
+
+    counts : (l : Lit) → unwatched t.clauses w.pairs.items l ≡ unwatched t.clauses a.pairs.items l
+    counts l = ap (λ ps. unwatched t.clauses ps l) e.pairs
+
+    rooms : (l : Lit) → room_of w.lists.items l ≡ room_of a.lists.items l
+    rooms l = ap (λ ls. room_of ls l) e.lists ∙ with_list-room a.lists.items s.gone l left h.list
+
+    at_gone : IsVariable t.vars s.gone.var → length (list_of w.lists.items s.gone) + unwatched t.clauses w.pairs.items s.gone ≤ room_of w.lists.items s.gone
+    at_gone v =
+        let list : list_of w.lists.items s.gone ≡ left = ap (λ ls. list_of ls s.gone) e.lists ∙ list_set_same a.lists.items s.gone left h.list in
+        omega (arith, h.room.room s.gone v, held_gone a.lists.items s place, counts s.gone, rooms s.gone, ap length list, length-take-le s.kept (list_of a.lists.items s.gone) e.short)
+
+    room : (l : Lit) → IsVariable t.vars l.var → length (list_of w.lists.items l) + unwatched t.clauses w.pairs.items l ≤ room_of w.lists.items l
+    room l v = elim (cases_lit l s.gone) [
+      | inl q ↦ subst (λ z. length (list_of w.lists.items z) + unwatched t.clauses w.pairs.items z ≤ room_of w.lists.items z) (sym q) (at_gone (subst (λ z. IsVariable t.vars z.var) q v))
+      | inr d ↦ omega (arith, h.room.room l v, held_other a.lists.items s place l d, counts l, rooms l, ap length (ap (λ ls. list_of ls l) e.lists ∙ list_set_other a.lists.items s.gone l left d))
+    ]
+
+kept_rests : (t : TrailState) (a w : Watches) (s : Sweep) (place : ℕ) (d : Entry) → IsGoing t a s place → Ends t a w s place → s.conflict ≡ None → IsKept t w.pairs.items w.lists.items (w.gone_over + 1)
+kept_rests t a w s place d h e none = record {
   few = omega (arith, h.few, ap length e.pairs);
   entries = omega (arith, h.entries, e.gone_over);
   present = λ at x low. h.present at x (omega (arith, low, e.gone_over));
@@ -239,8 +362,11 @@ ends_rests t a w s place d h e none = record {
       (h.paired i p (omega (arith, m, ap length e.pairs))));
 }
 
-pub ends_falsified : (t : TrailState) (a w : Watches) (s : Sweep) (place : ℕ) → IsGoing t a s place → Ends t a w s place → IsKept t w.pairs.items w.lists.items w.gone_over
-ends_falsified t a w s place h e = record {
+pub ends_rests : (t : TrailState) (a w : Watches) (s : Sweep) (place : ℕ) (d : Entry) → IsGoing t a s place → Ends t a w s place → s.conflict ≡ None → WatchesWell t w (w.gone_over + 1)
+ends_rests t a w s place d h e none = record { kept = kept_rests t a w s place d h e none; room = ends_room t a w s place h e }
+
+kept_falsified : (t : TrailState) (a w : Watches) (s : Sweep) (place : ℕ) → IsGoing t a s place → Ends t a w s place → IsKept t w.pairs.items w.lists.items w.gone_over
+kept_falsified t a w s place h e = record {
   few = omega (arith, h.few, ap length e.pairs);
   entries = omega (arith, h.entries, e.gone_over);
   present = λ at x low. h.present at x (omega (arith, low, e.gone_over));
@@ -261,3 +387,6 @@ ends_falsified t a w s place h e = record {
   where
     none_some : (o : Option Bool) (b : Bool) → o ≡ None → o ≡ Some b → ⊥
     none_some o b p q = cc
+
+pub ends_falsified : (t : TrailState) (a w : Watches) (s : Sweep) (place : ℕ) → IsGoing t a s place → Ends t a w s place → WatchesWell t w w.gone_over
+ends_falsified t a w s place h e = record { kept = kept_falsified t a w s place h e; room = ends_room t a w s place h e }

@@ -1,10 +1,10 @@
 -- What a visit of a clause at a literal that became false gives.
-use Rattle.std.proofs.Common.{◌≡◌, ◌≢◌, ℕ, ◌+◌, ◌-◌, ◌<◌, ◌≤◌, Bool, true, false, not, eqb, List, [], ◌∷◌, ◌++◌, length, get_or, set, take, Option, Some, None, refl, sym, ap, ◌∙◌, subst, arith, ◌⊎◌, inl, inr}
+use Rattle.std.proofs.Common.{◌≡◌, ◌≢◌, ℕ, ◌+◌, ◌-◌, ◌<◌, ◌≤◌, Bool, true, false, not, cond, eqb, List, [], ◌∷◌, ◌++◌, length, get_or, set, take, Option, Some, None, refl, sym, ap, ◌∙◌, subst, arith, ◌⊎◌, inl, inr}
 use Rattle.std.specs.Option.{option_map}
 use Rattle.std.proofs.lemmas.List.{get_or-set_same, get_or-set_other, length-set, length_push, take_all}
 use Rattle.loc_base.proofs.ShelfOptions.{option_map-none}
 use Rattle.clause_base.specs.declared.literal.Lit.{Lit}
-use Rattle.clause_base.specs.Literal.{has}
+use Rattle.clause_base.specs.Literal.{has, same_lit}
 use Rattle.clause_base.specs.Acceptance.{numbered}
 use Rattle.trail_core.specs.declared.entry.Entry.{Entry}
 use Rattle.trail_core.specs.declared.watches.Pair.{Pair}
@@ -13,15 +13,17 @@ use Rattle.trail_core.specs.declared.visit.Seen.{Seen}
 use Rattle.trail_core.specs.declared.visit.Seen.TheVariants as seen
 use Rattle.trail_core.specs.Values.{IsTrueIn, IsFalseIn}
 use Rattle.trail_core.specs.TrailState.{TrailState, IsTrail, Propagates, entry_of, values_of, level_in, decisions, with_forced}
-use Rattle.trail_core.specs.Watching.{IsCovered, IsWatch, IsSettled, IsPaired, settled, watched, IsListed, list_of, code_of}
+use Rattle.trail_core.specs.Listing.{Listing}
+use Rattle.trail_core.specs.Watching.{with_list, room_of, lacks, unwatched, AreNumbers, IsBlank, IsCovered, IsWatch, IsSettled, IsPaired, settled, watched, IsListed, list_of, code_of}
 use Rattle.trail_core.specs.Visits.{IsGone, IsOther, IsVisited, IsKnown, IsOriented, IsMoved, IsReplacement, VisitsAs, Holds}
 use Rattle.trail_core.proofs.Lists.{find_found}
 use Rattle.trail_core.proofs.Levels.{level_le_all}
 use Rattle.trail_core.proofs.Truth.{mapped, values-take_some}
 use Rattle.trail_core.proofs.LayoutLemmas.{entry_of_push_same}
-use Rattle.trail_core.proofs.RoundLemmas.{Propagates-none, Propagates-forced}
+use Rattle.trail_core.proofs.Propagating.{Propagates-none, Propagates-forced}
 use Rattle.trail_core.proofs.Keeping.{IsFront, front_push, settled_front, watch_front, paired_map, level_front}
-use Rattle.trail_core.proofs.Listing.{listed_push, listed_last, list_set_other}
+use Rattle.trail_core.proofs.Listing.{cases_lit, listed_push, listed_last, list_set_other, with_list-length, with_list-room, with_list-numbers, with_list-held, numbers_push}
+use Rattle.trail_core.proofs.Counting.{unwatched-set, lacks-moved, lacks-le}
 
 -- what an option holds is one
 pub some_same : {X : Type 0} (a b : X) (o : Option X) → o ≡ Some a → o ≡ Some b → a ≡ b
@@ -59,8 +61,8 @@ other_first q p a b (inl e) x y = subst a (ap (λ (r : Pair). r.second) e) y
 other_first q p a b (inr e) x y = subst a (ap (λ (r : Pair). r.first) e) x
 
 -- the visited clause stays in the list: the literal that is gone is covered by the other one
-stays_paired : (old new : List Entry) (g : ℕ) (lists : List (List ℕ)) (s : Seen) (n : ℕ) (c : List Lit) (q p : Pair) → IsFront old new → g ≤ length old → IsOriented q p → Holds s (IsCovered new p.first p.second) → IsPaired old (IsOther old g lists p.first n) c q → IsPaired new (IsVisited new g lists p.first s n) c q
-stays_paired old new g lists s n c q p f l o h (settled z) = settled (settled_front old new c f z)
+stays_paired : (old new : List Entry) (g : ℕ) (lists : List Listing) (s : Seen) (n : ℕ) (c : List Lit) (q p : Pair) → IsFront old new → g ≤ length old → IsOriented q p → Holds s (IsCovered new p.first p.second) → IsPaired old (IsOther old g lists p.first n) c q → IsPaired new (IsVisited new g lists p.first s n) c q
+stays_paired old new g lists s n c q p f l o h (settled z e) = settled (settled_front old new c f z) e
 stays_paired old new g lists s n c q p f l o h (watched a b apart u v) =
     let at = beside q p o apart in
     watched a b apart
@@ -77,6 +79,10 @@ same_lists old new w p q n s k o is f cs appends trail h = record {
   listed = λ l m d x. x;
   same = refl;
   lists = refl;
+  rooms = λ l. refl;
+  numbers = λ l h. h;
+  spare = λ l d. omega arith;
+  left = omega arith;
   paired = λ i d e l.
       let here : i ≡ n - 1 = omega (arith, e) in
       let at : get_or w.pairs.items i d ≡ q = ap (λ j. get_or w.pairs.items j d) here ∙ is d in
@@ -116,10 +122,15 @@ visits_forced t new w p q n k o is e free trail =
     gone_level : level_in (t.entries ++ entry ∷ []) p.first.var ≡ Some t.level
     gone_level = level_front t.entries (t.entries ++ entry ∷ []) p.first.var p.first.negated front k.is_gone.is_false ∙ k.is_gone.level
 
+-- a pair of no literals doesn't have the one that is gone
+pub blank_gone : (p q : Pair) → IsOriented q p → IsBlank q → 1 ≤ p.first.var → ⊥
+blank_gone p q (inl e) z above = absurd (omega (arith, z.first, ap (λ (x : Pair). x.first.var) e, above))
+blank_gone p q (inr e) z above = absurd (omega (arith, z.second, ap (λ (x : Pair). x.second.var) e, above))
+
 -- the clause watches another literal in place of the one that is gone
-moved_paired : (es : List Entry) (g : ℕ) (old new : List (List ℕ)) (n : ℕ) (c : List Lit) (q p : Pair) (next : Lit) → IsFalseIn (values_of es) p.first → IsOriented q p → has c next ≡ true → next.var ≢ p.second.var → (IsFalseIn (values_of es) next → ⊥) → ((x : Lit) → IsListed old x n → IsListed new x n) → IsListed new next n → IsPaired es (IsOther es g old p.first n) c q → IsPaired es (IsVisited es g new p.first seen.Leaves n) c record { first = p.second; second = next }
-moved_paired es g old new n c q p next gone o member apart still grows last (settled z) = settled z
-moved_paired es g old new n c q p next gone o member apart still grows last (watched a b d u v) =
+moved_paired : (es : List Entry) (g : ℕ) (old new : List Listing) (n : ℕ) (c : List Lit) (q p : Pair) (next : Lit) → IsFalseIn (values_of es) p.first → 1 ≤ p.first.var → IsOriented q p → has c next ≡ true → next.var ≢ p.second.var → (IsFalseIn (values_of es) next → ⊥) → ((x : Lit) → IsListed old x n → IsListed new x n) → IsListed new next n → IsPaired es (IsOther es g old p.first n) c q → IsPaired es (IsVisited es g new p.first seen.Leaves n) c record { first = p.second; second = next }
+moved_paired es g old new n c q p next gone above o member apart still grows last (settled z e) = absurd (blank_gone p q o e above)
+moved_paired es g old new n c q p next gone above o member apart still grows last (watched a b d u v) =
     watched (other_first q p (λ l. has c l ≡ true) (λ l. has c l ≡ true) o a b) member (λ e. apart (sym e))
     record { at_gone = λ e. absurd (other_gone e); elsewhere = λ f. record { listed = grows p.second (old_watch f).listed; covered = λ h. absurd (true_false es p.first ((old_watch f).covered h).is_true gone) } }
     record { at_gone = λ e. absurd (still (subst (IsFalseIn (values_of es)) (sym e) gone)); elsewhere = λ f. record { listed = last; covered = λ h. absurd (still (values-take_some es g next.var next.negated h)) } }
@@ -144,12 +155,19 @@ visits_moved t w v p q next n k o is r m = record {
   others = λ i d e. ap (λ xs. get_or xs i d) m.pairs ∙ get_or-set_other w.pairs.items (n - 1) i moved d (λ x. e (omega (arith, x, k.above)));
   listed = λ l x d h. grows l x h;
   same = ap (λ ls. list_of ls p.first) m.lists ∙ list_set_other w.lists.items next p.first (list_of w.lists.items next ++ n ∷ []) (λ e. r.not_false (subst (IsFalseIn (values_of t.entries)) e k.is_gone.is_false));
-  lists = ap length m.lists ∙ length-set w.lists.items (code_of next) (list_of w.lists.items next ++ n ∷ []);
+  lists = ap length m.lists ∙ with_list-length w.lists.items next (list_of w.lists.items next ++ n ∷ []);
+  rooms = λ l. ap (λ ls. room_of ls l) m.lists ∙ with_list-room w.lists.items next l (list_of w.lists.items next ++ n ∷ []) m.within;
+  numbers = λ l h. subst (λ ls. AreNumbers (list_of ls l) (length w.pairs.items)) (sym m.lists) (elim (cases_lit l next) [
+    | inl e ↦ with_list-numbers w.lists.items next l (list_of w.lists.items next ++ n ∷ []) (length w.pairs.items) m.within (numbers_push (list_of w.lists.items next) n (length w.pairs.items) k.above k.within (subst (λ z. AreNumbers (list_of w.lists.items z) (length w.pairs.items)) e h)) h
+    | inr d ↦ subst (λ ys. AreNumbers ys (length w.pairs.items)) (sym (list_set_other w.lists.items next l (list_of w.lists.items next ++ n ∷ []) d)) h
+  ]);
+  spare = λ l d. omega (arith, count l, held l, lacks-moved (numbered t.clauses n) q p next l o r.member not_other not_gone d);
+  left = omega (arith, count p.first, lacks-le (numbered t.clauses n) moved p.first, one_at_most (has (numbered t.clauses n) p.first));
   paired = λ i d e l.
       let here : i ≡ n - 1 = omega (arith, e) in
       let at : get_or v.pairs.items i d ≡ moved = ap (λ xs. get_or xs i d) m.pairs ∙ (ap (λ j. get_or (set w.pairs.items (n - 1) moved) j d) here ∙ get_or-set_same w.pairs.items (n - 1) moved d (omega (arith, k.above, k.within))) in
       subst (IsPaired t.entries (IsVisited t.entries w.gone_over v.lists.items p.first seen.Leaves n) (numbered t.clauses n)) (sym at)
-      (moved_paired t.entries w.gone_over w.lists.items v.lists.items n (numbered t.clauses n) q p next k.is_gone.is_false o r.member r.apart r.not_false (λ x. grows x n) last
+      (moved_paired t.entries w.gone_over w.lists.items v.lists.items n (numbered t.clauses n) q p next k.is_gone.is_false k.is_gone.variable.above o r.member r.apart r.not_false (λ x. grows x n) last
       (subst (IsPaired t.entries (IsOther t.entries w.gone_over w.lists.items p.first n) (numbered t.clauses n)) (is d) (k.paired d)));
 }
   where
@@ -159,11 +177,30 @@ visits_moved t w v p q next n k o is r m = record {
     grows : (l : Lit) (x : ℕ) → IsListed w.lists.items l x → IsListed v.lists.items l x
     grows l x h = subst (λ ls. IsListed ls l x) (sym m.lists) (listed_push w.lists.items next l n x m.within h)
 
+    not_other : next ≢ p.second
+    not_other e = r.apart (ap (λ (x : Lit). x.var) e)
+
+    not_gone : next ≢ p.first
+    not_gone e = r.not_false (subst (IsFalseIn (values_of t.entries)) (sym e) k.is_gone.is_false)
+
+    count : (l : Lit) → unwatched t.clauses v.pairs.items l + cond (lacks (numbered t.clauses n) q l) 1 0 ≡ unwatched t.clauses w.pairs.items l + cond (lacks (numbered t.clauses n) moved l) 1 0
+    count l = subst (λ ps. unwatched t.clauses ps l + cond (lacks (numbered t.clauses n) q l) 1 0 ≡ unwatched t.clauses w.pairs.items l + cond (lacks (numbered t.clauses n) moved l) 1 0) (sym m.pairs)
+        (subst (λ x. unwatched t.clauses (set w.pairs.items (n - 1) moved) l + cond (lacks (numbered t.clauses n) x l) 1 0 ≡ unwatched t.clauses w.pairs.items l + cond (lacks (numbered t.clauses n) moved l) 1 0) (is q)
+        (unwatched-set t.clauses w.pairs.items (n - 1) moved q l (omega (arith, k.above, k.within)) (omega (arith, k.above, k.number.within))))
+
+    held : (l : Lit) → length (list_of v.lists.items l) ≤ length (list_of w.lists.items l) + cond (same_lit next l) 1 0
+    held l = subst (λ ls. length (list_of ls l) ≤ length (list_of w.lists.items l) + cond (same_lit next l) 1 0) (sym m.lists)
+        (with_list-held w.lists.items next l (list_of w.lists.items next ++ n ∷ []) m.within (omega (arith, length_push (list_of w.lists.items next) n)))
+
+    one_at_most : (b : Bool) → cond b 1 0 ≤ 1
+    one_at_most true = omega arith
+    one_at_most false = omega arith
+
     last : IsListed v.lists.items next n
     last = subst (λ ls. IsListed ls next n) (sym m.lists) (listed_last w.lists.items next n m.within)
 
-absent_paired : (es : List Entry) (g : ℕ) (lists : List (List ℕ)) (gone : Lit) (n : ℕ) (c : List Lit) (q : Pair) → q.first ≢ gone → q.second ≢ gone → IsPaired es (IsOther es g lists gone n) c q → IsPaired es (IsVisited es g lists gone seen.Leaves n) c q
-absent_paired es g lists gone n c q a b (settled z) = settled z
+absent_paired : (es : List Entry) (g : ℕ) (lists : List Listing) (gone : Lit) (n : ℕ) (c : List Lit) (q : Pair) → q.first ≢ gone → q.second ≢ gone → IsPaired es (IsOther es g lists gone n) c q → IsPaired es (IsVisited es g lists gone seen.Leaves n) c q
+absent_paired es g lists gone n c q a b (settled z e) = settled z e
 absent_paired es g lists gone n c q a b (watched x y d u v) = watched x y d record { at_gone = λ e. absurd (a e); elsewhere = u } record { at_gone = λ e. absurd (b e); elsewhere = v }
 
 -- the clause doesn't watch the literal
@@ -176,6 +213,10 @@ visits_absent t w gone q n k is a b = record {
   listed = λ l m d x. x;
   same = refl;
   lists = refl;
+  rooms = λ l. refl;
+  numbers = λ l h. h;
+  spare = λ l d. omega arith;
+  left = omega arith;
   paired = λ i d e l.
       let here : i ≡ n - 1 = omega (arith, e) in
       let at : get_or w.pairs.items i d ≡ q = ap (λ j. get_or w.pairs.items j d) here ∙ is d in

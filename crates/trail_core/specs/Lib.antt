@@ -1,6 +1,7 @@
 pub mod Values
 pub mod TrailState
 pub mod Layout
-pub mod Rounds
+pub mod Look
+pub mod Listing
 pub mod Watching
 pub mod Visits

@@ -7,17 +7,16 @@ ghost use Rattle.trail_core.specs.TrailState.{TrailState, IsTrail, IsNumber, May
 
 mod append;
 mod back;
-mod propagate;
+mod look;
 
 use crate::entry::Entry;
 use clause_base::{Clauses, Lit};
 use loc_base::NoMemory;
-pub(crate) use propagate::Look;
+pub(crate) use look::Look;
 use std::alloc::Global;
 use std::marker::Model;
 
-/// The true literals in the order in which they became true, over clauses numbered from 1, with unit propagation that goes
-/// over all clauses. Contracts see it as a trail.
+/// The true literals in the order in which they became true, over clauses numbered from 1. Contracts see it as a trail.
 #[derive(Drop)]
 pub(crate) struct PlainTrail {
     clauses: Clauses,
@@ -149,7 +148,7 @@ impl PlainTrail {
     }
 
     /// The entry of a variable.
-    fn entry(&self, var: u32) -> Option<Entry>
+    pub(crate) fn entry(&self, var: u32) -> Option<Entry>
         requires { IsVariable self.now.vars var }
         ensures { result ≡ entry_of self.now.entries var }
     {

@@ -6,8 +6,8 @@ ghost use Rattle.trail_core.specs.Values.{IsVariable, IsUnassignedIn, IsFalsifie
 ghost use Rattle.trail_core.specs.TrailState.{TrailState, IsTrail, IsNumber, MayAdd, AllRest, Propagates, with_clause, with_decision, back_at, values_of, level_in, reason_in};
 
 use crate::plain::PlainTrail;
-use crate::watch::{Watched, watch};
-use crate::watches::{Watches, give_up_behind, go_back, make_room, watches_of};
+use crate::watch::{number_of, watch};
+use crate::watches::{Watches, go_back, make_room, watches_of};
 use clause_base::Lit;
 use loc_base::NoMemory;
 use std::alloc::Global;
@@ -39,10 +39,9 @@ impl Trail {
         ensures empty { IfOk result (λ t. t ≡ record { vars = vars; clauses = []; entries = []; level = 0 }) }
         ensures trail { IfOk result IsTrail }
     {
-        Ok(Trail {
-            plain: PlainTrail::new(alloc, vars)?,
-            watches: watches_of(alloc, vars)?,
-        })
+        let plain = PlainTrail::new(alloc, vars)?;
+        let watches = watches_of(alloc, vars)?;
+        Ok(Trail { plain, watches })
     }
 
     /// Adds a clause of these literals and gives its number, the first being 1. Unchanged after `NoMemory`.
@@ -70,14 +69,7 @@ impl Trail {
         ensures rest { IfNone result (AllRest self.new.clauses (values_of self.new.entries)) }
         ensures trail { IsTrail self.new }
     {
-        if self.watches.are_kept {
-            match watch(&mut self.plain, &mut self.watches) {
-                Watched::Rests => return None,
-                Watched::Falsified(number) => return Some(number),
-                Watched::Lost => self.watches.are_kept = false,
-            }
-        }
-        self.plain.propagate()
+        number_of(watch(&mut self.plain, &mut self.watches))
     }
 
     /// Raises the decision level by one, and makes a literal true there as its decision. It takes no memory.
@@ -88,7 +80,8 @@ impl Trail {
         ensures after { self.new ≡ with_decision self.old l }
         ensures trail { IsTrail self.new }
     {
-        give_up_behind(&mut self.watches, self.plain.len());
+        // All clauses rest, so it forces nothing: it goes over the last true literals.
+        let _rests = watch(&mut self.plain, &mut self.watches);
         self.plain.decide(l);
     }
 

@@ -1,15 +1,17 @@
-ghost use Rattle.std.specs.Prelude.{◌≡◌, ℕ, ◌+◌, ◌-◌, ◌<◌, ◌≤◌, ◌^◌, [], ◌∷◌, ◌++◌, true, false, IsTrue, IfSome, Some, length, take, slice_index, slice_set};
+ghost use Rattle.std.specs.Prelude.{◌≡◌, ◌≢◌, ℕ, ◌+◌, ◌-◌, ◌<◌, ◌≤◌, ◌^◌, [], ◌∷◌, ◌++◌, true, false, IsTrue, IfSome, IfNone, List, length, take, slice_index, slice_set};
+ghost use Rattle.std.specs.Vec.{vec_capacity};
+ghost use Rattle.clause_base.specs.declared.literal.Lit.{Lit};
 ghost use Rattle.clause_base.specs.Literal.{has};
 ghost use Rattle.clause_base.specs.Acceptance.{numbered};
-ghost use Rattle.trail_core.specs.Values.{IsVariable, IsFalseIn};
+ghost use Rattle.trail_core.specs.Values.{IsVariable, IsFalseIn, Rests};
 ghost use Rattle.trail_core.specs.TrailState.{IsTrail, IsNumber, Propagates, values_of, level_in};
-ghost use Rattle.trail_core.specs.Rounds.{Falsifies};
-ghost use Rattle.trail_core.specs.Watching.{IsSettled, IsCovered, list_of, code_of};
-ghost use Rattle.trail_core.specs.Visits.{IsGone, IsGoing, SweepGives, LooksGives, PairsGives, WatchGives, AreKept, MayWatch, PlaceGives, KeepsPair};
+ghost use Rattle.trail_core.specs.Look.{Falsifies};
+ghost use Rattle.trail_core.specs.Watching.{IsBlank, IsSettled, list_of, code_of, with_list};
+ghost use Rattle.trail_core.specs.Visits.{IsGone, IsGoing, SweepGives, LooksGives, PairsGives, WatchGives, WatchesWell, MayWatch, IsFreeBelow, MayList, IsPlaced, KeepsPair, IsHighest, rank_of, HighestGives, number_of};
 
 use crate::plain::{Look, PlainTrail};
-use crate::visit::{Seen, has_value, is_false, visit};
-use crate::watches::{Pair, Watches, are_same, code_of, push_number, push_within};
+use crate::visit::{Seen, has_value, visit};
+use crate::watches::{Pair, Watches, code_of, push_number};
 use clause_base::Lit;
 
 /// What came of propagation by watched literals.
@@ -19,8 +21,6 @@ pub(crate) enum Watched {
     Rests,
     /// All literals of the clause of this number are false.
     Falsified(u32),
-    /// The lists aren't what they should be.
-    Lost,
 }
 
 /// A pass over the clauses that watch a literal which became false.
@@ -36,7 +36,7 @@ pub(crate) struct Sweep {
 /// Leaves the clause in the list.
 fn keep(watches: &mut Watches, sweep: &mut Sweep, number: u32)
     requires within_list { sweep.old.kept < length (list_of watches.old.lists.items sweep.old.gone) }
-    ensures lists { watches.new.lists.items ≡ slice_set watches.old.lists.items (code_of sweep.old.gone) (slice_set (list_of watches.old.lists.items sweep.old.gone) sweep.old.kept number) }
+    ensures lists { watches.new.lists.items ≡ with_list watches.old.lists.items sweep.old.gone (slice_set (list_of watches.old.lists.items sweep.old.gone) sweep.old.kept number) }
     ensures pairs { watches.new.pairs ≡ watches.old.pairs }
     ensures gone_over { watches.new.gone_over ≡ watches.old.gone_over }
     ensures kept { sweep.new.kept ≡ sweep.old.kept + 1 }
@@ -62,26 +62,21 @@ fn number_at(watches: &Watches, gone: Lit, place: usize) -> u32
 /// Leaves in the list the clauses that stay.
 fn end_list(watches: &mut Watches, sweep: Sweep)
     requires { code_of sweep.gone < length watches.old.lists.items }
-    ensures lists { watches.new.lists.items ≡ slice_set watches.old.lists.items (code_of sweep.gone) (take sweep.kept (list_of watches.old.lists.items sweep.gone)) }
+    ensures lists { watches.new.lists.items ≡ with_list watches.old.lists.items sweep.gone (take sweep.kept (list_of watches.old.lists.items sweep.gone)) }
     ensures pairs { watches.new.pairs ≡ watches.old.pairs }
     ensures gone_over { watches.new.gone_over ≡ watches.old.gone_over }
 {
     watches.lists[code_of(sweep.gone)].truncate(sweep.kept);
 }
 
-/// Visits the clause at a place of the list. Whether the lists are what they should be.
-fn visit_next(
-    trail: &mut PlainTrail,
-    watches: &mut Watches,
-    sweep: &mut Sweep,
-    place: usize,
-) -> bool
+/// Visits the clause at a place of the list.
+fn visit_next(trail: &mut PlainTrail, watches: &mut Watches, sweep: &mut Sweep, place: usize)
     requires going { IsGoing trail.old watches.old sweep.old place }
     requires within { place < length (list_of watches.old.lists.items sweep.old.gone) }
     ensures appends { Propagates trail.old trail.new }
     ensures trail { IsTrail trail.new }
-    ensures going { IsTrue result → IsGoing trail.new watches.new sweep.new (place + 1) }
-    ensures length { IsTrue result → length (list_of watches.new.lists.items sweep.old.gone) ≡ length (list_of watches.old.lists.items sweep.old.gone) }
+    ensures going { IsGoing trail.new watches.new sweep.new (place + 1) }
+    ensures length { length (list_of watches.new.lists.items sweep.old.gone) ≡ length (list_of watches.old.lists.items sweep.old.gone) }
     ensures gone { sweep.new.gone ≡ sweep.old.gone }
     ensures gone_over { watches.new.gone_over ≡ watches.old.gone_over }
     ensures size { length watches.new.pairs.items ≡ length watches.old.pairs.items }
@@ -89,19 +84,14 @@ fn visit_next(
     let number = number_at(watches, sweep.gone, place);
     if sweep.conflict.is_some() {
         keep(watches, sweep, number);
-        return true;
+        return;
     }
     match visit(trail, watches, number, sweep.gone) {
-        Seen::Lost => false,
-        Seen::Leaves => true,
-        Seen::Stays => {
-            keep(watches, sweep, number);
-            true
-        }
+        Seen::Leaves => {}
+        Seen::Stays => keep(watches, sweep, number),
         Seen::Falsified => {
             keep(watches, sweep, number);
             sweep.conflict = Some(number);
-            true
         }
     }
 }
@@ -109,7 +99,7 @@ fn visit_next(
 /// Goes over the clauses that watch a literal which became false.
 fn sweep_list(trail: &mut PlainTrail, watches: &mut Watches, gone: Lit) -> Watched
     requires trail { IsTrail trail.old }
-    requires kept { AreKept trail.old watches.old watches.old.gone_over }
+    requires well { WatchesWell trail.old watches.old watches.old.gone_over }
     requires gone { IsGone trail.old watches.old.gone_over gone }
     requires next { watches.old.gone_over < length trail.old.entries }
     ensures appends { Propagates trail.old trail.new }
@@ -118,19 +108,13 @@ fn sweep_list(trail: &mut PlainTrail, watches: &mut Watches, gone: Lit) -> Watch
     ensures gone_over { watches.new.gone_over ≡ watches.old.gone_over }
     ensures size { length watches.new.pairs.items ≡ length watches.old.pairs.items }
 {
-    let code = code_of(gone);
-    if watches.lists.len() <= code {
-        return Watched::Lost;
-    }
     let mut sweep = Sweep {
         gone,
         kept: 0,
         conflict: None,
     };
-    for place in 0..watches.lists[code].len() {
-        if !visit_next(trail, watches, &mut sweep, place) {
-            return Watched::Lost;
-        }
+    for place in 0..watches.lists[code_of(gone)].len() {
+        visit_next(trail, watches, &mut sweep, place);
     }
     end_list(watches, sweep);
     match sweep.conflict {
@@ -145,138 +129,140 @@ fn is_settled(trail: &PlainTrail, number: u32) -> bool
     ensures { IsTrue result → IsSettled trail.now.entries (numbered trail.now.clauses number) }
 {
     for l in trail.clause(number) {
-        if has_value(trail, l.var, !l.negated) && level_of(trail, l.var) == Some(0) {
+        if has_value(trail, l.var, !l.negated) && trail.level_of(l.var) == Some(0) {
             return true;
         }
     }
     false
 }
 
-/// How late a literal became false; the greatest number where it isn't false.
-fn rank(trail: &PlainTrail, l: Lit) -> u32 {
-    if has_value(trail, l.var, l.negated) {
-        level_of(trail, l.var).unwrap_or(0)
-    } else {
-        u32::MAX
-    }
-}
-
-/// The level of a variable that has a value.
-fn level_of(trail: &PlainTrail, var: u32) -> Option<u32>
-    ensures { IfSome result (λ k. level_in trail.now.entries var ≡ Some k) }
+/// The level at which a literal became false; a greater number where it isn't false.
+fn rank(trail: &PlainTrail, l: Lit) -> u64
+    requires { IsVariable trail.now.vars l.var }
+    ensures { result ≡ rank_of trail.now.entries l }
 {
-    if var < 1 || trail.vars() < var {
-        return None;
+    match trail.entry(l.var) {
+        None => u64::MAX,
+        Some(e) if e.lit.negated == l.negated => u64::MAX,
+        Some(e) => u64::from(e.decision_level),
     }
-    trail.level_of(var)
 }
 
-/// Whether a variable has its value since no later level than another.
-fn is_no_later(trail: &PlainTrail, var: u32, than: u32) -> bool
-    ensures { IsTrue result → (i j : ℕ) → level_in trail.now.entries var ≡ Some i → level_in trail.now.entries than ≡ Some j → i ≤ j }
+/// Of the literal that was found, where there is one, and another one, the one of greater rank; never one of the variable `apart`.
+fn better(trail: &PlainTrail, found: Option<Lit>, l: Lit, apart: u32) -> Option<Lit>
+    requires variable { IsVariable trail.now.vars l.var }
+    requires known { IfSome found (λ m. IsVariable trail.now.vars m.var) }
+    ensures known { IfSome result (λ m. IsVariable trail.now.vars m.var) }
+    ensures more { (part : List Lit) → HighestGives trail.now.entries part apart found → HighestGives trail.now.entries (part ++ l ∷ []) apart result }
 {
-    match level_of(trail, var) {
-        None => false,
-        Some(i) => match level_of(trail, than) {
-            None => false,
-            Some(j) => i <= j,
-        },
+    if l.var == apart {
+        return found;
     }
-}
-
-/// The two literals of greatest rank, of a clause that has two.
-fn best_pair(trail: &PlainTrail, clause: &[Lit]) -> Option<Pair> {
-    let mut first = *clause.get(0)?;
-    let mut second = *clause.get(1)?;
-    for l in &clause[2..] {
-        if rank(trail, first) < rank(trail, second) {
-            let low = first;
-            first = second;
-            second = low;
-        }
-        if rank(trail, second) < rank(trail, *l) {
-            second = *l;
+    match found {
+        None => Some(l),
+        Some(m) => {
+            if rank(trail, m) < rank(trail, l) {
+                Some(l)
+            } else {
+                Some(m)
+            }
         }
     }
-    Some(Pair { first, second })
 }
 
-/// Whether the clause has the literal.
-fn has(clause: &[Lit], l: Lit) -> bool
-    ensures { IsTrue result → has clause.now l ≡ true }
-{
-    for known in clause {
-        if are_same(*known, l) {
-            return true;
-        }
-    }
-    false
-}
-
-/// Whether the first literal isn't false, or the second is true and its level is at most that of the first.
-fn is_covered(trail: &PlainTrail, first: Lit, second: Lit) -> bool
-    ensures { IsTrue result → IsFalseIn (values_of trail.now.entries) first → IsCovered trail.now.entries first second }
-{
-    if first.var < 1 || trail.vars() < first.var {
-        return false;
-    }
-    if !is_false(trail, first) {
-        return true;
-    }
-    has_value(trail, second.var, !second.negated) && is_no_later(trail, second.var, first.var)
-}
-
-/// Whether the clause may watch the literals of the pair.
-fn may_watch(trail: &PlainTrail, number: u32, pair: Pair) -> bool
+/// The literal of a clause that is of another variable than `apart`, and of the greatest rank of these.
+fn highest(trail: &PlainTrail, number: u32, apart: u32) -> Option<Lit>
     requires { IsNumber trail.now.clauses number }
-    ensures { IsTrue result → MayWatch trail.now number pair }
+    ensures { HighestGives trail.now.entries (numbered trail.now.clauses number) apart result }
 {
-    let clause = trail.clause(number);
-    pair.first.var != pair.second.var
-        && has(clause, pair.first)
-        && has(clause, pair.second)
-        && is_covered(trail, pair.first, pair.second)
-        && is_covered(trail, pair.second, pair.first)
+    let mut found: Option<Lit> = None;
+    for l in trail.clause(number) {
+        found = better(trail, found, *l, apart);
+    }
+    found
+}
+
+/// The pair of a literal of greatest rank and the best one of the others.
+fn pair_with(trail: &PlainTrail, number: u32, first: Lit) -> Option<Pair>
+    requires trail { IsTrail trail.now }
+    requires number { IsNumber trail.now.clauses number }
+    requires rests { Rests (values_of trail.now.entries) (numbered trail.now.clauses number) }
+    requires free { IsFreeBelow trail.now number }
+    requires first { IsHighest trail.now.entries (numbered trail.now.clauses number) 0 first }
+    ensures found { IfSome result (MayWatch trail.now number) }
+    ensures none { IfNone result (IsSettled trail.now.entries (numbered trail.now.clauses number)) }
+{
+    match highest(trail, number, first.var) {
+        None => None,
+        Some(second) => Some(Pair { first, second }),
+    }
+}
+
+/// Two literals of the clause that it may watch; none where it has literals of one variable alone, one of them true at level 0.
+fn best_pair(trail: &PlainTrail, number: u32) -> Option<Pair>
+    requires trail { IsTrail trail.now }
+    requires number { IsNumber trail.now.clauses number }
+    requires rests { Rests (values_of trail.now.entries) (numbered trail.now.clauses number) }
+    requires free { IsFreeBelow trail.now number }
+    ensures found { IfSome result (MayWatch trail.now number) }
+    ensures none { IfNone result (IsSettled trail.now.entries (numbered trail.now.clauses number)) }
+{
+    match highest(trail, number, 0) {
+        None => None,
+        Some(first) => pair_with(trail, number, first),
+    }
 }
 
 /// Lists the clause at both literals of the pair, and keeps the pair.
-fn place_pair(watches: &mut Watches, number: u32, pair: Pair) -> Watched
-    ensures { PlaceGives watches.old watches.new number pair result }
+fn place_pair(watches: &mut Watches, number: u32, pair: Pair)
+    requires may { MayList watches.old pair }
+    requires room { length watches.old.pairs.items < vec_capacity watches.old.pairs }
+    ensures { IsPlaced watches.old watches.new number pair }
 {
-    if !push_number(watches, pair.first, number) {
-        return Watched::Lost;
-    }
-    if !push_number(watches, pair.second, number) {
-        return Watched::Lost;
-    }
-    keep_pair(watches, pair)
+    push_number(watches, pair.first, number);
+    push_number(watches, pair.second, number);
+    keep_pair(watches, pair);
 }
 
-/// Keeps the pair of the first clause without one.
-fn keep_pair(watches: &mut Watches, pair: Pair) -> Watched
-    ensures { KeepsPair watches.old watches.new pair result }
+/// A pair of no literals.
+fn no_pair() -> Pair
+    ensures { IsBlank result }
 {
-    if push_within(&mut watches.pairs, pair) {
-        Watched::Rests
-    } else {
-        Watched::Lost
+    let none = Lit {
+        var: 0,
+        negated: false,
+    };
+    Pair {
+        first: none,
+        second: none,
     }
+}
+
+/// Keeps the pair, of the first clause without one.
+fn keep_pair(watches: &mut Watches, pair: Pair)
+    requires { length watches.old.pairs.items < vec_capacity watches.old.pairs }
+    ensures { KeepsPair watches.old watches.new pair }
+{
+    watches.pairs.push(pair).unwrap();
 }
 
 /// Pairs the clause, the first without a pair.
-fn pair_up(trail: &PlainTrail, watches: &mut Watches, number: u32) -> Watched
+fn pair_up(trail: &PlainTrail, watches: &mut Watches, number: u32)
     requires trail { IsTrail trail.now }
-    requires kept { AreKept trail.now watches.old watches.old.gone_over }
+    requires well { WatchesWell trail.now watches.old watches.old.gone_over }
     requires first { number ≡ length watches.old.pairs.items + 1 }
     requires number { IsNumber trail.now.clauses number }
-    ensures { LooksGives trail.now watches.old watches.new result }
+    requires rests { Rests (values_of trail.now.entries) (numbered trail.now.clauses number) }
+    ensures well { WatchesWell trail.now watches.new watches.new.gone_over }
+    ensures more { length watches.new.pairs.items ≡ length watches.old.pairs.items + 1 }
 {
     if is_settled(trail, number) {
-        return keep_pair(watches, Pair::default());
+        keep_pair(watches, no_pair());
+        return;
     }
-    match best_pair(trail, trail.clause(number)) {
-        Some(pair) if may_watch(trail, number, pair) => place_pair(watches, number, pair),
-        _ => Watched::Lost,
+    match best_pair(trail, number) {
+        Some(pair) => place_pair(watches, number, pair),
+        None => keep_pair(watches, no_pair()),
     }
 }
 
@@ -286,6 +272,7 @@ fn force_unit(trail: &mut PlainTrail, number: u32) -> bool
     requires number { IsNumber trail.old.clauses number }
     ensures appends { Propagates trail.old trail.new }
     ensures trail { IsTrail trail.new }
+    ensures rests { IsTrue result → Rests (values_of trail.new.entries) (numbered trail.new.clauses number) }
     ensures falsified { result ≡ false → Falsifies trail.new number }
 {
     match trail.look(number) {
@@ -300,7 +287,7 @@ fn force_unit(trail: &mut PlainTrail, number: u32) -> bool
 
 /// Pairs the first clause without a pair, and makes its literal true where it is unit.
 fn pair_next(trail: &mut PlainTrail, watches: &mut Watches) -> Watched
-    requires kept { AreKept trail.old watches.old watches.old.gone_over }
+    requires well { WatchesWell trail.old watches.old watches.old.gone_over }
     requires more { length watches.old.pairs.items < length trail.old.clauses }
     ensures appends { Propagates trail.old trail.new }
     ensures trail { IsTrail trail.new }
@@ -312,13 +299,14 @@ fn pair_next(trail: &mut PlainTrail, watches: &mut Watches) -> Watched
     if !force_unit(trail, number) {
         return Watched::Falsified(number);
     }
-    pair_up(trail, watches, number)
+    pair_up(trail, watches, number);
+    Watched::Rests
 }
 
 /// Pairs the clauses without a pair.
 fn pair_all(trail: &mut PlainTrail, watches: &mut Watches) -> Watched
     requires trail { IsTrail trail.old }
-    requires kept { AreKept trail.old watches.old watches.old.gone_over }
+    requires well { WatchesWell trail.old watches.old watches.old.gone_over }
     ensures appends { Propagates trail.old trail.new }
     ensures trail { IsTrail trail.new }
     ensures gives { PairsGives trail.new watches.new result }
@@ -327,7 +315,6 @@ fn pair_all(trail: &mut PlainTrail, watches: &mut Watches) -> Watched
         match pair_next(trail, watches) {
             Watched::Rests => {}
             Watched::Falsified(number) => return Watched::Falsified(number),
-            Watched::Lost => return Watched::Lost,
         }
     }
     Watched::Rests
@@ -336,20 +323,17 @@ fn pair_all(trail: &mut PlainTrail, watches: &mut Watches) -> Watched
 /// Goes over the lists of the literals that became false.
 fn sweep_all(trail: &mut PlainTrail, watches: &mut Watches) -> Watched
     requires trail { IsTrail trail.old }
-    requires kept { AreKept trail.old watches.old watches.old.gone_over }
+    requires well { WatchesWell trail.old watches.old watches.old.gone_over }
     requires all { length trail.old.clauses ≤ length watches.old.pairs.items }
     ensures appends { Propagates trail.old trail.new }
     ensures trail { IsTrail trail.new }
     ensures gives { WatchGives trail.new watches.new result }
 {
     while watches.gone_over < trail.len() {
-        let Some(l) = trail.at(watches.gone_over) else {
-            return Watched::Lost;
-        };
+        let l = trail.at(watches.gone_over).unwrap();
         match sweep_list(trail, watches, l.opposite()) {
             Watched::Rests => watches.gone_over += 1,
             Watched::Falsified(number) => return Watched::Falsified(number),
-            Watched::Lost => return Watched::Lost,
         }
     }
     Watched::Rests
@@ -358,7 +342,7 @@ fn sweep_all(trail: &mut PlainTrail, watches: &mut Watches) -> Watched
 /// Propagates by watched literals.
 pub(crate) fn watch(trail: &mut PlainTrail, watches: &mut Watches) -> Watched
     requires trail { IsTrail trail.old }
-    requires kept { AreKept trail.old watches.old watches.old.gone_over }
+    requires well { WatchesWell trail.old watches.old watches.old.gone_over }
     ensures appends { Propagates trail.old trail.new }
     ensures trail { IsTrail trail.new }
     ensures gives { WatchGives trail.new watches.new result }
@@ -366,6 +350,15 @@ pub(crate) fn watch(trail: &mut PlainTrail, watches: &mut Watches) -> Watched
     match pair_all(trail, watches) {
         Watched::Rests => sweep_all(trail, watches),
         Watched::Falsified(number) => Watched::Falsified(number),
-        Watched::Lost => Watched::Lost,
+    }
+}
+
+/// The number of the clause whose literals are all false.
+pub(crate) fn number_of(watched: Watched) -> Option<u32>
+    ensures { result ≡ number_of watched }
+{
+    match watched {
+        Watched::Rests => None,
+        Watched::Falsified(number) => Some(number),
     }
 }

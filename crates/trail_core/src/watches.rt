@@ -1,7 +1,9 @@
-ghost use Rattle.std.specs.Prelude.{◌≡◌, ◌+◌, ◌*◌, ◌<◌, ◌^◌, ◌≤◌, ◌++◌, ◌∷◌, [], true, IsTrue, length, take, slice_index, slice_set, IfOk, OnOk, ◌⊎◌};
+ghost use Rattle.std.specs.Prelude.{◌≡◌, ℕ, ◌+◌, ◌*◌, ◌<◌, ◌^◌, ◌≤◌, ◌++◌, ◌∷◌, [], true, length, take, slice_index, slice_set, get_or, IfOk, OnOk, ◌⊎◌};
+ghost use Rattle.std.specs.Vec.{vec_capacity};
 ghost use Rattle.clause_base.specs.Literal.{same_lit};
-ghost use Rattle.trail_core.specs.Watching.{code_of, PushedWithin};
-ghost use Rattle.trail_core.specs.Visits.{IsListedMore};
+ghost use Rattle.trail_core.specs.Listing.{nothing};
+ghost use Rattle.trail_core.specs.Watching.{code_of, list_of, room_of};
+ghost use Rattle.trail_core.specs.Visits.{IsListedMore, HasNone, HaveLists, HavePlaces, IsWider};
 
 use clause_base::Lit;
 use loc_base::NoMemory;
@@ -9,7 +11,7 @@ use std::alloc::Global;
 use std::marker::Model;
 
 /// Two literals of a clause, at which propagation looks for it.
-#[derive(Clone, Copy, Default)]
+#[derive(Clone, Copy)]
 pub(crate) struct Pair {
     pub(crate) first: Lit,
     pub(crate) second: Lit,
@@ -25,8 +27,6 @@ pub(crate) fn are_same(l: Lit, m: Lit) -> bool
 /// The watched literals of the clauses, and where they are looked for.
 #[derive(Drop)]
 pub(crate) struct Watches {
-    /// Whether they are kept; where they aren't, propagation goes over all clauses.
-    pub(crate) are_kept: bool,
     /// The pair of each of the first clauses, at its number less 1.
     pub(crate) pairs: Vec<Pair>,
     /// The clauses that watch a literal, at the literal's code.
@@ -35,90 +35,85 @@ pub(crate) struct Watches {
     pub(crate) gone_over: u32,
 }
 
-/// The numbers of the clauses that watch a literal. Contracts see it as that list.
+/// The numbers of the clauses that watch a literal. Contracts see it as that list, and how many numbers have a place in it.
 #[derive(Drop)]
 pub(crate) struct WatchList {
     numbers: Vec<u32>,
-    /// How many clauses have the literal.
-    clauses: usize,
+    /// For so many numbers there is memory.
+    room: usize,
 }
 
 impl Model for WatchList {
-    ghost use Rattle.std.specs.Prelude.{List, ℕ};
+    ghost use Rattle.std.specs.Prelude.{◌≤◌, length};
+    ghost use Rattle.std.specs.Vec.{vec_capacity};
+    ghost use Rattle.trail_core.specs.Listing.{Listing};
 
-    ghost Value = { List ℕ };
+    ghost Value = { Listing };
 
-    ghost view = { λ w. w.numbers.items };
+    ghost view = { λ w. record { numbers = w.numbers.items; room = w.room } };
+
+    ghost invariant = { λ w. (length w.numbers.items ≤ w.room) × (w.room ≤ vec_capacity w.numbers) };
 }
 
 impl WatchList {
-    /// No numbers.
+    /// No numbers, and no place for any.
     pub(crate) fn new(alloc: Global) -> WatchList
-        ensures { result ≡ [] }
+        ensures { result ≡ nothing }
     {
         WatchList {
             numbers: Vec::new(alloc),
-            clauses: 0,
+            room: 0,
         }
     }
 
     /// How many numbers there are.
     pub(crate) fn len(&self) -> usize
-        ensures { result ≡ length self.now }
+        ensures { result ≡ length self.now.numbers }
     {
         self.numbers.len()
     }
 
     /// The number at that place.
     pub(crate) fn number(&self, place: usize) -> u32
-        requires { place < length self.now }
-        ensures { result ≡ slice_index self.now place }
+        requires { place < length self.now.numbers }
+        ensures { result ≡ slice_index self.now.numbers place }
     {
         self.numbers[place]
     }
 
-    /// Makes room for one clause more that has the literal.
+    /// Makes room for one number more.
     pub(crate) fn make_room(&mut self) -> Result<(), NoMemory>
-        ensures { self.new ≡ self.old }
+        ensures numbers { self.new.numbers ≡ self.old.numbers }
+        ensures room { self.old.room ≤ self.new.room }
+        ensures more { OnOk result (self.new.room ≡ self.old.room + 1) }
     {
-        let clauses = self.clauses.saturating_add(1);
-        self.numbers
-            .reserve(clauses.saturating_sub(self.numbers.len()))?;
-        self.clauses = clauses;
+        let more = self.room + 1;
+        self.numbers.reserve(more - self.numbers.len())?;
+        self.room = more;
         Ok(())
     }
 
-    /// Appends a number, where there is room.
-    pub(crate) fn push(&mut self, number: u32) -> bool
-        ensures { PushedWithin self.old self.new number result }
+    /// Appends a number.
+    pub(crate) fn push(&mut self, number: u32)
+        requires { length self.old.numbers < self.old.room }
+        ensures { self.new ≡ record { numbers = self.old.numbers ++ number ∷ []; room = self.old.room } }
     {
-        push_within(&mut self.numbers, number)
+        self.numbers.push(number).unwrap();
     }
 
     /// Puts a number at that place.
     pub(crate) fn set(&mut self, place: usize, number: u32)
-        requires { place < length self.old }
-        ensures { self.new ≡ slice_set self.old place number }
+        requires { place < length self.old.numbers }
+        ensures { self.new ≡ record { numbers = slice_set self.old.numbers place number; room = self.old.room } }
     {
         self.numbers[place] = number;
     }
 
     /// Leaves the first numbers.
     pub(crate) fn truncate(&mut self, count: usize)
-        ensures { self.new ≡ take count self.old }
+        ensures { self.new ≡ record { numbers = take count self.old.numbers; room = self.old.room } }
     {
         self.numbers.truncate(count);
-    }
-}
-
-/// Appends an element, where the list has room for it.
-pub(crate) fn push_within<T: Drop>(list: &mut Vec<T>, element: T) -> bool
-    ensures { PushedWithin list.old.items list.new.items element result }
-{
-    if list.len() < list.capacity() {
-        list.push(element).is_ok()
-    } else {
-        false
     }
 }
 
@@ -129,70 +124,85 @@ pub(crate) fn code_of(l: Lit) -> usize
     2 * l.var as usize + usize::from(l.negated)
 }
 
-/// Appends the number to the literal's list, where there is room.
-pub(crate) fn push_number(watches: &mut Watches, l: Lit, number: u32) -> bool
-    ensures listed { IsTrue result → IsListedMore watches.old watches.new l number }
-    ensures pairs { watches.new.pairs.items ≡ watches.old.pairs.items }
-    ensures gone_over { watches.new.gone_over ≡ watches.old.gone_over }
+/// Appends the number to the literal's list.
+pub(crate) fn push_number(watches: &mut Watches, l: Lit, number: u32)
+    requires within { code_of l < length watches.old.lists.items }
+    requires room { length (list_of watches.old.lists.items l) < room_of watches.old.lists.items l }
+    ensures { IsListedMore watches.old watches.new l number }
 {
-    let code = code_of(l);
-    code < watches.lists.len() && watches.lists[code].push(number)
+    watches.lists[code_of(l)].push(number);
+}
+
+/// So many lists without numbers.
+fn no_lists(alloc: Global, size: usize) -> Result<Vec<WatchList>, NoMemory>
+    ensures size { IfOk result (λ v. length v.items ≡ size) }
+    ensures empty { IfOk result (λ v. (i : ℕ) → get_or v.items i nothing ≡ nothing) }
+{
+    let mut lists = Vec::new(alloc);
+    for _ in 0..size {
+        lists.push(WatchList::new(alloc))?;
+    }
+    Ok(lists)
 }
 
 /// The lists of the literals of so many variables, no clause being watched.
 pub(crate) fn watches_of(alloc: Global, vars: u32) -> Result<Watches, NoMemory>
-    ensures pairs { IfOk result (λ w. w.pairs.items ≡ []) }
-    ensures gone_over { IfOk result (λ w. w.gone_over ≡ 0) }
+    ensures { IfOk result (HasNone vars) }
 {
-    let mut lists = Vec::new(alloc);
-    for _ in 0..2 * (vars as usize + 1) {
-        lists.push(WatchList::new(alloc))?;
-    }
     Ok(Watches {
-        are_kept: true,
         pairs: Vec::new(alloc),
-        lists,
+        lists: no_lists(alloc, 2 * vars as usize + 2)?,
         gone_over: 0,
     })
 }
 
-/// Makes room for the pairs of so many clauses and one more, which has these literals, and for its places in the lists.
-pub(crate) fn make_room(watches: &mut Watches, count: u32, literals: &[Lit]) -> Result<(), NoMemory>
-    ensures pairs { watches.new.pairs.items ≡ watches.old.pairs.items }
-    ensures lists { watches.new.lists.items ≡ watches.old.lists.items }
-    ensures gone_over { watches.new.gone_over ≡ watches.old.gone_over }
-    ensures kept { watches.new.are_kept ≡ watches.old.are_kept }
+/// Makes room for one number more in the list of a literal.
+fn make_place(watches: &mut Watches, l: Lit) -> Result<(), NoMemory>
+    requires { code_of l < length watches.old.lists.items }
+    ensures wider { IsWider watches.old watches.new }
+    ensures more { OnOk result (room_of watches.old.lists.items l + 1 ≤ room_of watches.new.lists.items l) }
 {
-    let pairs = watches.pairs.len();
-    watches
-        .pairs
-        .reserve((count as usize + 1).saturating_sub(pairs))?;
+    watches.lists[code_of(l)].make_room()
+}
+
+/// Makes room for one number more in the list of each of the literals.
+fn make_places(watches: &mut Watches, literals: &[Lit]) -> Result<(), NoMemory>
+    requires { HaveLists watches.old literals.now }
+    ensures wider { IsWider watches.old watches.new }
+    ensures more { OnOk result (HavePlaces watches.old watches.new literals.now) }
+{
     for l in literals {
-        let code = code_of(*l);
-        if code < watches.lists.len() {
-            watches.lists[code].make_room()?;
-        }
+        make_place(watches, *l)?;
     }
     Ok(())
 }
 
-/// Keeps the lists no longer, where fewer than so many true literals were gone over.
-pub(crate) fn give_up_behind(watches: &mut Watches, count: u32)
-    ensures pairs { watches.new.pairs ≡ watches.old.pairs }
-    ensures lists { watches.new.lists ≡ watches.old.lists }
-    ensures gone_over { watches.new.gone_over ≡ watches.old.gone_over }
-    ensures kept { watches.new.are_kept ≡ true → (watches.old.are_kept ≡ true) × (count ≤ watches.old.gone_over) }
+/// Makes room for the pairs of so many clauses and one more, which has these literals, and for its number in their lists.
+pub(crate) fn make_room(watches: &mut Watches, count: u32, literals: &[Lit]) -> Result<(), NoMemory>
+    requires { HaveLists watches.old literals.now }
+    ensures wider { IsWider watches.old watches.new }
+    ensures more { OnOk result (HavePlaces watches.old watches.new literals.now) }
+    ensures pair { OnOk result (count + 1 ≤ vec_capacity watches.new.pairs) }
 {
-    if watches.gone_over < count {
-        watches.are_kept = false;
-    }
+    make_places(watches, literals)?;
+    make_pairs(&mut watches.pairs, count)
+}
+
+/// Makes room for so many pairs and one more.
+fn make_pairs(pairs: &mut Vec<Pair>, count: u32) -> Result<(), NoMemory>
+    ensures items { pairs.new.items ≡ pairs.old.items }
+    ensures capacity { vec_capacity pairs.old ≤ vec_capacity pairs.new }
+    ensures room { OnOk result (count + 1 ≤ vec_capacity pairs.new) }
+{
+    let wanted = count as usize + 1;
+    pairs.reserve(wanted.saturating_sub(pairs.len()))?;
+    Ok(())
 }
 
 /// Counts no more true literals as gone over than there are.
 pub(crate) fn go_back(watches: &mut Watches, count: u32)
     ensures pairs { watches.new.pairs ≡ watches.old.pairs }
     ensures lists { watches.new.lists ≡ watches.old.lists }
-    ensures kept { watches.new.are_kept ≡ watches.old.are_kept }
     ensures low { watches.new.gone_over ≤ watches.old.gone_over }
     ensures short { watches.new.gone_over ≤ count }
     ensures which { (watches.new.gone_over ≡ watches.old.gone_over) ⊎ (watches.new.gone_over ≡ count) }

@@ -1,8 +1,8 @@
-//! Clauses and decisions from a fixed sequence of numbers, by the trail and by rounds over all clauses.
+//! Clauses, decisions and ways back from a fixed sequence of numbers, by the trail and by rounds over all clauses.
 
 ghost use Rattle.std.specs.Prelude.{◌≡◌, ◌<◌, length, IfOk};
 
-use super::{add, decide, plain};
+use super::{add, decide, go_back, plain};
 use clause_base::{Lit, has_distinct_variables};
 use loc_base::NoMemory;
 use std::alloc::Global;
@@ -71,24 +71,53 @@ fn has_values(trail: &Trail, values: &[Option<bool>]) -> bool {
     true
 }
 
-/// Whether the two come to the same after each of the decisions, up to the first after which a clause is false.
+/// The values of the trail's decisions alone.
+fn decided(rt: &impl Abort, alloc: Global, trail: &Trail) -> Result<Vec<Option<bool>>, NoMemory> {
+    let mut values = vec![in alloc; None; VARS as usize]?;
+    for place in 0..trail.len() {
+        if let Some(l) = trail.at(place) {
+            assert!(rt; 1 <= l.var && l.var <= trail.vars());
+            if trail.reason(l.var).is_none() {
+                plain::set(&mut values, l);
+            }
+        }
+    }
+    Ok(values)
+}
+
+/// Whether rounds over all clauses come to the same from the trail's decisions: a false clause, or the same values.
+fn is_same(rt: &impl Abort, alloc: Global, trail: &mut Trail, clauses: &[Vec<Lit>]) -> Result<bool, NoMemory> {
+    let mut values = decided(rt, alloc, trail)?;
+    let rests = plain::propagate(&mut values, clauses);
+    Ok(match trail.propagate() {
+        None => rests && has_values(trail, &values),
+        Some(_) => !rests,
+    })
+}
+
+/// Goes back by a level where a clause is false, and now and then by half the levels; else decides the literal.
+fn go_on(rt: &impl Abort, trail: &mut Trail, number: u64) {
+    let level = trail.level();
+    if trail.propagate().is_some() {
+        go_back(rt, trail, level.saturating_sub(1));
+    } else if number % 5 == 0 {
+        go_back(rt, trail, level / 2);
+    } else {
+        decide(rt, trail, literal(number));
+    }
+}
+
+/// Whether the two come to the same after each of some decisions and ways back.
 fn agrees(rt: &impl Abort, alloc: Global, start: u64) -> Result<bool, NoMemory> {
     let clauses = clauses_of(alloc, start)?;
     let mut trail = trail_of(rt, alloc, &clauses)?;
-    let mut values = vec![in alloc; None; VARS as usize]?;
     let mut number = start;
-    for _ in 0..VARS {
-        let rests = plain::propagate(&mut values, &clauses);
-        if trail.propagate().is_some() || !rests {
-            return Ok(!rests && trail.propagate().is_some());
-        }
-        if !has_values(&trail, &values) {
+    for _ in 0..4 * VARS {
+        if !is_same(rt, alloc, &mut trail, &clauses)? {
             return Ok(false);
         }
         number = following(number);
-        if decide(rt, &mut trail, literal(number)) {
-            plain::set(&mut values, literal(number));
-        }
+        go_on(rt, &mut trail, number);
     }
     Ok(true)
 }

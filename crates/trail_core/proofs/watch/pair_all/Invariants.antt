@@ -1,13 +1,13 @@
 use Rattle.std.proofs.Common.{◌-◌, length}
 use Rattle.trail_core.specs.TrailState.{IsTrail, Propagates}
-use Rattle.trail_core.specs.Visits.{AreKept}
+use Rattle.trail_core.specs.Visits.{WatchesWell}
 use Rattle.trail_core.proofs.watch.pair_all.Given as goal
 
 abbrev pub invariant-loop-trail : goal.invariant-loop-trail
 invariant-loop-trail l = record {
   trail : IsTrail l.trail;
   appends : Propagates l.fn.trail l.trail;
-  kept : AreKept l.trail l.watches l.watches.gone_over;
+  well : WatchesWell l.trail l.watches l.watches.gone_over;
 }
 
 abbrev pub decreases-loop-trail : goal.decreases-loop-trail

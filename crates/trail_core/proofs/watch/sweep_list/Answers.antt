@@ -1,7 +1,7 @@
 use Rattle.std.proofs.Common.{◌≡◌, ◌<◌, ◌≤◌, false, Some, None, length, sym, ap, subst, arith}
 use Rattle.std.specs.Prelude.{IfSome}
 use Rattle.trail_core.specs.declared.entry.Entry.{Entry}
-use Rattle.trail_core.specs.Rounds.{Falsifies}
+use Rattle.trail_core.specs.Look.{Falsifies}
 use Rattle.trail_core.specs.Watching.{list_of}
 use Rattle.trail_core.proofs.Passing.{ends_from, ends_rests, ends_falsified}
 use Rattle.trail_core.proofs.watch.sweep_list.Goals as goal

@@ -1,13 +1,11 @@
--- What one look at a clause, and one round over all clauses, find.
-use Rattle.std.specs.Prelude.{ℕ, ◌<◌, length}
+-- What one look at a clause finds.
+use Rattle.std.specs.Prelude.{ℕ}
 use Rattle.clause_base.specs.declared.literal.Lit.{Lit}
 use Rattle.clause_base.specs.Acceptance.{numbered}
-use Rattle.trail_core.specs.declared.plain.propagate.Look.{Look}
-use Rattle.trail_core.specs.declared.plain.propagate.Look.TheVariants as look
-use Rattle.trail_core.specs.declared.plain.propagate.Round.{Round}
-use Rattle.trail_core.specs.declared.plain.propagate.Round.TheVariants as round
+use Rattle.trail_core.specs.declared.plain.look.Look.{Look}
+use Rattle.trail_core.specs.declared.plain.look.Look.TheVariants as look
 use Rattle.trail_core.specs.Values.{IsVariable, IsFalsified, Rests}
-use Rattle.trail_core.specs.TrailState.{TrailState, IsNumber, IsReason, AllRest, values_of}
+use Rattle.trail_core.specs.TrailState.{TrailState, IsNumber, IsReason, values_of}
 
 -- the literal is unit in the clause with the number, and of a variable of the trail
 pub record Forces (t : TrailState) (n : ℕ) (l : Lit) : Type 0 where
@@ -24,9 +22,3 @@ LookGives t n (look.Unit l) = Forces t n l
 pub record Falsifies (t : TrailState) (n : ℕ) : Type 0 where
   pub number : IsNumber t.clauses n
   pub falsified : IsFalsified (values_of t.entries) (numbered t.clauses n)
-
--- what a round finds
-abbrev pub RoundGives : TrailState → TrailState → Round → Type 0
-RoundGives old new round.Rests = AllRest new.clauses (values_of new.entries)
-RoundGives old new (round.Falsified n) = Falsifies new n
-RoundGives old new round.Forced = length old.entries < length new.entries

@@ -1,27 +1,16 @@
--- What one round over the clauses keeps.
-use Rattle.std.proofs.Common.{◌≡◌, ℕ, ◌+◌, ◌<◌, ◌≤◌, Bool, true, false, [], ◌∷◌, ◌++◌, length, get_or, take, Some, refl, sym, ap, ◌∙◌, subst, arith, inl, inr}
+-- What propagation keeps.
+use Rattle.std.proofs.Common.{◌≡◌, ℕ, ◌+◌, ◌<◌, ◌≤◌, [], ◌∷◌, ◌++◌, length, get_or, take, Some, None, not, refl, sym, ap, ◌∙◌, subst, arith, inl, inr}
 use Rattle.std.specs.Prelude.{IsSome}
-use Rattle.std.proofs.lemmas.Bool.{cases_lt, false≢true}
+use Rattle.std.specs.Option.{option_map}
+use Rattle.std.proofs.lemmas.Bool.{cases_lt}
 use Rattle.std.proofs.lemmas.List.{take_all, take-take, get_or-take, get_or_append_left, get_or_push, length_push, take-append-le}
+use Rattle.loc_base.proofs.ShelfOptions.{option_map-none}
 use Rattle.clause_base.specs.declared.literal.Lit.{Lit}
 use Rattle.clause_base.specs.Acceptance.{numbered}
 use Rattle.trail_core.specs.declared.entry.Entry.{Entry}
-use Rattle.trail_core.specs.Values.{Rests}
-use Rattle.trail_core.specs.TrailState.{TrailState, IsTrail, AllRest, Propagates, values_of, with_forced}
-
--- the clauses with a number up to m rest
-abbrev pub RestTo : TrailState → ℕ → Type 0
-RestTo t m = (n : ℕ) → 1 ≤ n → n ≤ m → Rests (values_of t.entries) (numbered t.clauses n)
-
-pub RestTo-more : (t : TrailState) (m : ℕ) → RestTo t m → Rests (values_of t.entries) (numbered t.clauses (m + 1)) → RestTo t (m + 1)
-RestTo-more t m h r n l k =
-    elim (cases_lt m n) [
-      | inl b ↦ let q : m + 1 ≡ n = omega arith in subst (λ j. Rests (values_of t.entries) (numbered t.clauses j)) q r
-      | inr b ↦ h n l b
-    ]
-
-pub AllRest-from : (t : TrailState) (m : ℕ) → length t.clauses ≤ m → RestTo t m → AllRest t.clauses (values_of t.entries)
-AllRest-from t m l h n k = h n k.above (omega (arith, k.within))
+use Rattle.trail_core.specs.Values.{Rests, satisfied}
+use Rattle.trail_core.specs.TrailState.{TrailState, IsReason, Propagates, entry_of, values_of, with_forced}
+use Rattle.trail_core.proofs.LayoutLemmas.{entry_of_push_same}
 
 pub Propagates-none : (t : TrailState) → Propagates t t
 Propagates-none t = record {
@@ -58,6 +47,16 @@ Propagates-forced a b l n p = record {
     size : length (b.entries ++ e ∷ []) ≡ length b.entries + 1
     size = length_push b.entries e
 
+-- a clause whose literal was forced rests
+pub forced_rests : (t new : TrailState) (l : Lit) (n : ℕ) → IsReason t.clauses (values_of t.entries) n l → new ≡ with_forced t l n → Rests (values_of new.entries) (numbered new.clauses n)
+forced_rests t new l n r e = subst (λ (s : TrailState). Rests (values_of s.entries) (numbered s.clauses n)) (sym e) (satisfied l r.unit.member (ap (option_map (λ (x : Entry). not x.lit.negated)) found))
+  where
+    entry : Entry
+    entry = record { lit = l; decision_level = t.level; reason = Some n }
+
+    found : entry_of (t.entries ++ entry ∷ []) l.var ≡ Some entry
+    found = entry_of_push_same t.entries entry l.var refl (option_map-none (λ (x : Entry). not x.lit.negated) (entry_of t.entries l.var) r.unit.unassigned)
+
 -- one propagation after another
 pub Propagates-then : (a b c : TrailState) → Propagates a b → Propagates b c → Propagates a c
 Propagates-then a b c p q = record {
@@ -78,25 +77,3 @@ Propagates-then a b c p q = record {
   where
     kept : (place : ℕ) (d : Entry) → place < length b.entries → get_or b.entries place d ≡ get_or c.entries place d
     kept place d m = ap (λ es. get_or es place d) (sym q.prefix) ∙ get_or-take (length b.entries) c.entries place d m
-
--- a round that has gone over the clauses with a number up to `place`
-pub record IsRound (old now : TrailState) (forced : Bool) (place : ℕ) : Type 0 where
-  pub appends : Propagates old now
-  pub trail : IsTrail now
-  pub rest : forced ≡ false → RestTo now place
-  pub more : forced ≡ true → length old.entries < length now.entries
-
-pub IsRound-rests : (old now after : TrailState) (forced forced' : Bool) (place : ℕ) → IsRound old now forced place → Rests (values_of now.entries) (numbered now.clauses (place + 1)) → after ≡ now → forced' ≡ forced → IsRound old after forced' (place + 1)
-IsRound-rests old now after forced forced' place h r p q =
-    subst (λ t. IsRound old t forced' (place + 1)) (sym p) (subst (λ f. IsRound old now f (place + 1)) (sym q)
-    record { appends = h.appends; trail = h.trail; rest = λ e. RestTo-more now place (h.rest e) r; more = h.more })
-
-pub IsRound-forced : (old now after : TrailState) (forced forced' : Bool) (place : ℕ) (l : Lit) (n : ℕ) → IsRound old now forced place → IsTrail after → after ≡ with_forced now l n → forced' ≡ true → IsRound old after forced' (place + 1)
-IsRound-forced old now after forced forced' place l n h t p q =
-    subst (λ f. IsRound old after f (place + 1)) (sym q)
-    record {
-      appends = subst (Propagates old) (sym p) (Propagates-forced old now l n h.appends);
-      trail = t;
-      rest = λ e. absurd (false≢true (sym e));
-      more = λ e. omega (arith, h.appends.longer, ap (λ (s : TrailState). length s.entries) p, length_push now.entries record { lit = l; decision_level = now.level; reason = Some n });
-    }

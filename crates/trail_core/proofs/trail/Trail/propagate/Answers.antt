@@ -1,0 +1,14 @@
+use Rattle.trail_core.proofs.Calls.{well_watched, gives_number, gives_conflict, gives_rest}
+use Rattle.trail_core.proofs.trail.Trail.propagate.Goals as goal
+
+pub invariant_of-self : goal.invariant_of-self
+invariant_of-self c = record { trail = c.watch.ensures.trail; well = well_watched c.watch.new.trail c.watch.new.watches c.watch.result c.watch.ensures.gives }
+
+pub returns-clause-falsified : goal.returns-clause-falsified
+returns-clause-falsified c = gives_number c.watch.new.trail c.watch.new.watches c.watch.result c.number_of.result c.number_of.ensures c.watch.ensures.gives
+
+pub returns-clause-conflict : goal.returns-clause-conflict
+returns-clause-conflict c = gives_conflict c.watch.new.trail c.watch.new.watches c.watch.result c.number_of.result c.number_of.ensures c.watch.ensures.gives
+
+pub returns-clause-rest : goal.returns-clause-rest
+returns-clause-rest c = gives_rest c.watch.new.trail c.watch.new.watches c.watch.result c.number_of.result c.number_of.ensures c.watch.ensures.gives

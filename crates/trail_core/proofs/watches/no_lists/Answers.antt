@@ -1,0 +1,11 @@
+use Rattle.std.proofs.Common.{◌≡◌, ◌++◌, ◌∷◌, ◌+◌, ◌∙◌, [], get_or, length, sym, ap, arith}
+use Rattle.std.proofs.lemmas.List.{length_push}
+use Rattle.trail_core.specs.Listing.{nothing}
+use Rattle.trail_core.proofs.Widening.{nothing_push}
+use Rattle.trail_core.proofs.watches.no_lists.Goals as goal
+
+pub loop-preserved : goal.loop-preserved
+loop-preserved c = record {
+  size = rw c.in_ok-push.ensures.items (omega (arith, length_push c.loop.lists.items c.new.result, c.loop.invariant.size));
+  empty = rw (c.in_ok-push.ensures.items, c.new.ensures) (nothing_push c.loop.lists.items c.loop.invariant.empty);
+}
