@@ -1,5 +1,5 @@
 -- What the public calls keep of the watched literals.
-use Rattle.std.proofs.Common.{◌≡◌, ◌≢◌, ℕ, ◌+◌, ◌-◌, ◌*◌, ◌<◌, ◌≤◌, Bool, false, not, List, [], ◌∷◌, ◌++◌, length, get_or, take, Option, Some, None, Result, Ok, Err, refl, sym, ap, ◌∙◌, subst, arith, ◌⊎◌, inl, inr}
+use Rattle.std.proofs.Common.{◌≡◌, ℕ, ◌+◌, ◌<◌, ◌≤◌, Bool, false, not, List, [], length, get_or, Option, Some, None, Result, Ok, Err, refl, sym, ap, ◌∙◌, subst, arith, ◌⊎◌, inl, inr}
 use Rattle.std.specs.Prelude.{IsSome, IfSome, IfNone}
 use Rattle.std.specs.Result.{OnOk, OnErr}
 use Rattle.std.specs.Vec.{vec_capacity}
@@ -15,10 +15,9 @@ use Rattle.trail_core.specs.declared.watch.Watched.{Watched}
 use Rattle.trail_core.specs.declared.watch.Watched.TheVariants as watched
 use Rattle.trail_core.specs.Values.{IsVariable, IsFalsified, IsUnit, Rests, satisfied, open_at_two}
 use Rattle.trail_core.specs.TrailState.{TrailState, IsTrail, IsNumber, IsReason, AllRest, MayAdd, Propagates, values_of, up_to, back_at, with_clause, with_decision}
-use Rattle.trail_core.specs.Look.{Falsifies}
 use Rattle.trail_core.specs.Listing.{Listing}
 use Rattle.trail_core.specs.Watching.{IsOpen, IsKept, code_of, list_of, room_of, unwatched}
-use Rattle.trail_core.specs.Visits.{HasNone, HaveLists, HavePlaces, IsWider, HasRoom, WatchesWell, IsWatching, WatchGives, IsDone, number_of, held_in}
+use Rattle.trail_core.specs.Visits.{HasNone, HaveLists, HavePlaces, IsWider, WatchesWell, IsWatching, WatchGives, number_of, held_in}
 use Rattle.trail_core.proofs.Looks.{variable_of}
 use Rattle.trail_core.proofs.Passing.{code_within}
 use Rattle.trail_core.proofs.Placing.{well_added, well_wider}

@@ -1,8 +1,8 @@
 -- Which two literals a clause without a pair may watch.
-use Rattle.std.proofs.Common.{◌≡◌, ◌≢◌, ℕ, ◌+◌, ◌-◌, ◌<◌, ◌≤◌, ◌^◌, Bool, true, false, not, ◌||◌, cond, List, [], ◌∷◌, ◌++◌, length, get_or, take, Option, Some, None, refl, sym, ap, ◌∙◌, subst, arith, ◌⊎◌, inl, inr, ⊎_elim}
+use Rattle.std.proofs.Common.{◌≡◌, ◌≢◌, ℕ, ◌-◌, ◌<◌, ◌≤◌, ◌^◌, Bool, true, false, not, ◌||◌, cond, List, [], ◌∷◌, ◌++◌, Option, Some, None, refl, sym, ap, ◌∙◌, subst, arith, inl, inr, ⊎_elim}
 use Rattle.std.specs.Bool.{beq}
 use Rattle.std.specs.Option.{option_map}
-use Rattle.std.proofs.lemmas.Bool.{cases_lt, cases_eq, cases_Bool, false≢true, le-leb, or_cases}
+use Rattle.std.proofs.lemmas.Bool.{cases_lt, cases_eq, false≢true, or_cases}
 use Rattle.std.proofs.lemmas.Option.{same_Some}
 use Rattle.std.proofs.lemmas.List.Sums.{count_by-le-length}
 use Rattle.clause_base.specs.declared.literal.Lit.{Lit}
@@ -10,10 +10,9 @@ use Rattle.clause_base.specs.Literal.{has, same_lit}
 use Rattle.clause_base.specs.Acceptance.{numbered}
 use Rattle.clause_base.proofs.Sets.{has-push, same_lit-true, same_lit_itself}
 use Rattle.trail_core.specs.declared.entry.Entry.{Entry}
-use Rattle.trail_core.specs.declared.watches.Pair.{Pair}
 use Rattle.trail_core.specs.Values.{IsTrueIn, IsFalseIn, IsUnassignedIn, Rests, satisfied, open_at_two}
 use Rattle.trail_core.specs.TrailState.{TrailState, IsTrail, IsNumber, entry_of, values_of, level_in, up_to, is_decision}
-use Rattle.trail_core.specs.Watching.{IsCovered, IsSettled, IsOpen}
+use Rattle.trail_core.specs.Watching.{IsSettled, IsOpen}
 use Rattle.trail_core.specs.Visits.{MayWatch, IsFreeBelow, IsHighest, HighestGives, rank_at, rank_of}
 use Rattle.trail_core.proofs.Looks.{variable_of, distinct_same}
 use Rattle.trail_core.proofs.Truth.{mapped}

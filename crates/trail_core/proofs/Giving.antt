@@ -1,5 +1,5 @@
 -- What the functions that visit clauses give.
-use Rattle.std.proofs.Common.{◌≡◌, ◌≢◌, ℕ, ◌+◌, ◌-◌, ◌<◌, ◌≤◌, Bool, true, false, not, cond, List, [], ◌∷◌, ◌++◌, length, get_or, set, Option, Some, None, refl, sym, ap, ◌∙◌, subst, arith, inl, inr}
+use Rattle.std.proofs.Common.{◌≡◌, ◌≢◌, ℕ, ◌+◌, ◌-◌, ◌<◌, ◌≤◌, Bool, true, false, not, cond, List, length, get_or, set, Option, Some, None, refl, sym, ap, ◌∙◌, subst, arith, inl, inr}
 use Rattle.std.specs.Prelude.{IfSome, is_some}
 use Rattle.loc_base.proofs.ShelfOptions.{is_some-false}
 use Rattle.std.specs.Vec.{vec_capacity}
@@ -48,8 +48,7 @@ oriented_watched t w p n k o = at (get_or w.pairs.items (n - 1) p) o (k.paired p
     at q (inl e) (watched a b d u v) = subst (λ (x : Pair). (has (numbered t.clauses n) x.first ≡ true) × ((has (numbered t.clauses n) x.second ≡ true) × (x.first.var ≢ x.second.var))) e (a, (b, d))
     at q (inr e) (watched a b d u v) =
         let f : q.first ≡ p.second = ap (λ (x : Pair). x.first) e in
-        let g : q.second ≡ p.first = ap (λ (x : Pair). x.second) e in
-        (
+        let g : q.second ≡ p.first = ap (λ (x : Pair). x.second) e in (
           subst (λ x. has (numbered t.clauses n) x ≡ true) g b,
           (subst (λ x. has (numbered t.clauses n) x ≡ true) f a, λ z. d (ap (λ (l : Lit). l.var) f ∙ (sym z ∙ ap (λ (l : Lit). l.var) (sym g)))),
         )

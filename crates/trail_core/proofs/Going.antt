@@ -1,5 +1,5 @@
 -- The literal at which propagation goes on.
-use Rattle.std.proofs.Common.{◌≡◌, ℕ, zero, suc, ◌+◌, ◌<◌, ◌≤◌, Bool, true, false, not, cond, eqb, List, [], ◌∷◌, ◌++◌, length, get_or, take, drop, Option, Some, None, refl, sym, ap, ◌∙◌, subst, arith}
+use Rattle.std.proofs.Common.{◌≡◌, ℕ, zero, suc, ◌+◌, ◌<◌, ◌≤◌, Bool, true, false, not, eqb, List, [], ◌∷◌, ◌++◌, length, get_or, take, drop, Some, None, refl, sym, ap, ◌∙◌, subst, arith}
 use Rattle.std.specs.Prelude.{IsSome, slice_get}
 use Rattle.std.specs.Option.{option_map, option_or}
 use Rattle.std.proofs.lemmas.Bool.{eq-eqb}
@@ -9,10 +9,10 @@ use Rattle.loc_base.proofs.ShelfOptions.{option_map-none, option_map-some}
 use Rattle.clause_base.specs.declared.literal.Lit.{Lit}
 use Rattle.clause_base.specs.Literal.{opposite}
 use Rattle.trail_core.specs.declared.entry.Entry.{Entry}
-use Rattle.trail_core.specs.TrailState.{TrailState, IsTrail, entry_of, values_of, level_in}
+use Rattle.trail_core.specs.TrailState.{TrailState, IsTrail, entry_of}
 use Rattle.trail_core.specs.declared.watches.Pair.{Pair}
 use Rattle.trail_core.specs.declared.watches.Watches.{Watches}
-use Rattle.trail_core.specs.Visits.{IsGone, HasRoom, WatchesWell, IsDone}
+use Rattle.trail_core.specs.Visits.{IsGone, WatchesWell, IsDone}
 use Rattle.trail_core.proofs.Keeping.{kept_rests}
 use Rattle.trail_core.proofs.Listing.{at_any}
 

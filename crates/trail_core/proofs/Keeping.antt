@@ -1,14 +1,14 @@
 -- What appended entries and going back keep of watched literals.
-use Rattle.std.proofs.Common.{◌≡◌, ◌≢◌, ℕ, ◌+◌, ◌-◌, ◌<◌, ◌≤◌, Bool, true, false, not, leb, eqb, List, [], ◌∷◌, ◌++◌, length, get_or, take, Option, Some, None, refl, sym, ap, ◌∙◌, subst, arith, ◌⊎◌, inl, inr}
+use Rattle.std.proofs.Common.{◌≡◌, ℕ, ◌+◌, ◌-◌, ◌<◌, ◌≤◌, Bool, true, false, not, leb, eqb, List, [], ◌∷◌, ◌++◌, length, get_or, take, Option, Some, None, refl, sym, ap, ◌∙◌, subst, arith, ◌⊎◌, inl, inr}
 use Rattle.std.specs.Option.{option_map}
-use Rattle.std.proofs.lemmas.Bool.{cases_lt, leb-true, le-leb}
-use Rattle.std.proofs.lemmas.List.{take-take, take_all, take_at, get_or-take, get_or_append_left, get_or_push, length_push}
+use Rattle.std.proofs.lemmas.Bool.{leb-true, le-leb}
+use Rattle.std.proofs.lemmas.List.{take-take, take_all, take_at, get_or-take, get_or_push, length_push}
 use Rattle.clause_base.specs.declared.literal.Lit.{Lit}
 use Rattle.clause_base.specs.Acceptance.{numbered}
 use Rattle.trail_core.specs.declared.entry.Entry.{Entry}
 use Rattle.trail_core.specs.declared.watches.Pair.{Pair}
-use Rattle.trail_core.specs.Values.{IsTrueIn, IsFalseIn, Rests, satisfied, open_at_two}
-use Rattle.trail_core.specs.TrailState.{TrailState, IsTrail, IsNumber, AllRest, entry_of, values_of, level_in, up_to, back_at, with_decision}
+use Rattle.trail_core.specs.Values.{IsFalseIn, Rests, satisfied, open_at_two}
+use Rattle.trail_core.specs.TrailState.{TrailState, IsTrail, AllRest, entry_of, values_of, level_in, up_to, back_at, with_decision}
 use Rattle.trail_core.specs.Listing.{Listing}
 use Rattle.trail_core.specs.Watching.{IsCovered, IsWatch, IsSettled, IsPaired, settled, watched, IsKept}
 use Rattle.trail_core.proofs.Lists.{find-take_some, find-filter_passes, find-filter_keeps, filter_at}

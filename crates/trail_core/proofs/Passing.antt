@@ -1,5 +1,5 @@
 -- A pass over the list of a literal that became false.
-use Rattle.std.proofs.Common.{◌≡◌, ◌≢◌, ℕ, ◌+◌, ◌-◌, ◌*◌, ◌<◌, ◌≤◌, Bool, true, false, not, cond, leb, List, [], ◌∷◌, ◌++◌, length, get_or, set, take, drop, Option, Some, None, refl, sym, ap, ◌∙◌, subst, arith, ◌⊎◌, inl, inr}
+use Rattle.std.proofs.Common.{◌≡◌, ◌≢◌, ℕ, ◌+◌, ◌-◌, ◌*◌, ◌<◌, ◌≤◌, Bool, true, false, not, cond, leb, List, [], ◌++◌, length, get_or, set, take, drop, Option, Some, None, refl, sym, ap, ◌∙◌, subst, arith, ◌⊎◌, inl, inr}
 use Rattle.std.specs.Prelude.{IfSome}
 use Rattle.std.specs.Option.{option_map}
 use Rattle.std.specs.Vec.{vec_capacity}
@@ -15,18 +15,16 @@ use Rattle.trail_core.specs.declared.watches.Pair.{Pair}
 use Rattle.trail_core.specs.declared.watches.Watches.{Watches}
 use Rattle.trail_core.specs.declared.watch.Sweep.{Sweep}
 use Rattle.trail_core.specs.declared.visit.Seen.{Seen}
-use Rattle.trail_core.specs.declared.visit.Seen.TheVariants as seen
 use Rattle.trail_core.specs.Listing.{Listing}
 use Rattle.trail_core.specs.Values.{IsFalseIn, IsVariable}
-use Rattle.trail_core.specs.TrailState.{TrailState, IsTrail, Propagates, values_of, level_in, up_to}
+use Rattle.trail_core.specs.TrailState.{TrailState, IsTrail, Propagates, values_of, up_to}
 use Rattle.trail_core.specs.Look.{Falsifies}
-use Rattle.trail_core.specs.Watching.{with_list, room_of, unwatched, AreNumbers, IsOpen, IsCovered, IsWatch, IsSettled, IsPaired, Stands, IsListed, IsKept, list_of, code_of}
-use Rattle.trail_core.specs.Visits.{IsGone, IsOther, IsVisited, IsKnown, IsWatchNow, IsGoing, Visits, VisitsAs, Holds, HasRoom, WatchesWell, IsFreeBelow, held_in, held_at, leaving}
+use Rattle.trail_core.specs.Watching.{with_list, room_of, unwatched, AreNumbers, IsOpen, IsCovered, IsWatch, IsPaired, Stands, IsListed, IsKept, list_of, code_of}
+use Rattle.trail_core.specs.Visits.{IsGone, IsOther, IsVisited, IsKnown, IsWatchNow, IsGoing, VisitsAs, Holds, HasRoom, WatchesWell, IsFreeBelow, held_in, held_at, leaving}
 use Rattle.trail_core.proofs.Truth.{values-take_some}
 use Rattle.trail_core.proofs.LayoutLemmas.{entry_of_push_other}
-use Rattle.trail_core.proofs.Propagating.{Propagates-none}
 use Rattle.trail_core.proofs.Keeping.{IsFront, part_front, values_front, level_front, covered_front, watch_front, settled_front, paired_map}
-use Rattle.trail_core.proofs.Listing.{cases_lit, list_set_same, list_set_other, stands_in, kept_front, kept_last, rest_after, rest_set, kept_left, with_list-length, with_list-room, with_list-numbers, numbers_take}
+use Rattle.trail_core.proofs.Listing.{cases_lit, list_set_same, list_set_other, stands_in, kept_front, rest_after, rest_set, kept_left, with_list-length, with_list-room, with_list-numbers, numbers_take}
 use Rattle.trail_core.proofs.Lists.{filter_none}
 use Rattle.trail_core.proofs.Counting.{same_lit-false}
 use Rattle.trail_core.proofs.Visiting.{some_same}

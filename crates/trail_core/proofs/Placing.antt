@@ -1,5 +1,5 @@
 -- The pair of a clause that had none.
-use Rattle.std.proofs.Common.{◌≡◌, ◌≢◌, ℕ, ◌+◌, ◌-◌, ◌*◌, ◌<◌, ◌≤◌, Bool, true, false, ◌||◌, cond, List, [], ◌∷◌, ◌++◌, length, get_or, take, refl, sym, ap, ◌∙◌, subst, arith, ◌⊎◌, inl, inr}
+use Rattle.std.proofs.Common.{◌≡◌, ◌≢◌, ℕ, ◌+◌, ◌*◌, ◌<◌, ◌≤◌, Bool, true, false, ◌||◌, cond, List, [], ◌∷◌, ◌++◌, length, get_or, take, refl, sym, ap, ◌∙◌, subst, arith, inl, inr}
 use Rattle.std.specs.Vec.{vec_capacity}
 use Rattle.std.proofs.lemmas.Bool.{cases_lt, or_left, or_right}
 use Rattle.std.proofs.lemmas.List.{get_or_append_left, get_or_push, length_push}
@@ -7,7 +7,6 @@ use Rattle.clause_base.specs.declared.literal.Lit.{Lit}
 use Rattle.clause_base.specs.Literal.{has, same_lit}
 use Rattle.clause_base.specs.Acceptance.{numbered}
 use Rattle.clause_base.proofs.Sets.{same_lit-true, same_lit_itself}
-use Rattle.trail_core.specs.declared.entry.Entry.{Entry}
 use Rattle.trail_core.specs.declared.watches.Pair.{Pair}
 use Rattle.trail_core.specs.declared.watches.Watches.{Watches}
 use Rattle.trail_core.specs.Listing.{Listing}
@@ -16,7 +15,7 @@ use Rattle.trail_core.specs.TrailState.{TrailState, IsTrail, IsNumber, MayAdd, P
 use Rattle.trail_core.specs.Watching.{IsWatch, IsCovered, IsSettled, IsBlank, IsOpen, IsPaired, settled, watched as watches_both, Stands, IsListed, IsKept, AreNumbers, list_of, room_of, code_of, watches, lacks, unwatched}
 use Rattle.trail_core.specs.Visits.{IsListedMore, KeepsPair, IsPlaced, MayWatch, MayList, WatchesWell, IsFreeBelow, AreKept, held_in}
 use Rattle.trail_core.proofs.Truth.{values-take_some}
-use Rattle.trail_core.proofs.Keeping.{paired_map, watch_front, settled_front, IsFront}
+use Rattle.trail_core.proofs.Keeping.{paired_map, watch_front, settled_front}
 use Rattle.trail_core.proofs.Listing.{cases_lit, listed_push, listed_last, list_set_other, with_list-length, with_list-room, with_list-numbers, with_list-held, numbers_push}
 use Rattle.trail_core.proofs.Counting.{unwatched-push, unwatched-clause, some_unpaired, lacks-le, lacks_or_watches, watches-is}
 use Rattle.trail_core.proofs.Looks.{variable_of}

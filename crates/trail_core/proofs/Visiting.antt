@@ -1,5 +1,5 @@
 -- What a visit of a clause at a literal that became false gives.
-use Rattle.std.proofs.Common.{◌≡◌, ◌≢◌, ℕ, ◌+◌, ◌-◌, ◌<◌, ◌≤◌, Bool, true, false, not, cond, eqb, List, [], ◌∷◌, ◌++◌, length, get_or, set, take, Option, Some, None, refl, sym, ap, ◌∙◌, subst, arith, ◌⊎◌, inl, inr}
+use Rattle.std.proofs.Common.{◌≡◌, ◌≢◌, ℕ, ◌+◌, ◌-◌, ◌≤◌, Bool, true, false, not, cond, eqb, List, [], ◌∷◌, ◌++◌, length, get_or, set, Option, Some, None, refl, sym, ap, ◌∙◌, subst, arith, inl, inr}
 use Rattle.std.specs.Option.{option_map}
 use Rattle.std.proofs.lemmas.List.{get_or-set_same, get_or-set_other, length-set, length_push, take_all}
 use Rattle.loc_base.proofs.ShelfOptions.{option_map-none}
@@ -12,16 +12,16 @@ use Rattle.trail_core.specs.declared.watches.Watches.{Watches}
 use Rattle.trail_core.specs.declared.visit.Seen.{Seen}
 use Rattle.trail_core.specs.declared.visit.Seen.TheVariants as seen
 use Rattle.trail_core.specs.Values.{IsTrueIn, IsFalseIn}
-use Rattle.trail_core.specs.TrailState.{TrailState, IsTrail, Propagates, entry_of, values_of, level_in, decisions, with_forced}
+use Rattle.trail_core.specs.TrailState.{TrailState, IsTrail, Propagates, entry_of, values_of, level_in, with_forced}
 use Rattle.trail_core.specs.Listing.{Listing}
-use Rattle.trail_core.specs.Watching.{with_list, room_of, lacks, unwatched, AreNumbers, IsBlank, IsCovered, IsWatch, IsSettled, IsPaired, settled, watched, IsListed, list_of, code_of}
+use Rattle.trail_core.specs.Watching.{room_of, lacks, unwatched, AreNumbers, IsBlank, IsCovered, IsWatch, IsPaired, settled, watched, IsListed, list_of}
 use Rattle.trail_core.specs.Visits.{IsGone, IsOther, IsVisited, IsKnown, IsOriented, IsMoved, IsReplacement, VisitsAs, Holds}
 use Rattle.trail_core.proofs.Lists.{find_found}
 use Rattle.trail_core.proofs.Levels.{level_le_all}
 use Rattle.trail_core.proofs.Truth.{mapped, values-take_some}
 use Rattle.trail_core.proofs.LayoutLemmas.{entry_of_push_same}
 use Rattle.trail_core.proofs.Propagating.{Propagates-none, Propagates-forced}
-use Rattle.trail_core.proofs.Keeping.{IsFront, front_push, settled_front, watch_front, paired_map, level_front}
+use Rattle.trail_core.proofs.Keeping.{IsFront, front_push, settled_front, watch_front, level_front}
 use Rattle.trail_core.proofs.Listing.{cases_lit, listed_push, listed_last, list_set_other, with_list-length, with_list-room, with_list-numbers, with_list-held, numbers_push}
 use Rattle.trail_core.proofs.Counting.{unwatched-set, lacks-moved, lacks-le}
 

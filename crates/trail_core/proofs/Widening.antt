@@ -1,5 +1,5 @@
 -- Lists with more room.
-use Rattle.std.proofs.Common.{◌≡◌, ◌≢◌, ℕ, zero, suc, ◌+◌, ◌<◌, ◌≤◌, Bool, true, false, cond, List, [], ◌∷◌, ◌++◌, length, get_or, set, take, refl, sym, ap, ◌∙◌, subst, arith, ◌⊎◌, inl, inr, ⊎_elim}
+use Rattle.std.proofs.Common.{◌≡◌, ℕ, zero, suc, ◌+◌, ◌<◌, ◌≤◌, List, [], ◌∷◌, ◌++◌, length, get_or, set, take, refl, sym, ap, ◌∙◌, subst, arith, inl, inr, ⊎_elim}
 use Rattle.std.specs.Vec.{vec_capacity}
 use Rattle.std.proofs.lemmas.Bool.{false≢true, cases_lt, cases_Bool, or_cases}
 use Rattle.std.proofs.lemmas.List.{get_or-set_same, get_or-set_other, get_or_append_left, get_or_push, length-set, length_push, take_more, take_all}
@@ -9,7 +9,7 @@ use Rattle.clause_base.proofs.Sets.{has-push, same_lit-true}
 use Rattle.trail_core.specs.declared.watches.Watches.{Watches}
 use Rattle.trail_core.specs.Listing.{Listing, nothing}
 use Rattle.trail_core.specs.Watching.{code_of, list_of, room_of}
-use Rattle.trail_core.specs.Visits.{IsWider, HaveLists, HavePlaces}
+use Rattle.trail_core.specs.Visits.{IsWider, HavePlaces}
 use Rattle.trail_core.proofs.Listing.{cases_lit, code_same}
 use Rattle.trail_core.proofs.Placing.{Widens}
 

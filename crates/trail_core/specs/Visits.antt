@@ -14,7 +14,7 @@ use Rattle.trail_core.specs.declared.visit.Seen.TheVariants as seen
 use Rattle.trail_core.specs.declared.watch.Watched.{Watched}
 use Rattle.trail_core.specs.declared.watch.Watched.TheVariants as watched
 use Rattle.trail_core.specs.Listing.{Listing, nothing}
-use Rattle.trail_core.specs.Values.{IsFalseIn, IsVariable, Rests}
+use Rattle.trail_core.specs.Values.{IsFalseIn, IsVariable}
 use Rattle.trail_core.specs.TrailState.{TrailState, IsTrail, IsNumber, AllRest, Propagates, entry_of, values_of, level_in, up_to, with_forced}
 use Rattle.trail_core.specs.Look.{Falsifies}
 use Rattle.trail_core.specs.Watching.{Stands, IsListed, IsCovered, IsWatch, IsPaired, IsKept, IsOpen, AreNumbers, list_of, room_of, code_of, with_list, watches, unwatched}

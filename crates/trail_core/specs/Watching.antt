@@ -1,5 +1,5 @@
 -- Watched literals (Moskewicz, Madigan, Zhao, Zhang, Malik 2001): of each clause two literals, at which propagation looks for it.
-use Rattle.std.specs.Prelude.{◌≡◌, ◌≢◌, ℕ, ◌+◌, ◌*◌, ◌<◌, ◌≤◌, Bool, true, not, ◌&&◌, ◌||◌, cond, Option, Some, None, List, [], ◌∷◌, ◌++◌, length, take, get_or, set}
+use Rattle.std.specs.Prelude.{◌≡◌, ◌≢◌, ℕ, ◌+◌, ◌*◌, ◌<◌, ◌≤◌, Bool, true, not, ◌&&◌, ◌||◌, cond, Some, List, [], ◌∷◌, length, take, get_or, set}
 use Rattle.clause_base.specs.declared.literal.Lit.{Lit}
 use Rattle.clause_base.specs.Literal.{has, same_lit}
 use Rattle.clause_base.specs.Acceptance.{numbered}

@@ -1,4 +1,4 @@
-use Rattle.std.proofs.Common.{◌≡◌, ◌-◌, get_or}
+use Rattle.std.proofs.Common.{◌-◌, get_or}
 use Rattle.trail_core.proofs.Visiting.{visits_true}
 use Rattle.trail_core.proofs.Giving.{pair_is, other_variable, replacement_room, other_reason, other_falsified, moved_gives, forced_gives}
 use Rattle.trail_core.proofs.visit.visit_pair.Goals as goal

@@ -1,6 +1,5 @@
-use Rattle.std.proofs.Common.{◌≡◌, ◌≢◌, ◌<◌, ◌≤◌, true, false, Some, None, subst, sym, arith}
-use Rattle.trail_core.specs.TrailState.{TrailState}
-use Rattle.trail_core.specs.Visits.{HighestGives, rank_of}
+use Rattle.std.proofs.Common.{subst, arith}
+use Rattle.trail_core.specs.Visits.{HighestGives}
 use Rattle.trail_core.proofs.Choosing.{better_apart, better_first, better_taken, better_kept}
 use Rattle.trail_core.proofs.watch.better.Goals as goal
 

@@ -1,4 +1,4 @@
-use Rattle.std.proofs.Common.{◌≡◌, ◌∙◌, ◌+◌, take, sym, subst, true, false}
+use Rattle.std.proofs.Common.{◌∙◌, take, sym, subst, false}
 use Rattle.std.proofs.lemmas.Bool.{false≢true}
 use Rattle.std.proofs.lemmas.List.{take_more, take_all}
 use Rattle.clause_base.specs.declared.literal.Lit.{Lit}

@@ -1,4 +1,4 @@
-use Rattle.std.proofs.Common.{◌≡◌, ◌+◌, ◌<◌, ◌≤◌, ◌∙◌, length, sym, ap, arith, refl}
+use Rattle.std.proofs.Common.{◌∙◌, length, ap}
 use Rattle.std.proofs.lemmas.List.{length_push}
 use Rattle.trail_core.proofs.Placing.{pair_settled, pair_watched, may_list, pair_room, free_first}
 use Rattle.trail_core.proofs.watch.pair_up.Goals as goal

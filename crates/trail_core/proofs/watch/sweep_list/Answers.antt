@@ -1,4 +1,4 @@
-use Rattle.std.proofs.Common.{◌≡◌, ◌<◌, ◌≤◌, false, Some, None, length, sym, ap, subst, arith}
+use Rattle.std.proofs.Common.{◌<◌, false, None, length, sym, subst, arith}
 use Rattle.std.specs.Prelude.{IfSome}
 use Rattle.trail_core.specs.declared.entry.Entry.{Entry}
 use Rattle.trail_core.specs.Look.{Falsifies}

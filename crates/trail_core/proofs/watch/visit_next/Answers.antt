@@ -1,6 +1,6 @@
 use Rattle.std.proofs.Common.{◌∙◌, Some, refl, sym}
 use Rattle.trail_core.proofs.Passing.{going_known}
-use Rattle.trail_core.proofs.Giving.{KeepsNumber, going_copied, going_stays, going_falsified, going_left}
+use Rattle.trail_core.proofs.Giving.{going_copied, going_stays, going_falsified, going_left}
 use Rattle.trail_core.proofs.watch.visit_next.Goals as goal
 
 pub visit-requires : goal.visit-requires

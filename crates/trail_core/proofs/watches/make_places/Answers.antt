@@ -1,4 +1,4 @@
-use Rattle.std.proofs.Common.{◌<◌, false, length, get_or, arith}
+use Rattle.std.proofs.Common.{false, get_or, arith}
 use Rattle.clause_base.specs.declared.literal.Lit.{Lit}
 use Rattle.trail_core.proofs.Looks.{has_at}
 use Rattle.trail_core.proofs.Widening.{wider_itself, wider_then, places_none, places_more, places_all}

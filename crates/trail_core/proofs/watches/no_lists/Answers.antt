@@ -1,6 +1,5 @@
-use Rattle.std.proofs.Common.{◌≡◌, ◌++◌, ◌∷◌, ◌+◌, ◌∙◌, [], get_or, length, sym, ap, arith}
+use Rattle.std.proofs.Common.{arith}
 use Rattle.std.proofs.lemmas.List.{length_push}
-use Rattle.trail_core.specs.Listing.{nothing}
 use Rattle.trail_core.proofs.Widening.{nothing_push}
 use Rattle.trail_core.proofs.watches.no_lists.Goals as goal
 
