@@ -68,10 +68,17 @@ def gates(size):
 
 
 def signals(size):
+    """Nets of 256 instances of a module."""
+    nets = lines(size // 256, "wire w%(n)d;")
+    parts = lines(255, "part p%(n)d();")
+    return "module part(); %s endmodule\nmodule top(input a, output y);\n%s\nassign y = a;\nendmodule\n" % (nets, parts)
+
+
+def words(size):
     """Arrays of 1,024 words: a signal a word."""
-    count = size // 1024 - 1
     array = "reg [7:0] m%(n)d [0:1023]; always @(posedge clk) if (we) m%(n)d[at] <= d;"
-    return "module top(input clk, input we, input [9:0] at, input [7:0] d, output y);\n%s\nassign y = d[0];\nendmodule\n" % lines(count, array)
+    arrays = lines(size // 1024, array)
+    return "module top(input clk, input we, input [9:0] at, input [7:0] d, output y);\n%s\nassign y = d[0];\nendmodule\n" % arrays
 
 
 def labels(size):
@@ -83,11 +90,12 @@ def labels(size):
 
 FAMILIES = {
     "assignments": (assignments, 65536),
-    "loop turns": (turns, 65536),
+    "loop turns": (turns, 64512),
     "generate turns": (generated, 65535),
-    "instances": (instances, 32768),
+    "instances": (instances, 32767),
     "gates": (gates, 60000),
-    "words": (signals, 1048576),
+    "signals": (signals, 1048576),
+    "words": (words, 65536),
     "labels": (labels, 60000),
 }
 
