@@ -1,0 +1,11 @@
+use Rattle.std.proofs.Common.{◌≡◌}
+use Rattle.loc_base.specs.Bits.{width_of, value_of}
+use Rattle.design_core.specs.Operator.{integer_of}
+use Rattle.design_core.specs.Valuation.{bit, number}
+use Rattle.word_net.specs.Selects.{picked_bit}
+use Rattle.net_values.proofs.select.Ranged.picked.Given as goal
+
+abbrev pub invariant-loop-b : goal.invariant-loop-b
+invariant-loop-b l =
+    l.value ≡ number l.b (picked_bit (record { width = width_of l.self.word; left = l.self.left; right = l.self.right }) (bit (value_of l.self.word))
+    (integer_of l.index.signed (width_of l.index.word) (value_of l.index.word)) l.offsets)
