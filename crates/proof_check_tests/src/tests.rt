@@ -3,6 +3,7 @@
 ghost use Rattle.std.specs.Prelude.{◌≡◌};
 
 mod naive;
+mod pieces;
 
 use clause_base::{Clause, Clauses, Form, Lit, Log, are_within, blocks_are_within};
 use loc_base::NoMemory;
@@ -11,6 +12,7 @@ use proof_check::{Checker, log_text, read_log};
 use std::alloc::Global;
 use std::process::Abort;
 use std::test::Fail;
+use std::thread::Threads;
 
 /// The first two lines of a log's text, with a digest of zeros.
 const FRONT: &[u8] =
@@ -70,8 +72,12 @@ fn refused(rt: &impl Abort, checker: &mut Checker, form: &Form, blocks: &[Clause
 }
 
 /// The number of the least refused step of the log whose text this is, over `square`, where the text is a log's; both
-/// checkers say the same.
-fn checked(rt: &(impl Abort + AllocGlobal), text: &[u8], blocks: &[Clause]) -> Result<u32, LogErr> {
+/// checkers say the same, and so do the workers.
+fn checked(
+    rt: &(impl Abort + AllocGlobal + Threads + Sync),
+    text: &[u8],
+    blocks: &[Clause],
+) -> Result<u32, LogErr> {
     let alloc = rt.alloc();
     let form = square(alloc)?;
     let read = read_log(alloc, text)?;
@@ -79,12 +85,13 @@ fn checked(rt: &(impl Abort + AllocGlobal), text: &[u8], blocks: &[Clause]) -> R
     let answer = refused(rt, &mut checker, &form, blocks, &read.log);
     let slow = naive::least_refused(alloc, &form.clauses, blocks, &read.log)?;
     assert!(rt; slow.unwrap_or(0) == answer as usize);
+    pieces::assert_all_say(rt, &form, blocks, &read.log, answer)?;
     Ok(answer)
 }
 
 /// The same of steps' lines.
 fn steps_checked(
-    rt: &(impl Abort + AllocGlobal),
+    rt: &(impl Abort + AllocGlobal + Threads + Sync),
     steps: &[u8],
     blocks: &[Clause],
 ) -> Result<u32, LogErr> {
@@ -186,7 +193,7 @@ fn without(alloc: Global, place: usize) -> Result<Vec<u8>, NoMemory> {
 
 /// How many of the texts are logs; on each the two checkers say the same.
 fn compared(
-    rt: &(impl Abort + AllocGlobal),
+    rt: &(impl Abort + AllocGlobal + Threads + Sync),
     steps: &[u8],
     blocks: &[Clause],
 ) -> Result<u32, NoMemory> {
