@@ -1,3 +1,4 @@
+pub mod FitSteps
 pub mod PlaceSteps
 pub mod WordSteps
 pub mod RowSteps

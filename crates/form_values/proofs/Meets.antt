@@ -1,6 +1,6 @@
 -- The values that a model gives to the places of its true selectors make each trace right.
-use Rattle.std.proofs.Common.{◌≡◌, ◌⊎◌, inl, inr, ℕ, zero, suc, ◌+◌, ◌-◌, ◌*◌, ◌^◌, ◌%◌, ◌<◌, ◌≤◌, ◌==◌, max, Bool, true, false, ◌||◌, if◌then◌else◌, List, [], ◌∷◌, ◌++◌, length, map, get_or, take, drop, refl, sym, ◌∙◌, ap, ap₂, subst, arith, length-append}
-use Rattle.std.specs.Prelude.{All, Contains, cond, nat_le, slice_get, Some}
+use Rattle.std.proofs.Common.{◌≡◌, ◌⊎◌, inl, inr, ℕ, zero, suc, ◌+◌, ◌-◌, ◌*◌, ◌^◌, ◌%◌, ◌<◌, ◌≤◌, ◌==◌, max, Bool, true, false, ◌||◌, if◌then◌else◌, List, [], ◌∷◌, ◌++◌, length, map, get_or, take, drop, refl, sym, ◌∙◌, ap, subst, arith, length-append}
+use Rattle.std.specs.Prelude.{All, cond, nat_le, slice_get, Some}
 use Rattle.std.specs.Int.{bit_at}
 use Rattle.std.specs.List.{list_any}
 use Rattle.std.specs.List.Sorted.{IsStrictlyIncreasing}
@@ -12,21 +12,19 @@ use Rattle.std.proofs.lemmas.List.{length-map, take_all, take-append-le, drop-ap
 use Rattle.loc_base.proofs.ShelfBools.{equal-true}
 use Rattle.loc_base.proofs.ShelfLists.{list_any-found, list_any-member}
 use Rattle.loc_base.proofs.ShelfOptions.{Some-same}
-use Rattle.loc_base.specs.declared.bits.Bits.{Bits}
 use Rattle.loc_base.specs.Bits.{value_of, width_of}
 use Rattle.suspect_map.specs.declared.group.Group.{Group}
 use Rattle.design_core.specs.declared.trace.Trace.{Trace}
 use Rattle.design_core.specs.declared.values.Values.{Values}
 use Rattle.design_core.specs.Valuation.{bit, number}
 use Rattle.design_core.specs.Works.{suspect_has}
-use Rattle.design_core.specs.Explained.{choices_in, cycles_before, is_one_of, number_for, row_at, row_of}
+use Rattle.design_core.specs.Explained.{choices_in, cycles_before, is_one_of, number_for, row_at}
 use Rattle.design_core.proofs.NumberLaws.{number-suc, number-below}
 use Rattle.unroller.specs.declared.free_bit.FreeBit.{FreeBit}
-use Rattle.unroller.specs.declared.unrolled_lit.UnrolledLit.{UnrolledLit}
-use Rattle.unroller.specs.Unrolls.{Unrolling, cycles_of}
-use Rattle.unroller.specs.Reads.{IsFreeAt, IsFreeBit, free_at, moment_of}
+use Rattle.unroller.specs.Unrolls.{Unrolling}
+use Rattle.unroller.specs.Reads.{free_at, moment_of}
 use Rattle.form_laws.specs.Runs.{CircuitMeets}
-use Rattle.form_laws.specs.Models.{AreOfModel, HasOneColumnEach, Selects, column_of, freed_by, value_in}
+use Rattle.form_laws.specs.Models.{AreOfModel, Selects, column_of, freed_by, value_in}
 use Rattle.form_laws.specs.Encodes.{Asked, CanBeAsked, SatisfiesForm, unrolling_of}
 use Rattle.form_laws.proofs.Columns.{column-there}
 use Rattle.form_laws.proofs.Moments.{first_of, cycles-within}
@@ -41,7 +39,8 @@ module _ (u : Unrolling) (groups : List Group) (are : ArePlaces u groups) where
   freed-place members p freed =
       let places = map (λ (group : Group). group.places) groups in
       let (m, member, has) = list_any-found (suspect_has places p) members freed in
-      let (some, at_place) = and_parts (nat_le 1 m) (option_map_or (λ qs. list_any (λ q. q == p) qs) (slice_get places (m - 1)) false) has in
+      let (some, at_place) =
+      and_parts (nat_le 1 m) (option_map_or (λ qs. list_any (λ q. q == p) qs) (slice_get places (m - 1)) false) has in
       let s : Suspect groups p (m - 1) = suspect-of groups p (m - 1) at_place in
       let (q, in_group, same) = list_any-found (λ q. q == p) s.group.places s.has in
       subst (IsPlace u) (equal-true q p same) (are (m - 1) q s.group s.there in_group)
@@ -49,7 +48,8 @@ module _ (u : Unrolling) (groups : List Group) (are : ArePlaces u groups) where
   pub listed-places : (members places : List ℕ) → ((p : ℕ) → is_one_of places p ≡ freed_by groups members p) → All (IsPlace u) places
   listed-places members places same i d within =
       let p = get_or places i d in
-      freed-place members p (sym (same p) ∙ list_any-member (λ q. q == p) places p (i, within, refl-at places i d p within) (eq-eqb p p refl))
+      freed-place members p
+      (sym (same p) ∙ list_any-member (λ q. q == p) places p (i, within, refl-at places i d p within) (eq-eqb p p refl))
     where
       refl-at : (xs : List ℕ) (i d e : ℕ) → i < length xs → get_or xs i e ≡ get_or xs i d
       refl-at [] i d e less = absurd (omega (arith, less))
@@ -84,7 +84,8 @@ number-has (suc w) f b less = at (cases_lt b w) (λ low. number-has w f b low)
         ∙ ap (λ k. bit_at (cond (f w) 1 0) k == 1) none ∙ ap (λ n. n == 1) (bit_at_lowest (cond (f w) 1 0)) ∙ lowest (f w) ∙ ap f here
 
 -- a bit of a place is below its width
-bit-below : (bits : List FreeBit) (column place b : ℕ) → slice_get bits column ≡ Some (record { place = place; bit = b }) → b < width_in bits place
+bit-below : (bits : List FreeBit) (column place b : ℕ) → slice_get bits column ≡ Some (record { place = place; bit = b })
+    → b < width_in bits place
 bit-below [] column place b there = cc
 bit-below (x ∷ bits) zero place b there =
     let same : x.place ≡ place = ap (λ (y : FreeBit). y.place) (Some-same there) in

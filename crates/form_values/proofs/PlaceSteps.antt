@@ -1,14 +1,12 @@
 -- Steps of the loops over the members of a set and their places.
-use Rattle.std.proofs.Common.{◌≡◌, ◌⊎◌, inl, inr, ℕ, zero, suc, ◌+◌, ◌-◌, ◌<◌, ◌≤◌, ◌==◌, ◌&&◌, ◌||◌, Bool, true, false, if◌then◌else◌, List, [], ◌∷◌, ◌++◌, length, map, get_or, take, drop, Some, refl, sym, ◌∙◌, ap, ap₂, subst, arith, append_assoc, append-nil, add-one, drop-cons, All}
-use Rattle.std.specs.Prelude.{nat_le, slice_get, slice_index}
+use Rattle.std.proofs.Common.{◌≡◌, ℕ, zero, suc, ◌+◌, ◌-◌, ◌<◌, ◌≤◌, ◌==◌, ◌&&◌, ◌||◌, Bool, true, false, if◌then◌else◌, List, [], ◌∷◌, ◌++◌, length, map, get_or, take, drop, Some, refl, sym, ◌∙◌, ap, ap₂, subst, arith, append_assoc, append-nil, add-one, drop-cons, All}
+use Rattle.std.specs.Prelude.{slice_get, slice_index}
 use Rattle.std.specs.List.{list_any}
 use Rattle.std.specs.List.Sorted.{IsStrictlyIncreasing}
 use Rattle.std.specs.Option.{option_map_or}
-use Rattle.std.proofs.lemmas.Bool.{le-leb, ne_eqb, eq-eqb, cases_lt}
+use Rattle.std.proofs.lemmas.Bool.{le-leb, ne_eqb, eq-eqb}
 use Rattle.std.proofs.lemmas.List.{drop_all, take_all}
 use Rattle.std.proofs.lemmas.List.Folds.{list_any_more}
-use Rattle.std.proofs.lemmas.List.Elements.{All-get_or}
-use Rattle.std.proofs.lemmas.Option.{slice_get-get_or}
 use Rattle.loc_base.proofs.ShelfBools.{suc-add_one}
 use Rattle.loc_base.proofs.ShelfLists.{slice_get-at}
 use Rattle.suspect_map.specs.declared.group.Group.{Group}

@@ -1,19 +1,10 @@
 -- Steps of the loop over the cycles, and what is known of the places of a set.
-use Rattle.std.proofs.Common.{◌≡◌, ℕ, zero, suc, ◌+◌, ◌-◌, ◌<◌, ◌≤◌, Bool, true, false, List, [], ◌∷◌, ◌++◌, length, map, get_or, refl, sym, ◌∙◌, ap, ap₂, subst, arith, add-one}
-use Rattle.std.specs.Prelude.{All, Contains, slice_get, Some}
-use Rattle.std.specs.List.{list_any}
-use Rattle.std.proofs.lemmas.Bool.{and_parts}
+use Rattle.std.proofs.Common.{◌≡◌, ℕ, ◌+◌, ◌≤◌, Bool, List, [], ◌∷◌, ◌++◌, map, refl, sym, ◌∙◌, ap, ap₂, add-one}
+use Rattle.std.specs.Prelude.{All}
 use Rattle.std.proofs.lemmas.List.Elements.{All-nil, All-cons, All-head, All-tail}
-use Rattle.std.proofs.lemmas.Option.{slice_get-get_or}
-use Rattle.loc_base.proofs.ShelfBools.{equal-true}
-use Rattle.loc_base.proofs.ShelfLists.{list_any-found, list_any-member}
-use Rattle.suspect_map.specs.declared.group.Group.{Group}
-use Rattle.design_core.specs.Explained.{is_one_of}
-use Rattle.unroller.specs.declared.free_bit.FreeBit.{FreeBit}
 use Rattle.unroller.specs.Unrolls.{Unrolling}
-use Rattle.form_laws.specs.Models.{freed_by}
 use Rattle.form_values.specs.declared.words.Wide.{Wide}
-use Rattle.form_values.specs.ModelValues.{ArePlaces, IsPlace, model_number, model_numbers, width_in, widths_of}
+use Rattle.form_values.specs.ModelValues.{IsPlace, model_number, model_numbers, width_in, widths_of}
 use Rattle.form_values.specs.Places.{IsWide, wide_number, wide_of}
 
 -- one cycle more

@@ -1,21 +1,19 @@
 -- Steps of the loops over the bits of a place and the places of a cycle.
-use Rattle.std.proofs.Common.{◌≡◌, ℕ, zero, suc, ◌+◌, ◌-◌, ◌*◌, ◌^◌, ◌<◌, ◌≤◌, ◌==◌, max, Bool, true, false, if◌then◌else◌, List, [], ◌∷◌, ◌++◌, length, map, get_or, take, refl, sym, ◌∙◌, ap, ap₂, subst, arith, append_assoc}
-use Rattle.std.specs.Prelude.{slice_get, Some}
+use Rattle.std.proofs.Common.{◌≡◌, ℕ, ◌+◌, ◌^◌, ◌<◌, ◌≤◌, ◌==◌, max, Bool, true, false, if◌then◌else◌, List, [], ◌∷◌, ◌++◌, length, map, get_or, take, refl, sym, ◌∙◌, ap, arith, append_assoc}
 use Rattle.std.proofs.lemmas.List.{take_all, take_more}
 use Rattle.loc_base.proofs.ShelfLists.{map-take_at}
 use Rattle.loc_base.specs.declared.bits.Bits.{Bits}
-use Rattle.loc_base.specs.Bits.{width_of, value_of}
 use Rattle.design_core.specs.Valuation.{number}
 use Rattle.design_core.proofs.NumberLaws.{number-one_more, number-below, number-zero, power_fits}
 use Rattle.unroller.specs.declared.free_bit.FreeBit.{FreeBit}
 use Rattle.unroller.specs.Unrolls.{Unrolling}
-use Rattle.unroller.specs.Reads.{HasFreeBit, IsFreeBit, IsUnrolled, free_at}
+use Rattle.unroller.specs.Reads.{IsFreeBit}
 use Rattle.unroller.proofs.ReadSteps.{free-below, free-within, column-within}
-use Rattle.form_laws.specs.Models.{HasOneColumnEach, column_of, value_in}
+use Rattle.form_laws.specs.Models.{HasOneColumnEach, column_of}
 use Rattle.form_laws.proofs.Columns.{column-there}
 use Rattle.form_values.specs.declared.words.Wide.{Wide}
-use Rattle.form_values.specs.ModelValues.{model_bit, width_in}
-use Rattle.form_values.specs.Places.{wide_number, wide_of}
+use Rattle.form_values.specs.ModelValues.{width_in}
+use Rattle.form_values.specs.Places.{wide_of}
 
 -- ---- widths
 
@@ -63,7 +61,8 @@ pub ruleset wides = (wide-more, wide-end)
 -- ---- bits
 
 -- the column that was found is the first one
-pub column-is : (u : Unrolling) (column place bit : ℕ) → HasOneColumnEach u → IsFreeBit u place bit column → column ≡ column_of u.bits place bit
+pub column-is : (u : Unrolling) (column place bit : ℕ) → HasOneColumnEach u → IsFreeBit u place bit column
+    → column ≡ column_of u.bits place bit
 column-is u column place bit distinct there =
     distinct column (column_of u.bits place bit) place bit there (column-there u.bits column place bit there)
 

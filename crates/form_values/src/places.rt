@@ -81,7 +81,11 @@ fn listed(alloc: Global, table: &[bool]) -> Result<Vec<u32>, NoMemory>
 
 /// The places of the members, ascending.
 #[tactic(auto, using(crate::proofs::PlaceSteps::lists))]
-pub(crate) fn places_of(alloc: Global, groups: &[Group], members: &[u32]) -> Result<Vec<u32>, NoMemory>
+pub(crate) fn places_of(
+    alloc: Global,
+    groups: &[Group],
+    members: &[u32],
+) -> Result<Vec<u32>, NoMemory>
     requires { All (λ m. (1 ≤ m) × (m ≤ length groups.now)) members.now }
     ensures ascending { IfOk result (λ places. IsStrictlyIncreasing places.items) }
     ensures places { IfOk result (λ places. (p : ℕ) → is_one_of places.items p ≡ freed_by groups.now members.now p) }

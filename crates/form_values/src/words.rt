@@ -31,7 +31,7 @@ fn wider(width: u16, bit: FreeBit, place: u32) -> u16
 
 /// The width of a place, by all bits of places.
 #[tactic(auto, using(crate::proofs::WordSteps::widths))]
-fn width_in(bits: &[FreeBit], place: u32) -> u16
+pub(crate) fn width_in(bits: &[FreeBit], place: u32) -> u16
     ensures { result ≡ width_in bits.now place }
 {
     let mut width = 0;

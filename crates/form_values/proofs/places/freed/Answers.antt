@@ -1,4 +1,4 @@
-use Rattle.std.proofs.Common.{ℕ, false, get_or}
+use Rattle.std.proofs.Common.{false, get_or}
 use Rattle.form_values.proofs.PlaceSteps.{freed-more}
 use Rattle.form_values.proofs.places.freed.Goals as goal
 
