@@ -4,6 +4,7 @@ use Rattle.std.specs.Prelude.{is_some}
 use Rattle.std.specs.Option.{option_map}
 use Rattle.std.proofs.lemmas.Option.{same_Some}
 use Rattle.std.proofs.lemmas.Bool.{false≢true, cases_lt, leb-true}
+use Rattle.std.proofs.lemmas.List.{get_or_default}
 use Rattle.std.proofs.lemmas.List.Elements.{filter_passes}
 use Rattle.std.proofs.lemmas.List.Sums.{count_by_more_yes}
 use Rattle.loc_base.proofs.ShelfOptions.{is_some-split}
@@ -17,6 +18,7 @@ use Rattle.trail_core.proofs.Lists.{find_found, find-take_some}
 use Rattle.trail_core.proofs.Levels.{level_le, level_le_all, up_to_front}
 use Rattle.trail_core.proofs.Truth.{mapped}
 use Rattle.sat_core.specs.Choices.{choice_at, no_literal, AreChosen}
+use Rattle.sat_core.specs.Explaining.{IsDecidedBefore, assumed, preferred_before}
 use Rattle.sat_core.proofs.OrderLemmas.{choice_assume, choice_prefer}
 use Rattle.sat_core.proofs.Tracking.{entry_at}
 use Rattle.sat_core.proofs.Resolving.{no_entry, true_at}
@@ -37,9 +39,9 @@ pub record IsRival (t : TrailState) (assume : List Lit) (preferred : List ℕ) (
   pub assumed : (k : ℕ) (c : Lit) → k < length assume → value_of other (get_or assume k c) ≡ true
   pub same : (j : ℕ) → j < i → values_of t.entries (get_or preferred j 0) ≡ Some (other (get_or preferred j 0))
 
--- the decisions up to the entry of a false preferred variable hold in a rival
-decisions_hold : (t : TrailState) (assume : List Lit) (preferred chosen : List ℕ) (other : ℕ → Bool) (i place : ℕ) → IsTrail t → AreChosen t assume preferred chosen → IsRival t assume preferred other i → i < length preferred → place < length t.entries → values_of t.entries (get_or preferred i 0) ≡ Some false → ((d : Entry) → level_in t.entries (get_or preferred i 0) ≡ Some (get_or t.entries place d).decision_level) → (q : ℕ) (d : Entry) → q < place + 1 → is_decision (get_or t.entries q d) ≡ true → value_of other (get_or t.entries q d).lit ≡ true
-decisions_hold t assume preferred chosen other i place h a r l k f s q d low y =
+-- the decisions up to the entry of a false preferred variable are assumptions, and preferred variables before it
+pub decided_before : (t : TrailState) (assume : List Lit) (preferred chosen : List ℕ) (i place : ℕ) → IsTrail t → AreChosen t assume preferred chosen → i < length preferred → place < length t.entries → values_of t.entries (get_or preferred i 0) ≡ Some false → ((d : Entry) → level_in t.entries (get_or preferred i 0) ≡ Some (get_or t.entries place d).decision_level) → (q : ℕ) (d : Entry) → q < place + 1 → is_decision (get_or t.entries q d) ≡ true → IsDecidedBefore assume preferred i (get_or t.entries q d).lit
+decided_before t assume preferred chosen i place h a l k f s q d low y =
     elim (cases_lt (length assume + i) x) [ inl b ↦ absurd (too_late b) | inr b ↦ early b ]
   where
     x : ℕ
@@ -67,21 +69,31 @@ decisions_hold t assume preferred chosen other i place h a r l k f s q d low y =
     literal : x ≤ length assume + i → (get_or t.entries q d).lit ≡ choice_at assume preferred x
     literal b = a.choice q d d within y (omega (arith, b, l))
 
-    early : x ≤ length assume + i → value_of other (get_or t.entries q d).lit ≡ true
+    early : x ≤ length assume + i → IsDecidedBefore assume preferred i (get_or t.entries q d).lit
     early b =
         elim (cases_lt x (length assume)) [
-          | inl c ↦ subst (λ (m : Lit). value_of other m ≡ true) (sym (literal b ∙ choice_assume assume preferred x c)) (r.assumed x no_literal c)
+          | inl c ↦ assumed x c (λ e. literal b ∙ (choice_assume assume preferred x c ∙ get_or_default assume x no_literal e c))
           | inr c ↦ at_preferred (x - length assume) (omega (arith, b, c)) (literal b ∙ choice_prefer assume preferred x c)
         ]
       where
-        at_preferred : (j : ℕ) → j ≤ i → (get_or t.entries q d).lit ≡ positive (get_or preferred j 0) → value_of other (get_or t.entries q d).lit ≡ true
-        at_preferred j b m =
-            let v : values_of t.entries (get_or preferred j 0) ≡ Some true = subst (λ (c : Lit). values_of t.entries c.var ≡ Some (not c.negated)) m (true_at t q d h within) in
-            elim (cases_lt j i) [
-              | inl c ↦ subst (λ (w : Lit). value_of other w ≡ true) (sym m) (same_Some (other (get_or preferred j 0)) true (sym (r.same j c) ∙ v))
-              | inr c ↦ let w : j ≡ i = omega (arith, b, c) in
-                  let bad : Some true ≡ Some false = sym v ∙ (ap (λ n. values_of t.entries (get_or preferred n 0)) w ∙ f) in absurd (false≢true (sym (same_Some true false bad)))
-            ]
+        at_preferred : (j : ℕ) → j ≤ i → (get_or t.entries q d).lit ≡ positive (get_or preferred j 0) → IsDecidedBefore assume preferred i (get_or t.entries q d).lit
+        at_preferred j b m = elim (cases_lt j i) [
+          | inl c ↦ preferred_before j c m
+          | inr c ↦ let w : j ≡ i = omega (arith, b, c) in
+              let v : values_of t.entries (get_or preferred j 0) ≡ Some true = subst (λ (c : Lit). values_of t.entries c.var ≡ Some (not c.negated)) m (true_at t q d h within) in
+              let bad : Some true ≡ Some false = sym v ∙ (ap (λ n. values_of t.entries (get_or preferred n 0)) w ∙ f) in absurd (false≢true (sym (same_Some true false bad)))
+        ]
+
+-- the decisions up to the entry of a false preferred variable hold in a rival
+decisions_hold : (t : TrailState) (assume : List Lit) (preferred chosen : List ℕ) (other : ℕ → Bool) (i place : ℕ) → IsTrail t → AreChosen t assume preferred chosen → IsRival t assume preferred other i → i < length preferred → place < length t.entries → values_of t.entries (get_or preferred i 0) ≡ Some false → ((d : Entry) → level_in t.entries (get_or preferred i 0) ≡ Some (get_or t.entries place d).decision_level) → (q : ℕ) (d : Entry) → q < place + 1 → is_decision (get_or t.entries q d) ≡ true → value_of other (get_or t.entries q d).lit ≡ true
+decisions_hold t assume preferred chosen other i place h a r l k f s q d low y =
+    at (decided_before t assume preferred chosen i place h a l k f s q d low y)
+  where
+    at : IsDecidedBefore assume preferred i (get_or t.entries q d).lit → value_of other (get_or t.entries q d).lit ≡ true
+    at (assumed x c e) = subst (λ (m : Lit). value_of other m ≡ true) (sym (e no_literal)) (r.assumed x no_literal c)
+    at (preferred_before j c m) =
+        let v : values_of t.entries (get_or preferred j 0) ≡ Some true = subst (λ (c : Lit). values_of t.entries c.var ≡ Some (not c.negated)) m (true_at t q d h (omega (arith, low, k))) in
+        subst (λ (w : Lit). value_of other w ≡ true) (sym m) (same_Some (other (get_or preferred j 0)) true (sym (r.same j c) ∙ v))
 
 -- a preferred variable that is false on the trail is false in each rival
 pub false_in_rivals : (t : TrailState) (assume : List Lit) (preferred chosen : List ℕ) (other : ℕ → Bool) (i : ℕ) → IsTrail t → AreChosen t assume preferred chosen → IsRival t assume preferred other i → i < length preferred → values_of t.entries (get_or preferred i 0) ≡ Some false → other (get_or preferred i 0) ≡ true → ⊥

@@ -6,4 +6,5 @@ pub mod Engines
 pub mod Choices
 pub mod Searching
 pub mod Calls
+pub mod Explaining
 pub mod Bound
