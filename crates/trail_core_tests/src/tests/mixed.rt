@@ -86,7 +86,12 @@ fn decided(rt: &impl Abort, alloc: Global, trail: &Trail) -> Result<Vec<Option<b
 }
 
 /// Whether rounds over all clauses come to the same from the trail's decisions: a false clause, or the same values.
-fn is_same(rt: &impl Abort, alloc: Global, trail: &mut Trail, clauses: &[Vec<Lit>]) -> Result<bool, NoMemory> {
+fn is_same(
+    rt: &impl Abort,
+    alloc: Global,
+    trail: &mut Trail,
+    clauses: &[Vec<Lit>],
+) -> Result<bool, NoMemory> {
     let mut values = decided(rt, alloc, trail)?;
     let rests = plain::propagate(&mut values, clauses);
     Ok(match trail.propagate() {
