@@ -92,11 +92,13 @@ module _ (d : Design) (circuit : BitNet) (read : Reading) (is : IsCircuitOf d ci
         ≡ bit_value (given_cycle (samples_at d trace t) (read state) (choice_at freed c t)) circuit.nodes l
     cycle-value l =
         ap (λ s. bit_value (given trace freed (bits_of c) t s) circuit.nodes l) same
-        ∙ ap (λ samples. bit_value (given_cycle samples (read state) (choice_at freed c t)) circuit.nodes l) (samples-same d trace t fits low)
+        ∙ ap (λ samples. bit_value (given_cycle samples (read state) (choice_at freed c t)) circuit.nodes l)
+        (samples-same d trace t fits low)
 
     cycle-shows : Shows t V
     cycle-shows i output b word l in_design in_circuit in_word =
-        cycle-value l ∙ is.values (samples_at d trace t) state (choice_at freed c t) V next cycle i output b word l in_design in_circuit in_word
+        cycle-value l
+        ∙ is.values (samples_at d trace t) state (choice_at freed c t) V next cycle i output b word l in_design in_circuit in_word
 
     cycle-next : before (t + 1) ≡ read next
     cycle-next =
@@ -114,7 +116,8 @@ module _ (d : Design) (circuit : BitNet) (read : Reading) (is : IsCircuitOf d ci
       at j there (cycle-shows t low state W next same one)
       (λ k later. run-shows rest (t + 1) next behind (cycle-next t low state W next same one) k V later)
     where
-      at : (j : ℕ) → slice_get (W ∷ rest) j ≡ Some V → Shows t W → ((k : ℕ) → slice_get rest k ≡ Some V → Shows (t + 1 + k) V) → Shows (t + j) V
+      at : (j : ℕ) → slice_get (W ∷ rest) j ≡ Some V → Shows t W → ((k : ℕ) → slice_get rest k ≡ Some V → Shows (t + 1 + k) V)
+          → Shows (t + j) V
       at zero there here later =
           let place : t ≡ t + 0 = omega arith in
           subst (λ n. Shows n V) place (subst (Shows t) (Some-same there) here)
@@ -132,18 +135,21 @@ module _ (d : Design) (circuit : BitNet) (read : Reading) (is : IsCircuitOf d ci
     same-expected : expected_in (length circuit.outputs) trace t ≡ expected_at d trace t
     same-expected = ap (λ w. expected_in w trace t) is.outputs
 
-    pub right-circuit : IsRight d (expected_at d trace t) V → AreRight (value_at t) circuit.outputs (expected_in (length circuit.outputs) trace t)
+    pub right-circuit : IsRight d (expected_at d trace t) V
+        → AreRight (value_at t) circuit.outputs (expected_in (length circuit.outputs) trace t)
     right-circuit right i b word checked l in_words in_expected in_word asked =
         let within = slice_get_within circuit.outputs i word in_words in
         let (output, in_design) = slice_get-some d.outputs.items i (omega (arith, within, is.outputs)) in
         shows i output b word l in_design in_words in_word
         ∙ right i output checked b in_design (ap (λ es. slice_get es i) (sym same-expected) ∙ in_expected) asked
 
-    pub right-design : AreRight (value_at t) circuit.outputs (expected_in (length circuit.outputs) trace t) → IsRight d (expected_at d trace t) V
+    pub right-design : AreRight (value_at t) circuit.outputs (expected_in (length circuit.outputs) trace t)
+        → IsRight d (expected_at d trace t) V
     right-design right i output checked b in_design in_expected asked =
         let within = slice_get_within d.outputs.items i output in_design in
         let (word, in_words) = slice_get-some circuit.outputs i (omega (arith, within, is.outputs)) in
-        let mask = mask-wide d.signals.items d.outputs.items (expected_at d trace t) (fits.expected t low) i output checked in_design in_expected in
+        let mask = mask-wide d.signals.items d.outputs.items (expected_at d trace t) (fits.expected t low) i output checked
+        in_design in_expected in
         let below = mask-below checked.mask b asked in
         let (l, in_word) = slice_get-some word b (omega (arith, below, mask, is.wide i output word in_design in_words)) in
         sym (shows i output b word l in_design in_words in_word)

@@ -29,7 +29,8 @@ given_cycle samples states choice = record {
 
 -- the numbers that are chosen for freed places have the places' widths
 abbrev pub IsOfWidth : Design → Choice → Type 0
-IsOfWidth d choice = (p : ℕ) (place : Place) → slice_get d.places.items p ≡ Some place → IsTrue (choice.frees p) → choice.chosen p < 2 ^ place.width
+IsOfWidth d choice =
+    (p : ℕ) (place : Place) → slice_get d.places.items p ≡ Some place → IsTrue (choice.frees p) → choice.chosen p < 2 ^ place.width
 
 -- a cycle of the design, its samples and choices of their widths
 pub record OneCycle (d : Design) (samples : List Bits) (state : Valuation) (choice : Choice) (V next : Valuation) : Type 0 where
