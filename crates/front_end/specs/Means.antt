@@ -4,6 +4,7 @@ use Rattle.design_core.specs.declared.design.Design.{Design}
 use Rattle.design_core.specs.WellFormed.{IsWellFormed}
 use Rattle.design_core.specs.DrivenOnce.{IsDrivenOnce}
 use Rattle.design_core.specs.Reads.{IsOrder}
+use Rattle.design_core.specs.Order.{IsLeastOrder}
 use Rattle.front_end.specs.declared.reader.DesignErr.{DesignErr}
 use Rattle.front_end.specs.declared.reader.Ordered.{Ordered}
 use Rattle.front_end.specs.Refusals.{design_status}
@@ -16,12 +17,13 @@ Meaning = List ℕ → List ℕ → Option (List ℕ) → Design → Type 0
 abbrev pub Refusing : Type 1
 Refusing = List ℕ → List ℕ → Option (List ℕ) → DesignErr → Type 0
 
--- a design with an order of its drivers: it has one cycle for all samples, states and choices, and its signals and outputs have
--- numbers
+-- a design with the order of its drivers, the least one, so that it has one cycle for all samples, states and choices; its signals
+-- and outputs have numbers
 pub record IsReady (d : Design) (order : List ℕ) : Type 0 where
   pub well_formed : IsWellFormed d
   pub once : IsDrivenOnce d
   pub ordered : IsOrder d order
+  pub least : IsLeastOrder d order
   pub signals : length d.signals.items < 2 ^ 32
   pub outputs : length d.outputs.items < 2 ^ 32
 

@@ -2,3 +2,4 @@ pub mod RootLaws
 pub mod WalkLaws
 pub mod BindingLaws
 mod MeansLaws
+mod Unbroken

@@ -8,10 +8,12 @@
 mod beside;
 mod binding;
 mod copies;
+mod laws;
 mod listed;
 mod meant;
 mod top;
 mod walk;
 
 pub use binding::{Binding, bind};
+pub use laws::meant_is_sound;
 pub use meant::design;

@@ -52,6 +52,7 @@ ready text top clock d (Ok o) has well once same order =
       well_formed = well;
       once = once;
       ordered = order.carried_out;
+      least = order.least;
       signals = few.signals;
       outputs = few-outputs d well few.signals;
     })
