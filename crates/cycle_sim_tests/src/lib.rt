@@ -7,4 +7,6 @@ mod beside;
 #[cfg(test)]
 mod build;
 #[cfg(test)]
+mod replays;
+#[cfg(test)]
 mod steps;
