@@ -13,7 +13,7 @@ use unroller::{UnrolledLit, are_traces, unroll};
 use word_net::Operation;
 
 /// n = a | b and y = ~n.
-fn or_not(rt: &impl Abort, alloc: Global) -> Result<Circuit, Fail> {
+pub fn or_not(rt: &impl Abort, alloc: Global) -> Result<Circuit, Fail> {
     let nodes = vec![in alloc;
         node(1, Operation::Input(0)),
         node(1, Operation::Input(1)),
@@ -51,7 +51,7 @@ fn or_not(rt: &impl Abort, alloc: Global) -> Result<Circuit, Fail> {
 }
 
 /// Four cycles with a b y = 001, 011, 101, 110.
-fn four_cycles(rt: &impl Abort, alloc: Global) -> Result<Trace, Fail> {
+pub fn four_cycles(rt: &impl Abort, alloc: Global) -> Result<Trace, Fail> {
     let mut inputs = vec![in alloc]?;
     let mut wanted = vec![in alloc]?;
     for (a, b, y) in [(0, 0, 1), (0, 1, 1), (1, 0, 1), (1, 1, 0)] {
