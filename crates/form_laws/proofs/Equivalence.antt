@@ -113,7 +113,7 @@ module _ (of : Asked) (can : CanBeAsked of) where
       All-append (IsWithin (variables_of u)) (selector_clauses n of.k) (cycles_clauses u selectors 0 0 u.ends)
       (counter-named n of.k (variables_of u) room 0 n (omega arith))
       (λ i d below. λ j l within.
-        within-from (get_or (get_or (cycles_clauses u selectors 0 0 u.ends) i d) j l) (named i d below j l within))
+      within-from (get_or (get_or (cycles_clauses u selectors 0 0 u.ends) i d) j l) (named i d below j l within))
     where
       within-from : (l : Lit) → IsNamed n u.base (u.base + length u.definitions) l → (1 ≤ l.var) × (l.var ≤ variables_of u)
       within-from l (inl selector) = (selector.0, omega (arith, selector.1, room))
@@ -197,7 +197,7 @@ module _ (of : Asked) (can : CanBeAsked of) where
         definitions-from a u.base selectors e u.definitions kept.ordered no_sources (λ place. refl)
         (λ i node there. hold.definitions i node (omega arith) there)
         (λ i moment place bit computed there is_free.
-          chosen-own a of.circuit can.circuit u bits-are owned i moment place bit computed there)
+        chosen-own a of.circuit can.circuit u bits-are owned i moment place bit computed there)
 
     outputs-hold : OutputsOf e free a
     outputs-hold t within =

@@ -114,9 +114,10 @@ module _ (circuit : BitNet) (freed : ℕ → Bool) where
 
   pub all-chosen : (traces : List Trace) → CircuitWorks circuit traces freed → AllChosen traces
   all-chosen [] works = tt
-  all-chosen (trace ∷ traces) works =
-      (works trace (Contains-first trace traces),
-      all-chosen traces (λ other member. works other (Contains-later trace traces other member)))
+  all-chosen (trace ∷ traces) works = (
+    works trace (Contains-first trace traces),
+    all-chosen traces (λ other member. works other (Contains-later trace traces other member)),
+  )
 
   -- put together, by the number of the cycle among all
   abbrev pub pasted : (traces : List Trace) → AllChosen traces → Chosen
