@@ -25,6 +25,21 @@ pub record Run : Type 0 where
   pub counts : Counts
   pub told : Bool
 
+-- the same, from what shelf and sink tell before a run and after it
+abbrev pub counts_of : ℕ → ℕ → ℕ → ℕ → Counts
+counts_of shelf now_shelf sink now_sink = record { shelf = shelf; now_shelf = now_shelf; sink = sink; now_sink = now_sink }
+
+abbrev pub run_of : Bool → Texts → Texts → Texts → List ℕ → List ℕ → Counts → Run
+run_of told texts written now_written printed now_printed counts = record {
+  texts = texts;
+  written = written;
+  now_written = now_written;
+  printed = printed;
+  now_printed = now_printed;
+  counts = counts;
+  told = told;
+}
+
 abbrev pub NoneRose : Counts → Type 0
 NoneRose counts = (counts.now_shelf ≡ counts.shelf) × (counts.now_sink ≡ counts.sink)
 

@@ -26,18 +26,21 @@ net_name : List Declaration → ℕ → List ℕ
 net_name nets i = option_map_or (λ (net : Declaration). net.name) (slice_get nets i) []
 
 signal-name : (nets : List Declaration) (signals : List Signal) (i : ℕ) → AllZip IsSignalOf nets signals
-    → option_map_or (λ (s : Signal). s.path) (slice_get signals i) [] ≡ option_map_or (λ (net : Declaration). net.name) (slice_get nets i) []
+    → option_map_or (λ (s : Signal). s.path) (slice_get signals i) []
+    ≡ option_map_or (λ (net : Declaration). net.name) (slice_get nets i) []
 signal-name [] [] i zip = refl
 signal-name [] (s ∷ signals) i zip = absurd zip
 signal-name (net ∷ nets) [] i zip = absurd zip
 signal-name (net ∷ nets) (s ∷ signals) zero zip = zip.0.path
 signal-name (net ∷ nets) (s ∷ signals) (suc i) zip = signal-name nets signals i zip.1
 
-signal-names : (nets : List Declaration) (d : Design) → AllZip IsSignalOf nets d.signals.items → (numbers : List ℕ) → map (name_at d) numbers ≡ map (net_name nets) numbers
+signal-names : (nets : List Declaration) (d : Design) → AllZip IsSignalOf nets d.signals.items → (numbers : List ℕ)
+    → map (name_at d) numbers ≡ map (net_name nets) numbers
 unfolding net_name
 signal-names nets d zip [] = refl
 signal-names nets d zip (i ∷ numbers) =
-    ap (λ name. name ∷ map (name_at d) numbers) (signal-name nets d.signals.items i zip) ∙ ap (λ l. net_name nets i ∷ l) (signal-names nets d zip numbers)
+    ap (λ name. name ∷ map (name_at d) numbers) (signal-name nets d.signals.items i zip)
+    ∙ ap (λ l. net_name nets i ∷ l) (signal-names nets d zip numbers)
 
 -- the names of the ports that pass a test
 port_names : (Port → Bool) → PlainNetlist → List (List ℕ)
@@ -46,16 +49,20 @@ port_names test p = map (net_name (map port_declaration p.ports ++ map wire_decl
 input-names : (n : Netlist) (d : Design) → IsDesignOf n d → input_names d ≡ port_names (λ port. is_input port.direction) (plain_netlist n)
 unfolding port_names
 input-names n d of =
-    ap (map (name_at d)) of.inputs ∙ signal-names (declarations n) d of.signals (ports_from (λ port. is_input port.direction) 0 n.ports.items)
+    ap (map (name_at d)) of.inputs ∙ signal-names (declarations n) d of.signals
+    (ports_from (λ port. is_input port.direction) 0 n.ports.items)
 
-output-names : (n : Netlist) (d : Design) → IsDesignOf n d → output_names d ≡ port_names (λ port. not (is_input port.direction)) (plain_netlist n)
+output-names : (n : Netlist) (d : Design) → IsDesignOf n d
+    → output_names d ≡ port_names (λ port. not (is_input port.direction)) (plain_netlist n)
 unfolding port_names
 output-names n d of =
-    ap (map (name_at d)) of.outputs ∙ signal-names (declarations n) d of.signals (ports_from (λ port. not (is_input port.direction)) 0 n.ports.items)
+    ap (map (name_at d)) of.outputs ∙ signal-names (declarations n) d of.signals
+    (ports_from (λ port. not (is_input port.direction)) 0 n.ports.items)
 
 count-places : (n : Netlist) (d : Design) → IsDesignOf n d → length d.places.items ≡ length (map plain_assignment n.assigns.items)
 count-places n d of =
-    ap length of.places ∙ length-map n.assigns.items (place_of (number_of (names n)) n.name) ∙ sym (length-map n.assigns.items plain_assignment)
+    ap length of.places ∙ length-map n.assigns.items (place_of (number_of (names n)) n.name)
+    ∙ sym (length-map n.assigns.items plain_assignment)
 
 designs-alike : (n m : Netlist) (d e : Design) → plain_netlist n ≡ plain_netlist m → IsDesignOf n d → IsDesignOf m e → AreAlike d e
 designs-alike n m d e same of also = record {
@@ -67,13 +74,17 @@ designs-alike n m d e same of also = record {
 -- a tree means designs that are alike
 pub module-alike : (tree : List PlainModule) (top : List ℕ) (n : Netlist) (e : Design) → netlist_of tree ≡ Some (plain_netlist n)
     → IsDesignOf n e → (d : Design) → IsModuleDesign tree top d → AreAlike d e
-module-alike tree top n e is-n of d is = designs-alike is.netlist n d e (one-netlist (netlist_of tree) (plain_netlist is.netlist) (plain_netlist n) is.is_netlist is-n) is.meaning of
+module-alike tree top n e is-n of d is =
+    designs-alike is.netlist n d e (one-netlist (netlist_of tree) (plain_netlist is.netlist) (plain_netlist n) is.is_netlist is-n)
+    is.meaning of
 
 variables-alike : (d e : Design) (variables : List Variable) → AreAlike d e → AreVariables d variables → AreVariables e variables
 variables-alike d e variables alike are = record {
   count = are.count
-      ∙ ap (λ k. k + length d.outputs.items) (sym (length-map d.inputs.items (name_at d)) ∙ ap length alike.inputs ∙ length-map e.inputs.items (name_at e))
-      ∙ ap (λ k. length e.inputs.items + k) (sym (length-map d.outputs.items (name_at d)) ∙ ap length alike.outputs ∙ length-map e.outputs.items (name_at e));
+      ∙ ap (λ k. k + length d.outputs.items) (sym (length-map d.inputs.items (name_at d)) ∙ ap length alike.inputs
+      ∙ length-map e.inputs.items (name_at e))
+      ∙ ap (λ k. length e.inputs.items + k) (sym (length-map d.outputs.items (name_at d)) ∙ ap length alike.outputs
+      ∙ length-map e.outputs.items (name_at e));
   names = are.names;
   inputs = subst (λ l. IsTrue (list_all (is_in (names_of variables)) l)) alike.inputs are.inputs;
   outputs = subst (λ l. IsTrue (list_all (is_in (names_of variables)) l)) alike.outputs are.outputs;

@@ -31,7 +31,8 @@ not-long P (Some text) short long = omega (arith, short.0, long)
 -- tokens that have a tree are not refused
 no-syntax-fault : (text : List ℕ) (tree : List PlainModule) (fault : ParseErr) → IsSourceText text tree → HasSyntaxFault text fault → ⊥
 no-syntax-fault text tree fault is has =
-    has.shows.refuses.no_tree has.tokens (λ i below. refl) tree 0 (subst (λ t. IsSource t tree) (no_other_tokens text is.tokens is.lexed has.tokens has.lexed) is.parsed)
+    has.shows.refuses.no_tree has.tokens (λ i below. refl) tree 0
+    (subst (λ t. IsSource t tree) (no_other_tokens text is.tokens is.lexed has.tokens has.lexed) is.parsed)
 
 pub not-refused : (asked : Asked) (texts : Texts) (old new : ℕ) (why : Refusal) → IsReady asked texts → CauseOf asked texts why
     → ReadCause old new why → ¬ Rose old new → refusal_status why ≡ 7
@@ -45,7 +46,8 @@ not-refused asked texts old new (refusal.Form input.Design) ready cause counted 
     absurd (not-both (λ t. IsDesignText t asked.top ready.design) (λ t. HasNoDesign t asked.top) (texts asked.design)
     (λ t is no. no.none ready.design is) ready.means.design.means cause)
 not-refused asked texts old new (refusal.Form input.Trace) ready cause counted none =
-    absurd (not-both (λ t. IsTraceText t ready.design ready.trace) (λ t. (trace : Trace) → ¬ IsTraceText t ready.design trace) (texts asked.trace)
+    absurd (not-both (λ t. IsTraceText t ready.design ready.trace) (λ t. (trace : Trace) → ¬ IsTraceText t ready.design trace)
+    (texts asked.trace)
     (λ t is no. no ready.trace is) ready.means.trace (cause.none ready.design ready.means.design.means))
 not-refused asked texts old new refusal.Assigns ready cause counted none =
     absurd (omega (arith, ready.means.design.few, cause.many ready.design ready.means.design.means))

@@ -4,13 +4,15 @@ use Rattle.io_ports.specs.Faults.{Rose}
 use Rattle.refusal_lines.specs.Refusals.{memory_line}
 use Rattle.refusal_lines.proofs.Statuses.{Known, input, limit, memory, lexical-known, syntax-known}
 use Rattle.command_contract.specs.Contract.{Causes, Counts, EndsRefused, IsRefusal, IsStatus, Keeps, OneRose, Run}
+use Rattle.command_contract.proofs.Statuses.{refusal-range, seven-no_refusal, six-no_refusal}
 use Rattle.find_cmd.specs.declared.refusal.Refusal.{Refusal}
 use Rattle.find_cmd.specs.declared.refusal.Refusal.TheVariants as refusal
 use Rattle.find_cmd.specs.declared.outcome.Outcome.{Outcome}
 use Rattle.find_cmd.specs.declared.outcome.Outcome.TheVariants.{Complete, Refused, ReportFault, LineFault, Memory}
 use Rattle.find_cmd.specs.Requests.{Asked}
 use Rattle.find_cmd.specs.Refusals.{ReadCause, refusal_line, refusal_status}
-use Rattle.find_cmd.specs.Finding.{IsReady, IsWhole, ListCut, ListFails, OfInputs, RefusalCut, RefusalFails, ReportFails, finding, outputs_of}
+use Rattle.find_cmd.specs.Finding.{IsReady, IsWhole, ListCut, ListFails, OfInputs, RefusalCut, RefusalFails, ReportFails, finding}
+use Rattle.find_cmd.specs.Finding.{outputs_of}
 use Rattle.find_cmd.specs.Ends.{Leaves, RefusalLeaves, RunCause, status_of}
 use Rattle.find_cmd.proofs.InOrder.{not-refused}
 
@@ -74,18 +76,13 @@ read-same old new refusal.NoMemory cause other = cause
 
 read-rose : (old new : ℕ) (why : Refusal) → ReadCause old new why → refusal_status why ≡ 5 → Rose old new
 read-rose old new (refusal.ReadFault text) cause e = cause
-read-rose old new (refusal.Lexical fault) cause e = absurd (known-not_five _ (refusal_status (refusal.Lexical fault)) (lexical-known fault) e)
+read-rose old new (refusal.Lexical fault) cause e =
+    absurd (known-not_five _ (refusal_status (refusal.Lexical fault)) (lexical-known fault) e)
 read-rose old new (refusal.Syntax fault) cause e = absurd (known-not_five _ (refusal_status (refusal.Syntax fault)) (syntax-known fault) e)
 read-rose old new (refusal.Form text) cause e = absurd (omega (arith, e))
 read-rose old new refusal.Assigns cause e = absurd (omega (arith, e))
 read-rose old new (refusal.Size text) cause e = absurd (omega (arith, e))
 read-rose old new refusal.NoMemory cause e = absurd (omega (arith, e))
-
-refusal-range : (n : ℕ) → IsRefusal n → (2 ≤ n) × (n ≤ 5)
-refusal-range n (inl e) = (omega (arith, e), omega (arith, e))
-refusal-range n (inr (inl e)) = (omega (arith, e), omega (arith, e))
-refusal-range n (inr (inr (inl e))) = (omega (arith, e), omega (arith, e))
-refusal-range n (inr (inr (inr e))) = (omega (arith, e), omega (arith, e))
 
 -- ---- the fields
 module _ (asked : Asked) where
@@ -121,11 +118,12 @@ module _ (asked : Asked) where
     printed = leaves.printed;
     nothing_written = leaves.nothing_written;
   }
-  refused run ReportFault leaves is = absurd (omega (arith, refusal-range 6 is))
-  refused run LineFault leaves is = absurd (omega (arith, refusal-range 6 is))
-  refused run Memory leaves is = absurd (omega (arith, refusal-range 7 is))
+  refused run ReportFault leaves is = absurd (six-no_refusal is)
+  refused run LineFault leaves is = absurd (six-no_refusal is)
+  refused run Memory leaves is = absurd (seven-no_refusal is)
 
-  stopped : (run : Run) (o : Outcome) → Leaves asked run o → status_of o ≡ 6 → ReportFails asked run ⊎ (ListFails asked run ⊎ RefusalFails asked run)
+  stopped : (run : Run) (o : Outcome) → Leaves asked run o → status_of o ≡ 6
+      → ReportFails asked run ⊎ (ListFails asked run ⊎ RefusalFails asked run)
   stopped run Complete leaves e = absurd (omega (arith, e))
   stopped run (Refused why) leaves e = absurd (apart 6 why e (inr refl))
   stopped run ReportFault leaves e = inl leaves
@@ -136,7 +134,8 @@ module _ (asked : Asked) where
   refused-cut : (run : Run) (why : Refusal) → RefusalLeaves asked run why → refusal_status why ≡ 7 → RefusalCut run
   refused-cut run why leaves e = record {
     printed = inr (
-      leaves.printed ∙ ap (λ line. run.printed ++ line) (at-memory (refusal_line asked why) (refusal_status why) (refusal-printed asked why) e),
+      leaves.printed ∙ ap (λ line. run.printed ++ line) (at-memory (refusal_line asked why) (refusal_status why)
+          (refusal-printed asked why) e),
       read-same run.counts.shelf run.counts.now_shelf why leaves.is_refused.counts (λ five. omega (arith, five, e)),
     );
     nothing_written = leaves.nothing_written;
@@ -190,7 +189,8 @@ module _ (asked : Asked) where
       → (status_of o ≡ 0) ⊎ (status_of o ≡ 7)
   complete run Complete leaves cause ready none = inl refl
   complete run (Refused why) leaves cause ready none =
-      inr (not-refused asked run.texts run.counts.shelf run.counts.now_shelf why ready leaves.is_refused.cause cause.0 (λ rose. none (inl rose)))
+      inr (not-refused asked run.texts run.counts.shelf run.counts.now_shelf why ready leaves.is_refused.cause cause.0
+      (λ rose. none (inl rose)))
   complete run ReportFault leaves cause ready none = absurd (none (inl cause.0))
   complete run LineFault leaves cause ready none = absurd (none (inr cause))
   complete run Memory leaves cause ready none = inr refl

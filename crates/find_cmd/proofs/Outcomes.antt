@@ -11,7 +11,8 @@ use Rattle.find_cmd.specs.Refusals.{CauseOf, ReadCause, refusal_line}
 use Rattle.find_cmd.specs.Finding.{NothingWritten, OfInputs, outputs_of}
 use Rattle.find_cmd.specs.Ends.{EndCause, Leaves, ListLeaves, PutsRefusal, RefusalCause, RefusalLeaves, RunCause, listed}
 
-pub listed-leaves : (asked : Asked) (run : Run) (end : ListEnd) → OfInputs asked run.texts (λ d trace. ListLeaves asked (outputs_of run) d trace end)
+pub listed-leaves : (asked : Asked) (run : Run) (end : ListEnd)
+    → OfInputs asked run.texts (λ d trace. ListLeaves asked (outputs_of run) d trace end)
     → EndCause run.counts end → Leaves asked run (listed end)
 listed-leaves asked run Whole is cause = is
 listed-leaves asked run ReportFault is cause = record { shelf = cause.0; sink = cause.1; listed = is }
@@ -24,14 +25,21 @@ listed-cause counts ReportFault cause = cause
 listed-cause counts LineFault cause = cause.1
 listed-cause counts Memory cause = cause.1
 
-pub refused-leaves : (asked : Asked) (run : Run) (why : Refusal) (o : Outcome) → CauseOf asked run.texts why → ReadCause run.counts.shelf run.counts.now_shelf why
+pub refused-leaves : (asked : Asked) (run : Run) (why : Refusal) (o : Outcome) → CauseOf asked run.texts why
+    → ReadCause run.counts.shelf run.counts.now_shelf why
     → PutsRefusal why (refusal_line asked why) run.printed run.now_printed o → RefusalCause why run.counts.sink run.counts.now_sink o
     → NothingWritten (outputs_of run) → Leaves asked run o
 refused-leaves asked run why (outcome.Refused other) cause read puts counts nothing =
     subst (RefusalLeaves asked run) (sym puts.0)
     (record { is_refused = record { cause = cause; counts = read }; printed = puts.1; nothing_written = nothing })
 refused-leaves asked run why outcome.LineFault cause read puts counts nothing =
-    inr (record { sink = counts; why = why; is_refused = record { cause = cause; counts = read }; printed = puts; nothing_written = nothing })
+    inr (record {
+      sink = counts;
+      why = why;
+      is_refused = record { cause = cause; counts = read };
+      printed = puts;
+      nothing_written = nothing;
+    })
 refused-leaves asked run why outcome.Memory cause read puts counts nothing = inr (record { printed = inl puts; nothing_written = nothing })
 refused-leaves asked run why outcome.Complete cause read puts counts nothing = absurd puts
 refused-leaves asked run why outcome.ReportFault cause read puts counts nothing = absurd puts

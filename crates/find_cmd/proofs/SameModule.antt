@@ -10,7 +10,8 @@ use Rattle.first_form.specs.declared.netlist.Netlist.{Netlist}
 use Rattle.first_form.specs.Formula.{formula_names}
 use Rattle.first_form.specs.Names.{is_in, number_in, AreDistinct}
 use Rattle.first_form.specs.Circles.{IsWay}
-use Rattle.first_form.specs.Netlists.{declarations, names, targets, sources, DependsOn, is_assigned_rightly, AreDeclared, IsOfForm, Declaration, port_declaration, wire_declaration}
+use Rattle.first_form.specs.Netlists.{declarations, names, targets, sources, DependsOn, is_assigned_rightly, AreDeclared}
+use Rattle.first_form.specs.Netlists.{IsOfForm, Declaration, port_declaration, wire_declaration}
 use Rattle.v_tree.specs.ModuleTree.{PlainModule}
 use Rattle.design_core.specs.declared.design.Design.{Design}
 use Rattle.first_text.specs.Netlists.{netlist_of}
@@ -28,7 +29,8 @@ names-plain : (f : Formula) → formula_names f ≡ plain_names (plain_of f)
 unfolding plain_names
 names-plain (Named text) = refl
 names-plain (Not' _ arg) = names-plain arg
-names-plain (Binary' operator _ left _ right) = ap (λ l. l ++ formula_names right) (names-plain left) ∙ ap (λ r. plain_names (plain_of left) ++ r) (names-plain right)
+names-plain (Binary' operator _ left _ right) =
+    ap (λ l. l ++ formula_names right) (names-plain left) ∙ ap (λ r. plain_names (plain_of left) ++ r) (names-plain right)
 
 same-names : (f g : Formula) → plain_of f ≡ plain_of g → formula_names f ≡ formula_names g
 same-names f g e = names-plain f ∙ ap plain_names e ∙ sym (names-plain g)
@@ -58,18 +60,24 @@ same-at : (xs ys : List Assignment) (i : ℕ) (x : Assignment) → map plain_ass
 same-at [] ys i x e at = absurd (cc)
 same-at (z ∷ xs) [] i x e at = absurd (cc)
 same-at (z ∷ xs) (y ∷ ys) zero x e at =
-    let first : z ≡ x = Some-is z x at in
-    (y, refl, subst (λ w. plain_assignment w ≡ plain_assignment y) first (head-same (plain_assignment z) (plain_assignment y) (map plain_assignment xs) (map plain_assignment ys) e))
+    let first : z ≡ x = Some-is z x at in (
+      y,
+      refl,
+      subst (λ w. plain_assignment w ≡ plain_assignment y) first
+          (head-same (plain_assignment z) (plain_assignment y) (map plain_assignment xs) (map plain_assignment ys) e),
+    )
 same-at (z ∷ xs) (y ∷ ys) (suc i) x e at =
     same-at xs ys i x (tail-same (plain_assignment z) (plain_assignment y) (map plain_assignment xs) (map plain_assignment ys) e) at
 
-map-target : (xs : List Assignment) → map (λ (a : Assignment). a.target) xs ≡ map (λ (p : PlainAssignment). p.target) (map plain_assignment xs)
+map-target : (xs : List Assignment) → map (λ (a : Assignment). a.target) xs
+    ≡ map (λ (p : PlainAssignment). p.target) (map plain_assignment xs)
 map-target [] = refl
 map-target (x ∷ xs) = ap (λ l. x.target ∷ l) (map-target xs)
 
 same-targets : (a b : Netlist) → plain_netlist a ≡ plain_netlist b → targets a ≡ targets b
 same-targets a b e =
-    map-target a.assigns.items ∙ ap (λ (p : PlainNetlist). map (λ (q : PlainAssignment). q.target) p.assigns) e ∙ sym (map-target b.assigns.items)
+    map-target a.assigns.items ∙ ap (λ (p : PlainNetlist). map (λ (q : PlainAssignment). q.target) p.assigns) e
+    ∙ sym (map-target b.assigns.items)
 
 same-declarations : (a b : Netlist) → plain_netlist a ≡ plain_netlist b → declarations a ≡ declarations b
 same-declarations a b e = ap (λ (p : PlainNetlist). map port_declaration p.ports ++ map wire_declaration p.wires) e
@@ -85,7 +93,8 @@ depends : (a b : Netlist) → plain_netlist a ≡ plain_netlist b → (i j : ℕ
 depends a b e i j (x, at, reads) =
     let found = same-at b.assigns.items a.assigns.items i x (ap (λ (p : PlainNetlist). p.assigns) (sym e)) at in
     let same : sources b x ≡ sources a found.0 =
-    ap (λ t. filter_map (number_in t) (formula_names x.value)) (sym (same-targets a b e)) ∙ ap (filter_map (number_in (targets a))) (same-reads x found.0 found.2) in
+    ap (λ t. filter_map (number_in t) (formula_names x.value)) (sym (same-targets a b e))
+    ∙ ap (filter_map (number_in (targets a))) (same-reads x found.0 found.2) in
     (found.0, found.1, subst (λ l. Contains l j) same reads)
 
 -- a fact of each element, by place
@@ -93,18 +102,23 @@ abbrev At : (Assignment → Type 0) → List Assignment → Type 0
 At P xs = (i : ℕ) (x : Assignment) → slice_get xs i ≡ Some x → P x
 
 at-all : (P : Assignment → Type 0) (xs : List Assignment) → All P xs → At P xs
-at-all P xs all i x at = subst P (Some-is (get_or xs i x) x (sym (slice_get-get_or xs i x (slice_get_within xs i x at)) ∙ at)) (all i x (slice_get_within xs i x at))
+at-all P xs all i x at =
+    subst P (Some-is (get_or xs i x) x (sym (slice_get-get_or xs i x (slice_get_within xs i x at)) ∙ at))
+    (all i x (slice_get_within xs i x at))
 
 all-at : (P : Assignment → Type 0) (xs : List Assignment) → At P xs → All P xs
 all-at P xs each i d h = each i (get_or xs i d) (slice_get-get_or xs i d h)
 
-declared-same : (a b : Netlist) → plain_netlist a ≡ plain_netlist b → At (AreDeclared (is_in (names a))) a.assigns.items → At (AreDeclared (is_in (names b))) b.assigns.items
+declared-same : (a b : Netlist) → plain_netlist a ≡ plain_netlist b → At (AreDeclared (is_in (names a))) a.assigns.items
+    → At (AreDeclared (is_in (names b))) b.assigns.items
 declared-same a b e each i x at =
     let found = same-at b.assigns.items a.assigns.items i x (ap (λ (p : PlainNetlist). p.assigns) (sym e)) at in
     let was = each i found.0 found.1 in
     record {
-      target = subst (λ l. IsTrue (is_in l x.target)) (same-declared a b e) (subst (λ t. IsTrue (is_in (names a) t)) (sym (same-target x found.0 found.2)) was.target);
-      reads = subst (λ l. IsTrue (list_all (is_in l) (formula_names x.value))) (same-declared a b e) (subst (λ r. IsTrue (list_all (is_in (names a)) r)) (sym (same-reads x found.0 found.2)) was.reads);
+      target = subst (λ l. IsTrue (is_in l x.target)) (same-declared a b e)
+          (subst (λ t. IsTrue (is_in (names a) t)) (sym (same-target x found.0 found.2)) was.target);
+      reads = subst (λ l. IsTrue (list_all (is_in l) (formula_names x.value))) (same-declared a b e)
+          (subst (λ r. IsTrue (list_all (is_in (names a)) r)) (sym (same-reads x found.0 found.2)) was.reads);
     }
 
 pub same-form : (a b : Netlist) (top : List ℕ) → plain_netlist a ≡ plain_netlist b → IsOfForm a top → IsOfForm b top
@@ -112,9 +126,14 @@ same-form a b top e of = record {
   named = ap (λ (p : PlainNetlist). p.name) (sym e) ∙ of.named;
   declared_once = subst AreDistinct (same-declared a b e) of.declared_once;
   assigned_once = subst AreDistinct (same-targets a b e) of.assigned_once;
-  assigned = subst (λ l. IsTrue (list_all (is_assigned_rightly (is_in (targets b))) l)) (same-declarations a b e) (subst (λ t. IsTrue (list_all (is_assigned_rightly (is_in t)) (declarations a))) (same-targets a b e) of.assigned);
-  declared = all-at (AreDeclared (is_in (names b))) b.assigns.items (declared-same a b e (at-all (AreDeclared (is_in (names a))) a.assigns.items of.declared));
-  no_circle = record { none = λ i leads. of.no_circle.none i (leads.0, way-more (DependsOn b) (DependsOn a) (depends a b e) i i leads.0 leads.1) };
+  assigned = subst (λ l. IsTrue (list_all (is_assigned_rightly (is_in (targets b))) l)) (same-declarations a b e)
+      (subst (λ t. IsTrue (list_all (is_assigned_rightly (is_in t)) (declarations a))) (same-targets a b e) of.assigned);
+  declared = all-at (AreDeclared (is_in (names b))) b.assigns.items
+      (declared-same a b e (at-all (AreDeclared (is_in (names a))) a.assigns.items of.declared));
+  no_circle = record {
+    none = λ i leads. of.no_circle.none i
+        (leads.0, way-more (DependsOn b) (DependsOn a) (depends a b e) i i leads.0 leads.1);
+  };
 }
 
 -- a tree is one netlist
@@ -131,6 +150,8 @@ no-module tree top none d is = not-none (netlist_of tree) (plain_netlist is.netl
 -- nor has one whose netlist is not of the form
 pub no-form : (tree : List PlainModule) (top : List ℕ) (n : Netlist) → netlist_of tree ≡ Some (plain_netlist n)
     → ¬ IsOfForm n top → (d : Design) → ¬ IsModuleDesign tree top d
-no-form tree top n of none d is = none (same-form is.netlist n top (one-netlist (netlist_of tree) (plain_netlist is.netlist) (plain_netlist n) is.is_netlist of) is.of_form)
+no-form tree top n of none d is =
+    none (same-form is.netlist n top (one-netlist (netlist_of tree) (plain_netlist is.netlist) (plain_netlist n) is.is_netlist of)
+    is.of_form)
 
 pub ruleset module_rules = (no-module, no-form)

@@ -19,8 +19,10 @@ source-read text tokens (Ok tree) lexed parsed = record { tokens = tokens; lexed
 source-read text tokens (Err why) lexed parsed = tt
 
 pub source-only : (text : List ℕ) (tokens : List Lexeme) (r : Result SourceTree Refusal) → HasTokens text tokens
-    → ((s : List PlainModule) → IsSource tokens s → IsOnlyTree r s) → IfOk r (λ tree. (s : List PlainModule) → IsSourceText text s → s ≡ source_of tree)
-source-only text tokens (Ok tree) lexed only = λ s is. sym (only s (subst (λ t. IsSource t s) (no_other_tokens text is.tokens is.lexed tokens lexed) is.parsed))
+    → ((s : List PlainModule) → IsSource tokens s → IsOnlyTree r s)
+    → IfOk r (λ tree. (s : List PlainModule) → IsSourceText text s → s ≡ source_of tree)
+source-only text tokens (Ok tree) lexed only =
+    λ s is. sym (only s (subst (λ t. IsSource t s) (no_other_tokens text is.tokens is.lexed tokens lexed) is.parsed))
 source-only text tokens (Err why) lexed only = tt
 
 pub source-few : (tokens : List Lexeme) (r : Result SourceTree Refusal) → length tokens ≤ 2000000
@@ -37,7 +39,8 @@ tree-cause text tokens refusal.Assigns lexed cause = absurd cause
 tree-cause text tokens (refusal.Size i) lexed cause = absurd cause
 tree-cause text tokens (refusal.ReadFault i) lexed cause = absurd cause
 
-pub source-refused : (text : List ℕ) (tokens : List Lexeme) (r : Result SourceTree Refusal) → HasTokens text tokens → IfErr r (TreeCause tokens) → IfErr r (SourceCause text)
+pub source-refused : (text : List ℕ) (tokens : List Lexeme) (r : Result SourceTree Refusal) → HasTokens text tokens
+    → IfErr r (TreeCause tokens) → IfErr r (SourceCause text)
 source-refused text tokens (Ok tree) lexed refused = tt
 source-refused text tokens (Err why) lexed refused = tree-cause text tokens why lexed refused
 

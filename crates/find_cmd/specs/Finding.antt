@@ -1,6 +1,6 @@
 -- The case of a list: each minimal set of suspects of the design and the trace that the texts mean is printed, then the report
 -- is written, with values that make the trace right, and then the last line is printed.
-use Rattle.std.specs.Prelude.{ℕ, ◌≡◌, ◌⊎◌, List, [], ◌∷◌, ◌++◌, Bool, length, All, Option, Some, IsSomeAnd}
+use Rattle.std.specs.Prelude.{ℕ, ◌≡◌, ◌⊎◌, List, [], ◌∷◌, ◌++◌, length, All, Option, Some, IsSomeAnd}
 use Rattle.std.specs.Io.{StartsWith}
 use Rattle.io_ports.specs.Faults.{Rose}
 use Rattle.io_ports.specs.Shelf.{AppendsFront}
@@ -12,7 +12,7 @@ use Rattle.design_core.specs.Listing.{IsFront, IsList}
 use Rattle.plain_list.specs.Groups.{groups_of}
 use Rattle.plain_list.specs.Search.{members_of}
 use Rattle.refusal_lines.specs.Refusals.{memory_line}
-use Rattle.command_contract.specs.Contract.{Case, Counts, Run, Texts}
+use Rattle.command_contract.specs.Contract.{Case, Run, Texts}
 use Rattle.find_cmd.specs.declared.refusal.Refusal.{Refusal}
 use Rattle.find_cmd.specs.Requests.{Asked}
 use Rattle.find_cmd.specs.Means.{Means}
@@ -183,11 +183,3 @@ finding asked = record {
   Writes = λ name. name ≡ asked.report;
   Ready = λ run. IsReady asked run.texts;
 }
-
--- ---- the run of a call
-abbrev pub counts_of : ℕ → ℕ → ℕ → ℕ → Counts
-counts_of shelf now_shelf sink now_sink = record { shelf = shelf; now_shelf = now_shelf; sink = sink; now_sink = now_sink }
-
-abbrev pub run_of : Bool → Texts → Texts → Texts → List ℕ → List ℕ → Counts → Run
-run_of told texts written now_written printed now_printed counts =
-    record { texts = texts; written = written; now_written = now_written; printed = printed; now_printed = now_printed; counts = counts; told = told }

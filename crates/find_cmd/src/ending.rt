@@ -1,7 +1,7 @@
 //! The end of a listing: its report, and its last line.
 ghost use Rattle.std.specs.Prelude.{◌≡◌, ◌≢◌, List, ℕ, All, true, length};
 ghost use Rattle.find_cmd.specs.Ends.{CutEnds, EndCause, Ends, Finishes, LineCause};
-ghost use Rattle.find_cmd.specs.Finding.{counts_of};
+ghost use Rattle.command_contract.specs.Contract.{counts_of};
 ghost use Rattle.find_cmd.specs.Report.{HasRows, report_text};
 
 use crate::listing::write_report;

@@ -1,8 +1,8 @@
 //! A run of the command.
 ghost use Rattle.std.specs.Prelude.{◌≡◌, ◌≢◌, ◌<◌, ◌+◌, ◌^◌, ◌&&◌, List, ℕ, true, string_bytes};
-ghost use Rattle.command_contract.specs.Contract.{Keeps};
+ghost use Rattle.command_contract.specs.Contract.{Keeps, counts_of, run_of};
 ghost use Rattle.find_cmd.specs.Ends.{EndCause, Leaves, ListLeaves, PutsRefusal, RefusalCause, RunCause};
-ghost use Rattle.find_cmd.specs.Finding.{counts_of, finding, run_of};
+ghost use Rattle.find_cmd.specs.Finding.{finding};
 ghost use Rattle.find_cmd.specs.Inputs.{AreRead};
 ghost use Rattle.find_cmd.specs.Refusals.{refusal_line};
 ghost use Rattle.find_cmd.specs.Requests.{IsAsked, asked_of};

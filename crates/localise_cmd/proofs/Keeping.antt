@@ -4,25 +4,13 @@ use Rattle.std.proofs.Common.{ℕ, ◌≡◌, ◌++◌, ◌⊎◌, true, ap, ref
 use Rattle.io_ports.specs.Faults.{Rose}
 use Rattle.io_ports.specs.Shelf.{AppendsFront}
 use Rattle.refusal_lines.specs.Refusals.{memory_line}
-use Rattle.command_contract.specs.Contract.{Case, IsRefusal, Keeps, Run}
+use Rattle.command_contract.specs.Contract.{Case, Keeps, Run}
+use Rattle.command_contract.proofs.Statuses.{seven-no_refusal, six-no_refusal}
 use Rattle.command_words.specs.declared.requests.Usage.{Usage}
 use Rattle.localise_cmd.specs.declared.lines.Printed.{Printed}
 use Rattle.localise_cmd.specs.declared.lines.Printed.TheVariants.{Whole, Failed, NoMemory}
 use Rattle.localise_cmd.specs.Usage.{no_request, usage_line}
 use Rattle.localise_cmd.specs.Prints.{PrintCause, Prints, printed_status}
-
--- 6 and 7 are no refusals
-six-no_refusal : IsRefusal 6 → ⊥
-six-no_refusal (inl e) = omega (arith, e)
-six-no_refusal (inr (inl e)) = omega (arith, e)
-six-no_refusal (inr (inr (inl e))) = omega (arith, e)
-six-no_refusal (inr (inr (inr e))) = omega (arith, e)
-
-seven-no_refusal : IsRefusal 7 → ⊥
-seven-no_refusal (inl e) = omega (arith, e)
-seven-no_refusal (inr (inl e)) = omega (arith, e)
-seven-no_refusal (inr (inr (inl e))) = omega (arith, e)
-seven-no_refusal (inr (inr (inr e))) = omega (arith, e)
 
 -- ---- words that ask for nothing
 pub usage-keeps : (usage : Usage) (run : Run) (printed : Printed)

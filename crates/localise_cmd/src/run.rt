@@ -1,6 +1,6 @@
 //! A run of the program.
 ghost use Rattle.std.specs.Prelude.{◌&&◌, map, string_bytes};
-ghost use Rattle.find_cmd.specs.Finding.{counts_of, run_of};
+ghost use Rattle.command_contract.specs.Contract.{counts_of, run_of};
 ghost use Rattle.localise_cmd.specs.Commands.{KeepsWords};
 ghost use Rattle.verilog_front_end.specs.Meaning.{Means};
 ghost use Rattle.verilog_front_end.specs.Refusals.{IsRefusal};

@@ -1,9 +1,9 @@
 -- How a run ends, by what was put on the sink.
-use Rattle.std.proofs.Common.{ℕ, ◌+◌, ◌≡◌, List, [], ◌∷◌, ◌++◌, length, take, ap, sym, refl, subst, ◌∙◌}
+use Rattle.std.proofs.Common.{ℕ, ◌+◌, ◌≡◌, List, [], ◌++◌, length, take, ap, sym, refl, subst, ◌∙◌}
 use Rattle.std.proofs.Common.{◌⊎◌, inl, inr, Some}
 use Rattle.std.specs.Prelude.{slice_get}
 use Rattle.std.proofs.Math.Seq.{take-append-add}
-use Rattle.std.proofs.lemmas.List.{append_assoc}
+use Rattle.std.proofs.lemmas.List.{append-nil, append_assoc}
 use Rattle.io_ports.specs.Shelf.{AppendsFront}
 use Rattle.design_core.specs.declared.design.Design.{Design}
 use Rattle.design_core.specs.declared.signal.Signal.{Signal}
@@ -26,10 +26,6 @@ use Rattle.sim_cmd.specs.Simulation.{DesignCause, Refused, for_design, for_trace
 use Rattle.sim_cmd.specs.Simulation.{TraceCause}
 use Rattle.sim_cmd.specs.Ends.{EndsShown, IsRefusal, Leaves, PutsLine, PutsMemory, SinkCounts}
 
-append-none : {X : Type 0} (xs : List X) → xs ≡ xs ++ []
-append-none [] = refl
-append-none (x ∷ xs) = ap (λ zs. x ∷ zs) (append-none xs)
-
 -- ---- a line that was put
 -- a line that was to be put, with `memory` in its place where there was no room for it
 pub line-or-memory : (end : Outcome) (line old new : List ℕ) (o : Outcome) → PutsMemory old new o
@@ -48,7 +44,7 @@ stopped M R asked texts status line old new refused (inr front) = (memory_line, 
 
 cut : (M : Meaning) (R : Refusing) (asked : Asked) (texts : Texts) (old new : List ℕ)
     → (new ≡ old) ⊎ (new ≡ old ++ memory_line) → Leaves M R asked texts old new Memory
-cut M R asked texts old new (inl same) = ([], inl refl, same ∙ append-none old)
+cut M R asked texts old new (inl same) = ([], inl refl, same ∙ sym (append-nil old))
 cut M R asked texts old new (inr put) = (memory_line, inr (inl refl), put)
 
 design-same : (one other : DesignFault) → NoDesign one ≡ NoDesign other → one ≡ other

@@ -1,6 +1,7 @@
 -- The promises of the command, from how a run ends.
-use Rattle.std.proofs.Common.{ℕ, ◌≡◌, ◌≤◌, true, ap, refl, arith, ◌⊎◌, inl, inr}
+use Rattle.std.proofs.Common.{ℕ, ◌≡◌, true, ap, refl, arith, ◌⊎◌, inl, inr}
 use Rattle.command_contract.specs.Contract.{Causes, Counts, EndsRefused, IsRefusal, IsStatus, Keeps, OneRose, Run}
+use Rattle.command_contract.proofs.Statuses.{refusal-range, seven-no_refusal, six-no_refusal}
 use Rattle.front_end.specs.Means.{Meaning, Refusing}
 use Rattle.sim_cmd.specs.declared.outcome.Outcome.{Outcome}
 use Rattle.sim_cmd.specs.declared.outcome.Outcome.TheVariants.{Done, NoDesign, NoTrace, WriteFault, Memory}
@@ -10,12 +11,6 @@ use Rattle.sim_cmd.specs.Simulation.{IsCut, IsDone, IsReady, IsStopped, simulati
 use Rattle.sim_cmd.specs.Ends.{Leaves, RunCounts, status_of}
 use Rattle.sim_cmd.proofs.Statuses.{IsOne, design-one, not-done, not-stopped, refused-memory, trace-one}
 use Rattle.sim_cmd.proofs.Counting.{design-rose, design-stays, trace-rose, trace-stays}
-
-refusal-range : (n : ℕ) → IsRefusal n → (2 ≤ n) × (n ≤ 5)
-refusal-range n (inl e) = (omega (arith, e), omega (arith, e))
-refusal-range n (inr (inl e)) = (omega (arith, e), omega (arith, e))
-refusal-range n (inr (inr (inl e))) = (omega (arith, e), omega (arith, e))
-refusal-range n (inr (inr (inr e))) = (omega (arith, e), omega (arith, e))
 
 module _ (M : Meaning) (R : Refusing) (asked : Asked) (run : Run) where
   abbrev Left : Outcome → Type 0
@@ -49,8 +44,8 @@ module _ (M : Meaning) (R : Refusing) (asked : Asked) (run : Run) where
       record { line = line; refused = cause; printed = printed; nothing_written = nothing }
   refused (NoTrace why) (line, cause, printed) nothing is =
       record { line = line; refused = cause; printed = printed; nothing_written = nothing }
-  refused WriteFault left nothing is = absurd (omega (arith, refusal-range 6 is))
-  refused Memory left nothing is = absurd (omega (arith, refusal-range 7 is))
+  refused WriteFault left nothing is = absurd (six-no_refusal is)
+  refused Memory left nothing is = absurd (seven-no_refusal is)
 
   stopped : (o : Outcome) → Left o → run.now_written ≡ run.written → RunCounts run.counts o → status_of o ≡ 6
       → IsStopped M R asked run

@@ -88,13 +88,13 @@ if-err P Q f (Err why) refused = f why refused
 pub load-design_cause : (R : Refusing) (asked : Asked) (texts : Texts) (why : DesignFault)
     → LoadsDesign (texts asked.design) (Err why)
     → DesignCause R asked texts why
-load-design_cause R asked texts (design.Load fault) cause = cause
+load-design_cause R asked texts (design.Load _) cause = cause
 load-design_cause R asked texts (design.Text fault) cause = absurd cause
 
 text-cause : (R : Refusing) (asked : Asked) (texts : Texts) (text : List ℕ) → IsLoaded (texts asked.design) text
     → (why : DesignFault)
     → RefusesText (R text asked.top asked.clock) why → DesignCause R asked texts why
-text-cause R asked texts text is (design.Load fault) cause = absurd cause
+text-cause R asked texts text is (design.Load _) cause = absurd cause
 text-cause R asked texts text is (design.Text fault) cause =
     of-text (texts asked.design) text (λ t. Refuses (R t asked.top asked.clock) fault) is cause
 
@@ -128,13 +128,13 @@ load-spared texts name P (design.Text fault) cause read = absurd cause
 -- ---- traces
 pub load-trace_cause : (texts : Texts) (name : List ℕ) (d : Design) (clock : Option (List ℕ)) (why : TraceFault)
     → LoadsTrace (texts name) (Err why) → TraceCause (texts name) d clock why
-load-trace_cause texts name d clock (trace.Load fault) cause = cause
+load-trace_cause texts name d clock (trace.Load _) cause = cause
 load-trace_cause texts name d clock (trace.Text fault) cause = absurd cause
 
 dump-cause : (texts : Texts) (name : List ℕ) (d : Design) (clock : Option (List ℕ)) (text : List ℕ)
     → IsLoaded (texts name) text
     → (why : TraceFault) → RefusesDump text d clock why → TraceCause (texts name) d clock why
-dump-cause texts name d clock text is (trace.Load fault) cause = absurd cause
+dump-cause texts name d clock text is (trace.Load _) cause = absurd cause
 dump-cause texts name d clock text is (trace.Text fault) cause =
     of-text (texts name) text (λ t. fault ≢ vcd.NoMemory → IsRefused t d clock fault) is cause
 

@@ -1,9 +1,9 @@
 -- The case of a simulation: it prints the lines of the traces, for the design and the traces that the texts mean.
 use Rattle.std.specs.Prelude.{ℕ, ◌+◌, ◌≡◌, ◌≢◌, ◌<◌, ◌⊎◌, List, [], ◌++◌, All, length, take, slice_get}
-use Rattle.std.specs.Prelude.{Bool, Option, Some, IsSomeAnd}
+use Rattle.std.specs.Prelude.{Option, Some, IsSomeAnd}
 use Rattle.io_ports.specs.Faults.{Rose}
 use Rattle.io_ports.specs.Shelf.{AppendsFront}
-use Rattle.command_contract.specs.Contract.{Case, Counts, Run, Texts}
+use Rattle.command_contract.specs.Contract.{Case, Run, Texts}
 use Rattle.design_core.specs.declared.design.Design.{Design}
 use Rattle.design_core.specs.declared.trace.Trace.{Trace}
 use Rattle.vcd_reading.specs.declared.error.VcdErr.TheVariants as vcd
@@ -121,20 +121,4 @@ simulation M R asked = record {
   Cut = IsCut M asked;
   Writes = λ name. ⊥;
   Ready = λ run. IsReady M asked run.texts;
-}
-
--- ---- a run, from what shelf and sink tell before and after it
-abbrev pub counts_of : ℕ → ℕ → ℕ → ℕ → Counts
-counts_of shelf now_shelf sink now_sink =
-    record { shelf = shelf; now_shelf = now_shelf; sink = sink; now_sink = now_sink }
-
-abbrev pub run_of : Bool → Texts → Texts → Texts → List ℕ → List ℕ → Counts → Run
-run_of told texts written now_written printed now_printed counts = record {
-  texts = texts;
-  written = written;
-  now_written = now_written;
-  printed = printed;
-  now_printed = now_printed;
-  counts = counts;
-  told = told;
 }

@@ -9,8 +9,8 @@ ghost use Rattle.sim_cmd.specs.declared.outcome.Outcome.TheVariants as outcome;
 ghost use Rattle.sim_cmd.specs.Requests.{asked_of};
 ghost use Rattle.front_end.specs.Means.{IsReady};
 ghost use Rattle.sim_cmd.specs.Refusals.{design_fault_line, trace_fault_line};
-ghost use Rattle.command_contract.specs.Contract.{Keeps, OneRose};
-ghost use Rattle.sim_cmd.specs.Simulation.{IsReady as IsInOrder, counts_of, run_of, simulation};
+ghost use Rattle.command_contract.specs.Contract.{Keeps, OneRose, counts_of, run_of};
+ghost use Rattle.sim_cmd.specs.Simulation.{IsReady as IsInOrder, simulation};
 ghost use Rattle.sim_cmd.specs.Ends.{EndsShown, IsRefusal, Leaves, PutsLine, PutsMemory, RunCounts, SinkCounts};
 ghost use Rattle.sim_cmd.specs.Ends.{status_of};
 

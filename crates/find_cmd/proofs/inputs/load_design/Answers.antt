@@ -7,6 +7,8 @@ use Rattle.find_cmd.proofs.inputs.load_design.Goals as goal
 pub returns-clause-refused : goal.returns-clause-refused
 returns-clause-refused g c = λ told.
     let loaded : g.S.Shelf.texts c.args.shelf.now c.as_str.result.now ≡ Some c.in_ok-text.text = c.in_ok-text.ensures.text told in
-    let short : length c.as_slice.result.now ≤ most_bytes = subst (λ t. length t ≤ most_bytes) (sym c.as_slice.ensures) c.in_ok-text.ensures.limit in
+    let short : length c.as_slice.result.now ≤ most_bytes = subst (λ t. length t ≤ most_bytes) (sym c.as_slice.ensures)
+    c.in_ok-text.ensures.limit in
     design-refused (asked_of c.args.request.now) (g.S.Shelf.texts c.args.shelf.now) c.as_slice.result.now c.read_design.result
-    (ap (g.S.Shelf.texts c.args.shelf.now) (sym c.as_str.ensures.value) ∙ loaded ∙ ap Some (sym c.as_slice.ensures)) short c.read_design.ensures.refused
+    (ap (g.S.Shelf.texts c.args.shelf.now) (sym c.as_str.ensures.value) ∙ loaded ∙ ap Some (sym c.as_slice.ensures)) short
+    c.read_design.ensures.refused

@@ -7,11 +7,15 @@ use Rattle.find_cmd.proofs.inputs.load_trace.Goals as goal
 pub returns-clause-refused : goal.returns-clause-refused
 returns-clause-refused g c = λ told tried alike.
     let loaded : g.S.Shelf.texts c.args.shelf.now c.as_str.result.now ≡ Some c.in_ok-text.text = c.in_ok-text.ensures.text told in
-    let short : length c.as_slice.result.now ≤ most_bytes = subst (λ t. length t ≤ most_bytes) (sym c.as_slice.ensures) c.in_ok-text.ensures.limit in
-    trace-refused (asked_of c.args.request.now) (g.S.Shelf.texts c.args.shelf.now) c.args.design.now c.as_slice.result.now c.read_dump.result tried alike
-    (ap (g.S.Shelf.texts c.args.shelf.now) (sym c.as_str.ensures.value) ∙ loaded ∙ ap Some (sym c.as_slice.ensures)) short c.read_dump.ensures.refused
+    let short : length c.as_slice.result.now ≤ most_bytes = subst (λ t. length t ≤ most_bytes) (sym c.as_slice.ensures)
+    c.in_ok-text.ensures.limit in
+    trace-refused (asked_of c.args.request.now) (g.S.Shelf.texts c.args.shelf.now) c.args.design.now c.as_slice.result.now
+    c.read_dump.result tried alike
+    (ap (g.S.Shelf.texts c.args.shelf.now) (sym c.as_str.ensures.value) ∙ loaded ∙ ap Some (sym c.as_slice.ensures)) short
+    c.read_dump.ensures.refused
 
 pub returns-in_err-text-clause-refused : goal.returns-in_err-text-clause-refused
 returns-in_err-text-clause-refused g c = λ told tried alike.
-    load-trace-refused (asked_of c.args.request.now) (g.S.Shelf.texts c.args.shelf.now) c.args.design.now c.in_err-text.field-0.0 c.from_residual.result c.as_str.result.now
+    load-trace-refused (asked_of c.args.request.now) (g.S.Shelf.texts c.args.shelf.now) c.args.design.now c.in_err-text.field-0.0
+    c.from_residual.result c.as_str.result.now
     c.from_residual.ensures.1 c.as_str.ensures.value tried (c.in_err-text.ensures.text told)

@@ -14,11 +14,14 @@ returns-in-Err-Form-clause-refused c =
 pub returns-then-len-gt-MOST_ASSIGNS-clause-refused : goal.returns-then-len-gt-MOST_ASSIGNS-clause-refused
 returns-then-len-gt-MOST_ASSIGNS-clause-refused c =
     let means : IsDesignText c.args.text.now c.args.top.now c.in-Ok.first.design =
-    design-text c.args.text.now c.args.top.now (source_of c.in_ok-tree.tree) c.in-Ok.first.design c.in_ok-tree.ensures.read c.in-Ok.ensures.meaning in
+    design-text c.args.text.now c.args.top.now (source_of c.in_ok-tree.tree) c.in-Ok.first.design c.in_ok-tree.ensures.read
+    c.in-Ok.ensures.meaning in
     too-large c.args.text.now c.args.top.now c.in-Ok.first.design means
-    (text-alike c.args.text.now c.args.top.now (source_of c.in_ok-tree.tree) c.in-Ok.first.design c.in_ok-tree.ensures.only c.in-Ok.ensures.alike)
+    (text-alike c.args.text.now c.args.top.now (source_of c.in_ok-tree.tree) c.in-Ok.first.design c.in_ok-tree.ensures.only
+    c.in-Ok.ensures.alike)
     (omega (arith, c.if-len-gt-MOST_ASSIGNS.true, c.len.ensures, c.in-Ok.first.design.places.ok.0))
 
 pub returns-clause-alike : goal.returns-clause-alike
 returns-clause-alike c =
-    text-alike c.args.text.now c.args.top.now (source_of c.in_ok-tree.tree) c.in-Ok.first.design c.in_ok-tree.ensures.only c.in-Ok.ensures.alike
+    text-alike c.args.text.now c.args.top.now (source_of c.in_ok-tree.tree) c.in-Ok.first.design c.in_ok-tree.ensures.only
+    c.in-Ok.ensures.alike

@@ -18,4 +18,5 @@ returns-in_err-netlist-clause-none c = λ e.
 pub returns-in_err-first-clause-none : goal.returns-in_err-first-clause-none
 returns-in_err-first-clause-none c = λ e.
     let refused : c.design_of.result ≡ Err Form = search rules in
-    no-form (source_of c.args.tree.now) c.args.top.now c.in_ok-netlist.netlist c.in_ok-netlist.ensures.meaning (c.design_of.ensures.form refused)
+    no-form (source_of c.args.tree.now) c.args.top.now c.in_ok-netlist.netlist c.in_ok-netlist.ensures.meaning
+    (c.design_of.ensures.form refused)

@@ -9,7 +9,8 @@ invariant-loop g l = record {
   size : size_of l.search ≡ size_of l.initial.search;
   tells : g.O.Sink.tells l.out ≡ g.O.Sink.tells l.initial.out;
   faults : g.O.Sink.faults l.out ≡ g.O.Sink.faults l.initial.out;
-  text : g.O.Sink.tells l.initial.out ≡ true → g.O.Sink.written l.out ≡ g.O.Sink.written l.initial.out ++ sets_lines l.first.design.places.items (members_of (found_of l.search));
+  text : g.O.Sink.tells l.initial.out ≡ true → g.O.Sink.written l.out
+      ≡ g.O.Sink.written l.initial.out ++ sets_lines l.first.design.places.items (members_of (found_of l.search));
 }
 
 abbrev pub decreases-loop : goal.decreases-loop

@@ -33,12 +33,16 @@ returns-in-Ok-show_sets-clause-leaves g c = λ told also.
     let is_list : IsWholeList asked d trace found =
     list-made asked d trace c.from_ref-traces.result.now found (size_of c.show_sets.new.search) c.from_ref-traces.ensures.value size
     c.in-Ok-show_sets.ensures.list c.show_sets.ensures.values c.show_sets.ensures.shapes in
-    let shown : g.O.Sink.written c.show_sets.new.out ≡ g.O.Sink.written c.args.out.now ++ sets_lines d.places.items (members_of found) = c.in-Ok-show_sets.ensures.text also in
-    let finishes : Finishes (report_text trace.cycles found) (length found) (g.S.Shelf.written c.args.shelf.now asked.report) (g.S.Shelf.written c.finish.new.shelf asked.report)
+    let shown : g.O.Sink.written c.show_sets.new.out ≡ g.O.Sink.written c.args.out.now
+    ++ sets_lines d.places.items (members_of found) = c.in-Ok-show_sets.ensures.text also in
+    let finishes : Finishes (report_text trace.cycles found) (length found) (g.S.Shelf.written c.args.shelf.now asked.report)
+    (g.S.Shelf.written c.finish.new.shelf asked.report)
     (g.O.Sink.written c.show_sets.new.out) (g.O.Sink.written c.finish.new.out) c.finish.result =
-    subst (λ n. Finishes (report_text trace.cycles found) (length found) (g.S.Shelf.written c.args.shelf.now n) (g.S.Shelf.written c.finish.new.shelf n)
+    subst (λ n. Finishes (report_text trace.cycles found) (length found) (g.S.Shelf.written c.args.shelf.now n)
+    (g.S.Shelf.written c.finish.new.shelf n)
     (g.O.Sink.written c.show_sets.new.out) (g.O.Sink.written c.finish.new.out) c.finish.result) c.as_str.ensures.value
-    (subst (λ f. Finishes (report_text trace.cycles f) (length f) (g.S.Shelf.written c.args.shelf.now c.as_str.result.now) (g.S.Shelf.written c.finish.new.shelf c.as_str.result.now)
+    (subst (λ f. Finishes (report_text trace.cycles f) (length f) (g.S.Shelf.written c.args.shelf.now c.as_str.result.now)
+    (g.S.Shelf.written c.finish.new.shelf c.as_str.result.now)
     (g.O.Sink.written c.show_sets.new.out) (g.O.Sink.written c.finish.new.out) c.finish.result) c.found.ensures
     (c.finish.ensures.leaves told (c.show_sets.ensures.tells ∙ also))) in
     finished asked _ d trace found (g.O.Sink.written c.show_sets.new.out) c.finish.result is_list shown finishes
@@ -51,9 +55,12 @@ returns-in-Err-LineFault-clause-leaves g c = λ told also.
     let found = found_of c.show_sets.new.search in
     let size : size_of c.show_sets.new.search ≡ asked.size = c.show_sets.ensures.size ∙ c.in-Ok.ensures.size in
     let front : IsFrontOf asked d trace (members_of found) =
-    front-made asked d trace c.from_ref-traces.result.now (members_of found) (size_of c.show_sets.new.search) c.from_ref-traces.ensures.value size c.show_sets.ensures.front in
-    let part : Shows {X = Unit {0}} d.places.items (members_of found) (g.O.Sink.written c.args.out.now) (g.O.Sink.written c.show_sets.new.out) (Err stop.LineFault) =
-    subst (λ e. Shows {X = Unit {0}} d.places.items (members_of found) (g.O.Sink.written c.args.out.now) (g.O.Sink.written c.show_sets.new.out) (Err e)) c.in-Err-LineFault.field-0-is
+    front-made asked d trace c.from_ref-traces.result.now (members_of found) (size_of c.show_sets.new.search)
+    c.from_ref-traces.ensures.value size c.show_sets.ensures.front in
+    let part : Shows {X = Unit {0}} d.places.items (members_of found) (g.O.Sink.written c.args.out.now)
+    (g.O.Sink.written c.show_sets.new.out) (Err stop.LineFault) =
+    subst (λ e. Shows {X = Unit {0}} d.places.items (members_of found) (g.O.Sink.written c.args.out.now)
+    (g.O.Sink.written c.show_sets.new.out) (Err e)) c.in-Err-LineFault.field-0-is
     (c.in-Err-LineFault.ensures.text also) in
     stopped-within asked _ d trace (members_of found) front part refl
 
@@ -65,12 +72,16 @@ returns-clause-leaves g c = λ told also.
     let found = found_of c.show_sets.new.search in
     let size : size_of c.show_sets.new.search ≡ asked.size = c.show_sets.ensures.size ∙ c.in-Ok.ensures.size in
     let front : IsFrontOf asked d trace (members_of found) =
-    front-made asked d trace c.from_ref-traces.result.now (members_of found) (size_of c.show_sets.new.search) c.from_ref-traces.ensures.value size c.show_sets.ensures.front in
-    let shows : Shows {X = Unit {0}} d.places.items (members_of found) (g.O.Sink.written c.args.out.now) (g.O.Sink.written c.show_sets.new.out) (Err (stop.Memory c.in-Err-Memory.count)) =
-    subst (λ e. Shows {X = Unit {0}} d.places.items (members_of found) (g.O.Sink.written c.args.out.now) (g.O.Sink.written c.show_sets.new.out) (Err e)) c.in-Err-Memory.field-0-is
+    front-made asked d trace c.from_ref-traces.result.now (members_of found) (size_of c.show_sets.new.search)
+    c.from_ref-traces.ensures.value size c.show_sets.ensures.front in
+    let shows : Shows {X = Unit {0}} d.places.items (members_of found) (g.O.Sink.written c.args.out.now)
+    (g.O.Sink.written c.show_sets.new.out) (Err (stop.Memory c.in-Err-Memory.count)) =
+    subst (λ e. Shows {X = Unit {0}} d.places.items (members_of found) (g.O.Sink.written c.args.out.now)
+    (g.O.Sink.written c.show_sets.new.out) (Err e)) c.in-Err-Memory.field-0-is
     (c.in-Err-Memory.ensures.text also) in
     let first = first-sets asked d trace (members_of found) c.in-Err-Memory.count front shows.0 in
-    cut-within asked _ d trace (take c.in-Err-Memory.count (members_of found)) (g.O.Sink.written c.show_sets.new.out) c.in-Err-Memory.count c.cut_off-in-Err-Memory.result
+    cut-within asked _ d trace (take c.in-Err-Memory.count (members_of found)) (g.O.Sink.written c.show_sets.new.out) c.in-Err-Memory.count
+    c.cut_off-in-Err-Memory.result
     first.0 first.1 shows.1 (c.cut_off-in-Err-Memory.ensures.text (c.show_sets.ensures.tells ∙ also)) refl
 
 pub returns-in-Ok-show_sets-clause-others : goal.returns-in-Ok-show_sets-clause-others

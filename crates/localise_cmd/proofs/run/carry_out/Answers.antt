@@ -1,10 +1,9 @@
 use Rattle.std.proofs.Common.{ℕ, refl, sym, subst, map}
 use Rattle.std.specs.Prelude.{◌&&◌, string_bytes}
 use Rattle.std.proofs.lemmas.Bool.{and_parts}
-use Rattle.command_contract.specs.Contract.{Keeps, Run}
+use Rattle.command_contract.specs.Contract.{Keeps, Run, counts_of, run_of}
 use Rattle.command_words.specs.Words.{asked}
 use Rattle.command_words.specs.Requests.{find_asked_of, sim_asked_of}
-use Rattle.find_cmd.specs.Finding.{counts_of, run_of}
 use Rattle.find_cmd.specs.Requests.{asked_of as asked_of_find}
 use Rattle.sim_cmd.specs.Requests.{asked_of as asked_of_sim}
 use Rattle.localise_cmd.specs.Usage.{no_request}

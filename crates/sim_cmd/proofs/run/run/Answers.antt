@@ -1,12 +1,11 @@
 use Rattle.std.proofs.Common.{◌∙◌, ℕ, List, subst, sym}
 use Rattle.std.specs.Prelude.{All}
-use Rattle.command_contract.specs.Contract.{Texts}
+use Rattle.command_contract.specs.Contract.{Texts, counts_of}
 use Rattle.design_core.specs.declared.trace.Trace.{Trace}
 use Rattle.vcd_traces.proofs.PortLaws.{formed_has_ports}
 use Rattle.sim_lines.specs.Lines.{AreLines}
 use Rattle.sim_cmd.specs.Requests.{asked_of}
 use Rattle.sim_cmd.specs.Means.{MeanTraces}
-use Rattle.sim_cmd.specs.Simulation.{counts_of}
 use Rattle.sim_cmd.specs.Loading.{HasTrace, StopsAt, TraceCounts, TraceSpared}
 use Rattle.sim_cmd.proofs.Counting.{trace-complete}
 use Rattle.sim_cmd.proofs.Ending.{no-design, no-trace_at, shown}

@@ -2,8 +2,8 @@ use Rattle.std.proofs.Common.{subst, sym}
 use Rattle.std.specs.Prelude.{◌&&◌}
 use Rattle.std.proofs.lemmas.Bool.{and_parts}
 use Rattle.sim_cmd.specs.Requests.{asked_of}
-use Rattle.command_contract.specs.Contract.{Keeps, Run}
-use Rattle.sim_cmd.specs.Simulation.{counts_of, run_of, simulation}
+use Rattle.command_contract.specs.Contract.{Keeps, Run, counts_of, run_of}
+use Rattle.sim_cmd.specs.Simulation.{simulation}
 use Rattle.sim_cmd.proofs.Keeping.{keeps}
 use Rattle.sim_cmd.proofs.run.simulate.Goals as goal
 

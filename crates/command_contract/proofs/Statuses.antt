@@ -1,0 +1,17 @@
+-- The statuses of refusals.
+use Rattle.std.proofs.Common.{ℕ, ◌≤◌, arith, inl, inr}
+use Rattle.command_contract.specs.Contract.{IsRefusal}
+
+-- they are 2 to 5
+pub refusal-range : (n : ℕ) → IsRefusal n → (2 ≤ n) × (n ≤ 5)
+refusal-range n (inl e) = (omega (arith, e), omega (arith, e))
+refusal-range n (inr (inl e)) = (omega (arith, e), omega (arith, e))
+refusal-range n (inr (inr (inl e))) = (omega (arith, e), omega (arith, e))
+refusal-range n (inr (inr (inr e))) = (omega (arith, e), omega (arith, e))
+
+-- writing that failed is none, and neither is want of memory
+pub six-no_refusal : IsRefusal 6 → ⊥
+six-no_refusal is = omega (arith, refusal-range 6 is)
+
+pub seven-no_refusal : IsRefusal 7 → ⊥
+seven-no_refusal is = omega (arith, refusal-range 7 is)
