@@ -15,7 +15,7 @@ ghost use Rattle.v_synth.specs.Net.{states_of};
 ghost use Rattle.net_cycles.specs.Evaluated.{Evaluated, IsGivenAs};
 
 /// Where the nodes of a design's net have their values, and what they read is what the cycle begins with, the values of the
-/// outputs and of the next states are those of the cycle, for all samples, states, freed places and choices.
+/// outputs and of the next states are those of the cycle, for all samples, states, freed places and choices that are given as lists.
 pub fn evaluated_is_cycle()
     ghost of: { Evaluated }
     requires well_formed { IsWellFormed of.cycle.design }
