@@ -1,11 +1,11 @@
--- The places that are noted in a table, and places with their widths; only private contracts cite it.
-use Rattle.std.specs.Prelude.{ℕ, ◌≡◌, ◌+◌, ◌<◌, ◌≤◌, Bool, if◌then◌else◌, List, [], ◌∷◌, slice_get, Some}
+-- The places that are noted in a table, and the columns of their bits; only private contracts cite it.
+use Rattle.std.specs.Prelude.{ℕ, zero, suc, ◌≡◌, ◌+◌, ◌<◌, ◌≤◌, Bool, if◌then◌else◌, List, [], ◌∷◌, ◌++◌, length, get_or, slice_get, Some}
 use Rattle.design_core.specs.Valuation.{number}
 use Rattle.unroller.specs.declared.free_bit.FreeBit.{FreeBit}
-use Rattle.unroller.specs.Reads.{HasFreeBit}
+use Rattle.unroller.specs.Reads.{free_at}
 use Rattle.unroller.specs.Unrolls.{Unrolling}
-use Rattle.form_values.specs.declared.words.Wide.{Wide}
-use Rattle.form_values.specs.ModelValues.{model_bit, width_in}
+use Rattle.form_laws.specs.Models.{column_of, value_in}
+use Rattle.form_values.specs.ModelValues.{width_in}
 
 -- the numbers of the entries that are true, of which the first has a number
 abbrev pub numbers_of : ℕ → List Bool → List ℕ
@@ -22,16 +22,24 @@ AreApart bits n =
     (one other place bit : ℕ) → one < n → one < other → slice_get bits one ≡ Some (record { place = place; bit = bit })
     → slice_get bits other ≡ Some (record { place = place; bit = bit }) → ⊥
 
--- a place with its width
-abbrev pub wide_of : List FreeBit → ℕ → Wide
-wide_of bits place = record { place = place; width = width_in bits place }
+-- the columns of the bits of a place below one
+abbrev pub columns_to : List FreeBit → ℕ → ℕ → List ℕ
+columns_to bits place zero = []
+columns_to bits place (suc bit) = columns_to bits place bit ++ column_of bits place bit ∷ []
 
--- it has from 1 to 128 bits, and they are there
-pub record IsWide (u : Unrolling) (wide : Wide) : Type 0 where
-  pub some : 1 ≤ wide.width
-  pub few : wide.width ≤ 128
-  pub bits : (bit : ℕ) → bit < wide.width → HasFreeBit u wide.place bit
+-- those of all its bits
+abbrev pub columns_of : List FreeBit → ℕ → List ℕ
+columns_of bits place = columns_to bits place (width_in bits place)
 
--- the number that an assignment gives to it in a cycle
-abbrev pub wide_number : (ℕ → Bool) → Unrolling → ℕ → Wide → ℕ
-wide_number a u moment wide = number wide.width (model_bit a u moment wide.place)
+-- from 1 to 128 columns of a form
+pub record AreColumns (u : Unrolling) (columns : List ℕ) : Type 0 where
+  pub some : 1 ≤ length columns
+  pub few : length columns ≤ 128
+  pub within : (bit : ℕ) → bit < length columns → get_or columns bit 0 < length u.bits
+
+-- what an assignment gives to the literals of columns in a cycle, and the number of which those are the bits
+abbrev pub column_bit : (ℕ → Bool) → Unrolling → ℕ → List ℕ → ℕ → Bool
+column_bit a u moment columns bit = value_in a (free_at u moment (get_or columns bit 0))
+
+abbrev pub columns_number : (ℕ → Bool) → Unrolling → ℕ → List ℕ → ℕ
+columns_number a u moment columns = number (length columns) (column_bit a u moment columns)

@@ -1,12 +1,11 @@
 //! Whether values can be given, for callers that can't know.
 
-ghost use Rattle.std.specs.Prelude.{◌≡◌, ◌<◌, All, IsTrue, Some, get_or, length, slice_get, ℕ};
+ghost use Rattle.std.specs.Prelude.{◌≡◌, ◌+◌, ◌==◌, ◌<◌, if◌then◌else◌, max, All, IsTrue, Some, get_or, length, slice_get, ℕ};
 ghost use Rattle.unroller.specs.Reads.{HasFreeBit};
 ghost use Rattle.form_laws.specs.Models.{HasOneColumnEach, is_bit};
-ghost use Rattle.form_values.specs.ModelValues.{ArePlaces, IsPlace};
+ghost use Rattle.form_values.specs.ModelValues.{ArePlaces, IsPlace, width_in};
 ghost use Rattle.form_values.specs.Places.{IsAbsent};
 
-use crate::words::width_in;
 use suspect_map::Groups;
 use unroller::{FreeBit, Unrolled};
 
@@ -30,7 +29,7 @@ fn is_absent(bits: &[FreeBit], from: usize, place: u32, bit: u8) -> bool
     true
 }
 
-/// Whether each bit of a place has one column of literals in a form.
+/// Whether each bit of a place has one column of literals in a form. It is for tests: its time grows with the square of the bits.
 #[tactic(auto, using(crate::proofs::FitSteps::columns))]
 pub fn has_one_column_each(u: &Unrolled) -> bool
     ensures { IsTrue result → HasOneColumnEach u.now }
@@ -42,6 +41,29 @@ pub fn has_one_column_each(u: &Unrolled) -> bool
         }
     }
     true
+}
+
+/// The width of a place with one bit more, where it is a bit of the place.
+fn wider(width: u16, bit: FreeBit, place: u32) -> u16
+    ensures { result ≡ (if bit.place == place then max width (bit.bit + 1) else width) }
+{
+    if bit.place == place {
+        width.max(u16::from(bit.bit) + 1)
+    } else {
+        width
+    }
+}
+
+/// The width of a place, by all bits of places.
+#[tactic(auto, using(crate::proofs::ColumnSteps::widths))]
+fn width_in(bits: &[FreeBit], place: u32) -> u16
+    ensures { result ≡ width_in bits.now place }
+{
+    let mut width = 0;
+    for i in 0..bits.len() {
+        width = wider(width, bits[i], place);
+    }
+    width
 }
 
 /// Whether a place has from 1 to 128 bits, and each up to the last is there.
@@ -73,6 +95,7 @@ fn are_all_places(u: &Unrolled, places: &[u32]) -> bool
 }
 
 /// Whether the places of the suspects are places of the circuit: each has from 1 to 128 bits, and each up to the last is there.
+/// It is for tests: it goes over the bits of the form for each place.
 #[tactic(auto, using(crate::proofs::FitSteps::places))]
 pub fn are_places(u: &Unrolled, groups: &Groups) -> bool
     ensures { IsTrue result → ArePlaces u.now groups.now }

@@ -1,6 +1,7 @@
 //! The values that a model of a form gives to the places of a set of suspects.
 #![tactic(auto)]
 
+mod columns;
 mod fits;
 mod places;
 mod rows;

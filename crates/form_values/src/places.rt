@@ -11,15 +11,19 @@ use loc_base::{Items, NoMemory};
 use std::alloc::Global;
 use suspect_map::Group;
 
-/// Makes a table so long. It reads the same.
+/// Makes a table so long, by an entry again and again. It reads the same where that entry is read behind its last.
 #[tactic(auto, using(unroller::proofs::GroupSteps::longer))]
-fn lengthen(table: &mut Items<bool>, len: usize) -> Result<(), NoMemory>
+pub(crate) fn lengthen<T: Copy + Drop>(
+    table: &mut Items<T>,
+    len: usize,
+    entry: T,
+) -> Result<(), NoMemory>
     ensures long { OnOk result (length table.new ≡ length table.old + (len - length table.old)) }
-    ensures same { OnOk result ((p : ℕ) → get_or table.new p false ≡ get_or table.old p false) }
+    ensures same { OnOk result ((p : ℕ) → get_or table.new p entry ≡ get_or table.old p entry) }
 {
     let missing = len.saturating_sub(table.len());
     for i in 0..missing {
-        table.push(false)?;
+        table.push(entry)?;
     }
     Ok(())
 }
@@ -32,7 +36,7 @@ fn mark(table: &mut Items<bool>, place: u32) -> Result<(), NoMemory>
     ensures marks { OnOk result ((p : ℕ) → get_or table.new p false ≡ ((place == p) || get_or table.old p false)) }
 {
     let place = place as usize;
-    lengthen(table, place + 1)?;
+    lengthen(table, place + 1, false)?;
     table.set(place, true);
     Ok(())
 }

@@ -6,8 +6,9 @@ ghost use Rattle.unroller.specs.Reads.{IsUnrolled};
 ghost use Rattle.form_laws.specs.Models.{HasOneColumnEach};
 ghost use Rattle.form_values.specs.ModelValues.{AreModelValues, ArePlaces, IsPlace, MeetTraces, assignment_of, model_numbers, widths_of};
 
+use crate::columns::columns_of;
 use crate::places::places_of;
-use crate::words::{push_row, wide_places};
+use crate::words::push_row;
 use design_core::Values;
 use loc_base::{Bits, NoMemory};
 use std::alloc::Global;
@@ -28,10 +29,10 @@ fn rows_of(
     ensures widths { IfOk result (λ rows. map width_of rows.items ≡ widths_of u.now places.now (length u.now.ends)) }
     ensures numbers { IfOk result (λ rows. map value_of rows.items ≡ model_numbers (assignment_of model.now) u.now places.now (length u.now.ends)) }
 {
-    let wides = wide_places(alloc, u.bits(), places)?;
+    let columns = columns_of(alloc, u, places)?;
     let mut rows = Vec::new(alloc);
     for moment in 0..u.ends().len() {
-        push_row(&mut rows, model, u, &wides, moment)?;
+        push_row(&mut rows, model, u, &columns, moment)?;
     }
     Ok(rows)
 }

@@ -1,64 +1,14 @@
 //! The words that a model gives to places in a cycle.
 
-ghost use Rattle.std.specs.Prelude.{◌≡◌, ◌+◌, ◌==◌, ◌++◌, ◌<◌, ◌≤◌, ◌^◌, if◌then◌else◌, max, All, IfOk, OnOk, length, map, ℕ};
+ghost use Rattle.std.specs.Prelude.{◌≡◌, ◌++◌, ◌<◌, All, OnOk, length, map};
 ghost use Rattle.loc_base.specs.Bits.{value_of, width_of};
-ghost use Rattle.unroller.specs.Reads.{HasFreeBit, IsUnrolled};
-ghost use Rattle.form_laws.specs.Models.{HasOneColumnEach, value_in};
-ghost use Rattle.form_values.specs.ModelValues.{assignment_of, model_bit, width_in};
-ghost use Rattle.form_values.specs.Places.{IsWide, wide_number, wide_of};
+ghost use Rattle.unroller.specs.Reads.{IsUnrolled, free_at};
+ghost use Rattle.form_laws.specs.Models.{value_in};
+ghost use Rattle.form_values.specs.ModelValues.{assignment_of};
+ghost use Rattle.form_values.specs.Places.{AreColumns, columns_number};
 
-use loc_base::{Bits, NoMemory};
-use std::alloc::Global;
-use unroller::{FreeBit, Unrolled, UnrolledLit};
-
-/// A place and the number of its bits.
-#[derive(Clone, Copy)]
-pub(crate) struct Wide {
-    pub place: u32,
-    pub width: u8,
-}
-
-/// The width of a place with one bit more, where it is a bit of the place.
-fn wider(width: u16, bit: FreeBit, place: u32) -> u16
-    ensures { result ≡ (if bit.place == place then max width (bit.bit + 1) else width) }
-{
-    if bit.place == place {
-        width.max(u16::from(bit.bit) + 1)
-    } else {
-        width
-    }
-}
-
-/// The width of a place, by all bits of places.
-#[tactic(auto, using(crate::proofs::WordSteps::widths))]
-pub(crate) fn width_in(bits: &[FreeBit], place: u32) -> u16
-    ensures { result ≡ width_in bits.now place }
-{
-    let mut width = 0;
-    for i in 0..bits.len() {
-        width = wider(width, bits[i], place);
-    }
-    width
-}
-
-/// Places with their widths.
-#[tactic(auto, using(crate::proofs::WordSteps::wides))]
-pub(crate) fn wide_places(
-    alloc: Global,
-    bits: &[FreeBit],
-    places: &[u32],
-) -> Result<Vec<Wide>, NoMemory>
-    requires { All (λ place. width_in bits.now place ≤ 128) places.now }
-    ensures { IfOk result (λ wides. wides.items ≡ map (wide_of bits.now) places.now) }
-{
-    let mut wides = Vec::new(alloc);
-    for i in 0..places.len() {
-        let place = places[i];
-        let width = width_in(bits, place) as u8;
-        wides.push(Wide { place, width })?;
-    }
-    Ok(wides)
-}
+use loc_base::{Bits, NoMemory, Rows};
+use unroller::{Unrolled, UnrolledLit};
 
 /// The truth value of a variable in a model, whose values stand at the variable less 1.
 fn variable_in(model: &[bool], var: u32) -> bool
@@ -83,36 +33,34 @@ fn value_in(model: &[bool], bit: UnrolledLit) -> bool
     }
 }
 
-/// The truth value of a bit of a place in a cycle, by its number among all cycles.
+/// The truth value of the literal of a column in a cycle, by its number among all cycles.
 #[tactic(auto, using(crate::proofs::WordSteps::bits))]
-fn bit_in(model: &[bool], u: &Unrolled, moment: usize, place: u32, bit: u8) -> bool
+fn bit_in(model: &[bool], u: &Unrolled, moment: usize, column: usize) -> bool
     requires kept { IsUnrolled u.now }
     requires cycle { moment < length u.now.ends }
-    requires distinct { HasOneColumnEach u.now }
-    requires there { HasFreeBit u.now place bit }
-    ensures { result ≡ model_bit (assignment_of model.now) u.now moment place bit }
+    requires column { column < length u.now.bits }
+    ensures { result ≡ value_in (assignment_of model.now) (free_at u.now moment column) }
 {
-    let column = u.column(place, bit);
     value_in(model, u.literal(u.frees().row(moment)[column]))
 }
 
-/// The word of a place in a cycle.
+/// The word of which the literals of columns are the bits in a cycle.
 #[tactic(auto, using(crate::proofs::WordSteps::words))]
-fn word_in(model: &[bool], u: &Unrolled, moment: usize, wide: Wide) -> Bits
+fn word_in(model: &[bool], u: &Unrolled, moment: usize, columns: &[usize]) -> Bits
     requires kept { IsUnrolled u.now }
     requires cycle { moment < length u.now.ends }
-    requires distinct { HasOneColumnEach u.now }
-    requires place { IsWide u.now wide }
-    ensures width { width_of result ≡ wide.width }
-    ensures value { value_of result ≡ wide_number (assignment_of model.now) u.now moment wide }
+    requires columns { AreColumns u.now columns.now }
+    ensures width { width_of result ≡ length columns.now }
+    ensures value { value_of result ≡ columns_number (assignment_of model.now) u.now moment columns.now }
 {
+    let width = columns.len() as u8;
     let mut value: u128 = 0;
-    for bit in 0..wide.width {
-        if bit_in(model, u, moment, wide.place, bit) {
+    for bit in 0..width {
+        if bit_in(model, u, moment, columns[usize::from(bit)]) {
             value += 1 << bit;
         }
     }
-    match Bits::new(wide.width, value) {
+    match Bits::new(width, value) {
         Some(word) => word,
         None => unreachable!(),
     }
@@ -124,18 +72,17 @@ pub(crate) fn push_row(
     rows: &mut Vec<Bits>,
     model: &[bool],
     u: &Unrolled,
-    wides: &[Wide],
+    columns: &Rows<usize>,
     moment: usize,
 ) -> Result<(), NoMemory>
     requires kept { IsUnrolled u.now }
     requires cycle { moment < length u.now.ends }
-    requires distinct { HasOneColumnEach u.now }
-    requires places { All (IsWide u.now) wides.now }
-    ensures widths { OnOk result (map width_of rows.new.items ≡ map width_of rows.old.items ++ map (λ wide. wide.width) wides.now) }
-    ensures numbers { OnOk result (map value_of rows.new.items ≡ map value_of rows.old.items ++ map (wide_number (assignment_of model.now) u.now moment) wides.now) }
+    requires columns { All (AreColumns u.now) columns.now }
+    ensures widths { OnOk result (map width_of rows.new.items ≡ map width_of rows.old.items ++ map length columns.now) }
+    ensures numbers { OnOk result (map value_of rows.new.items ≡ map value_of rows.old.items ++ map (columns_number (assignment_of model.now) u.now moment) columns.now) }
 {
-    for i in 0..wides.len() {
-        rows.push(word_in(model, u, moment, wides[i]))?;
+    for i in 0..columns.len() {
+        rows.push(word_in(model, u, moment, columns.row(i)))?;
     }
     Ok(())
 }

@@ -1,6 +1,6 @@
 use Rattle.std.proofs.Common.{◌∙◌}
-use Rattle.form_values.proofs.WordSteps.{width-more}
-use Rattle.form_values.proofs.words.width_in.Goals as goal
+use Rattle.form_values.proofs.ColumnSteps.{width-more}
+use Rattle.form_values.proofs.fits.width_in.Goals as goal
 
 pub loop-i-preserved : goal.loop-i-preserved
 loop-i-preserved c =
