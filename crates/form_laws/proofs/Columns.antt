@@ -19,12 +19,12 @@ abbrev pub free : ℕ → ℕ → FreeBit
 free place bit = record { place = place; bit = bit }
 
 -- the node of a free bit, and as many free bits stand before it as before the bit
-record NodeOf (nodes : List Node) (column place bit : ℕ) : Type 0 where
-  at : ℕ
-  moment : ℕ
-  computed : Literal
-  there : slice_get nodes at ≡ Some (Free moment place bit computed)
-  count : column ≡ length (free_bits (take at nodes))
+pub record NodeOf (nodes : List Node) (column place bit : ℕ) : Type 0 where
+  pub at : ℕ
+  pub moment : ℕ
+  pub computed : Literal
+  pub there : slice_get nodes at ≡ Some (Free moment place bit computed)
+  pub count : column ≡ length (free_bits (take at nodes))
 
 behind : (node : Node) (nodes : List Node) (column place bit : ℕ) → free_bits (node ∷ nodes) ≡ free_bits nodes
     → ((ns : List Node) → free_bits (node ∷ ns) ≡ free_bits ns)
@@ -37,7 +37,7 @@ behind node nodes column place bit same each of = record {
   count = of.count ∙ ap length (sym (each (take of.at nodes)));
 }
 
-node-of : (nodes : List Node) (column place bit : ℕ) → slice_get (free_bits nodes) column ≡ Some (free place bit)
+pub node-of : (nodes : List Node) (column place bit : ℕ) → slice_get (free_bits nodes) column ≡ Some (free place bit)
     → NodeOf nodes column place bit
 node-of [] column place bit there = cc
 node-of (Input input b ∷ nodes) column place bit there =

@@ -64,7 +64,7 @@ module _ (of : Asked) (can : CanBeAsked of) where
   base-is : u.base ≡ n + starts of.k (n + 1) + 1
   base-is = base-unrolled of.circuit of.traces of.groups of.k
 
-  bits-are : u.bits ≡ free_bits of.circuit.nodes
+  pub bits-are : u.bits ≡ free_bits of.circuit.nodes
   unfolding unrolled_of
   bits-are = bits-traces of.circuit (is_grouped of.groups) of.traces (unrolled_before of.circuit (base_of of.groups of.k))
 

@@ -8,7 +8,7 @@ use Rattle.std.specs.Option.{option_map_or}
 use Rattle.std.proofs.Math.Nat.{mul-le-mul_right}
 use Rattle.std.proofs.lemmas.Bool.{and_parts, cases_lt, ne_eqb, eq-eqb, cases_Bool}
 use Rattle.std.proofs.lemmas.Nat.Bits.{bit_at_cat_low, bit_at_cat_high, bit_at_lowest}
-use Rattle.std.proofs.lemmas.List.{length-map, take_all, take-append-le, drop-append-le, drop_at, length-drop}
+use Rattle.std.proofs.lemmas.List.{drop-map, length-map, take-map, take_all, take-append-le, drop-append-le, drop_at, length-drop}
 use Rattle.loc_base.proofs.ShelfBools.{equal-true}
 use Rattle.loc_base.proofs.ShelfLists.{list_any-found, list_any-member}
 use Rattle.loc_base.proofs.ShelfOptions.{Some-same}
@@ -84,7 +84,7 @@ number-has (suc w) f b less = at (cases_lt b w) (λ low. number-has w f b low)
         ∙ ap (λ k. bit_at (cond (f w) 1 0) k == 1) none ∙ ap (λ n. n == 1) (bit_at_lowest (cond (f w) 1 0)) ∙ lowest (f w) ∙ ap f here
 
 -- a bit of a place is below its width
-bit-below : (bits : List FreeBit) (column place b : ℕ) → slice_get bits column ≡ Some (record { place = place; bit = b })
+pub bit-below : (bits : List FreeBit) (column place b : ℕ) → slice_get bits column ≡ Some (record { place = place; bit = b })
     → b < width_in bits place
 bit-below [] column place b there = cc
 bit-below (x ∷ bits) zero place b there =
@@ -101,63 +101,36 @@ bit-below (x ∷ bits) (suc column) place b there = wider (x.place == place) (bi
 
 -- ---- rows
 
-length-numbers : (a : ℕ → Bool) (u : Unrolling) (places : List ℕ) (n : ℕ) → length (model_numbers a u places n) ≡ n * length places
-length-numbers a u places zero = omega arith
-length-numbers a u places (suc n) =
-    omega (
-      arith,
-      length-append (model_numbers a u places n) (map (model_number a u n) places),
-      length-numbers a u places n,
-      length-map places (model_number a u n),
-      more n (length places),
-    )
-  where
-    more : (n w : ℕ) → suc n * w ≡ n * w + w
-    more n w = omega arith
-
 below-rows : (r n w : ℕ) → r < n → r * w + w ≤ n * w
 below-rows r n w less =
     let more : (r + 1) * w ≤ n * w = mul-le-mul_right w (omega (arith, less)) in
     let one : (r + 1) * w ≡ r * w + w = omega arith in
     omega (arith, more, one)
 
-module _ (a : ℕ → Bool) (u : Unrolling) (places : List ℕ) where
-  abbrev w : ℕ
-  w = length places
-
-  abbrev all : ℕ → List ℕ
-  all n = model_numbers a u places n
-
-  row-numbers : (n r : ℕ) → r < n → take w (drop (r * w) (all n)) ≡ map (model_number a u r) places
-  row-numbers zero r less = absurd (omega (arith, less))
-  row-numbers (suc n) r less = at (cases_lt r n) (λ low. row-numbers n r low)
+-- rows of so many entries, one after another
+module _ (w : ℕ) (row : ℕ → List ℕ) (all : ℕ → List ℕ) (none : all 0 ≡ []) (next : (n : ℕ) → all (suc n) ≡ all n ++ row n) (wide : (n : ℕ) → length (row n) ≡ w) where
+  pub length-rows : (n : ℕ) → length (all n) ≡ n * w
+  length-rows zero = let no_entries : 0 ≡ 0 * w = omega arith in ap length none ∙ no_entries
+  length-rows (suc n) =
+      ap length (next n) ∙ omega (arith, length-append (all n) (row n), length-rows n, wide n, more n w)
     where
-      last : List ℕ
-      last = map (model_number a u n) places
+      more : (n w : ℕ) → suc n * w ≡ n * w + w
+      more n w = omega arith
 
-      at : (r < n) ⊎ (n ≤ r) → (r < n → take w (drop (r * w) (all n)) ≡ map (model_number a u r) places)
-          → take w (drop (r * w) (all n ++ map (model_number a u n) places)) ≡ map (model_number a u r) places
+  pub row-at : (n r : ℕ) → r < n → take w (drop (r * w) (all n)) ≡ row r
+  row-at zero r less = absurd (omega (arith, less))
+  row-at (suc n) r less = ap (λ xs. take w (drop (r * w) xs)) (next n) ∙ at (cases_lt r n) (λ low. row-at n r low)
+    where
+      at : (r < n) ⊎ (n ≤ r) → (r < n → take w (drop (r * w) (all n)) ≡ row r) → take w (drop (r * w) (all n ++ row n)) ≡ row r
       at (inl low) rest =
-          let room : r * w + w ≤ length (all n) = omega (arith, below-rows r n w low, length-numbers a u places n) in
-          ap (take w) (drop-append-le (r * w) (all n) (map (model_number a u n) places) (omega (arith, room)))
-          ∙ take-append-le w (drop (r * w) (all n)) (map (model_number a u n) places) (omega (arith, room, length-drop (r * w) (all n)))
+          let room : r * w + w ≤ length (all n) = omega (arith, below-rows r n w low, length-rows n) in
+          ap (take w) (drop-append-le (r * w) (all n) (row n) (omega (arith, room)))
+          ∙ take-append-le w (drop (r * w) (all n)) (row n) (omega (arith, room, length-drop (r * w) (all n)))
           ∙ rest low
       at (inr past) rest =
           let here : n ≡ r = omega (arith, past, less) in
-          let long : length (all n) ≡ r * w = length-numbers a u places n ∙ ap (λ k. k * w) here in
-          ap (take w) (drop_at (all n) (map (model_number a u n) places) (r * w) long)
-          ∙ take_all w (map (model_number a u n) places) (omega (arith, length-map places (model_number a u n)))
-          ∙ ap (λ k. map (model_number a u k) places) here
-
-map-take : {X Y : Type 0} (f : X → Y) (n : ℕ) (xs : List X) → map f (take n xs) ≡ take n (map f xs)
-map-take f zero xs = refl
-map-take f (suc n) [] = refl
-map-take f (suc n) (x ∷ xs) = ap (λ ys. f x ∷ ys) (map-take f n xs)
-
-map-drop : {X Y : Type 0} (f : X → Y) (n : ℕ) (xs : List X) → map f (drop n xs) ≡ drop n (map f xs)
-map-drop f zero xs = refl
-map-drop f (suc n) [] = refl
-map-drop f (suc n) (x ∷ xs) = map-drop f n xs
+          let long : length (all n) ≡ r * w = length-rows n ∙ ap (λ k. k * w) here in
+          ap (take w) (drop_at (all n) (row n) (r * w) long) ∙ take_all w (row n) (omega (arith, wide n)) ∙ ap row here
 
 -- the number for a place that is listed
 number-for : (f : ℕ → ℕ) (places : List ℕ) (p : ℕ) → is_one_of places p ≡ true → number_for places (map f places) p ≡ f p
@@ -198,9 +171,10 @@ module _ (of : Asked) (can : CanBeAsked of) (a : ℕ → Bool) (members : List �
         let r = first_of of.traces j + t in
         let within : r < length form.ends = omega (arith, low, cycles-within of.traces j trace there, ends-all of can) in
         let row : row_at values r ≡ map (model_number a form r) places =
-        map-take value_of (length places) (drop (r * length places) values.rows.items)
-        ∙ ap (take (length places)) (map-drop value_of (r * length places) values.rows.items ∙ ap (drop (r * length places)) are.numbers)
-        ∙ row-numbers a form places (length form.ends) r within in
+        sym (take-map value_of (length places) (drop (r * length places) values.rows.items))
+        ∙ ap (take (length places)) (sym (drop-map value_of (r * length places) values.rows.items) ∙ ap (drop (r * length places)) are.numbers)
+        ∙ row-at (length places) (λ n. map (model_number a form n) places) (model_numbers a form places) refl (λ n. refl)
+        (λ n. length-map places (model_number a form n)) (length form.ends) r within in
         ap (λ n. number_for places (row_at values (n + t)) p) (before-is of.traces j)
         ∙ ap (λ ns. number_for places ns p) row
         ∙ number-for (model_number a form r) places p (are.places p ∙ freed)

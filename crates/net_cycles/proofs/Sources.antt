@@ -31,6 +31,8 @@ use Rattle.v_synth_parts.specs.Meaning.{word_of}
 use Rattle.v_synth.specs.Matches.{OneNet, IsNetOf, MeansCycle, value_in}
 use Rattle.v_synth.specs.Net.{states_of, cycle_source}
 use Rattle.v_synth.proofs.NetKeeps.{cycle-means}
+use Rattle.net_reads.specs.Widths.{HasWidths}
+use Rattle.net_reads.proofs.GivenWidths.{net-given}
 use Rattle.net_cycles.specs.Evaluated.{Evaluated, IsGivenAs}
 
 -- ---- two sources
@@ -59,7 +61,7 @@ value-same e f known width (Put old from size word offset) same = refl
 value-same e f known width (PutPick old select word offset) same = refl
 value-same e f known width (Blend mask one other) same = refl
 
-values-same : (e f : Source) (known : List ℕ) (nodes : List WordNode) → ((i : ℕ) (node : WordNode) → slice_get nodes i ≡ Some node → GiveSame e f node.operation)
+pub values-same : (e f : Source) (known : List ℕ) (nodes : List WordNode) → ((i : ℕ) (node : WordNode) → slice_get nodes i ≡ Some node → GiveSame e f node.operation)
     → values e known nodes ≡ values f known nodes
 unfolding values word_value
 values-same e f known [] same = refl
@@ -111,7 +113,7 @@ sample-fits signals (input ∷ inputs) (sample ∷ samples) (suc i) x fits at =
     let both = and_parts (width_of sample == width_at signals input) (samples_fit signals inputs samples) fits in
     let rest = sample-fits signals inputs samples i x both.1 at in (omega (arith, rest.0), rest.1)
 
-input-is : (signals : List Signal) (inputs : List ℕ) (samples : List Bits) (i : ℕ) (x : Bits) → AllPairs (λ one other. one ≢ other) inputs → samples_fit signals inputs samples ≡ true → slice_get samples i ≡ Some x
+pub input-is : (signals : List Signal) (inputs : List ℕ) (samples : List Bits) (i : ℕ) (x : Bits) → AllPairs (λ one other. one ≢ other) inputs → samples_fit signals inputs samples ≡ true → slice_get samples i ≡ Some x
     → number_at samples i ≡ number (width_at signals (get_or inputs i 0)) (sampled inputs samples (get_or inputs i 0))
 input-is signals inputs samples i x distinct fits at =
     let fit = sample-fits signals inputs samples i x fits at in
@@ -169,3 +171,7 @@ pub evaluated-next : (of : Evaluated) → IsWellFormed of.cycle.design → IsDri
     → map (number_at of.values) of.net.next ≡ map (word_of of.cycle.design.signals.items of.cycle.next) (states_of of.cycle.design)
 evaluated-next of well once ordered is cycle begun given known =
     ap (λ f. map f of.net.next) (node-value of well begun given known) ∙ (means of well once ordered is cycle).next
+
+-- all that a net of a design reads is given where each word has its width
+pub widths-given : (of : Evaluated) → IsWellFormed of.cycle.design → IsOrder of.cycle.design of.cycle.order → IsNetOf of.cycle.design of.cycle.order of.net → HasWidths of.cycle.design of.given → AreGiven of.given of.net.nodes
+widths-given of well ordered is widths = subst (AreGiven of.given) (sym is.nodes) (net-given of.cycle.design of.cycle.order of.given well ordered widths)

@@ -1,5 +1,5 @@
-//! What the values of a net's nodes are in a cycle of its design. It is the contract of a function that does nothing, over values
-//! that no code holds.
+//! What the values of a net's nodes are in a cycle of its design. Each law is the contract of a function that does nothing, over
+//! values that no code holds.
 
 ghost use Rattle.std.specs.Prelude.{◌≡◌, map};
 ghost use Rattle.loc_base.specs.Bits.{value_of};
@@ -12,6 +12,7 @@ ghost use Rattle.word_net.specs.Values.{net_values};
 ghost use Rattle.v_synth_parts.specs.Meaning.{word_of};
 ghost use Rattle.v_synth.specs.Matches.{IsNetOf};
 ghost use Rattle.v_synth.specs.Net.{states_of};
+ghost use Rattle.net_reads.specs.Widths.{HasWidths};
 ghost use Rattle.net_cycles.specs.Evaluated.{Evaluated, IsGivenAs};
 
 /// Where the nodes of a design's net have their values, and what they read is what the cycle begins with, the values of the
@@ -28,4 +29,23 @@ pub fn evaluated_is_cycle()
     requires values { map value_of of.values ≡ net_values (source_of of.given) of.net.nodes }
     ensures outputs { map (number_at of.values) of.net.outputs ≡ map (word_of of.cycle.design.signals.items of.cycle.values) of.cycle.design.outputs.items }
     ensures next { map (number_at of.values) of.net.next ≡ map (word_of of.cycle.design.signals.items of.cycle.next) (states_of of.cycle.design) }
+{}
+
+/// In a well-formed design in which each bit gets its value once, and whose drivers stand in an order: where a word is given for
+/// each sample, state and place, of its width, and the words are what the cycle begins with, all that the net reads is given; and
+/// wherever words are the values of the net's nodes, those of the outputs and of the next states are those of the cycle.
+pub fn design_cycle_evaluated()
+    ghost of: { Evaluated }
+    requires well_formed { IsWellFormed of.cycle.design }
+    requires once { IsDrivenOnce of.cycle.design }
+    requires order { IsOrder of.cycle.design of.cycle.order }
+    requires net { IsNetOf of.cycle.design of.cycle.order of.net }
+    requires cycle { Cycle of.cycle.design of.cycle.samples of.cycle.state of.cycle.choice of.cycle.values of.cycle.next }
+    requires begins { IsGivenAs of.cycle of.given }
+    requires widths { HasWidths of.cycle.design of.given }
+    ensures given { AreGiven of.given of.net.nodes }
+    ensures outputs { map value_of of.values ≡ net_values (source_of of.given) of.net.nodes
+        → map (number_at of.values) of.net.outputs ≡ map (word_of of.cycle.design.signals.items of.cycle.values) of.cycle.design.outputs.items }
+    ensures next { map value_of of.values ≡ net_values (source_of of.given) of.net.nodes
+        → map (number_at of.values) of.net.next ≡ map (word_of of.cycle.design.signals.items of.cycle.next) (states_of of.cycle.design) }
 {}

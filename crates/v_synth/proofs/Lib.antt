@@ -9,4 +9,5 @@ pub mod BlockSteps
 pub mod FirstSteps
 pub mod NetSteps
 pub mod NetTallies
+pub mod NetReads
 pub mod NetKeeps

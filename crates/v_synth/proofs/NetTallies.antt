@@ -1,16 +1,15 @@
 -- What the nodes of a net weigh: inputs and states once each, and a place as often as the design has it.
-use Rattle.std.proofs.Common.{◌≡◌, ◌≢◌, ℕ, zero, suc, ◌+◌, ◌*◌, ◌<◌, ◌≤◌, Bool, true, false, not, List, [], ◌∷◌, ◌++◌, length, map, get_or, set, sum_by, AllPairs, All, refl, sym, ◌∙◌, ap, ap₂, subst, arith, append_assoc, length-append, ◌⊎◌, inl, inr}
-use Rattle.std.specs.Prelude.{◌==◌, ◌&&◌, ◌||◌, if◌then◌else◌, slice_get, Option, Some, None}
+use Rattle.std.proofs.Common.{◌≡◌, ◌≢◌, ℕ, zero, suc, ◌+◌, ◌*◌, ◌<◌, ◌≤◌, Bool, true, false, List, [], ◌∷◌, ◌++◌, length, map, get_or, set, sum_by, AllPairs, All, Contains, refl, sym, ◌∙◌, ap, ap₂, subst, arith, append_assoc, length-append, ◌⊎◌, inl, inr}
+use Rattle.std.specs.Prelude.{◌==◌, if◌then◌else◌, slice_get, Option, Some, None}
 use Rattle.std.specs.Option.{option_map_or}
-use Rattle.std.specs.List.{list_all, sum}
-use Rattle.std.proofs.lemmas.Bool.{and_parts, lt-ltb, eqb-true, eq-eqb, cases_lt, cases_eq}
-use Rattle.std.proofs.lemmas.List.{get_or-set_same, get_or-set_other, length-set}
+use Rattle.std.specs.List.{list_all}
+use Rattle.std.proofs.lemmas.Bool.{lt-ltb, cases_lt, cases_eq}
+use Rattle.std.proofs.lemmas.List.{get_or-set_same, get_or-set_other, length-set, length-map}
 use Rattle.std.proofs.lemmas.List.Sums.{sum_by-cons, sum_by-set, sum-map}
-use Rattle.std.proofs.lemmas.Option.{slice_get_past, get_or_from_slice_get}
+use Rattle.std.proofs.lemmas.Option.{slice_get_past}
 use Rattle.std.proofs.Math.ListN.{get_or-eq_default}
 use Rattle.std.proofs.Math.Seq.{get_or-append_seam}
-use Rattle.loc_base.proofs.ShelfBools.{equal-false}
-use Rattle.loc_base.proofs.ShelfLists.{slice_get-some}
+use Rattle.loc_base.proofs.ShelfLists.{Contains-empty, Contains-first, Contains-later, Contains-cons}
 use Rattle.design_core.specs.declared.signal.Signal.{Signal}
 use Rattle.design_core.specs.declared.expression.UnaryOp.TheVariants as unary_op
 use Rattle.design_core.specs.declared.driver.Driver.{Driver}
@@ -20,19 +19,19 @@ use Rattle.design_core.specs.declared.statement.Stmt.{Stmt}
 use Rattle.design_core.specs.declared.design.Design.{Design}
 use Rattle.design_core.specs.Valuation.{width_at}
 use Rattle.design_core.specs.Drives.{is_listed}
-use Rattle.design_core.specs.WellFormed.{signal_fits, times_in, times_in_driver, times_in_clocked, times_in_design}
-use Rattle.design_core.proofs.Lists.{AllPairs-first, AllPairs-later}
-use Rattle.word_net.specs.declared.node.Operation.{Operation}
+use Rattle.design_core.specs.Reads.{IsOrder}
+use Rattle.design_core.specs.WellFormed.{signal_fits}
+use Rattle.design_core.proofs.Lists.{All-later, AllPairs-first, AllPairs-later}
 use Rattle.word_net.specs.declared.node.Operation.TheVariants as operation
 use Rattle.word_net.specs.declared.node.WordNode.{WordNode}
 use Rattle.word_net.specs.Build.{Made, made, pushed}
 use Rattle.v_synth_parts.specs.Expression.{unsigned}
-use Rattle.v_synth_parts.specs.Store.{Nodes, nodes_made}
+use Rattle.v_synth_parts.specs.Store.{Nodes}
 use Rattle.v_synth_parts.specs.Statement.{Maps, maps, statement_made}
 use Rattle.v_synth_parts.specs.Driver.{driver_at_made, drivers_made}
-use Rattle.v_synth_parts.specs.Tally.{Weights, counted, weight, tally}
+use Rattle.v_synth_parts.specs.Tally.{Weights, tally, placed_in, placed_in_driver, placed_in_clocked, placed_in_design}
 use Rattle.v_synth_parts.proofs.Base.{signal-at, width-bounds}
-use Rattle.v_synth_parts.proofs.Tallies.{tally-pushed, light, counted-sum, counted-none, statement-tally, driver-tally}
+use Rattle.v_synth_parts.proofs.Tallies.{tally-pushed, light, statement-tally, driver-tally}
 use Rattle.v_synth.specs.declared.clocked.Turn.{Turn}
 use Rattle.v_synth.specs.declared.clocked.Turn.TheVariants.{When, Unless, Always}
 use Rattle.v_synth.specs.Clocked.{has_state, place_in, inputs_made, masked_made, state_made, first_made, signals_made, begun_made, own_mask, left_at, turned_made, own_made, owns_made, left_made, active_made, reset_made, resets_made, body_made, bodies_made}
@@ -94,17 +93,21 @@ unfolding begun_made tally
 begun-most w d fits by =
     omega (arith, signals-most w d (inputs_made d [] 0 d.inputs.items) [] 0 0 (length d.signals.items) fits by, inputs-most w d [] 0 d.inputs.items fits by)
 
--- weights of inputs are 0, and of states that are numbered as they are in the design
+-- inputs and states that are numbered as they are in the design weigh 0
 pub record AreLight (w : Weights) (d : Design) : Type 0 where
-  pub input : (width i : ℕ) → w.input width i ≡ 0
+  pub input : (s i : ℕ) → i < length d.inputs.items → get_or d.inputs.items i 0 ≡ s → w.input (width_at d.signals.items s) i ≡ 0
   pub state : (s i : ℕ) → i < length (states_of d) → get_or (states_of d) i 0 ≡ s → w.state (width_at d.signals.items s) i ≡ 0
 
-inputs-light : (w : Weights) (d : Design) (nodes : List WordNode) (place : ℕ) (inputs : List ℕ) → AreLight w d → tally w (inputs_made d nodes place inputs) ≡ tally w nodes
+inputs-light : (w : Weights) (d : Design) (nodes : List WordNode) (place : ℕ) (inputs prefix : List ℕ) → AreLight w d → d.inputs.items ≡ prefix ++ inputs → length prefix ≡ place → tally w (inputs_made d nodes place inputs) ≡ tally w nodes
 unfolding inputs_made
-inputs-light w d nodes place [] none = refl
-inputs-light w d nodes place (input ∷ inputs) none =
+inputs-light w d nodes place [] prefix none whole long = refl
+inputs-light w d nodes place (input ∷ inputs) prefix none whole long =
     let width : ℕ = width_at d.signals.items input in
-    inputs-light w d (pushed nodes width (operation.Input place)).nodes (place + 1) inputs none ∙ light w nodes width (operation.Input place) (none.input width place)
+    let many : length d.inputs.items ≡ length prefix + suc (length inputs) = ap length whole ∙ length-append prefix (input ∷ inputs) in
+    let here : w.input width place ≡ 0 =
+    none.input input place (omega (arith, many, long)) (ap (λ xs. get_or xs place 0) whole ∙ ap (λ k. get_or (prefix ++ input ∷ inputs) k 0) (sym long) ∙ get_or-append_seam prefix input inputs 0) in
+    inputs-light w d (pushed nodes width (operation.Input place)).nodes (place + 1) inputs (prefix ++ input ∷ []) none (whole ∙ sym (append_assoc prefix (input ∷ []) inputs)) (omega (arith, length-append prefix (input ∷ []), long))
+    ∙ light w nodes width (operation.Input place) here
 
 first-light : (w : Weights) (d : Design) (nodes : List WordNode) (s state : ℕ) → (has_state d s ≡ true → w.state (width_at d.signals.items s) state ≡ 0) → tally w (first_made d nodes s state).nodes ≡ tally w nodes
 unfolding first_made
@@ -146,54 +149,71 @@ signals-light w d nodes nodes_of state s (suc more) prefix none states long =
 
 pub begun-light : (w : Weights) (d : Design) → AreLight w d → tally w (begun_made d).nodes ≡ 0
 unfolding begun_made tally
-begun-light w d none = signals-light w d (inputs_made d [] 0 d.inputs.items) [] 0 0 (length d.signals.items) [] none refl refl ∙ inputs-light w d [] 0 d.inputs.items none
+begun-light w d none = signals-light w d (inputs_made d [] 0 d.inputs.items) [] 0 0 (length d.signals.items) [] none refl refl ∙ inputs-light w d [] 0 d.inputs.items [] none refl refl
 
 -- ---- drivers
 
--- how often a place stands in the driver of a number
-abbrev times_at : Weights → List Driver → ℕ → ℕ
-times_at w drivers i = option_map_or (times_in_driver w.place) (slice_get drivers i) 0
+-- how much the assignments of the driver of a number weigh
+abbrev placed_at : Weights → List Signal → List Driver → ℕ → ℕ
+placed_at w signals drivers i = option_map_or (placed_in_driver w signals) (slice_get drivers i) 0
 
 at-tally : (w : Weights) (signals : List Signal) (nodes : List WordNode) (nodes_of : List ℕ) (o : Option Driver)
-    → tally w (driver_at_made signals nodes nodes_of o).nodes ≡ tally w nodes + counted w (option_map_or (times_in_driver w.place) o 0)
+    → tally w (driver_at_made signals nodes nodes_of o).nodes ≡ tally w nodes + option_map_or (placed_in_driver w signals) o 0
 unfolding driver_at_made
-at-tally w signals nodes nodes_of None = omega (arith, counted-none w)
+at-tally w signals nodes nodes_of None = omega arith
 at-tally w signals nodes nodes_of (Some driver) = driver-tally w signals nodes nodes_of driver
 
 drivers-tally : (w : Weights) (signals : List Signal) (drivers : List Driver) (nodes : List WordNode) (nodes_of order : List ℕ)
-    → tally w (drivers_made signals drivers nodes nodes_of order).nodes ≡ tally w nodes + counted w (sum_by (times_at w drivers) order)
+    → tally w (drivers_made signals drivers nodes nodes_of order).nodes ≡ tally w nodes + sum_by (placed_at w signals drivers) order
 unfolding drivers_made
-drivers-tally w signals drivers nodes nodes_of [] = omega (arith, counted-none w)
+drivers-tally w signals drivers nodes nodes_of [] = omega arith
 drivers-tally w signals drivers nodes nodes_of (i ∷ order) =
     let m : Nodes = driver_at_made signals nodes nodes_of (slice_get drivers i) in
-    let sum : counted w (sum_by (times_at w drivers) (i ∷ order)) ≡ counted w (times_at w drivers i) + counted w (sum_by (times_at w drivers) order) =
-    ap (counted w) (sum_by-cons (times_at w drivers) i order) ∙ counted-sum w (times_at w drivers i) (sum_by (times_at w drivers) order) in
-    omega (arith, drivers-tally w signals drivers m.nodes m.each order, at-tally w signals nodes nodes_of (slice_get drivers i), sum)
+    omega (arith, drivers-tally w signals drivers m.nodes m.each order, at-tally w signals nodes nodes_of (slice_get drivers i), sum_by-cons (placed_at w signals drivers) i order)
 
--- different numbers take no more than all
-sum-le : (weights : List ℕ) (order : List ℕ) → AllPairs (λ i j. i ≢ j) order → sum_by (λ i. get_or weights i 0) order ≤ sum_by (λ x. x) weights
-sum-le weights [] distinct = omega arith
-sum-le weights (i ∷ order) distinct =
-    at (cases_lt i (length weights)) (sum-le (set weights i 0) order (AllPairs-later (λ i j. i ≢ j) i order distinct)) (sum-le weights order (AllPairs-later (λ i j. i ≢ j) i order distinct))
+sum-zero : (weights : List ℕ) → ((j : ℕ) → 0 < get_or weights j 0 → ⊥) → sum_by (λ x. x) weights ≡ 0
+sum-zero [] none = refl
+sum-zero (zero ∷ weights) none = omega (arith, sum_by-cons (λ x. x) 0 weights, sum-zero weights (λ j more. none (suc j) more))
+sum-zero (suc n ∷ weights) none = absurd (none 0 (omega arith))
+
+-- numbers that are all different, among them each that weighs something, weigh what all do
+sum-order : (weights order : List ℕ) → All (λ i. i < length weights) order → AllPairs (λ i j. i ≢ j) order → ((j : ℕ) → 0 < get_or weights j 0 → Contains order j)
+    → sum_by (λ i. get_or weights i 0) order ≡ sum_by (λ x. x) weights
+sum-order weights [] numbers distinct complete = sym (sum-zero weights (λ j more. Contains-empty j (complete j more)))
+sum-order weights (i ∷ order) numbers distinct complete =
+    omega (
+      arith,
+      sum_by-cons (λ j. get_or weights j 0) i order,
+      same order (λ j member. AllPairs-first (λ i j. i ≢ j) i order j distinct member),
+      sum-order cleared order within (AllPairs-later (λ i j. i ≢ j) i order distinct) (λ j more. behind j more (cases_eq j i)),
+      sum_by-set (λ x. x) weights i 0 0 low,
+    )
   where
+    low : i < length weights
+    low = numbers 0 0 (omega arith)
+
     cleared : List ℕ
     cleared = set weights i 0
 
-    same : (xs : List ℕ) → ((j : ℕ) (k : ℕ) → k < length xs → get_or xs k j ≡ j → i ≢ j) → sum_by (λ j. get_or weights j 0) xs ≡ sum_by (λ j. get_or cleared j 0) xs
+    within : All (λ j. j < length cleared) order
+    within = subst (λ n. All (λ j. j < n) order) (sym (length-set weights i 0)) (All-later (λ j. j < length weights) i order numbers)
+
+    same : (xs : List ℕ) → ((j : ℕ) → Contains xs j → i ≢ j) → sum_by (λ j. get_or weights j 0) xs ≡ sum_by (λ j. get_or cleared j 0) xs
     same [] apart = refl
     same (x ∷ xs) apart =
         sum_by-cons (λ j. get_or weights j 0) x xs
-        ∙ ap₂ (λ a b. a + b) (sym (get_or-set_other weights i x 0 0 (λ e. apart x 0 (omega arith) refl (sym e)))) (same xs (λ j k within is. apart j (suc k) (omega (arith, within)) is))
+        ∙ ap₂ (λ a b. a + b) (sym (get_or-set_other weights i x 0 0 (λ e. apart x (Contains-first x xs) (sym e)))) (same xs (λ j member. apart j (Contains-later x xs j member)))
         ∙ sym (sum_by-cons (λ j. get_or cleared j 0) x xs)
 
-    rest : sum_by (λ j. get_or weights j 0) order ≡ sum_by (λ j. get_or cleared j 0) order
-    rest = same order (λ j k within is. subst (λ x. i ≢ x) is (distinct 0 (suc k) j (omega arith) (omega (arith, within))))
+    other : (j : ℕ) → j ≢ i → (i ≡ j) ⊎ Contains order j → Contains order j
+    other j apart (inl at) = absurd (apart (sym at))
+    other j apart (inr later) = later
 
-    at : (i < length weights) ⊎ (length weights ≤ i) → sum_by (λ j. get_or cleared j 0) order ≤ sum_by (λ x. x) cleared → sum_by (λ j. get_or weights j 0) order ≤ sum_by (λ x. x) weights
-        → sum_by (λ j. get_or weights j 0) (i ∷ order) ≤ sum_by (λ x. x) weights
-    at (inl low) clear all = omega (arith, sum_by-cons (λ j. get_or weights j 0) i order, rest, clear, sum_by-set (λ x. x) weights i 0 0 low)
-    at (inr past) clear all =
-        let none : get_or weights i 0 ≡ 0 = get_or-eq_default weights 0 past in omega (arith, sum_by-cons (λ j. get_or weights j 0) i order, none, all)
+    behind : (j : ℕ) → 0 < get_or cleared j 0 → (j ≡ i) ⊎ (j ≡ i → ⊥) → Contains order j
+    behind j more (inl at) =
+        let none : get_or cleared j 0 ≡ 0 = ap (λ k. get_or cleared k 0) at ∙ get_or-set_same weights i 0 0 low in absurd (omega (arith, none, more))
+    behind j more (inr apart) =
+        other j apart (Contains-cons i order j (complete j (subst (λ n. 0 < n) (get_or-set_other weights i j 0 0 apart) more)))
 
 at-map : (f : Driver → ℕ) (drivers : List Driver) (i : ℕ) → option_map_or f (slice_get drivers i) 0 ≡ get_or (map f drivers) i 0
 at-map f [] i = refl
@@ -204,14 +224,25 @@ sum-same : (f g : ℕ → ℕ) (xs : List ℕ) → ((x : ℕ) → f x ≡ g x) �
 sum-same f g [] same = refl
 sum-same f g (x ∷ xs) same = sum_by-cons f x xs ∙ ap₂ (λ a b. a + b) (same x) (sum-same f g xs same) ∙ sym (sum_by-cons g x xs)
 
-pub order-le : (w : Weights) (drivers : List Driver) (order : List ℕ) → AllPairs (λ i j. i ≢ j) order → sum_by (times_at w drivers) order ≤ sum_by (times_in_driver w.place) drivers
-order-le w drivers order distinct =
-    omega (
-      arith,
-      sum-same (times_at w drivers) (λ i. get_or (map (times_in_driver w.place) drivers) i 0) order (at-map (times_in_driver w.place) drivers),
-      sum-le (map (times_in_driver w.place) drivers) order distinct,
-      sum-map (times_in_driver w.place) drivers,
-    )
+-- the drivers of an order weigh what all do
+order-sum : (w : Weights) (d : Design) (order : List ℕ) → IsOrder d order → sum_by (placed_at w d.signals.items d.drivers.items) order ≡ sum_by (placed_in_driver w d.signals.items) d.drivers.items
+order-sum w d order ordered =
+    sum-same (placed_at w d.signals.items d.drivers.items) (λ i. get_or weights i 0) order (at-map f d.drivers.items)
+    ∙ sum-order weights order (subst (λ n. All (λ i. i < n) order) (sym many) ordered.numbers) ordered.distinct (λ j more. ordered.complete j (below j more (cases_lt j (length d.drivers.items))))
+    ∙ sum-map f d.drivers.items
+  where
+    f : Driver → ℕ
+    f = placed_in_driver w d.signals.items
+
+    weights : List ℕ
+    weights = map f d.drivers.items
+
+    many : length weights ≡ length d.drivers.items
+    many = length-map d.drivers.items f
+
+    below : (j : ℕ) → 0 < get_or weights j 0 → (j < length d.drivers.items) ⊎ (length d.drivers.items ≤ j) → j < length d.drivers.items
+    below j more (inl low) = low
+    below j more (inr past) = let none : get_or weights j 0 ≡ 0 = get_or-eq_default weights 0 (omega (arith, many, past)) in absurd (omega (arith, none, more))
 
 -- ---- clocked blocks
 
@@ -242,7 +273,7 @@ owns-tally w d block turn m nodes nodes_of s (suc more) =
     owns-tally w d block turn m a.nodes (set nodes_of s a.node) (s + 1) more ∙ own-tally w d block turn m nodes s (get_or nodes_of s 0)
 
 left-tally : (w : Weights) (d : Design) (block : Clocked) (turn : Turn) (statement : Stmt) (nodes : List WordNode) (from nodes_of : List ℕ)
-    → tally w (left_made d block turn statement nodes from nodes_of).nodes ≡ tally w nodes + counted w (times_in w.place statement)
+    → tally w (left_made d block turn statement nodes from nodes_of).nodes ≡ tally w nodes + placed_in w d.signals.items statement
 unfolding left_made
 left-tally w d block turn statement nodes from nodes_of =
     let m : Maps = statement_made d.signals.items (maps nodes from from) statement in
@@ -259,52 +290,48 @@ active-tally w nodes nodes_of r = at r.level
     at true = refl
     at false = light w nodes 1 _ refl
 
-abbrev reset_times : Weights → Clocked → ℕ
-reset_times w block = option_map_or (λ r. times_in w.place r.values) block.reset 0
+abbrev placed_in_reset : Weights → List Signal → Clocked → ℕ
+placed_in_reset w signals block = option_map_or (λ r. placed_in w signals r.values) block.reset 0
 
-abbrev body_times : Weights → Clocked → ℕ
-body_times w block = times_in w.place block.body
+abbrev placed_in_body : Weights → List Signal → Clocked → ℕ
+placed_in_body w signals block = placed_in w signals block.body
 
 reset-tally : (w : Weights) (d : Design) (from : List ℕ) (block : Clocked) (o : Option Reset) (nodes : List WordNode) (nodes_of : List ℕ)
-    → tally w (reset_made d from block o nodes nodes_of).nodes ≡ tally w nodes + counted w (option_map_or (λ r. times_in w.place r.values) o 0)
+    → tally w (reset_made d from block o nodes nodes_of).nodes ≡ tally w nodes + option_map_or (λ r. placed_in w d.signals.items r.values) o 0
 unfolding reset_made
-reset-tally w d from block None nodes nodes_of = omega (arith, counted-none w)
+reset-tally w d from block None nodes nodes_of = omega arith
 reset-tally w d from block (Some r) nodes nodes_of =
     let t : Made = active_made nodes from r in
-    left-tally w d block (When t.node) r.values t.nodes from nodes_of ∙ ap (λ n. n + counted w (times_in w.place r.values)) (active-tally w nodes from r)
+    left-tally w d block (When t.node) r.values t.nodes from nodes_of ∙ ap (λ n. n + placed_in w d.signals.items r.values) (active-tally w nodes from r)
 
 resets-tally : (w : Weights) (d : Design) (from : List ℕ) (nodes : List WordNode) (nodes_of : List ℕ) (blocks : List Clocked)
-    → tally w (resets_made d from nodes nodes_of blocks).nodes ≡ tally w nodes + counted w (sum_by (reset_times w) blocks)
+    → tally w (resets_made d from nodes nodes_of blocks).nodes ≡ tally w nodes + sum_by (placed_in_reset w d.signals.items) blocks
 unfolding resets_made
-resets-tally w d from nodes nodes_of [] = omega (arith, counted-none w)
+resets-tally w d from nodes nodes_of [] = omega arith
 resets-tally w d from nodes nodes_of (block ∷ blocks) =
     let m : Nodes = reset_made d from block block.reset nodes nodes_of in
-    let sum : counted w (sum_by (reset_times w) (block ∷ blocks)) ≡ counted w (reset_times w block) + counted w (sum_by (reset_times w) blocks) =
-    ap (counted w) (sum_by-cons (reset_times w) block blocks) ∙ counted-sum w (reset_times w block) (sum_by (reset_times w) blocks) in
-    omega (arith, resets-tally w d from m.nodes m.each blocks, reset-tally w d from block block.reset nodes nodes_of, sum)
+    omega (arith, resets-tally w d from m.nodes m.each blocks, reset-tally w d from block block.reset nodes nodes_of, sum_by-cons (placed_in_reset w d.signals.items) block blocks)
 
 body-tally : (w : Weights) (d : Design) (from : List ℕ) (block : Clocked) (o : Option Reset) (nodes : List WordNode) (nodes_of : List ℕ)
-    → tally w (body_made d from block o nodes nodes_of).nodes ≡ tally w nodes + counted w (times_in w.place block.body)
+    → tally w (body_made d from block o nodes nodes_of).nodes ≡ tally w nodes + placed_in w d.signals.items block.body
 unfolding body_made
 body-tally w d from block None nodes nodes_of = left-tally w d block Always block.body nodes from nodes_of
 body-tally w d from block (Some r) nodes nodes_of =
     let t : Made = active_made nodes from r in
-    left-tally w d block (Unless t.node) block.body t.nodes from nodes_of ∙ ap (λ n. n + counted w (times_in w.place block.body)) (active-tally w nodes from r)
+    left-tally w d block (Unless t.node) block.body t.nodes from nodes_of ∙ ap (λ n. n + placed_in w d.signals.items block.body) (active-tally w nodes from r)
 
 bodies-tally : (w : Weights) (d : Design) (from : List ℕ) (nodes : List WordNode) (nodes_of : List ℕ) (blocks : List Clocked)
-    → tally w (bodies_made d from nodes nodes_of blocks).nodes ≡ tally w nodes + counted w (sum_by (body_times w) blocks)
+    → tally w (bodies_made d from nodes nodes_of blocks).nodes ≡ tally w nodes + sum_by (placed_in_body w d.signals.items) blocks
 unfolding bodies_made
-bodies-tally w d from nodes nodes_of [] = omega (arith, counted-none w)
+bodies-tally w d from nodes nodes_of [] = omega arith
 bodies-tally w d from nodes nodes_of (block ∷ blocks) =
     let m : Nodes = body_made d from block block.reset nodes nodes_of in
-    let sum : counted w (sum_by (body_times w) (block ∷ blocks)) ≡ counted w (body_times w block) + counted w (sum_by (body_times w) blocks) =
-    ap (counted w) (sum_by-cons (body_times w) block blocks) ∙ counted-sum w (body_times w block) (sum_by (body_times w) blocks) in
-    omega (arith, bodies-tally w d from m.nodes m.each blocks, body-tally w d from block block.reset nodes nodes_of, sum)
+    omega (arith, bodies-tally w d from m.nodes m.each blocks, body-tally w d from block block.reset nodes nodes_of, sum_by-cons (placed_in_body w d.signals.items) block blocks)
 
-blocks-times : (w : Weights) (blocks : List Clocked) → sum_by (body_times w) blocks + sum_by (reset_times w) blocks ≡ sum_by (times_in_clocked w.place) blocks
-blocks-times w [] = refl
-blocks-times w (block ∷ blocks) =
-    omega (arith, blocks-times w blocks, sum_by-cons (body_times w) block blocks, sum_by-cons (reset_times w) block blocks, sum_by-cons (times_in_clocked w.place) block blocks)
+blocks-sum : (w : Weights) (signals : List Signal) (blocks : List Clocked) → sum_by (placed_in_body w signals) blocks + sum_by (placed_in_reset w signals) blocks ≡ sum_by (placed_in_clocked w signals) blocks
+blocks-sum w signals [] = refl
+blocks-sum w signals (block ∷ blocks) =
+    omega (arith, blocks-sum w signals blocks, sum_by-cons (placed_in_body w signals) block blocks, sum_by-cons (placed_in_reset w signals) block blocks, sum_by-cons (placed_in_clocked w signals) block blocks)
 
 -- ---- the whole net
 
@@ -315,29 +342,20 @@ nexts-tally w d nodes_of nodes next (s ∷ ss) =
     let m : Made = masked_made d nodes s (get_or nodes_of s 0) in
     nexts-tally w d nodes_of m.nodes (next ++ m.node ∷ []) ss ∙ masked-tally w d nodes s (get_or nodes_of s 0)
 
-counted-le : (w : Weights) (a b : ℕ) → a ≤ b → counted w a ≤ counted w b
-counted-le w a b le = at w.counts
-  where
-    at : (t : Bool) → (if t then a else 0) ≤ (if t then b else 0)
-    at true = le
-    at false = omega arith
-
 -- what the nodes weigh beside the first ones
-pub net-tally : (w : Weights) (d : Design) (order : List ℕ) → AllPairs (λ i j. i ≢ j) order → tally w (net_of d order).nodes ≤ tally w (begun_made d).nodes + counted w (times_in_design d w.place)
+pub net-tally : (w : Weights) (d : Design) (order : List ℕ) → IsOrder d order → tally w (net_of d order).nodes ≡ tally w (begun_made d).nodes + placed_in_design w d
 unfolding net_of
-net-tally w d order distinct =
+net-tally w d order ordered =
     let first : Nodes = begun_made d in
     let registers : Nodes = resets_made d first.each first.nodes first.each d.clocked.items in
     let now : Nodes = drivers_made d.signals.items d.drivers.items registers.nodes registers.each order in
     let left : Nodes = bodies_made d now.each now.nodes now.each d.clocked.items in
-    let r : ℕ = sum_by (reset_times w) d.clocked.items in
-    let o : ℕ = sum_by (times_at w d.drivers.items) order in
-    let b : ℕ = sum_by (body_times w) d.clocked.items in
-    let t1 = resets-tally w d first.each first.nodes first.each d.clocked.items in
-    let t2 = drivers-tally w d.signals.items d.drivers.items registers.nodes registers.each order in
-    let t3 = bodies-tally w d now.each now.nodes now.each d.clocked.items in
-    let t4 = nexts-tally w d left.each left.nodes [] (states_of d) in
-    let most : r + o + b ≤ times_in_design d w.place = omega (arith, order-le w d.drivers.items order distinct, blocks-times w d.clocked.items) in
-    let sum1 : counted w (r + o + b) ≡ counted w (r + o) + counted w b = counted-sum w (r + o) b in
-    let sum2 : counted w (r + o) ≡ counted w r + counted w o = counted-sum w r o in
-    omega (arith, t1, t2, t3, t4, sum1, sum2, counted-le w (r + o + b) (times_in_design d w.place) most)
+    omega (
+      arith,
+      resets-tally w d first.each first.nodes first.each d.clocked.items,
+      drivers-tally w d.signals.items d.drivers.items registers.nodes registers.each order,
+      bodies-tally w d now.each now.nodes now.each d.clocked.items,
+      nexts-tally w d left.each left.nodes [] (states_of d),
+      order-sum w d order ordered,
+      blocks-sum w d.signals.items d.clocked.items,
+    )

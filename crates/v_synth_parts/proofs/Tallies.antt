@@ -1,6 +1,6 @@
 -- Expressions, stores and statements make no node that reads an input or a state, and one for each place that they assign.
-use Rattle.std.proofs.Common.{◌≡◌, ℕ, zero, suc, ◌+◌, Bool, true, false, List, [], ◌∷◌, ◌++◌, length, refl, sym, ◌∙◌, ap, ap₂, arith}
-use Rattle.std.specs.Prelude.{◌==◌, if◌then◌else◌, slice_get, Option, Some, None}
+use Rattle.std.proofs.Common.{◌≡◌, ℕ, zero, suc, ◌+◌, Bool, true, false, List, [], ◌∷◌, ◌++◌, length, refl, ◌∙◌, ap, arith}
+use Rattle.std.specs.Prelude.{◌==◌, if◌then◌else◌, Option, Some, None}
 use Rattle.std.specs.Option.{option_map_or}
 use Rattle.design_core.specs.declared.signal.Signal.{Signal}
 use Rattle.design_core.specs.declared.expression.Typed.{Typed}
@@ -16,8 +16,6 @@ use Rattle.design_core.specs.declared.driver.Driver.{Driver}
 use Rattle.design_core.specs.declared.driver.Driver.TheVariants as driver
 use Rattle.design_core.specs.Valuation.{width_at}
 use Rattle.design_core.specs.Store.{parts_width}
-use Rattle.design_core.specs.WellFormed.{times_in, times_in_all, times_in_items, times_in_driver}
-use Rattle.loc_base.specs.Bits.{value_of}
 use Rattle.word_net.specs.declared.node.Operand.{Operand}
 use Rattle.word_net.specs.declared.node.Operation.{Operation}
 use Rattle.word_net.specs.declared.node.Operation.TheVariants as operation
@@ -28,8 +26,8 @@ use Rattle.v_synth_parts.specs.declared.store.Stored.{Stored}
 use Rattle.v_synth_parts.specs.Expression.{Prepared, unsigned, operand, is_logical, truth_made, prepared, word_made, words_made, array_made, expression_made, join_made, parts_made, typed_made}
 use Rattle.v_synth_parts.specs.Store.{Nodes, index_made, indexes_made, signal_set, word_stored, words_stored, part_stored, parts_stored}
 use Rattle.v_synth_parts.specs.Statement.{Maps, maps, chosen_made, row_made, merged, set_made, label_made, labels_made, item_test, statement_made, statements_made, items_made}
-use Rattle.v_synth_parts.specs.Driver.{assigned_made, driver_made, driver_at_made}
-use Rattle.v_synth_parts.specs.Tally.{Weights, counted, weight, tally}
+use Rattle.v_synth_parts.specs.Driver.{assigned_made, driver_made}
+use Rattle.v_synth_parts.specs.Tally.{Weights, weight, tally, placed_in, placed_in_all, placed_in_items, placed_in_driver}
 
 pub tally-append : (w : Weights) (one other : List WordNode) → tally w (one ++ other) ≡ tally w one + tally w other
 unfolding tally
@@ -44,23 +42,6 @@ tally-pushed w nodes width op = omega (arith, tally-append w nodes (record { wid
 -- a new node that weighs nothing
 pub light : (w : Weights) (nodes : List WordNode) (width : ℕ) (op : Operation) → weight w width op ≡ 0 → tally w (pushed nodes width op).nodes ≡ tally w nodes
 light w nodes width op none = omega (arith, tally-pushed w nodes width op, none)
-
-pub counted-sum : (w : Weights) (a b : ℕ) → counted w (a + b) ≡ counted w a + counted w b
-counted-sum w a b = at w.counts
-  where
-    at : (t : Bool) → (if t then a + b else 0) ≡ (if t then a else 0) + (if t then b else 0)
-    at true = refl
-    at false = refl
-
-pub counted-none : (w : Weights) → counted w 0 ≡ 0
-counted-none w = at w.counts
-  where
-    none : ℕ
-    none = 0
-
-    at : (t : Bool) → (if t then none else none) ≡ none
-    at true = refl
-    at false = refl
 
 -- ---- expressions
 
@@ -201,7 +182,7 @@ merged-tally w signals test arm m s (suc more) =
     merged-tally w signals test arm (maps b.nodes a.each b.each) (s + 1) more ∙ chosen-tally w a.nodes test width _ _ ∙ chosen-tally w m.nodes test width _ _
 
 set_made-tally : (w : Weights) (signals : List Signal) (m : Maps) (place : ℕ) (parts : List Part) (computed : Typed) (later : Bool)
-    → tally w (set_made signals m place parts computed later).nodes ≡ tally w m.nodes + counted w (if place == w.place then 1 else 0)
+    → tally w (set_made signals m place parts computed later).nodes ≡ tally w m.nodes + w.place (parts_width signals parts) place
 unfolding set_made
 set_made-tally w signals m place parts computed later = at later
   where
@@ -217,14 +198,14 @@ set_made-tally w signals m place parts computed later = at later
     i : Nodes
     i = indexes_made signals m.now f.nodes [] parts
 
-    freed : tally w i.nodes ≡ tally w m.nodes + counted w (if place == w.place then 1 else 0)
+    freed : tally w i.nodes ≡ tally w m.nodes + w.place (parts_width signals parts) place
     freed =
         indexes-tally w signals m.now f.nodes [] parts ∙ tally-pushed w v.nodes width (operation.Free place (unsigned v.node computed.width))
-        ∙ ap (λ n. n + counted w (if place == w.place then 1 else 0)) (expression-tally w signals m.now computed.width computed.node m.nodes)
+        ∙ ap (λ n. n + w.place (parts_width signals parts) place) (expression-tally w signals m.now computed.width computed.node m.nodes)
 
     at : (t : Bool) → tally w (if t
         then (let s = parts_stored signals i.nodes m.later parts i.each (unsigned f.node width) in maps s.nodes m.now s.each)
-        else (let s = parts_stored signals i.nodes m.now parts i.each (unsigned f.node width) in maps s.nodes s.each m.later)).nodes ≡ tally w m.nodes + counted w (if place == w.place then 1 else 0)
+        else (let s = parts_stored signals i.nodes m.now parts i.each (unsigned f.node width) in maps s.nodes s.each m.later)).nodes ≡ tally w m.nodes + w.place (parts_width signals parts) place
     at true = store-tally w signals i.nodes m.later parts i.each (unsigned f.node width) ∙ freed
     at false = store-tally w signals i.nodes m.now parts i.each (unsigned f.node width) ∙ freed
 
@@ -250,8 +231,8 @@ test-tally w signals now nodes subject labels =
 mutual
   unfolding statement_made statements_made items_made
 
-  pub statement-tally : (w : Weights) (signals : List Signal) (m : Maps) (s : Stmt) → tally w (statement_made signals m s).nodes ≡ tally w m.nodes + counted w (times_in w.place s)
-  statement-tally w signals m stmt.Nothing = omega (arith, counted-none w)
+  pub statement-tally : (w : Weights) (signals : List Signal) (m : Maps) (s : Stmt) → tally w (statement_made signals m s).nodes ≡ tally w m.nodes + placed_in w signals s
+  statement-tally w signals m stmt.Nothing = omega arith
   statement-tally w signals m (stmt.Block' _ statements) = statements-tally w signals m statements
   statement-tally w signals m (stmt.If' test _ (more_of-Stmt on_true end_of-Stmt) _ (more_of-Stmt on_false end_of-Stmt)) =
       let c : Made = typed_made signals m.now m.nodes test in
@@ -265,26 +246,24 @@ mutual
         statement-tally w signals (maps t.nodes m.now m.later) on_true,
         truth-tally w c.nodes c.node test.width,
         expression-tally w signals m.now test.width test.node m.nodes,
-        counted-sum w (times_in w.place on_true) (times_in w.place on_false),
       )
   statement-tally w signals m (stmt.Case' subject _ items _ (more_of-Stmt other end_of-Stmt) _) =
       let v : Made = typed_made signals m.now m.nodes subject in
       omega (
         arith,
-        items-tally w signals (maps v.nodes m.now m.later) (unsigned v.node subject.width) items (λ k. statement_made signals k other) (times_in w.place other) (λ k. statement-tally w signals k other),
+        items-tally w signals (maps v.nodes m.now m.later) (unsigned v.node subject.width) items (λ k. statement_made signals k other) (placed_in w signals other) (λ k. statement-tally w signals k other),
         expression-tally w signals m.now subject.width subject.node m.nodes,
-        counted-sum w (times_in_items w.place items) (times_in w.place other),
       )
   statement-tally w signals m (stmt.Set place target computed later) = set_made-tally w signals m place target.parts computed later
 
-  statements-tally : {shape : _} (w : Weights) (signals : List Signal) (m : Maps) (row : Row_of-Stmt shape) → tally w (statements_made signals m row).nodes ≡ tally w m.nodes + counted w (times_in_all w.place row)
-  statements-tally w signals m end_of-Stmt = omega (arith, counted-none w)
+  statements-tally : {shape : _} (w : Weights) (signals : List Signal) (m : Maps) (row : Row_of-Stmt shape) → tally w (statements_made signals m row).nodes ≡ tally w m.nodes + placed_in_all w signals row
+  statements-tally w signals m end_of-Stmt = omega arith
   statements-tally w signals m (more_of-Stmt statement rest) =
-      omega (arith, statements-tally w signals (statement_made signals m statement) rest, statement-tally w signals m statement, counted-sum w (times_in w.place statement) (times_in_all w.place rest))
+      omega (arith, statements-tally w signals (statement_made signals m statement) rest, statement-tally w signals m statement)
 
-  items-tally : {shape : _} (w : Weights) (signals : List Signal) (m : Maps) (subject : Operand) (row : Row_of-CaseItem shape) (other : Maps → Maps) (n : ℕ) → ((k : Maps) → tally w (other k).nodes ≡ tally w k.nodes + counted w n)
-      → tally w (items_made signals m subject row other).nodes ≡ tally w m.nodes + counted w (times_in_items w.place row) + counted w n
-  items-tally w signals m subject end_of-CaseItem other n last = omega (arith, last m, counted-none w)
+  items-tally : {shape : _} (w : Weights) (signals : List Signal) (m : Maps) (subject : Operand) (row : Row_of-CaseItem shape) (other : Maps → Maps) (n : ℕ) → ((k : Maps) → tally w (other k).nodes ≡ tally w k.nodes + n)
+      → tally w (items_made signals m subject row other).nodes ≡ tally w m.nodes + placed_in_items w signals row + n
+  items-tally w signals m subject end_of-CaseItem other n last = omega (arith, last m)
   items-tally w signals m subject (more_of-CaseItem labels body rest) other n last =
       let t : Made = item_test signals m.now m.nodes subject labels in
       let one : Maps = statement_made signals (maps t.nodes m.now m.later) body in
@@ -295,18 +274,17 @@ mutual
         items-tally w signals (maps one.nodes m.now m.later) subject rest other n last,
         statement-tally w signals (maps t.nodes m.now m.later) body,
         test-tally w signals m.now m.nodes subject labels,
-        counted-sum w (times_in w.place body) (times_in_items w.place rest),
       )
 
 -- ---- drivers
 
 assigned-tally : (w : Weights) (nodes : List WordNode) (place : Option ℕ) (width : ℕ) (computed : Operand)
-    → tally w (assigned_made nodes place width computed).nodes ≡ tally w nodes + counted w (option_map_or (λ q. if q == w.place then 1 else 0) place 0)
+    → tally w (assigned_made nodes place width computed).nodes ≡ tally w nodes + option_map_or (w.place width) place 0
 unfolding assigned_made
-assigned-tally w nodes None width computed = omega (arith, counted-none w)
+assigned-tally w nodes None width computed = omega arith
 assigned-tally w nodes (Some place) width computed = tally-pushed w nodes width (operation.Free place computed)
 
-pub driver-tally : (w : Weights) (signals : List Signal) (nodes : List WordNode) (nodes_of : List ℕ) (d : Driver) → tally w (driver_made signals nodes nodes_of d).nodes ≡ tally w nodes + counted w (times_in_driver w.place d)
+pub driver-tally : (w : Weights) (signals : List Signal) (nodes : List WordNode) (nodes_of : List ℕ) (d : Driver) → tally w (driver_made signals nodes nodes_of d).nodes ≡ tally w nodes + placed_in_driver w signals d
 unfolding driver_made
 driver-tally w signals nodes nodes_of (driver.Cont target computed place _) =
     let v : Made = typed_made signals nodes_of nodes computed in
@@ -314,5 +292,5 @@ driver-tally w signals nodes nodes_of (driver.Cont target computed place _) =
     let i : Nodes = indexes_made signals nodes_of a.nodes [] target.parts in
     store-tally w signals i.nodes nodes_of target.parts i.each a.operand ∙ indexes-tally w signals nodes_of a.nodes [] target.parts
     ∙ assigned-tally w v.nodes place (parts_width signals target.parts) (unsigned v.node computed.width)
-    ∙ ap (λ n. n + counted w (option_map_or (λ q. if q == w.place then 1 else 0) place 0)) (expression-tally w signals nodes_of computed.width computed.node nodes)
+    ∙ ap (λ n. n + option_map_or (w.place (parts_width signals target.parts)) place 0) (expression-tally w signals nodes_of computed.width computed.node nodes)
 driver-tally w signals nodes nodes_of (driver.Comb body _) = statement-tally w signals (maps nodes nodes_of nodes_of) body

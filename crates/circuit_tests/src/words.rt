@@ -1,0 +1,3 @@
+//! The nodes of each operator on short words, one by one.
+
+mod operators;

@@ -1,0 +1,5 @@
+pub mod Logs
+pub mod Encoded
+pub mod Refusals
+pub mod Debuggers
+pub mod Steps

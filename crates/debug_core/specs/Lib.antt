@@ -1,0 +1,4 @@
+pub mod Problems
+pub mod Debugging
+pub mod Standing
+pub mod Causes

@@ -1,0 +1,87 @@
+//! The form of a problem: from the design to a net of words, from this to a circuit, and from this, unrolled over the traces, to
+//! clauses.
+
+ghost use Rattle.std.specs.Prelude.{◌≡◌, ◌≤◌, ◌<◌, ◌^◌, All, IfErr, IfOk, length};
+ghost use Rattle.debug_core.specs.Problems.{IsProblem, IsRefused, problem_of, suspect_count};
+ghost use Rattle.debug_core.specs.Standing.{ExplainModels, IsEncoding, IsUnrollingFor, problem_in};
+
+use crate::error::DebugErr;
+use crate::question::Question;
+use bit_circuit::{Circuit, blast};
+use clause_base::Form;
+use clause_form::form;
+use design_core::Values;
+use form_values::values;
+use loc_base::NoMemory;
+use std::alloc::Global;
+use unroller::{Unrolled, unroll};
+use v_synth::word_net;
+
+/// A problem with its form, and the literals of the bits of places.
+pub(crate) struct Encoding<'a> {
+    pub(crate) question: Question<'a>,
+    pub(crate) form: Form,
+    unrolled: Unrolled,
+}
+
+impl Drop for Encoding<'_> {
+    fn drop(self) {
+        let Encoding {
+            question: _,
+            form: _,
+            unrolled: _,
+        } = self;
+    }
+}
+
+/// The circuit of the design, unrolled over the traces.
+fn unrolled(alloc: Global, question: &Question<'_>) -> Result<Unrolled, DebugErr>
+    requires { IsProblem (problem_of question.now) }
+    ensures ok { IfOk result (IsUnrollingFor (problem_of question.now)) }
+    ensures err { IfErr result (IsRefused (problem_of question.now)) }
+{
+    let net = word_net(alloc, question.design, question.order)?;
+    let _nodes = net.nodes();
+    let circuit = blast(alloc, &net)?;
+    let unrolled = unroll(
+        alloc,
+        &circuit,
+        question.traces,
+        question.groups,
+        question.k,
+    )?;
+    let _variables = unrolled.variables();
+    Ok(unrolled)
+}
+
+impl<'a> Encoding<'a> {
+    /// The form of what is asked.
+    pub(crate) fn new(alloc: Global, question: &Question<'a>) -> Result<Encoding<'a>, DebugErr>
+        requires { IsProblem (problem_of question.now) }
+        ensures question { IfOk result (λ e. problem_in e ≡ problem_of question.now) }
+        ensures encoding { IfOk result IsEncoding }
+        ensures err { IfErr result (IsRefused (problem_of question.now)) }
+    {
+        let unrolled = unrolled(alloc, question)?;
+        let form = form(alloc, &unrolled, question.groups, question.k)?;
+        Ok(Encoding {
+            question: *question,
+            form,
+            unrolled,
+        })
+    }
+
+    /// The values that a model of the form gives to the places of a set.
+    pub(crate) fn values(
+        &self,
+        alloc: Global,
+        model: &[bool],
+        members: &[u32],
+    ) -> Result<Values, NoMemory>
+        requires encoding { IsEncoding self.now }
+        requires members { All (λ m. (1 ≤ m) × (m ≤ suspect_count (problem_in self.now))) members.now }
+        ensures { IfOk result (ExplainModels self.now model.now members.now) }
+    {
+        values(alloc, model, &self.unrolled, self.question.groups, members)
+    }
+}

@@ -1,0 +1,19 @@
+//! The sets of suspects that can explain traces of a design, one after another, with their values (Smith, Veneris, Ali and
+//! Viglas, "Fault diagnosis and logic debugging using Boolean satisfiability", IEEE TCAD 2005).
+//!
+//! The design becomes a net of words, this a circuit, and this, unrolled over the traces, a form of clauses; the sets that its
+//! assignments select are listed by size and then by members, and each is blocked once it was listed.
+#![tactic(auto)]
+
+mod debugger;
+mod encoding;
+mod error;
+mod fits;
+mod found;
+mod question;
+
+pub use debugger::Debugger;
+pub use error::DebugErr;
+pub use fits::have_few_cycles;
+pub use found::Found;
+pub use question::Question;

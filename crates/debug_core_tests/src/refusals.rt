@@ -1,0 +1,113 @@
+//! Problems with too many variables or literals, by their suspects alone.
+
+ghost use Rattle.std.specs.Prelude.{All, IfOk, length};
+ghost use Rattle.design_core.specs.DrivenOnce.{IsDrivenOnce};
+ghost use Rattle.design_core.specs.Reads.{IsOrder};
+ghost use Rattle.design_core.specs.TraceFits.{IsTraceOf};
+ghost use Rattle.plain_list.specs.Network.{IsNetwork};
+ghost use Rattle.suspect_map.specs.Groups.{AreWithin};
+
+use crate::networks::{checked, name, or_not, traces, word};
+use debug_core::{DebugErr, Debugger, Question, have_few_cycles};
+use design_core::{Design, Trace};
+use design_fits::is_trace_of;
+use first_form::{FirstDesign, FormErr};
+use loc_base::Items;
+use std::alloc::Global;
+use std::test::Fail;
+use suspect_map::{Group, Groups};
+
+/// So many suspects, all with the first place of a design, or with none.
+fn alike(alloc: Global, d: &Design, count: u32, with_place: bool) -> Result<Groups, FormErr>
+    ensures { IfOk result (AreWithin (length d.now.places.items)) }
+{
+    let mut groups = Items::new(alloc);
+    if d.places.is_empty() {
+        return Ok(groups);
+    }
+    for _suspect in 0..count {
+        let mut places = Items::new(alloc);
+        if with_place {
+            places.push(0)?;
+        }
+        groups.push(Group {
+            kind: name(alloc, "k")?,
+            label: name(alloc, "m")?,
+            places,
+        })?;
+    }
+    Ok(groups)
+}
+
+/// One trace of so many cycles, for two inputs that are 0 and an output that is to be 1.
+fn long(alloc: Global, d: &Design, cycles: u32) -> Result<Vec<Trace>, FormErr>
+    ensures { IfOk result (λ traces. All (IsTraceOf d.now) traces.items) }
+{
+    let mut trace = Trace {
+        cycles,
+        inputs: Vec::new(alloc),
+        expected: Vec::new(alloc),
+    };
+    for _cycle in 0..cycles {
+        trace.inputs.push(word(false)?)?;
+        trace.inputs.push(word(false)?)?;
+        trace.expected.push(checked(b'1')?)?;
+    }
+    let mut traces = Vec::new(alloc);
+    if !is_trace_of(d, &trace) {
+        return Err(FormErr::Form);
+    }
+    traces.push(trace)?;
+    Ok(traces)
+}
+
+/// Why a question is refused, for sets of at most 8.
+fn refusal(
+    alloc: Global,
+    first: &FirstDesign,
+    traces: &[Trace],
+    groups: &Groups,
+) -> Result<DebugErr, Fail>
+    requires network { IsNetwork first.now.design first.now.order }
+    requires once { IsDrivenOnce first.now.design }
+    requires ordered { IsOrder first.now.design first.now.order }
+    requires traces { All (IsTraceOf first.now.design) traces.now }
+    requires groups { AreWithin (length first.now.design.places.items) groups.now }
+{
+    if !have_few_cycles(traces) || first.design.signals.len() > 100 {
+        return Err(Fail::new("too large"));
+    }
+    let question = Question {
+        design: &first.design,
+        order: &first.order,
+        traces,
+        groups,
+        k: 8,
+    };
+    match Debugger::new(alloc, &question) {
+        Ok(_debugger) => Err(Fail::new("a form")),
+        Err(cause) => Ok(cause),
+    }
+}
+
+#[test]
+fn suspects_and_their_counters_are_too_many_variables(rt: HostRuntime) -> Result<(), Fail> {
+    let alloc = rt.alloc();
+    let first = or_not(alloc)?;
+    let traces = traces(alloc, &first.design, &[&["001"]])?;
+    let groups = alike(alloc, &first.design, 400_010, false)?;
+    let cause = refusal(alloc, &first, &traces, &groups)?;
+    assert_eq!(rt; cause, DebugErr::Vars);
+    Ok(())
+}
+
+#[test]
+fn many_suspects_with_one_place_are_too_many_literals(rt: HostRuntime) -> Result<(), Fail> {
+    let alloc = rt.alloc();
+    let first = or_not(alloc)?;
+    let traces = long(alloc, &first.design, 16_100)?;
+    let groups = alike(alloc, &first.design, 4_000, true)?;
+    let cause = refusal(alloc, &first, &traces, &groups)?;
+    assert_eq!(rt; cause, DebugErr::Literals);
+    Ok(())
+}

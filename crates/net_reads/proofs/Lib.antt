@@ -1,0 +1,2 @@
+pub mod NetReadsDesign
+pub mod GivenWidths

@@ -1,0 +1,5 @@
+pub mod Texts
+pub mod Tokens
+pub mod Newline
+pub mod Same
+pub mod Plain

@@ -1,0 +1,6 @@
+pub mod Json
+pub mod Shape
+pub mod Document
+pub mod Lines
+pub mod Errors
+pub mod Writing

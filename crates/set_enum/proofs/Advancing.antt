@@ -1,0 +1,222 @@
+-- What each call leaves of an enumerator's parts.
+use Rattle.std.proofs.Common.{◌≡◌, ℕ, zero, suc, ◌+◌, ◌-◌, ◌^◌, ◌<◌, ◌≤◌, inr, Bool, true, false, List, [], ◌∷◌, ◌++◌, length, map, take}
+use Rattle.std.proofs.Common.{drop, Result, Ok, Err, refl, sym, ◌∙◌, ap, subst, arith}
+use Rattle.std.specs.Prelude.{All, filter, IsSome, OnOk, OnErr}
+use Rattle.std.proofs.lemmas.List.{take_all, take_at, take-append-drop, map-append}
+use Rattle.std.proofs.lemmas.List.Elements.{All-nil, All-take, All-push, All-append, All-map, filter-append}
+use Rattle.loc_base.specs.declared.memory.NoMemory.{NoMemory}
+use Rattle.clause_base.specs.declared.literal.Lit.{Lit}
+use Rattle.clause_base.specs.declared.log.Step.{Step}
+use Rattle.clause_base.specs.declared.log.StepKind.TheVariants.{Block, Derived}
+use Rattle.clause_base.specs.Literal.{IsWithin, negative}
+use Rattle.clause_base.specs.Steps.{step_at}
+use Rattle.clause_base.specs.Acceptance.{is_block}
+use Rattle.card_counter.specs.Places.{starts}
+use Rattle.card_counter.specs.InForm.{HasCounter}
+use Rattle.sat_core.specs.SolverState.{SolverState, IsSolver, IsGreatestModel, blocks_of, assignment_of}
+use Rattle.sat_core.specs.declared.verdict.Verdict.{Verdict}
+use Rattle.sat_core.specs.declared.verdict.Verdict.TheVariants as verdict
+use Rattle.sat_core.specs.Outcome.{Searches, LearnedBeforeLast, IsRefuted, Says, closings_of}
+use Rattle.sat_core.specs.Calls.{Begins, TookOver, with_block, with_steps}
+use Rattle.set_enum.specs.Sets.{selected, IsSetOf, IsBlock, block_of, numbers_from}
+use Rattle.set_enum.specs.EnumState.{EnumState, MayBeImported}
+use Rattle.set_enum.specs.Outcome.{Adds, GivesSet}
+use Rattle.set_enum.specs.Standing.{IsStanding, assumed, next_size, state_of, waiting}
+use Rattle.set_enum.proofs.Selecting.{selected-IsSetOf, numbers-within}
+use Rattle.set_enum.proofs.Bounding.{one-counter, ends_a_size, next-size}
+use Rattle.set_enum.proofs.Searching.{Serves, closes, found, model_exact, model_few}
+use Rattle.set_enum.proofs.Keeping.{AreClosed, stands, serves, are_closed, open_while_found, closed_more, serves_after, closed_after}
+use Rattle.set_enum.proofs.Keeping.{closed_by, adds_search}
+
+-- the number of selectors and one more fit
+pub selectors_fit : (n k vars : ℕ) → n + starts k (n + 1) ≤ vars → vars < 2 ^ 32 → n + 1 < 2 ^ 32
+selectors_fit zero k vars h small = omega arith
+selectors_fit (suc n) k vars h small = omega (arith, h, small, one-counter (suc n) k (omega arith))
+
+-- the selectors are variables of the form
+pub selectors_within : (n k vars : ℕ) → n + starts k (n + 1) ≤ vars → All (λ v. (1 ≤ v) × (v ≤ vars)) (numbers_from 1 n)
+selectors_within n k vars h i d l = (omega (arith, (numbers-within 1 n i d l).0), omega (arith, h, (numbers-within 1 n i d l).1))
+
+-- a new enumerator
+pub stands_new : (n k vars : ℕ) (form : List (List Lit)) (s : SolverState) → HasCounter n k vars form → k ≤ 8 → IsSolver s
+    → Begins vars form (numbers_from 1 n) s → IsStanding n k 0 false s
+stands_new n k vars form s counter few solver b =
+    stands n k 0 false s
+    record {
+      counter = subst (λ f. HasCounter n k s.vars f) (sym b.form_is) (subst (λ v. HasCounter n k v form) (sym b.vars_are) counter);
+      solver = solver;
+      preferred = b.preferred_are;
+      blocks = subst (λ (log : List Step). All (IsBlock n) (blocks_of log)) (sym b.no_step) (All-nil (IsBlock n));
+    }
+    few
+    record {
+      closed = λ a sat. omega arith;
+      sizes = omega arith;
+      closing = λ full. absurd (omega (arith, full));
+      shown = λ j at. absurd (omega (arith, at));
+    }
+    (λ f. omega arith)
+
+-- after a search, at the same size
+pub stands_after : (n k size : ℕ) (before later : Bool) (old new : SolverState) (budget left derived : ℕ) → IsStanding n k size before old
+    → size ≤ k → Searches old new budget left derived → IsSolver new
+    → IsStanding n k size later new
+stands_after n k size before later old new budget left derived h open_size r solver =
+    stands n k size later new (serves_after n k old new budget left derived (serves n k size before old h) r solver) h.holds.few
+    (closed_after n k size old new budget left derived (are_closed n k size before old h) open_size r) (λ t. open_size)
+
+-- a search that closes a size
+module _ (n k size : ℕ) (before : Bool) (old new : SolverState) (budget left number : ℕ) (h : IsStanding n k size before old)
+    (open_size : size ≤ k) (r : Searches old new budget left 1) (solver : IsSolver new)
+    (refuted : IsRefuted new.log number (assumed n k size)) where
+  after_serves : Serves n k new
+  after_serves = serves_after n k old new budget left 1 (serves n k size before old h) r solver
+
+  after : ℕ
+  after = next_size k size (step_at new.log (length new.log - 1)).clause
+
+  pub stands_closed : (later : ℕ) → later ≡ next_size k size (step_at new.log (length new.log - 1)).clause
+      → IsStanding n k later false new
+  stands_closed later e =
+      subst (λ m. IsStanding n k m false new) (sym e)
+      (stands n k (next_size k size (step_at new.log (length new.log - 1)).clause) false new after_serves h.holds.few
+      (closed_by n k size new after_serves open_size refuted.some
+      (subst (λ m. (step_at new.log (m - 1)).kind ≡ Derived) refuted.last refuted.derived)
+      (closes n k new after_serves number size refuted))
+      (λ (f : false ≡ true). cc))
+
+  pub size_grows : (later : ℕ) → later ≡ next_size k size (step_at new.log (length new.log - 1)).clause → size + 1 ≤ later
+  size_grows later e = omega (
+    arith,
+    e,
+    (next-size n k size (step_at new.log (length new.log - 1)).clause open_size
+        (closes n k new after_serves number size refuted)).0,
+  )
+
+  pub adds_closed : (later : ℕ) (then : Bool) → LearnedBeforeLast old.log new.log
+      → later ≡ next_size k size (step_at new.log (length new.log - 1)).clause
+      → Adds (state_of n k size before old) (state_of n k later then new) budget left
+  adds_closed later then learned e =
+      adds_search n k size later before then old new budget left 1 r learned (size_grows later e)
+      (inr (ends_a_size n k size (step_at new.log (length new.log - 1)).clause open_size
+      (closes n k new after_serves number size refuted)))
+
+-- a search that finds a set
+pub gives_set : (n k size : ℕ) (before : Bool) (old new : SolverState) (budget left derived : ℕ) → IsStanding n k size before old
+    → size ≤ k → Searches old new budget left derived → IsSolver new
+    → IsGreatestModel new (assumed n k size) → GivesSet (state_of n k size true new) (selected n (assignment_of new.model))
+gives_set n k size before old new budget left derived h open_size r solver m =
+    let s : Serves n k new = serves_after n k old new budget left derived (serves n k size before old h) r solver in
+    let c : AreClosed n k size new.form new.log = closed_after n k size old new budget left derived (are_closed n k size before old h)
+    open_size r in
+    record {
+      first = found n k new s size open_size c.closed m;
+      size = model_exact n k new s size open_size c.closed m;
+      last = refl;
+      satisfies = m.satisfies;
+      selects = refl;
+    }
+
+-- there is room for its members
+pub few_members : (n k size : ℕ) (before : Bool) (old new : SolverState) (budget left derived : ℕ) → IsStanding n k size before old
+    → size ≤ k → Searches old new budget left derived → IsSolver new
+    → IsGreatestModel new (assumed n k size) → length (selected n (assignment_of new.model)) ≤ k
+few_members n k size before old new budget left derived h open_size r solver m =
+    omega (
+      arith,
+      open_size,
+      model_few n k new (serves_after n k old new budget left derived (serves n k size before old h) r solver) size
+          open_size m,
+    )
+
+-- a set waits where the last model's was answered
+pub found_where_waits : (n : ℕ) (before : Bool) (model : List Bool) → IsSome (waiting n before model) → before ≡ true
+found_where_waits n true model h = refl
+found_where_waits n false model h = cc
+
+blocks_append : (log more : List Step) → blocks_of (log ++ more) ≡ blocks_of log ++ blocks_of more
+blocks_append log more = ap (map (λ (x : Step). x.clause)) (filter-append is_block log more) ∙ map-append (λ (x : Step). x.clause)
+    (filter is_block log) (filter is_block more)
+
+-- a block of selectors is over the form's variables
+pub block_within : (n k vars : ℕ) (set : List ℕ) → n + starts k (n + 1) ≤ vars → IsSetOf n set → IsWithin vars (block_of set)
+block_within n k vars set fits h =
+    All-map (λ l. (1 ≤ l.var) × (l.var ≤ vars)) negative set (λ i d l. ((h.members i d l).0, omega (arith, fits, (h.members i d l).1)))
+
+-- with other steps, over the same form
+with_more : (n k size : ℕ) (before later : Bool) (old : SolverState) (steps : List Step) → IsStanding n k size before old → size ≤ k
+    → IsSolver (with_steps old steps) → All (IsBlock n) (blocks_of steps)
+    → IsStanding n k size later (with_steps old steps)
+with_more n k size before later old steps h open_size solver blocks =
+    stands n k size later (with_steps old steps)
+    record {
+      counter = h.holds.counter;
+      solver = solver;
+      preferred = h.preferred;
+      blocks = subst (All (IsBlock n)) (sym (blocks_append old.log steps))
+          (All-append (IsBlock n) (blocks_of old.log) (blocks_of steps) h.holds.blocks blocks);
+    }
+    h.holds.few (closed_more n k size old.form old.log steps (blocks_of steps) (are_closed n k size before old h) open_size
+    (blocks_append old.log steps)) (λ t. open_size)
+
+-- once the last set is blocked
+pub stands_blocked : (n k size : ℕ) (before : Bool) (old new : SolverState) (block : List Lit) → IsStanding n k size before old
+    → before ≡ true → IsSolver new → block ≡ block_of (selected n (assignment_of old.model))
+    → new ≡ with_block old block → IsStanding n k size false new
+stands_blocked n k size before old new block h waits solver is e =
+    let steps : List Step = record { kind = Block; clause = block; chain = [] } ∷ [] in
+    let one : IsBlock n block = record {
+      set = selected n (assignment_of old.model);
+      of = selected-IsSetOf n (assignment_of old.model);
+      is = is;
+    } in
+    let open_size : size ≤ k = open_while_found n k size old (subst (λ f. IsStanding n k size f old) waits h) in
+    subst (IsStanding n k size false) (sym e)
+    (with_more n k size before false old steps h open_size (subst IsSolver e solver)
+    (All-push (IsBlock n) [] block (All-nil (IsBlock n)) one))
+
+import_front : (n k size : ℕ) (before : Bool) (old new : SolverState) (steps : List Step) (count : ℕ) → IsStanding n k size before old
+    → MayBeImported (state_of n k size before old) steps → IsSolver new
+    → new ≡ with_steps old (take count steps) → IsStanding n k size before new
+import_front n k size before old new steps count h may solver e =
+    let parts : blocks_of steps ≡ blocks_of (take count steps) ++ blocks_of (drop count steps) = ap blocks_of
+    (sym (take-append-drop count steps)) ∙ blocks_append (take count steps) (drop count steps) in
+    let front : All (IsBlock n) (blocks_of (take count steps)) =
+    subst (All (IsBlock n)) (take_at (blocks_of (take count steps)) (blocks_of (drop count steps)) (length (blocks_of (take count steps)))
+    refl)
+    (All-take (IsBlock n) (length (blocks_of (take count steps))) (blocks_of (take count steps) ++ blocks_of (drop count steps))
+    (subst (All (IsBlock n)) parts may.blocks)) in
+    subst (IsStanding n k size before) (sym e)
+    (with_more n k size before before old (take count steps) h may.open_size (subst IsSolver e solver) front)
+
+-- once steps are imported, all or some
+pub stands_imported : {T : Type 0} (n k size : ℕ) (before : Bool) (old new : SolverState) (steps : List Step) (result : Result T NoMemory)
+    → IsStanding n k size before old → MayBeImported (state_of n k size before old) steps
+    → IsSolver new → OnOk result (new ≡ with_steps old steps) → OnErr result (TookOver old new steps) → IsStanding n k size before new
+stands_imported n k size before old new steps (Ok x) h may solver ok err =
+    import_front n k size before old new steps (length steps) h may solver
+    (ok ∙ ap (with_steps old) (sym (take_all (length steps) steps (omega arith))))
+stands_imported n k size before old new steps (Err x) h may solver ok err = import_front n k size before old new steps err.count h may
+    solver err.is
+
+-- what is said of an enumerator's view is said of its parts
+pub open_of : (a b : EnumState) → a ≡ b → b.size ≤ b.k → a.size ≤ a.k
+open_of a b e h = subst (λ s. s.size ≤ s.k) (sym e) h
+
+-- where no set waits any more
+pub stands_unwaited : (n k size : ℕ) (before : Bool) (s : SolverState) → IsStanding n k size before s → IsStanding n k size false s
+stands_unwaited n k size before s h = stands n k size false s (serves n k size before s h) h.holds.few (are_closed n k size before s h)
+    (λ (f : false ≡ true). cc)
+
+-- what a verdict says, under what is assumed
+pub model_says : (s : SolverState) (a b : List Lit) (left : ℕ) (v : Verdict) → a ≡ b → v ≡ verdict.Model → Says s a left v
+    → (0 < left) × IsGreatestModel s b
+model_says s a b left v same is h = subst (λ ls. Says s ls left verdict.Model) same (subst (Says s a left) is h)
+
+pub closed_says : (s : SolverState) (a b : List Lit) (left step : ℕ) (v : Verdict) → a ≡ b → v ≡ verdict.Closed step → Says s a left v
+    → (0 < left) × IsRefuted s.log step b
+closed_says s a b left step v same is h = subst (λ ls. Says s ls left (verdict.Closed step)) same (subst (Says s a left) is h)
+
+pub closed_searches : (old new : SolverState) (budget left step : ℕ) (v : Verdict) → v ≡ verdict.Closed step
+    → Searches old new budget left (closings_of v) → Searches old new budget left 1
+closed_searches old new budget left step v is h = subst (λ x. Searches old new budget left (closings_of x)) is h

@@ -1,0 +1,103 @@
+-- What contracts see of an enumerator, and what holds of each.
+use Rattle.std.specs.Prelude.{◌≡◌, ℕ, ◌+◌, ◌^◌, ◌<◌, ◌≤◌, ◌⊎◌, Bool, false, List, [], ◌∷◌, ◌++◌, length, map, take, replicate, Option}
+use Rattle.std.specs.Prelude.{Some, None, IsSomeAnd, All, Contains}
+use Rattle.std.specs.Option.{unwrap_or}
+use Rattle.clause_base.specs.declared.literal.Lit.{Lit}
+use Rattle.clause_base.specs.declared.log.Step.{Step}
+use Rattle.clause_base.specs.declared.log.StepKind.TheVariants.{Block}
+use Rattle.clause_base.specs.Literal.{AllDistinct, AreWithin}
+use Rattle.clause_base.specs.Acceptance.{clauses_of, IsAccepted}
+use Rattle.clause_base.specs.Progress.{IsClosing}
+use Rattle.card_counter.specs.InForm.{HasCounter}
+use Rattle.sat_core.specs.SolverState.{blocks_of}
+use Rattle.set_enum.specs.Sets.{IsSetOf, IsBlock, NoneBelow, block_of}
+use Rattle.set_enum.specs.Bounds.{bound_of}
+
+-- the form and its number of variables; how many of them, from 1 on, are selectors; the greatest size of a set; the size that
+-- is searched, k + 1 once all are closed; the steps so far; the set that was answered last, until it is blocked or searched on;
+-- and the last model's values, from variable 1 on
+pub record EnumState : Type 0 where
+  pub vars : ℕ
+  pub form : List (List Lit)
+  pub n : ℕ
+  pub k : ℕ
+  pub size : ℕ
+  pub log : List Step
+  pub last : Option (List ℕ)
+  pub model : List Bool
+
+-- the clauses whose sets are listed: the form and the blocks
+abbrev pub listed_over : EnumState → List (List Lit)
+listed_over s = s.form ++ blocks_of s.log
+
+-- some step has a clause that is empty or the bound at j alone
+pub record ShowsBound (n k j : ℕ) (log : List Step) : Type 0 where
+  pub step : Step
+  pub in_log : Contains log step
+  pub clause : (step.clause ≡ []) ⊎ IsSomeAnd (bound_of n k j) (λ bound. step.clause ≡ bound ∷ [])
+
+-- what holds of each enumerator
+pub record IsEnum (s : EnumState) : Type 0 where
+  -- the form's first clauses count the selectors, and the others name no counter
+  pub counter : HasCounter s.n s.k s.vars s.form
+  pub small : s.vars < 2 ^ 32
+  pub few : s.k ≤ 8
+  -- the log is accepted with its blocks, over the form's variables
+  pub accepted : IsAccepted s.form (blocks_of s.log) s.log
+  pub within : AreWithin s.vars (clauses_of s.form s.log)
+  pub distinct : AllDistinct (clauses_of s.form s.log)
+  -- each block is that of a set of selectors
+  pub blocks : All (IsBlock s.n) (blocks_of s.log)
+  -- no assignment of form and blocks selects fewer than `size`: at k + 1 there is no further set of at most k
+  pub closed : NoneBelow s.n s.size (listed_over s)
+  pub sizes : s.size ≤ s.k + 1
+  -- at k + 1 the log's last step is derived, and its clause is empty or the bound at k alone
+  pub closing : s.size ≡ s.k + 1 → IsClosing (bound_of s.n s.k s.k) s.log
+  -- beyond size 0 some step shows that there is no smaller set
+  pub shown : (j : ℕ) → s.size ≡ j + 1 → ShowsBound s.n s.k j s.log
+  -- a set that isn't blocked yet is one of selectors, and there is none once all sizes are closed
+  pub waits : (set : List ℕ) → s.last ≡ Some set → IsSetOf s.n set × (s.size ≤ s.k)
+
+-- the enumerator of a form, before any search
+abbrev pub begun : ℕ → List (List Lit) → ℕ → ℕ → EnumState
+begun vars form n k = record { vars = vars; form = form; n = n; k = k; size = 0; log = []; last = None; model = replicate vars false }
+
+-- with the last set blocked: one step more, its block
+abbrev pub blocked : EnumState → EnumState
+blocked s = record {
+  vars = s.vars;
+  form = s.form;
+  n = s.n;
+  k = s.k;
+  size = s.size;
+  log = s.log ++ record { kind = Block; clause = block_of (unwrap_or s.last []); chain = [] } ∷ [];
+  last = None;
+  model = s.model;
+}
+
+-- with these steps more
+abbrev pub with_imported : EnumState → List Step → EnumState
+with_imported s steps = record {
+  vars = s.vars;
+  form = s.form;
+  n = s.n;
+  k = s.k;
+  size = s.size;
+  log = s.log ++ steps;
+  last = s.last;
+  model = s.model;
+}
+
+-- the steps may be imported: sizes are still open, the steps are accepted behind those that are there, with their blocks and over
+-- the form's variables, and each block is that of a set of selectors
+pub record MayBeImported (s : EnumState) (steps : List Step) : Type 0 where
+  pub open_size : s.size ≤ s.k
+  pub accepted : IsAccepted s.form (blocks_of (s.log ++ steps)) (s.log ++ steps)
+  pub within : AreWithin s.vars (map (λ step. step.clause) steps)
+  pub blocks : All (IsBlock s.n) (blocks_of steps)
+
+-- some of the steps were imported, from the first on
+pub record ImportedSome (old new : EnumState) (steps : List Step) : Type 0 where
+  pub count : ℕ
+  pub within : count ≤ length steps
+  pub is : new ≡ with_imported old (take count steps)

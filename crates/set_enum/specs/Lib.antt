@@ -1,0 +1,5 @@
+pub mod Sets
+pub mod Bounds
+pub mod EnumState
+pub mod Outcome
+pub mod Standing

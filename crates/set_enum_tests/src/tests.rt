@@ -1,0 +1,5 @@
+mod budgets;
+mod imports;
+mod lists;
+mod mixed;
+mod problem;

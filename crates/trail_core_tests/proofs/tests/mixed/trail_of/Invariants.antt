@@ -1,5 +1,0 @@
-use Rattle.std.proofs.Common.{◌≤◌, length}
-use Rattle.trail_core_tests.proofs.tests.mixed.trail_of.Given as goal
-
-abbrev pub invariant-loop-clause : goal.invariant-loop-clause
-invariant-loop-clause g l = length l.trail.clauses ≤ l.clause-index

@@ -1,0 +1,4 @@
+//! Whole texts, written down by hand.
+
+mod design;
+mod texts;

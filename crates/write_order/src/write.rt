@@ -1,0 +1,64 @@
+//! The three writes.
+ghost use Rattle.std.specs.Prelude.{◌≡◌, [], ◌∷◌, ℕ, List, true, Option, IsSome, OnOk};
+ghost use Rattle.write_order.specs.Writes.{Leaves, WriteCause, begin_text, on_shelf, on_sink, print_piece, put_piece};
+
+use io_ports::{PutErr, Shelf, Sink, SinkFault};
+
+/// Why a write isn't carried out.
+#[derive(Clone, Copy, Debug, PartialEq, Eq)]
+pub enum WriteErr {
+    /// The shelf or the sink failed. Its count of faults rose.
+    Failed,
+    /// Memory was refused.
+    NoMemory,
+}
+
+/// Makes the text under a name empty.
+#[tactic(auto, using(crate::proofs::Carried::one_write))]
+pub fn begin_text<S: Shelf>(shelf: &mut S, name: &str) -> Result<(), WriteErr>
+    ensures tells { S.tells shelf.new ≡ S.tells shelf.old }
+    ensures texts { S.texts shelf.new ≡ S.texts shelf.old }
+    ensures left { S.tells shelf.old ≡ true → (printed : List ℕ)
+        → Leaves (begin_text name.now ∷ []) (on_shelf (S.written shelf.old) (S.written shelf.new) printed) result }
+    ensures begun { S.tells shelf.old ≡ true → OnOk result (IsSome (S.written shelf.new name.now)) }
+    ensures cause { WriteCause (S.faults shelf.old) (S.faults shelf.new) result }
+{
+    match shelf.begin(name) {
+        Ok(()) => Ok(()),
+        Err(PutErr::Failed) => Err(WriteErr::Failed),
+        Err(PutErr::NoMemory) => Err(WriteErr::NoMemory),
+    }
+}
+
+/// Puts a piece behind the text under a name that was begun.
+#[tactic(auto, using(crate::proofs::Carried::one_write))]
+pub fn put_piece<S: Shelf>(shelf: &mut S, name: &str, piece: &[u8]) -> Result<(), WriteErr>
+    requires begun { S.tells shelf.old ≡ true → IsSome (S.written shelf.old name.now) }
+    ensures tells { S.tells shelf.new ≡ S.tells shelf.old }
+    ensures texts { S.texts shelf.new ≡ S.texts shelf.old }
+    ensures left { S.tells shelf.old ≡ true → (printed : List ℕ)
+        → Leaves (put_piece name.now piece.now ∷ []) (on_shelf (S.written shelf.old) (S.written shelf.new) printed) result }
+    ensures begun { S.tells shelf.old ≡ true → OnOk result (IsSome (S.written shelf.new name.now)) }
+    ensures cause { WriteCause (S.faults shelf.old) (S.faults shelf.new) result }
+{
+    match shelf.put(name, piece) {
+        Ok(()) => Ok(()),
+        Err(PutErr::Failed) => Err(WriteErr::Failed),
+        Err(PutErr::NoMemory) => Err(WriteErr::NoMemory),
+    }
+}
+
+/// Prints a piece.
+#[tactic(auto, using(crate::proofs::Carried::one_write))]
+pub fn print_piece<O: Sink>(out: &mut O, piece: &[u8]) -> Result<(), WriteErr>
+    ensures tells { O.tells out.new ≡ O.tells out.old }
+    ensures left { O.tells out.old ≡ true → (written : List ℕ → Option (List ℕ))
+        → Leaves (print_piece piece.now ∷ []) (on_sink written (O.written out.old) (O.written out.new)) result }
+    ensures cause { WriteCause (O.faults out.old) (O.faults out.new) result }
+{
+    match out.put(piece) {
+        Ok(()) => Ok(()),
+        Err(SinkFault::Failed) => Err(WriteErr::Failed),
+        Err(SinkFault::NoMemory) => Err(WriteErr::NoMemory),
+    }
+}
