@@ -1,5 +1,5 @@
 -- Which design a text means, and what is known of a design that is read.
-use Rattle.std.specs.Prelude.{ℕ, ◌≡◌, ◌≢◌, ◌<◌, ◌^◌, List, length, Option, IfErr, Result}
+use Rattle.std.specs.Prelude.{ℕ, ◌≡◌, ◌≢◌, ◌<◌, ◌≤◌, ◌^◌, List, length, Option, IfErr, Result}
 use Rattle.design_core.specs.declared.design.Design.{Design}
 use Rattle.design_core.specs.WellFormed.{IsWellFormed}
 use Rattle.design_core.specs.DrivenOnce.{IsDrivenOnce}
@@ -18,13 +18,14 @@ abbrev pub Refusing : Type 1
 Refusing = List ℕ → List ℕ → Option (List ℕ) → DesignErr → Type 0
 
 -- a design with the order of its drivers, the least one, so that it has one cycle for all samples, states and choices; its signals
--- and outputs have numbers
+-- and places are no more than a design may have, and its outputs have numbers
 pub record IsReady (d : Design) (order : List ℕ) : Type 0 where
   pub well_formed : IsWellFormed d
   pub once : IsDrivenOnce d
   pub ordered : IsOrder d order
   pub least : IsLeastOrder d order
-  pub signals : length d.signals.items < 2 ^ 32
+  pub signals : length d.signals.items ≤ 1048576
+  pub places : length d.places.items ≤ 65536
   pub outputs : length d.outputs.items < 2 ^ 32
 
 -- a refusal that is no want of memory has a cause

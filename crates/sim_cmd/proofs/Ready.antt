@@ -26,6 +26,6 @@ can-show d order ready = record {
 }
 
 pub has-ports : FormedHasPorts → (d : Design) (order : List ℕ) → IsReady d order → HasPorts d
-has-ports formed d order ready = formed d ready.signals ready.well_formed
+has-ports formed d order ready = formed d (omega (arith, ready.signals)) ready.well_formed
 
 pub ruleset ready_rules = (can-show)

@@ -1,11 +1,12 @@
 -- Steps of the loop over the drivers of an order, and what fits in a driver as code makes it.
-use Rattle.std.proofs.Common.{◌≡◌, ℕ, ◌+◌, ◌<◌, ◌≤◌, Bool, true, zero, suc, List, [], ◌∷◌, length, get_or, drop, refl, sym, ◌∙◌, ap, arith, drop-cons, add-one}
-use Rattle.std.specs.Prelude.{IsTrue, Option, Some}
+use Rattle.std.proofs.Common.{Result, Ok, Err, ◌≡◌, ℕ, ◌+◌, ◌<◌, ◌≤◌, Bool, true, zero, suc, List, [], ◌∷◌, length, get_or, drop, refl, sym, ◌∙◌, ap, arith, drop-cons, add-one}
+use Rattle.std.specs.Prelude.{IsTrue, OnOk, Option, Some}
 use Rattle.std.specs.Option.{option_map_or}
 use Rattle.std.specs.List.{list_all}
 use Rattle.std.proofs.lemmas.Bool.{and_parts}
 use Rattle.std.proofs.lemmas.List.{drop_all}
 use Rattle.std.proofs.lemmas.Option.{slice_get-get_or}
+use Rattle.loc_base.specs.declared.memory.NoMemory.{NoMemory}
 use Rattle.loc_base.specs.declared.span.Span.{Span}
 use Rattle.design_core.specs.declared.signal.Signal.{Signal}
 use Rattle.design_core.specs.declared.expression.Typed.{Typed}
@@ -18,7 +19,8 @@ use Rattle.design_core.specs.WellFormed.{assignment_fits, place_fits, driver_fit
 use Rattle.word_net.specs.declared.node.WordNode.{WordNode}
 use Rattle.v_synth_parts.specs.Store.{Nodes, nodes_made}
 use Rattle.v_synth_parts.specs.Driver.{driver_made, driver_at_made, drivers_made}
-use Rattle.v_synth_parts.specs.Arms.{StatementFits, DriverFits, DriversFit, continuous_made, block_made}
+use Rattle.v_synth_parts.specs.Statement.{Maps, maps, statement_made}
+use Rattle.v_synth_parts.specs.Arms.{StatementFits, DriverFits, DriversFit, continuous_made}
 
 -- ---- one driver
 
@@ -27,10 +29,17 @@ pub made_cont : (signals : List Signal) (nodes : List WordNode) (nodes_of : List
 unfolding driver_made continuous_made
 made_cont signals nodes nodes_of target computed place span = refl
 
-pub made_comb : (signals : List Signal) (nodes : List WordNode) (nodes_of : List ℕ) (body : Stmt) (span : Span)
-    → driver_made signals nodes nodes_of (driver.Comb body span) ≡ block_made signals nodes nodes_of body
-unfolding driver_made block_made
-made_comb signals nodes nodes_of body span = refl
+pub made_comb : (signals : List Signal) (nodes after : List WordNode) (nodes_of current later : List ℕ) (body : Stmt) (span : Span) → maps after current later ≡ statement_made signals (maps nodes nodes_of nodes_of) body
+    → nodes_made after current ≡ driver_made signals nodes nodes_of (driver.Comb body span)
+unfolding driver_made
+made_comb signals nodes after nodes_of current later body span is = ap (λ (m : Maps). nodes_made m.nodes m.now) is
+
+-- the same where the statement may have found no memory
+pub comb_made : (r : Result (Unit {0}) NoMemory) (signals : List Signal) (nodes after : List WordNode) (now past current later : List ℕ) (body : Stmt) (span : Span) (d : Driver) → d ≡ driver.Comb body span → past ≡ now
+    → OnOk r (maps after current later ≡ statement_made signals (maps nodes now past) body) → OnOk r (nodes_made after current ≡ driver_made signals nodes now d)
+comb_made (Ok v) signals nodes after now past current later body span d is same made =
+    made_comb signals nodes after now current later body span (made ∙ ap (λ p. statement_made signals (maps nodes now p) body) same) ∙ ap (driver_made signals nodes now) (sym is)
+comb_made (Err e) signals nodes after now past current later body span d is same made = made
 
 pub cont-fits : (signals : List Signal) (target : Target) (computed : Typed) (place : Option ℕ) (span : Span) → DriverFits signals (driver.Cont target computed place span)
     → IsTrue (assignment_fits signals target.parts computed)

@@ -18,3 +18,6 @@ pub mod AssignSteps
 pub mod StatementSteps
 pub mod DriverSteps
 pub mod Tallies
+pub mod RowSteps
+pub mod JoinArms
+pub mod Branches

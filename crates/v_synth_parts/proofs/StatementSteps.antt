@@ -24,6 +24,7 @@ use Rattle.word_net.specs.declared.node.Operand.{Operand}
 use Rattle.word_net.specs.declared.node.Operation.TheVariants as operation
 use Rattle.word_net.specs.declared.node.WordNode.{WordNode}
 use Rattle.word_net.specs.Build.{Made, made, pushed}
+use Rattle.node_map.specs.Entries.{put}
 use Rattle.v_synth_parts.specs.declared.statement.Arm.{Arm}
 use Rattle.v_synth_parts.specs.Expression.{unsigned, typed_made}
 use Rattle.v_synth_parts.specs.Statement.{Maps, maps, set_made, label_made, labels_made, item_test, merged, statement_made, statements_made, items_made}
@@ -71,26 +72,26 @@ pub ruleset labels_steps = (labels-next, labels-end, label_fits-next)
 
 -- ---- arms
 
-closed-append : (signals : List Signal) (rest back : List Arm) (m : Maps) → closed signals (rest ++ back) m ≡ closed signals rest (closed signals back m)
+closed-append : (signals : List Signal) (current later : List ℕ) (rest back : List Arm) (m : Maps) → closed signals current later (rest ++ back) m ≡ closed signals current later rest (closed signals current later back m)
 unfolding closed
-closed-append signals [] back m = refl
-closed-append signals (arm ∷ rest) back m =
-    ap (λ k. merged signals arm.test (maps [] arm.left.current arm.left.later) k 0 (length signals)) (closed-append signals rest back m)
+closed-append signals current later [] back m = refl
+closed-append signals current later (arm ∷ rest) back m =
+    ap (λ k. merged signals arm.test (maps [] (put arm.kept.current current) (put arm.kept.later later)) k 0 (length signals)) (closed-append signals current later rest back m)
 
-pub closed-last : (signals : List Signal) (arms rest : List Arm) (arm : Arm) (nodes after : List WordNode) (now later now' later' : List ℕ) → arms ≡ rest ++ arm ∷ []
-    → maps after now' later' ≡ merged signals arm.test (maps [] arm.left.current arm.left.later) (maps nodes now later) 0 (length signals)
-    → closed signals arms (maps nodes now later) ≡ closed signals rest (maps after now' later')
+pub closed-last : (signals : List Signal) (current later : List ℕ) (arms rest : List Arm) (arm : Arm) (nodes after : List WordNode) (now past now' past' : List ℕ) → arms ≡ rest ++ arm ∷ []
+    → maps after now' past' ≡ merged signals arm.test (maps [] (put arm.kept.current current) (put arm.kept.later later)) (maps nodes now past) 0 (length signals)
+    → closed signals current later arms (maps nodes now past) ≡ closed signals current later rest (maps after now' past')
 unfolding closed
-closed-last signals arms rest arm nodes after now later now' later' is m =
-    ap (λ a. closed signals a (maps nodes now later)) is ∙ closed-append signals rest (arm ∷ []) (maps nodes now later) ∙ ap (closed signals rest) (sym m)
+closed-last signals current later arms rest arm nodes after now past now' past' is m =
+    ap (λ a. closed signals current later a (maps nodes now past)) is ∙ closed-append signals current later rest (arm ∷ []) (maps nodes now past) ∙ ap (closed signals current later rest) (sym m)
 
-pub closed-none : (signals : List Signal) (arms : List Arm) (nodes : List WordNode) (now later : List ℕ) → arms ≡ [] → closed signals arms (maps nodes now later) ≡ maps nodes now later
+pub closed-none : (signals : List Signal) (current later : List ℕ) (arms : List Arm) (nodes : List WordNode) (now past : List ℕ) → arms ≡ [] → closed signals current later arms (maps nodes now past) ≡ maps nodes now past
 unfolding closed
-closed-none signals arms nodes now later is = ap (λ a. closed signals a (maps nodes now later)) is
+closed-none signals current later arms nodes now past is = ap (λ a. closed signals current later a (maps nodes now past)) is
 
-pub closed-empty : (signals : List Signal) (arms : List Arm) (m : Maps) → arms ≡ [] → closed signals arms m ≡ m
+pub closed-empty : (signals : List Signal) (current later : List ℕ) (arms : List Arm) (m : Maps) → arms ≡ [] → closed signals current later arms m ≡ m
 unfolding closed
-closed-empty signals arms m is = ap (λ a. closed signals a m) is
+closed-empty signals current later arms m is = ap (λ a. closed signals current later a m) is
 
 last-fits : (signals : List Signal) (rest : List Arm) (arm : Arm) → All (ArmFits signals) (rest ++ arm ∷ []) → All (ArmFits signals) rest × ArmFits signals arm
 last-fits signals rest arm h =
@@ -117,21 +118,23 @@ pub ruleset close_steps = (closed-last, closed-none, arms-last, shorter)
 -- an arm behind those that were run
 pub run-next : (signals : List Signal) (nodes between after : List WordNode) (now later : List ℕ) (subject : Operand) (test : ℕ) (arms : List Arm) (arm : Arm) (i : ℕ) (items : List CaseItem) (item : CaseItem) (other : Maps → Maps)
     → i < length items → item ≡ get_or items i item → made between test ≡ item_test signals now nodes subject item.labels → arm.test ≡ test
-    → maps after arm.left.current arm.left.later ≡ statement_made signals (maps between now later) item.body
-    → closed signals arms (case_made signals (maps nodes now later) subject (drop i items) other)
-    ≡ closed signals (arms ++ arm ∷ []) (case_made signals (maps after now later) subject (drop (i + 1) items) other)
+    → maps after (put arm.kept.current now) (put arm.kept.later later) ≡ statement_made signals (maps between now later) item.body
+    → closed signals now later arms (case_made signals (maps nodes now later) subject (drop i items) other)
+    ≡ closed signals now later (arms ++ arm ∷ []) (case_made signals (maps after now later) subject (drop (i + 1) items) other)
 unfolding case_made closed
 run-next signals nodes between after now later subject test arms arm i items item other within is t named m =
     let rest : List CaseItem = drop (i + 1) items in
+    let current : List ℕ = put arm.kept.current now in
+    let past : List ℕ = put arm.kept.later later in
     let last : Made → Maps → Maps = λ k one. merged signals k.node one (case_made signals (maps one.nodes now later) subject rest other) 0 (length signals) in
     let run : Made → Maps = λ k. last k (statement_made signals (maps k.nodes now later) item.body) in
     let next : Maps = case_made signals (maps after now later) subject rest other in
-    ap (λ xs. closed signals arms (case_made signals (maps nodes now later) subject xs other)) (front items i item within is)
-    ∙ ap (λ k. closed signals arms (run k)) (sym t)
-    ∙ ap (λ one. closed signals arms (last (made between test) one)) (sym m)
-    ∙ ap (closed signals arms) (merged-arm signals test arm.left.current arm.left.later after [] (length signals) 0 next)
-    ∙ ap (λ k. closed signals arms (merged signals k (maps [] arm.left.current arm.left.later) next 0 (length signals))) (sym named)
-    ∙ sym (closed-append signals arms (arm ∷ []) next)
+    ap (λ xs. closed signals now later arms (case_made signals (maps nodes now later) subject xs other)) (front items i item within is)
+    ∙ ap (λ k. closed signals now later arms (run k)) (sym t)
+    ∙ ap (λ one. closed signals now later arms (last (made between test) one)) (sym m)
+    ∙ ap (closed signals now later arms) (merged-arm signals test current past after [] (length signals) 0 next)
+    ∙ ap (λ k. closed signals now later arms (merged signals k (maps [] current past) next 0 (length signals))) (sym named)
+    ∙ sym (closed-append signals now later arms (arm ∷ []) next)
 
 pub run-end : (signals : List Signal) (m : Maps) (subject : Operand) (i : ℕ) (items : List CaseItem) (other : Maps → Maps) → length items ≤ i → case_made signals m subject (drop i items) other ≡ other m
 unfolding case_made

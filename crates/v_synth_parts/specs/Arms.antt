@@ -1,5 +1,5 @@
 -- Statements and case items as lists, and the arms of a case that were run, as code goes over them; only private contracts cite it.
-use Rattle.std.specs.Prelude.{ℕ, ◌≡◌, ◌&&◌, Bool, IsTrue, List, [], ◌∷◌, length, Option}
+use Rattle.std.specs.Prelude.{ℕ, ◌&&◌, Bool, IsTrue, List, [], ◌∷◌, length, Option}
 use Rattle.std.specs.List.{list_all}
 use Rattle.design_core.specs.declared.signal.Signal.{Signal}
 use Rattle.design_core.specs.declared.place.Place.{Place}
@@ -9,12 +9,13 @@ use Rattle.design_core.specs.declared.statement.Stmt.{Stmt}
 use Rattle.design_core.specs.declared.driver.Driver.{Driver}
 use Rattle.design_core.specs.Store.{parts_width}
 use Rattle.design_core.specs.WellFormed.{label_fits, statement_fits, driver_fits}
+use Rattle.node_map.specs.Entries.{AreWithin, put}
 use Rattle.word_net.specs.declared.node.Operand.{Operand}
 use Rattle.word_net.specs.declared.node.WordNode.{WordNode}
 use Rattle.word_net.specs.Build.{Made}
 use Rattle.design_core.specs.declared.expression.Typed.{Typed}
 use Rattle.v_synth_parts.specs.Expression.{unsigned, truth_made, typed_made}
-use Rattle.v_synth_parts.specs.Store.{Nodes, nodes_made, indexes_made, parts_stored}
+use Rattle.v_synth_parts.specs.Store.{Nodes, indexes_made, parts_stored}
 use Rattle.v_synth_parts.specs.Driver.{assigned_made}
 use Rattle.v_synth_parts.specs.Statement.{Maps, maps, statement_made, item_test, merged}
 use Rattle.v_synth_parts.specs.declared.statement.Arm.{Arm}
@@ -54,15 +55,16 @@ case_made signals m subject (item ∷ items) other =
     let next = case_made signals (maps one.nodes m.now m.later) subject items other in
     merged signals t.node one next 0 (length signals)
 
--- the arms of a case become one, the last first
-unfoldable pub closed : List Signal → List Arm → Maps → Maps
-closed signals [] m = m
-closed signals (arm ∷ arms) m = merged signals arm.test (maps [] arm.left.current arm.left.later) (closed signals arms m) 0 (length signals)
+-- the arms of a case become one, the last first; they began with these maps
+unfoldable pub closed : List Signal → List ℕ → List ℕ → List Arm → Maps → Maps
+closed signals current later [] m = m
+closed signals current later (arm ∷ arms) m =
+    merged signals arm.test (maps [] (put arm.kept.current current) (put arm.kept.later later)) (closed signals current later arms m) 0 (length signals)
 
--- an arm has a node for each signal
+-- the entries of an arm are those of signals
 pub record ArmFits (signals : List Signal) (arm : Arm) : Type 0 where
-  pub current : length arm.left.current ≡ length signals
-  pub later : length arm.left.later ≡ length signals
+  pub current : AreWithin (length signals) arm.kept.current
+  pub later : AreWithin (length signals) arm.kept.later
 
 -- a driver fits, beside some places
 pub record DriverFits (signals : List Signal) (driver : Driver) : Type 0 where
@@ -80,7 +82,3 @@ continuous_made signals nodes nodes_of parts computed place =
     let a = assigned_made v.nodes place (parts_width signals parts) (unsigned v.node computed.width) in
     let i = indexes_made signals nodes_of a.nodes [] parts in
     parts_stored signals i.nodes nodes_of parts i.each a.operand
-
--- a block: statements over the map that is read
-unfoldable pub block_made : List Signal → List WordNode → List ℕ → Stmt → Nodes
-block_made signals nodes nodes_of body = let m = statement_made signals (maps nodes nodes_of nodes_of) body in nodes_made m.nodes m.now

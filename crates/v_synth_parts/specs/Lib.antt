@@ -5,4 +5,5 @@ pub mod Driver
 pub mod Meaning
 pub mod Tally
 pub mod Lists
+pub mod Rows
 pub mod Arms

@@ -3,12 +3,12 @@ ghost use Rattle.std.specs.Prelude.{◌≡◌, ◌^◌, ◌<◌, length, IsTrue,
 ghost use Rattle.design_core.specs.WellFormed.{assignment_fits};
 ghost use Rattle.v_synth_parts.specs.Statement.{maps, set_made};
 
-use crate::merge::Maps;
 use crate::scene::{Nodes, Scene, push, unsigned};
 use crate::store::{Left, Sides, indexes};
 use crate::typed::expression;
 use design_core::{Part, Typed};
 use loc_base::NoMemory;
+use node_map::Pair;
 use word_net::Operation;
 
 /// An assignment: its place, its left side, its value, and whether it is nonblocking.
@@ -26,16 +26,19 @@ impl Left<'_> {
     pub(crate) fn assign(
         &self,
         nodes: &mut Nodes,
-        both: &mut Maps,
+        both: &mut Pair,
         set: &Assignment,
     ) -> Result<(), NoMemory>
         requires few { length self.now.signals.now < 2 ^ 32 }
-        requires current { length both.old.current ≡ length self.now.signals.now }
-        requires later { length both.old.later ≡ length self.now.signals.now }
+        requires current { length both.old.current.now ≡ length self.now.signals.now }
+        requires later { length both.old.later.now ≡ length self.now.signals.now }
         requires fits { IsTrue (assignment_fits self.now.signals.now set.now.parts.now set.now.value.now) }
-        ensures ok { OnOk result (maps nodes.new both.new.current both.new.later ≡ set_made self.now.signals.now (maps nodes.old both.old.current both.old.later) set.now.place set.now.parts.now set.now.value.now set.now.later) }
-        ensures current { length both.new.current ≡ length self.now.signals.now }
-        ensures later { length both.new.later ≡ length self.now.signals.now }
+        ensures ok { OnOk result (maps nodes.new both.new.current.now both.new.later.now
+            ≡ set_made self.now.signals.now (maps nodes.old both.old.current.now both.old.later.now) set.now.place set.now.parts.now set.now.value.now set.now.later) }
+        ensures current { length both.new.current.now ≡ length self.now.signals.now }
+        ensures later { length both.new.later.now ≡ length self.now.signals.now }
+        ensures base { both.new.current.base ≡ both.old.current.base }
+        ensures base_later { both.new.later.base ≡ both.old.later.base }
     {
         let at = Scene {
             alloc: self.alloc,

@@ -2,17 +2,19 @@
 ghost use Rattle.std.specs.Prelude.{◌≡◌, ◌^◌, ◌<◌, length, IfOk, IsTrue, OnOk};
 ghost use Rattle.std.specs.List.{All};
 ghost use Rattle.design_core.specs.WellFormed.{assignment_fits};
+ghost use Rattle.node_map.specs.Pairs.{IsSettled};
 ghost use Rattle.v_synth_parts.specs.Store.{nodes_made};
 ghost use Rattle.v_synth_parts.specs.Driver.{assigned_made, driver_made, drivers_made};
 ghost use Rattle.v_synth_parts.specs.Lists.{prepared_in};
 ghost use Rattle.v_synth_parts.specs.Statement.{maps, statement_made};
-ghost use Rattle.v_synth_parts.specs.Arms.{DriverFits, DriversFit, StatementFits, block_made, continuous_made};
+ghost use Rattle.v_synth_parts.specs.Arms.{DriverFits, DriversFit, StatementFits, continuous_made};
 
 use crate::merge::Maps;
 use crate::scene::{Nodes, Scene, push, unsigned};
 use crate::store::{Left, Sides, indexes};
 use design_core::{Driver, Part, Stmt, Typed};
 use loc_base::{Items, NoMemory};
+use node_map::{NodeMap, Pair};
 use word_net::{Operand, Operation};
 
 /// A continuous assignment.
@@ -48,14 +50,15 @@ impl Left<'_> {
     fn continuous(
         &self,
         nodes: &mut Nodes,
-        map: &mut Items<u32>,
+        map: &mut NodeMap,
         set: &Continuous,
     ) -> Result<(), NoMemory>
         requires few { length self.now.signals.now < 2 ^ 32 }
-        requires each { length map.old ≡ length self.now.signals.now }
+        requires each { length map.old.now ≡ length self.now.signals.now }
         requires fits { IsTrue (assignment_fits self.now.signals.now set.now.parts.now set.now.value.now) }
-        ensures ok { OnOk result (nodes_made nodes.new map.new ≡ continuous_made self.now.signals.now nodes.old map.old set.now.parts.now set.now.value.now set.now.place) }
-        ensures each { length map.new ≡ length self.now.signals.now }
+        ensures ok { OnOk result (nodes_made nodes.new map.new.now ≡ continuous_made self.now.signals.now nodes.old map.old.now set.now.parts.now set.now.value.now set.now.place) }
+        ensures each { length map.new.now ≡ length self.now.signals.now }
+        ensures base { map.new.base ≡ map.old.base }
     {
         let at = Scene {
             alloc: self.alloc,
@@ -74,20 +77,6 @@ impl Left<'_> {
         self.parts(nodes, map, &sides, word)
     }
 
-    /// A block over a map: what its statements leave to be read.
-    #[tactic(auto, unfolding(crate::specs::Arms::block_made))]
-    fn block(&self, nodes: &mut Nodes, map: &mut Items<u32>, body: &Stmt) -> Result<(), NoMemory>
-        requires few { length self.now.signals.now < 2 ^ 32 }
-        requires each { length map.old ≡ length self.now.signals.now }
-        requires fits { StatementFits self.now.signals.now body.now }
-        ensures ok { OnOk result (nodes_made nodes.new map.new ≡ block_made self.now.signals.now nodes.old map.old body.now) }
-        ensures each { length map.new ≡ length self.now.signals.now }
-    {
-        let both = self.left_by(nodes, map.as_slice(), body)?;
-        *map = both.into_current();
-        Ok(())
-    }
-
     /// What a statement leaves that starts from a map, which is read and which later updates begin with.
     pub fn left_by(&self, nodes: &mut Nodes, map: &[u32], body: &Stmt) -> Result<Maps, NoMemory>
         requires few { length self.now.signals.now < 2 ^ 32 }
@@ -97,27 +86,24 @@ impl Left<'_> {
         ensures current { IfOk result (λ both. length both.current ≡ length self.now.signals.now) }
         ensures later { IfOk result (λ both. length both.later ≡ length self.now.signals.now) }
     {
-        let mut both = Maps {
-            current: Items::copy_of(self.alloc, map)?,
-            later: Items::copy_of(self.alloc, map)?,
-        };
+        let mut both = Pair::new(self.alloc, map)?;
         self.statement(nodes, &mut both, body)?;
-        Ok(both)
+        let (current, later) = both.into_both();
+        Ok(Maps { current, later })
     }
 
-    /// One driver.
+    /// One driver, over the map that is read; later updates begin with the same nodes.
     #[tactic(auto, using(crate::proofs::DriverSteps::driver_steps))]
-    fn driver(
-        &self,
-        nodes: &mut Nodes,
-        map: &mut Items<u32>,
-        driver: &Driver,
-    ) -> Result<(), NoMemory>
+    fn driver(&self, nodes: &mut Nodes, both: &mut Pair, driver: &Driver) -> Result<(), NoMemory>
         requires few { length self.now.signals.now < 2 ^ 32 }
-        requires each { length map.old ≡ length self.now.signals.now }
+        requires each { length both.old.current.now ≡ length self.now.signals.now }
+        requires same { both.old.later.now ≡ both.old.current.now }
         requires fits { DriverFits self.now.signals.now driver.now }
-        ensures ok { OnOk result (nodes_made nodes.new map.new ≡ driver_made self.now.signals.now nodes.old map.old driver.now) }
-        ensures each { length map.new ≡ length self.now.signals.now }
+        ensures ok { OnOk result (nodes_made nodes.new both.new.current.now ≡ driver_made self.now.signals.now nodes.old both.old.current.now driver.now) }
+        ensures each { length both.new.current.now ≡ length self.now.signals.now }
+        ensures each_later { length both.new.later.now ≡ length self.now.signals.now }
+        ensures base { OnOk result (both.new.current.base ≡ both.old.current.base) }
+        ensures base_later { OnOk result (both.new.later.base ≡ both.old.later.base) }
     {
         match driver {
             Driver::Cont {
@@ -131,14 +117,38 @@ impl Left<'_> {
                     value,
                     place: *place,
                 };
-                self.continuous(nodes, map, &set)
+                self.continuous(nodes, &mut both.current, &set)
             }
-            Driver::Comb { body, span: _ } => self.block(nodes, map, body),
+            Driver::Comb { body, span: _ } => self.statement(nodes, both, body),
         }
     }
 
-    /// The drivers in an order.
+    /// The drivers in an order, each over what those before it left.
     #[tactic(auto, using(crate::proofs::DriverSteps::drivers_steps))]
+    fn in_order(
+        &self,
+        nodes: &mut Nodes,
+        both: &mut Pair,
+        drivers: &[Driver],
+        order: &[u32],
+    ) -> Result<(), NoMemory>
+        requires few { length self.now.signals.now < 2 ^ 32 }
+        requires each { length both.old.current.now ≡ length self.now.signals.now }
+        requires settled { IsSettled both.old.current both.old.later }
+        requires fits { DriversFit self.now.signals.now drivers.now }
+        requires within { All (λ i. i < length drivers.now) order.now }
+        ensures ok { OnOk result (nodes_made nodes.new both.new.current.now ≡ drivers_made self.now.signals.now drivers.now nodes.old both.old.current.now order.now) }
+        ensures each { OnOk result (length both.new.current.now ≡ length self.now.signals.now) }
+    {
+        for k in 0..order.len() {
+            let i = order[k] as usize;
+            self.driver(nodes, both, &drivers[i])?;
+            both.settle(self.alloc)?;
+        }
+        Ok(())
+    }
+
+    /// The drivers in an order.
     pub fn drivers(
         &self,
         nodes: &mut Nodes,
@@ -153,10 +163,10 @@ impl Left<'_> {
         ensures ok { OnOk result (nodes_made nodes.new map.new ≡ drivers_made self.now.signals.now drivers.now nodes.old map.old order.now) }
         ensures each { length map.new ≡ length self.now.signals.now }
     {
-        for k in 0..order.len() {
-            let i = order[k] as usize;
-            self.driver(nodes, map, &drivers[i])?;
-        }
+        let mut both = Pair::new(self.alloc, map.as_slice())?;
+        self.in_order(nodes, &mut both, drivers, order)?;
+        let (current, _) = both.into_both();
+        *map = current;
         Ok(())
     }
 }

@@ -1,13 +1,15 @@
 //! Two arms of a statement become one.
-ghost use Rattle.std.specs.Prelude.{◌≡◌, ◌^◌, ◌<◌, [], length, set, IfOk, OnOk};
-ghost use Rattle.design_core.specs.Valuation.{width_at};
+ghost use Rattle.std.specs.Prelude.{◌≡◌, ◌^◌, ◌<◌, length, set, IfOk, OnOk};
+ghost use Rattle.node_map.specs.Entries.{AreWithin};
 ghost use Rattle.word_net.specs.Build.{made};
-ghost use Rattle.v_synth_parts.specs.Statement.{chosen_made, maps, merged, row_made};
+ghost use Rattle.v_synth_parts.specs.Statement.{chosen_made, maps};
 ghost use Rattle.v_synth_parts.specs.Store.{nodes_made};
+ghost use Rattle.v_synth_parts.specs.Rows.{entry_row, rows_merged};
 
 use crate::scene::{Nodes, push, unsigned};
 use design_core::Signal;
 use loc_base::{Items, NoMemory};
+use node_map::{Kept, NodeMap, Pair};
 use word_net::Operation;
 
 /// The node of each signal as it is read, and as it is updated later.
@@ -23,24 +25,6 @@ impl Drop for Maps {
             later: _,
         } = self;
     }
-}
-
-impl Maps {
-    /// The map that is read.
-    pub(crate) fn into_current(self) -> Items<u32>
-        ensures { result ≡ self.current }
-    {
-        let Maps { current, later: _ } = self;
-        current
-    }
-}
-
-/// The signals, and the maps of an arm that is merged into the other.
-#[derive(Clone, Copy, Drop)]
-pub(crate) struct Arms<'a> {
-    pub signals: &'a [Signal],
-    pub current: &'a [u32],
-    pub later: &'a [u32],
 }
 
 /// A choice for one signal: the node of the condition, the signal, and its width.
@@ -67,47 +51,49 @@ fn chosen(nodes: &mut Nodes, fork: Fork, one: u32, other: u32) -> Result<u32, No
     push(nodes, fork.width, choose)
 }
 
-/// A signal of the map of one arm is merged into that of the other.
-#[tactic(auto, unfolding(crate::specs::Statement::row_made))]
-fn row(nodes: &mut Nodes, fork: Fork, arm: &[u32], map: &mut Items<u32>) -> Result<(), NoMemory>
-    requires arm { fork.signal < length arm.now }
-    requires map { fork.signal < length map.old }
-    ensures ok { OnOk result (nodes_made nodes.new map.new ≡ row_made nodes.old fork.test fork.width fork.signal arm.now map.old) }
-    ensures each { length map.new ≡ length map.old }
+/// The node that one arm left for a signal is merged into the map of the other.
+#[tactic(auto, unfolding(crate::specs::Rows::entry_row))]
+fn row(nodes: &mut Nodes, fork: Fork, one: u32, map: &mut NodeMap) -> Result<(), NoMemory>
+    requires { fork.signal < length map.old.now }
+    ensures ok { OnOk result (nodes_made nodes.new map.new.now ≡ entry_row nodes.old fork.test fork.width fork.signal one map.old.now) }
+    ensures base { map.new.base ≡ map.old.base }
+    ensures each { length map.new.now ≡ length map.old.now }
 {
-    let signal = fork.signal as usize;
-    let other = map.as_slice()[signal];
-    let node = chosen(nodes, fork, arm[signal], other)?;
-    map.set(signal, node);
-    Ok(())
+    let other = map.as_slice()[fork.signal as usize];
+    let node = chosen(nodes, fork, one, other)?;
+    map.set(fork.signal, node)
 }
 
-/// Two arms become one: the maps of one arm are merged into those of the other, signal by signal, the map that is read
-/// before that of later updates.
-#[tactic(auto, using(crate::proofs::MergeSteps::steps, crate::proofs::Scenes::signals_at))]
+/// Two arms become one: what one arm left at some signals is merged into the maps of the other, signal by signal, the map
+/// that is read before that of later updates.
+#[tactic(auto, using(crate::proofs::RowSteps::steps, crate::proofs::Scenes::signals_at))]
 pub(crate) fn merge(
     nodes: &mut Nodes,
+    signals: &[Signal],
     test: u32,
-    arms: &Arms,
-    other: &mut Maps,
+    arm: &Kept,
+    other: &mut Pair,
 ) -> Result<(), NoMemory>
-    requires few { length arms.now.signals.now < 2 ^ 32 }
-    requires arm_now { length arms.now.current.now ≡ length arms.now.signals.now }
-    requires arm_later { length arms.now.later.now ≡ length arms.now.signals.now }
-    requires now { length other.old.current ≡ length arms.now.signals.now }
-    requires later { length other.old.later ≡ length arms.now.signals.now }
-    ensures ok { OnOk result (maps nodes.new other.new.current other.new.later ≡ merged arms.now.signals.now test (maps [] arms.now.current.now arms.now.later.now) (maps nodes.old other.old.current other.old.later) 0 (length arms.now.signals.now)) }
-    ensures now { length other.new.current ≡ length arms.now.signals.now }
-    ensures later { length other.new.later ≡ length arms.now.signals.now }
+    requires few { length signals.now < 2 ^ 32 }
+    requires within { AreWithin (length signals.now) arm.now.current }
+    requires both { length arm.now.later ≡ length arm.now.current }
+    requires current { length other.old.current.now ≡ length signals.now }
+    requires later { length other.old.later.now ≡ length signals.now }
+    ensures ok { OnOk result (maps nodes.new other.new.current.now other.new.later.now ≡ rows_merged signals.now test arm.now.current arm.now.later (maps nodes.old other.old.current.now other.old.later.now)) }
+    ensures base { other.new.current.base ≡ other.old.current.base }
+    ensures base_later { other.new.later.base ≡ other.old.later.base }
+    ensures current { length other.new.current.now ≡ length signals.now }
+    ensures later { length other.new.later.now ≡ length signals.now }
 {
-    for s in 0..arms.signals.len() {
+    for i in 0..arm.current.len() {
+        let one = arm.current[i];
         let fork = Fork {
             test,
-            width: arms.signals[s].width,
-            signal: s as u32,
+            width: signals[one.signal as usize].width,
+            signal: one.signal,
         };
-        row(nodes, fork, arms.current, &mut other.current)?;
-        row(nodes, fork, arms.later, &mut other.later)?;
+        row(nodes, fork, one.node, &mut other.current)?;
+        row(nodes, fork, arm.later[i].node, &mut other.later)?;
     }
     Ok(())
 }

@@ -3,42 +3,30 @@ ghost use Rattle.std.specs.Prelude.{◌≡◌, ◌^◌, ◌<◌, [], length, IfO
 ghost use Rattle.std.specs.List.{list_all, All};
 ghost use Rattle.design_core.specs.WellFormed.{label_fits, typed_fits};
 ghost use Rattle.word_net.specs.Build.{made};
+ghost use Rattle.node_map.specs.Entries.{put};
 ghost use Rattle.v_synth_parts.specs.Expression.{truth_made, typed_made};
 ghost use Rattle.v_synth_parts.specs.Statement.{Maps as MapsMade, maps, item_test, label_made, merged, statement_made};
 ghost use Rattle.v_synth_parts.specs.Arms.{ArmFits, ItemsFit, StatementFits, StatementsFit, all_made, case_made, closed, condition_made};
 
 use crate::assign::Assignment;
-use crate::merge::{Arms, Maps, merge};
+use crate::merge::merge;
 use crate::scene::{Nodes, Scene, push, truth, unsigned};
 use crate::store::Left;
 use crate::typed::expression;
 use design_core::{BinaryOp, CaseItem, Label, Stmt, Typed};
 use loc_base::{Items, NoMemory};
-use std::alloc::Global;
+use node_map::{Kept, Pair};
 use word_net::{Operand, Operation};
 
-/// An arm that was run: the node of its condition, and what it leaves.
+/// An arm that was run: the node of its condition, and what it left.
 pub struct Arm {
     pub test: u32,
-    pub left: Maps,
+    pub kept: Kept,
 }
 
 impl Drop for Arm {
     fn drop(self) {
-        let Arm { test: _, left: _ } = self;
-    }
-}
-
-impl Maps {
-    /// The same maps once more.
-    fn copy(&self, alloc: Global) -> Result<Maps, NoMemory>
-        ensures current { IfOk result (λ copy. copy.current ≡ self.now.current) }
-        ensures later { IfOk result (λ copy. copy.later ≡ self.now.later) }
-    {
-        Ok(Maps {
-            current: Items::copy_of(alloc, self.current.as_slice())?,
-            later: Items::copy_of(alloc, self.later.as_slice())?,
-        })
+        let Arm { test: _, kept: _ } = self;
     }
 }
 
@@ -134,34 +122,37 @@ impl Left<'_> {
     }
 
     /// An arm that was run is merged into the other.
-    fn join(&self, nodes: &mut Nodes, arm: &Arm, other: &mut Maps) -> Result<(), NoMemory>
+    #[tactic(auto, using(crate::proofs::JoinArms::join_steps))]
+    fn join(&self, nodes: &mut Nodes, arm: &Arm, other: &mut Pair) -> Result<(), NoMemory>
         requires few { length self.now.signals.now < 2 ^ 32 }
         requires arm { ArmFits self.now.signals.now arm.now }
-        requires current { length other.old.current ≡ length self.now.signals.now }
-        requires later { length other.old.later ≡ length self.now.signals.now }
-        ensures ok { OnOk result (maps nodes.new other.new.current other.new.later
-            ≡ merged self.now.signals.now arm.now.test (maps [] arm.now.left.current arm.now.left.later) (maps nodes.old other.old.current other.old.later) 0 (length self.now.signals.now)) }
-        ensures current { length other.new.current ≡ length self.now.signals.now }
-        ensures later { length other.new.later ≡ length self.now.signals.now }
+        requires current { length other.old.current.now ≡ length self.now.signals.now }
+        requires later { length other.old.later.now ≡ length self.now.signals.now }
+        ensures ok { OnOk result (maps nodes.new other.new.current.now other.new.later.now
+            ≡ merged self.now.signals.now arm.now.test (maps [] (put arm.now.kept.current other.old.current.base) (put arm.now.kept.later other.old.later.base))
+            (maps nodes.old other.old.current.now other.old.later.now) 0 (length self.now.signals.now)) }
+        ensures base { OnOk result (other.new.current.base ≡ other.old.current.base) }
+        ensures base_later { OnOk result (other.new.later.base ≡ other.old.later.base) }
+        ensures current { length other.new.current.now ≡ length self.now.signals.now }
+        ensures later { length other.new.later.now ≡ length self.now.signals.now }
     {
-        let arms = Arms {
-            signals: self.signals,
-            current: arm.left.current.as_slice(),
-            later: arm.left.later.as_slice(),
-        };
-        merge(nodes, arm.test, &arms, other)
+        let one = other.beside(self.alloc, &arm.kept)?;
+        merge(nodes, self.signals, arm.test, &one, other)
     }
 
     /// The arms of a case become one, the last first.
     #[tactic(auto, using(crate::proofs::StatementSteps::close_steps))]
-    fn close(&self, nodes: &mut Nodes, arms: Items<Arm>, other: &mut Maps) -> Result<(), NoMemory>
+    fn close(&self, nodes: &mut Nodes, arms: Items<Arm>, other: &mut Pair) -> Result<(), NoMemory>
         requires few { length self.now.signals.now < 2 ^ 32 }
         requires arms { All (ArmFits self.now.signals.now) arms }
-        requires current { length other.old.current ≡ length self.now.signals.now }
-        requires later { length other.old.later ≡ length self.now.signals.now }
-        ensures ok { OnOk result (maps nodes.new other.new.current other.new.later ≡ closed self.now.signals.now arms (maps nodes.old other.old.current other.old.later)) }
-        ensures current { length other.new.current ≡ length self.now.signals.now }
-        ensures later { length other.new.later ≡ length self.now.signals.now }
+        requires current { length other.old.current.now ≡ length self.now.signals.now }
+        requires later { length other.old.later.now ≡ length self.now.signals.now }
+        ensures ok { OnOk result (maps nodes.new other.new.current.now other.new.later.now
+            ≡ closed self.now.signals.now other.old.current.base other.old.later.base arms (maps nodes.old other.old.current.now other.old.later.now)) }
+        ensures base { OnOk result (other.new.current.base ≡ other.old.current.base) }
+        ensures base_later { OnOk result (other.new.later.base ≡ other.old.later.base) }
+        ensures current { length other.new.current.now ≡ length self.now.signals.now }
+        ensures later { length other.new.later.now ≡ length self.now.signals.now }
     {
         let mut left = arms;
         while let Some(arm) = left.pop() {
@@ -172,28 +163,33 @@ impl Left<'_> {
 
     /// The maps after a statement.
     #[cycle(statement)]
-    pub(crate) fn statement(
+    pub fn statement(
         &self,
         nodes: &mut Nodes,
-        both: &mut Maps,
+        both: &mut Pair,
         statement: &Stmt,
     ) -> Result<(), NoMemory>
         requires few { length self.now.signals.now < 2 ^ 32 }
-        requires current { length both.old.current ≡ length self.now.signals.now }
-        requires later { length both.old.later ≡ length self.now.signals.now }
+        requires current { length both.old.current.now ≡ length self.now.signals.now }
+        requires later { length both.old.later.now ≡ length self.now.signals.now }
         requires fits { StatementFits self.now.signals.now statement.now }
-        ensures ok { OnOk result (maps nodes.new both.new.current both.new.later ≡ statement_made self.now.signals.now (maps nodes.old both.old.current both.old.later) statement.now) }
-        ensures current { length both.new.current ≡ length self.now.signals.now }
-        ensures later { length both.new.later ≡ length self.now.signals.now }
+        ensures ok { OnOk result (maps nodes.new both.new.current.now both.new.later.now
+            ≡ statement_made self.now.signals.now (maps nodes.old both.old.current.now both.old.later.now) statement.now) }
+        ensures base { OnOk result (both.new.current.base ≡ both.old.current.base) }
+        ensures base_later { OnOk result (both.new.later.base ≡ both.old.later.base) }
+        ensures current { length both.new.current.now ≡ length self.now.signals.now }
+        ensures later { length both.new.later.now ≡ length self.now.signals.now }
     {
         match statement {
             Stmt::Nothing => Ok(()),
             Stmt::Block(statements) => self.statements(nodes, both, statements),
             Stmt::If { cond, yes, no } => {
                 let test = self.condition(nodes, both.current.as_slice(), cond)?;
+                let outer = both.begin(self.alloc);
                 let arm = self.arm(nodes, both, test, yes)?;
                 self.statement(nodes, both, no)?;
-                self.join(nodes, &arm, both)
+                self.join(nodes, &arm, both)?;
+                both.end(outer)
             }
             Stmt::Case {
                 subject,
@@ -202,9 +198,11 @@ impl Left<'_> {
                 wild: _,
             } => {
                 let word = self.value(nodes, both.current.as_slice(), subject)?;
+                let outer = both.begin(self.alloc);
                 let arms = self.arms(nodes, both, unsigned(word, subject.width), items)?;
                 self.statement(nodes, both, other)?;
-                self.close(nodes, arms, both)
+                self.close(nodes, arms, both)?;
+                both.end(outer)
             }
             Stmt::Set {
                 place,
@@ -228,16 +226,19 @@ impl Left<'_> {
     fn statements(
         &self,
         nodes: &mut Nodes,
-        both: &mut Maps,
+        both: &mut Pair,
         statements: &[Stmt],
     ) -> Result<(), NoMemory>
         requires few { length self.now.signals.now < 2 ^ 32 }
-        requires current { length both.old.current ≡ length self.now.signals.now }
-        requires later { length both.old.later ≡ length self.now.signals.now }
+        requires current { length both.old.current.now ≡ length self.now.signals.now }
+        requires later { length both.old.later.now ≡ length self.now.signals.now }
         requires fits { StatementsFit self.now.signals.now statements.now }
-        ensures ok { OnOk result (maps nodes.new both.new.current both.new.later ≡ all_made self.now.signals.now (maps nodes.old both.old.current both.old.later) statements.now) }
-        ensures current { length both.new.current ≡ length self.now.signals.now }
-        ensures later { length both.new.later ≡ length self.now.signals.now }
+        ensures ok { OnOk result (maps nodes.new both.new.current.now both.new.later.now
+            ≡ all_made self.now.signals.now (maps nodes.old both.old.current.now both.old.later.now) statements.now) }
+        ensures base { OnOk result (both.new.current.base ≡ both.old.current.base) }
+        ensures base_later { OnOk result (both.new.later.base ≡ both.old.later.base) }
+        ensures current { length both.new.current.now ≡ length self.now.signals.now }
+        ensures later { length both.new.later.now ≡ length self.now.signals.now }
     {
         for i in 0..statements.len() {
             self.statement(nodes, both, &statements[i])?;
@@ -245,26 +246,32 @@ impl Left<'_> {
         Ok(())
     }
 
-    /// An arm is run on a copy of the maps.
+    /// An arm is run, and the maps go back to what they were.
     #[cycle(statement)]
     fn arm(
         &self,
         nodes: &mut Nodes,
-        both: &Maps,
+        both: &mut Pair,
         test: u32,
         statement: &Stmt,
     ) -> Result<Arm, NoMemory>
         requires few { length self.now.signals.now < 2 ^ 32 }
-        requires current { length both.now.current ≡ length self.now.signals.now }
-        requires later { length both.now.later ≡ length self.now.signals.now }
+        requires current { length both.old.current.now ≡ length self.now.signals.now }
+        requires later { length both.old.later.now ≡ length self.now.signals.now }
+        requires begun { both.old.current.base ≡ both.old.current.now }
+        requires begun_later { both.old.later.base ≡ both.old.later.now }
         requires fits { StatementFits self.now.signals.now statement.now }
         ensures test { IfOk result (λ arm. arm.test ≡ test) }
-        ensures made { IfOk result (λ arm. maps nodes.new arm.left.current arm.left.later ≡ statement_made self.now.signals.now (maps nodes.old both.now.current both.now.later) statement.now) }
+        ensures made { IfOk result (λ arm. maps nodes.new (put arm.kept.current both.old.current.now) (put arm.kept.later both.old.later.now)
+            ≡ statement_made self.now.signals.now (maps nodes.old both.old.current.now both.old.later.now) statement.now) }
         ensures fits { IfOk result (ArmFits self.now.signals.now) }
+        ensures back { OnOk result (both.new ≡ both.old) }
+        ensures current { length both.new.current.now ≡ length self.now.signals.now }
+        ensures later { length both.new.later.now ≡ length self.now.signals.now }
     {
-        let mut left = both.copy(self.alloc)?;
-        self.statement(nodes, &mut left, statement)?;
-        Ok(Arm { test, left })
+        self.statement(nodes, both, statement)?;
+        let kept = both.take(self.alloc)?;
+        Ok(Arm { test, kept })
     }
 
     /// The arms of a case.
@@ -272,17 +279,23 @@ impl Left<'_> {
     fn arms(
         &self,
         nodes: &mut Nodes,
-        both: &Maps,
+        both: &mut Pair,
         subject: Operand,
         items: &[CaseItem],
     ) -> Result<Items<Arm>, NoMemory>
         requires few { length self.now.signals.now < 2 ^ 32 }
-        requires current { length both.now.current ≡ length self.now.signals.now }
-        requires later { length both.now.later ≡ length self.now.signals.now }
+        requires current { length both.old.current.now ≡ length self.now.signals.now }
+        requires later { length both.old.later.now ≡ length self.now.signals.now }
+        requires begun { both.old.current.base ≡ both.old.current.now }
+        requires begun_later { both.old.later.base ≡ both.old.later.now }
         requires fits { ItemsFit self.now.signals.now subject.width items.now }
-        ensures made { IfOk result (λ arms. (other : MapsMade → MapsMade) → closed self.now.signals.now arms (other (maps nodes.new both.now.current both.now.later))
-            ≡ case_made self.now.signals.now (maps nodes.old both.now.current both.now.later) subject items.now other) }
+        ensures made { IfOk result (λ arms. (other : MapsMade → MapsMade)
+            → closed self.now.signals.now both.old.current.now both.old.later.now arms (other (maps nodes.new both.old.current.now both.old.later.now))
+            ≡ case_made self.now.signals.now (maps nodes.old both.old.current.now both.old.later.now) subject items.now other) }
         ensures fits { IfOk result (All (ArmFits self.now.signals.now)) }
+        ensures back { OnOk result (both.new ≡ both.old) }
+        ensures current { length both.new.current.now ≡ length self.now.signals.now }
+        ensures later { length both.new.later.now ≡ length self.now.signals.now }
     {
         let mut arms = Items::new(self.alloc);
         for i in 0..items.len() {

@@ -13,6 +13,7 @@ use crate::scene::{Nodes, Scene, push, unsigned};
 use crate::typed::{expression, operand};
 use design_core::{Part, Signal};
 use loc_base::{Items, NoMemory};
+use node_map::NodeMap;
 use std::alloc::Global;
 use word_net::{Operand, Operation};
 
@@ -122,18 +123,18 @@ impl Left<'_> {
     fn set(
         &self,
         nodes: &mut Nodes,
-        map: &mut Items<u32>,
+        map: &mut NodeMap,
         signal: u32,
         operation: Operation,
     ) -> Result<(), NoMemory>
         requires signal { signal < length self.now.signals.now }
-        requires each { length map.old ≡ length self.now.signals.now }
-        ensures ok { OnOk result (nodes_made nodes.new map.new ≡ signal_set self.now.signals.now nodes.old map.old signal operation) }
-        ensures each { length map.new ≡ length self.now.signals.now }
+        requires each { length map.old.now ≡ length self.now.signals.now }
+        ensures ok { OnOk result (nodes_made nodes.new map.new.now ≡ signal_set self.now.signals.now nodes.old map.old.now signal operation) }
+        ensures each { length map.new.now ≡ length self.now.signals.now }
+        ensures base { map.new.base ≡ map.old.base }
     {
         let node = push(nodes, self.width(signal), operation)?;
-        map.set(signal as usize, node);
-        Ok(())
+        map.set(signal, node)
     }
 
     /// A word of an array, with bits replaced where the address is its.
@@ -141,15 +142,16 @@ impl Left<'_> {
     fn word(
         &self,
         nodes: &mut Nodes,
-        map: &mut Items<u32>,
+        map: &mut NodeMap,
         store: ArrayStore,
         place: u32,
     ) -> Result<(), NoMemory>
         requires few { length self.now.signals.now < 2 ^ 32 }
         requires within { store.array.first + place < length self.now.signals.now }
-        requires each { length map.old ≡ length self.now.signals.now }
-        ensures ok { OnOk result (nodes_made nodes.new map.new ≡ word_stored self.now.signals.now store.array store.stored nodes.old map.old place) }
-        ensures each { length map.new ≡ length self.now.signals.now }
+        requires each { length map.old.now ≡ length self.now.signals.now }
+        ensures ok { OnOk result (nodes_made nodes.new map.new.now ≡ word_stored self.now.signals.now store.array store.stored nodes.old map.old.now place) }
+        ensures each { length map.new.now ≡ length self.now.signals.now }
+        ensures base { map.new.base ≡ map.old.base }
     {
         let ArrayStore { array, stored } = store;
         let signal = array.first + place;
@@ -177,15 +179,16 @@ impl Left<'_> {
     fn words(
         &self,
         nodes: &mut Nodes,
-        map: &mut Items<u32>,
+        map: &mut NodeMap,
         store: ArrayStore,
         count: u32,
     ) -> Result<(), NoMemory>
         requires few { length self.now.signals.now < 2 ^ 32 }
         requires within { store.array.first + count ≤ length self.now.signals.now }
-        requires each { length map.old ≡ length self.now.signals.now }
-        ensures ok { OnOk result (nodes_made nodes.new map.new ≡ words_stored self.now.signals.now store.array store.stored nodes.old map.old 0 count) }
-        ensures each { length map.new ≡ length self.now.signals.now }
+        requires each { length map.old.now ≡ length self.now.signals.now }
+        ensures ok { OnOk result (nodes_made nodes.new map.new.now ≡ words_stored self.now.signals.now store.array store.stored nodes.old map.old.now 0 count) }
+        ensures each { length map.new.now ≡ length self.now.signals.now }
+        ensures base { map.new.base ≡ map.old.base }
     {
         for place in 0..count {
             self.word(nodes, map, store, place)?;
@@ -198,15 +201,16 @@ impl Left<'_> {
     fn part(
         &self,
         nodes: &mut Nodes,
-        map: &mut Items<u32>,
+        map: &mut NodeMap,
         part: &Part,
         spot: Spot,
     ) -> Result<(), NoMemory>
         requires few { length self.now.signals.now < 2 ^ 32 }
-        requires each { length map.old ≡ length self.now.signals.now }
+        requires each { length map.old.now ≡ length self.now.signals.now }
         requires fits { IsTrue (part_fits self.now.signals.now part.now) }
-        ensures ok { OnOk result (nodes_made nodes.new map.new ≡ part_stored self.now.signals.now nodes.old map.old part.now spot.index spot.stored) }
-        ensures each { length map.new ≡ length self.now.signals.now }
+        ensures ok { OnOk result (nodes_made nodes.new map.new.now ≡ part_stored self.now.signals.now nodes.old map.old.now part.now spot.index spot.stored) }
+        ensures each { length map.new.now ≡ length self.now.signals.now }
+        ensures base { map.new.base ≡ map.old.base }
     {
         let stored = spot.stored;
         match part {
@@ -320,17 +324,18 @@ impl Left<'_> {
     pub(crate) fn parts(
         &self,
         nodes: &mut Nodes,
-        map: &mut Items<u32>,
+        map: &mut NodeMap,
         sides: &Sides,
         word: Operand,
     ) -> Result<(), NoMemory>
         requires few { length self.now.signals.now < 2 ^ 32 }
-        requires each { length map.old ≡ length self.now.signals.now }
+        requires each { length map.old.now ≡ length self.now.signals.now }
         requires fits { IsTrue (list_all (part_fits self.now.signals.now) sides.now.parts.now) }
         requires most { parts_width self.now.signals.now sides.now.parts.now ≤ 128 }
         requires indexes { length sides.now.indexes.now ≡ length sides.now.parts.now }
-        ensures ok { OnOk result (nodes_made nodes.new map.new ≡ parts_stored self.now.signals.now nodes.old map.old sides.now.parts.now sides.now.indexes.now word) }
-        ensures each { length map.new ≡ length self.now.signals.now }
+        ensures ok { OnOk result (nodes_made nodes.new map.new.now ≡ parts_stored self.now.signals.now nodes.old map.old.now sides.now.parts.now sides.now.indexes.now word) }
+        ensures each { length map.new.now ≡ length self.now.signals.now }
+        ensures base { map.new.base ≡ map.old.base }
     {
         let mut offset = self.parts_width(sides.parts);
         for i in 0..sides.parts.len() {

@@ -1,5 +1,5 @@
 -- From what a step answers to what this front end answers.
-use Rattle.std.proofs.Common.{◌≡◌, inl, inr, ℕ, List, Option, sym, subst, Result, Ok, Err}
+use Rattle.std.proofs.Common.{◌≡◌, inl, inr, ℕ, List, Option, sym, subst, Result, Ok, Err, arith}
 use Rattle.std.specs.Prelude.{IfErr, IfOk, IsErrAnd}
 use Rattle.std.proofs.lemmas.Bool.{cases_eq}
 use Rattle.design_core.specs.declared.design.Design.{Design}
@@ -54,7 +54,8 @@ ready text top clock d (Ok o) has well once same order =
       ordered = order.carried_out;
       least = order.least;
       signals = few.signals;
-      outputs = few-outputs d well few.signals;
+      places = few.places;
+      outputs = few-outputs d well (omega (arith, few.signals));
     })
 ready text top clock d (Err fault) has well once same order = tt
 

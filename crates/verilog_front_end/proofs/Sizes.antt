@@ -30,18 +30,22 @@ neither : (a b : Bool) → (a || b) ≡ false → (a ≡ false) × (b ≡ false)
 neither false b is = (refl, is)
 neither true b is = absurd (true≢false is)
 
--- how many signals and drivers there are
+-- how many signals, places and drivers there are
 pub record IsFew (d : Design) : Type 0 where
-  pub signals : length d.signals.items < 2 ^ 32
+  pub signals : length d.signals.items ≤ 1048576
+  pub places : length d.places.items ≤ 65536
   pub drivers : length d.drivers.items < 2 ^ 32
 
 pub few-of : (d : Design) → is_too_large d ≡ false → IsFew d
 few-of d small =
     let both = neither (nat_lt 65536 (length d.places.items) || nat_lt 1048576 (length d.signals.items)) _ small in
-    let signals = ltb-false 1048576 (length d.signals.items)
-    (neither (nat_lt 65536 (length d.places.items)) _ both.0).1 in
+    let lists = neither (nat_lt 65536 (length d.places.items)) _ both.0 in
     let drivers = ltb-false 1048576 (length d.drivers.items + length d.clocked.items) both.1 in
-    record { signals = omega (arith, signals); drivers = omega (arith, drivers) }
+    record {
+      signals = ltb-false 1048576 (length d.signals.items) lists.1;
+      places = ltb-false 65536 (length d.places.items) lists.0;
+      drivers = omega (arith, drivers);
+    }
 
 -- ---- outputs
 output-below : (d : Design) → IsWellFormed d → (q : ℕ) → Contains d.outputs.items q → q < length d.signals.items

@@ -1,11 +1,14 @@
-use Rattle.std.proofs.Common.{◌≡◌, ◌-◌, [], length}
-use Rattle.v_synth_parts.specs.Statement.{maps, merged}
+use Rattle.std.proofs.Common.{◌≡◌, drop, length}
+use Rattle.v_synth_parts.specs.Statement.{maps}
+use Rattle.v_synth_parts.specs.Rows.{rows_merged}
 use Rattle.v_synth_parts.proofs.merge.merge.Given as goal
 
-abbrev pub invariant-loop-s : goal.invariant-loop-s
-invariant-loop-s l = record {
-  now : length l.other.current ≡ length l.arms.signals.now;
-  later : length l.other.later ≡ length l.arms.signals.now;
-  rest : merged l.arms.signals.now l.test (maps [] l.arms.current.now l.arms.later.now) (maps l.fn.nodes l.fn.other.current l.fn.other.later) 0 (length l.arms.signals.now)
-      ≡ merged l.arms.signals.now l.test (maps [] l.arms.current.now l.arms.later.now) (maps l.nodes l.other.current l.other.later) l.s (length l.arms.signals.now - l.s);
+abbrev pub invariant-loop-i : goal.invariant-loop-i
+invariant-loop-i l = record {
+  current : length l.other.current.now ≡ length l.signals;
+  later : length l.other.later.now ≡ length l.signals;
+  base : l.other.current.base ≡ l.fn.other.current.base;
+  base_later : l.other.later.base ≡ l.fn.other.later.base;
+  rest : rows_merged l.signals l.test l.arm.current l.arm.later (maps l.fn.nodes l.fn.other.current.now l.fn.other.later.now)
+      ≡ rows_merged l.signals l.test (drop l.i l.arm.current) (drop l.i l.arm.later) (maps l.nodes l.other.current.now l.other.later.now);
 }

@@ -22,14 +22,15 @@ loop-i-preserved c =
     let w : c.part_width-offset.result ≡ part_width S p = c.part_width-offset.ensures ∙ ap (part_width S) (sym c.index-sides-i.is) in
     let left : offset ≡ rest = omega (arith, sum-next S P i p within c.index-sides-i.is, c.loop-i.invariant.left, w) in
     let stored : ℕ → Stored = λ o. record { word = c.args.word; offset = o } in
-    let m : nodes_made c.part.new.nodes c.part.new.map ≡ part_stored S c.loop-i.nodes c.loop-i.map q (get_or I i 0) (stored rest) =
+    let m : nodes_made c.part.new.nodes c.part.new.map.now ≡ part_stored S c.loop-i.nodes c.loop-i.map.now q (get_or I i 0) (stored rest) =
     c.in_ok-part.ensures.ok
-    ∙ ap (λ (e : Part). part_stored S c.loop-i.nodes c.loop-i.map e (get_or I i 0) (stored offset)) (sym c.index-sides-i-in-loop-i.is)
-    ∙ ap (λ o. part_stored S c.loop-i.nodes c.loop-i.map q (get_or I i 0) (stored o)) left in
+    ∙ ap (λ (e : Part). part_stored S c.loop-i.nodes c.loop-i.map.now e (get_or I i 0) (stored offset)) (sym c.index-sides-i-in-loop-i.is)
+    ∙ ap (λ o. part_stored S c.loop-i.nodes c.loop-i.map.now q (get_or I i 0) (stored o)) left in
     record {
       each = c.in_ok-part.ensures.each;
+      base = c.in_ok-part.ensures.base ∙ c.loop-i.invariant.base;
       left = left;
       fits = (fits-next S P i p within c.index-sides-i.is c.loop-i.invariant.fits).1;
       rest = c.loop-i.invariant.rest
-          ∙ parts-next S c.loop-i.nodes c.part.new.nodes c.loop-i.map c.part.new.map P I c.args.word i q within inside c.index-sides-i-in-loop-i.is m;
+          ∙ parts-next S c.loop-i.nodes c.part.new.nodes c.loop-i.map.now c.part.new.map.now P I c.args.word i q within inside c.index-sides-i-in-loop-i.is m;
     }

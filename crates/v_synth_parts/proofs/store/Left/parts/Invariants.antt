@@ -8,9 +8,10 @@ use Rattle.v_synth_parts.proofs.store.Left.parts.Given as goal
 
 abbrev pub invariant-loop-i : goal.invariant-loop-i
 invariant-loop-i l = record {
-  each : length l.map ≡ length l.self.signals.now;
+  each : length l.map.now ≡ length l.self.signals.now;
+  base : l.map.base ≡ l.fn.map.base;
   left : l.offset ≡ parts_width l.self.signals.now (drop l.i l.sides.parts.now);
   fits : IsTrue (list_all (part_fits l.self.signals.now) (drop l.i l.sides.parts.now));
-  rest : parts_stored l.self.signals.now l.fn.nodes l.fn.map l.sides.parts.now l.sides.indexes.now l.word
-      ≡ parts_stored l.self.signals.now l.nodes l.map (drop l.i l.sides.parts.now) (drop l.i l.sides.indexes.now) l.word;
+  rest : parts_stored l.self.signals.now l.fn.nodes l.fn.map.now l.sides.parts.now l.sides.indexes.now l.word
+      ≡ parts_stored l.self.signals.now l.nodes l.map.now (drop l.i l.sides.parts.now) (drop l.i l.sides.indexes.now) l.word;
 }

@@ -1,0 +1,3 @@
+pub mod EntrySteps
+pub mod MapSteps
+pub mod PairSteps
