@@ -19,7 +19,7 @@ use Rattle.sat_core.specs.declared.verdict.Verdict.TheVariants as verdict
 use Rattle.sat_core.specs.Outcome.{Searches, LearnedBeforeLast, IsRefuted, Says, closings_of}
 use Rattle.sat_core.specs.Calls.{Begins, TookOver, with_block, with_steps}
 use Rattle.set_enum.specs.Sets.{selected, IsSetOf, IsBlock, block_of, numbers_from}
-use Rattle.set_enum.specs.EnumState.{EnumState, MayBeImported}
+use Rattle.set_enum.specs.EnumState.{AreChainless, EnumState, HasNoChain, MayBeImported}
 use Rattle.set_enum.specs.Outcome.{Adds, GivesSet}
 use Rattle.set_enum.specs.Standing.{IsStanding, assumed, next_size, state_of, waiting}
 use Rattle.set_enum.proofs.Selecting.{selected-IsSetOf, numbers-within}
@@ -47,6 +47,7 @@ stands_new n k vars form s counter few solver b =
       solver = solver;
       preferred = b.preferred_are;
       blocks = subst (λ (log : List Step). All (IsBlock n) (blocks_of log)) (sym b.no_step) (All-nil (IsBlock n));
+      chainless = subst AreChainless (sym b.no_step) (All-nil (λ (x : Step). HasNoChain x.kind x));
     }
     few
     record {
@@ -145,9 +146,9 @@ block_within n k vars set fits h =
 
 -- with other steps, over the same form
 with_more : (n k size : ℕ) (before later : Bool) (old : SolverState) (steps : List Step) → IsStanding n k size before old → size ≤ k
-    → IsSolver (with_steps old steps) → All (IsBlock n) (blocks_of steps)
+    → IsSolver (with_steps old steps) → All (IsBlock n) (blocks_of steps) → AreChainless steps
     → IsStanding n k size later (with_steps old steps)
-with_more n k size before later old steps h open_size solver blocks =
+with_more n k size before later old steps h open_size solver blocks chainless =
     stands n k size later (with_steps old steps)
     record {
       counter = h.holds.counter;
@@ -155,6 +156,7 @@ with_more n k size before later old steps h open_size solver blocks =
       preferred = h.preferred;
       blocks = subst (All (IsBlock n)) (sym (blocks_append old.log steps))
           (All-append (IsBlock n) (blocks_of old.log) (blocks_of steps) h.holds.blocks blocks);
+      chainless = All-append (λ (x : Step). HasNoChain x.kind x) old.log steps h.holds.chainless chainless;
     }
     h.holds.few (closed_more n k size old.form old.log steps (blocks_of steps) (are_closed n k size before old h) open_size
     (blocks_append old.log steps)) (λ t. open_size)
@@ -173,7 +175,9 @@ stands_blocked n k size before old new block h waits solver is e =
     let open_size : size ≤ k = open_while_found n k size old (subst (λ f. IsStanding n k size f old) waits h) in
     subst (IsStanding n k size false) (sym e)
     (with_more n k size before false old steps h open_size (subst IsSolver e solver)
-    (All-push (IsBlock n) [] block (All-nil (IsBlock n)) one))
+    (All-push (IsBlock n) [] block (All-nil (IsBlock n)) one)
+    (All-push (λ (x : Step). HasNoChain x.kind x) [] (record { kind = Block; clause = block; chain = [] })
+    (All-nil (λ (x : Step). HasNoChain x.kind x)) refl))
 
 import_front : (n k size : ℕ) (before : Bool) (old new : SolverState) (steps : List Step) (count : ℕ) → IsStanding n k size before old
     → MayBeImported (state_of n k size before old) steps → IsSolver new
@@ -187,7 +191,8 @@ import_front n k size before old new steps count h may solver e =
     (All-take (IsBlock n) (length (blocks_of (take count steps))) (blocks_of (take count steps) ++ blocks_of (drop count steps))
     (subst (All (IsBlock n)) parts may.blocks)) in
     subst (IsStanding n k size before) (sym e)
-    (with_more n k size before before old (take count steps) h may.open_size (subst IsSolver e solver) front)
+    (with_more n k size before before old (take count steps) h may.open_size (subst IsSolver e solver) front
+    (All-take (λ (x : Step). HasNoChain x.kind x) count steps may.chainless))
 
 -- once steps are imported, all or some
 pub stands_imported : {T : Type 0} (n k size : ℕ) (before : Bool) (old new : SolverState) (steps : List Step) (result : Result T NoMemory)

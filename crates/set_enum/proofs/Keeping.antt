@@ -6,7 +6,7 @@ use Rattle.std.proofs.lemmas.Bool.{cases_lt}
 use Rattle.loc_base.proofs.ShelfBools.{count-true}
 use Rattle.loc_base.proofs.ShelfOptions.{Some-same}
 use Rattle.std.proofs.lemmas.List.{take_at, get_or-drop, length-drop, take-append-drop, append-nil}
-use Rattle.std.proofs.lemmas.List.Elements.{All-take, Contains-append_left, Contains-get_or}
+use Rattle.std.proofs.lemmas.List.Elements.{All-append, All-cons, All-nil, All-take, Contains-append_left, Contains-get_or}
 use Rattle.std.proofs.lemmas.List.Sums.{sum_by-cons}
 use Rattle.clause_base.specs.declared.literal.Lit.{Lit}
 use Rattle.clause_base.specs.declared.log.Step.{Step}
@@ -14,6 +14,7 @@ use Rattle.clause_base.specs.declared.log.StepKind.{StepKind}
 use Rattle.clause_base.specs.declared.log.StepKind.TheVariants.{Block, Learned, Derived}
 use Rattle.clause_base.specs.Steps.{step_at, no_step}
 use Rattle.clause_base.specs.Satisfaction.{Satisfies, SatisfiesClause}
+use Rattle.clause_base.specs.Acceptance.{is_block, is_block_kind}
 use Rattle.clause_base.specs.Counted.{EndsASize}
 use Rattle.clause_base.specs.Progress.{IsClosing}
 use Rattle.card_counter.specs.InForm.{HasCounter}
@@ -22,7 +23,7 @@ use Rattle.sat_core.specs.Outcome.{Searches, LearnedBeforeLast, is_derived, is_d
 use Rattle.sat_core.proofs.Growing.{blocks_kept}
 use Rattle.set_enum.specs.Sets.{selected, IsSetOf, IsBlock, NoneBelow}
 use Rattle.set_enum.specs.Bounds.{bound_at, bound_of, bounds_of}
-use Rattle.set_enum.specs.EnumState.{ShowsBound}
+use Rattle.set_enum.specs.EnumState.{AreChainless, HasNoChain, ShowsBound}
 use Rattle.set_enum.specs.Outcome.{Adds}
 use Rattle.set_enum.specs.Standing.{IsStanding, state_of, waiting, next_size}
 use Rattle.set_enum.proofs.Selecting.{selected-IsSetOf}
@@ -52,6 +53,7 @@ stands n k size found s h few c w = record {
     within = h.solver.within;
     distinct = h.solver.distinct;
     blocks = h.blocks;
+    chainless = h.chainless;
     closed = c.closed;
     sizes = c.sizes;
     closing = c.closing;
@@ -63,7 +65,13 @@ stands n k size found s h few c w = record {
 }
 
 pub serves : (n k size : ℕ) (found : Bool) (s : SolverState) → IsStanding n k size found s → Serves n k s
-serves n k size found s h = record { counter = h.holds.counter; solver = h.solver; preferred = h.preferred; blocks = h.holds.blocks }
+serves n k size found s h = record {
+  counter = h.holds.counter;
+  solver = h.solver;
+  preferred = h.preferred;
+  blocks = h.holds.blocks;
+  chainless = h.holds.chainless;
+}
 
 pub are_closed : (n k size : ℕ) (found : Bool) (s : SolverState) → IsStanding n k size found s → AreClosed n k size s.form s.log
 are_closed n k size found s h = record {
@@ -100,6 +108,19 @@ closed_more n k size form log more blocks h open_size e = record {
 whole : (old new : List Step) → take (length old) new ≡ old → new ≡ old ++ added old new
 whole old new e = sym (take-append-drop (length old) new) ∙ ap (λ xs. xs ++ added old new) e
 
+-- steps without a block
+unblocked-chainless : (steps : List Step) → count_by is_block steps ≡ 0 → AreChainless steps
+unblocked-chainless [] none = All-nil (λ (s : Step). HasNoChain s.kind s)
+unblocked-chainless (s ∷ steps) none =
+    All-cons (λ (x : Step). HasNoChain x.kind x) s steps
+    (no-block s.kind (omega (arith, none, sum_by-cons (λ x. cond (is_block x) 1 0) s steps)))
+    (unblocked-chainless steps (omega (arith, none, sum_by-cons (λ x. cond (is_block x) 1 0) s steps)))
+  where
+    no-block : (kind : StepKind) → ◌≡◌ {A = ℕ} (cond (is_block_kind kind) 1 0) 0 → HasNoChain kind s
+    no-block Block none = absurd (omega (arith, none))
+    no-block Learned none = tt
+    no-block Derived none = tt
+
 -- a search leaves the form, the blocks and what is preferred
 pub serves_after : (n k : ℕ) (old new : SolverState) (budget left derived : ℕ) → Serves n k old → Searches old new budget left derived
     → IsSolver new → Serves n k new
@@ -109,6 +130,9 @@ serves_after n k old new budget left derived h r solver = record {
   solver = solver;
   preferred = r.preferred ∙ h.preferred;
   blocks = subst (All (IsBlock n)) (sym (blocks_kept old.form old.log new.log budget left derived r.grows)) h.blocks;
+  chainless = subst AreChainless (sym (whole old.log new.log r.grows.prefix))
+      (All-append (λ (s : Step). HasNoChain s.kind s) old.log (added old.log new.log) h.chainless
+      (unblocked-chainless (added old.log new.log) r.grows.no_block));
 }
 
 -- and what is closed, while sizes are open

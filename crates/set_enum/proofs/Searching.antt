@@ -20,6 +20,7 @@ use Rattle.sat_core.specs.SolverState.{SolverState, IsSolver, IsGreatestModel, I
 use Rattle.sat_core.specs.Outcome.{IsRefuted}
 use Rattle.set_enum.specs.Sets.{numbers_from, selected, IsBlock, IsFirst, NoneBelow, block_of, is_lower}
 use Rattle.set_enum.specs.Bounds.{bound_at}
+use Rattle.set_enum.specs.EnumState.{AreChainless}
 use Rattle.set_enum.specs.Standing.{assumed, next_size}
 use Rattle.set_enum.proofs.Selecting.{selected-same, selected-count, selected-few, greatest_first, not_before}
 use Rattle.set_enum.proofs.Bounding.{EndsAt, assumed_met, meets_assumed, bound-value, refuted-clause}
@@ -30,6 +31,7 @@ pub record Serves (n k : ℕ) (s : SolverState) : Type 0 where
   pub solver : IsSolver s
   pub preferred : s.preferred ≡ numbers_from 1 n
   pub blocks : All (IsBlock n) (blocks_of s.log)
+  pub chainless : AreChainless s.log
 
 -- the block of a set is satisfied alike by assignments that agree on the members
 same-block : (a b : ℕ → Bool) (set : List ℕ) → All (λ m. b m ≡ a m) set → is_satisfied b (block_of set) ≡ is_satisfied a (block_of set)

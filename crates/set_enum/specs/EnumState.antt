@@ -4,7 +4,8 @@ use Rattle.std.specs.Prelude.{Some, None, IsSomeAnd, All, Contains}
 use Rattle.std.specs.Option.{unwrap_or}
 use Rattle.clause_base.specs.declared.literal.Lit.{Lit}
 use Rattle.clause_base.specs.declared.log.Step.{Step}
-use Rattle.clause_base.specs.declared.log.StepKind.TheVariants.{Block}
+use Rattle.clause_base.specs.declared.log.StepKind.{StepKind}
+use Rattle.clause_base.specs.declared.log.StepKind.TheVariants.{Block, Learned, Derived}
 use Rattle.clause_base.specs.Literal.{AllDistinct, AreWithin}
 use Rattle.clause_base.specs.Acceptance.{clauses_of, IsAccepted}
 use Rattle.clause_base.specs.Progress.{IsClosing}
@@ -30,6 +31,16 @@ pub record EnumState : Type 0 where
 abbrev pub listed_over : EnumState → List (List Lit)
 listed_over s = s.form ++ blocks_of s.log
 
+-- a block has no chain
+abbrev pub HasNoChain : StepKind → Step → Type 0
+HasNoChain Block step = step.chain ≡ []
+HasNoChain Learned step = Unit {0}
+HasNoChain Derived step = Unit {0}
+
+-- none of the steps is a block with a chain
+abbrev pub AreChainless : List Step → Type 0
+AreChainless steps = All (λ step. HasNoChain step.kind step) steps
+
 -- some step has a clause that is empty or the bound at j alone
 pub record ShowsBound (n k j : ℕ) (log : List Step) : Type 0 where
   pub step : Step
@@ -46,8 +57,9 @@ pub record IsEnum (s : EnumState) : Type 0 where
   pub accepted : IsAccepted s.form (blocks_of s.log) s.log
   pub within : AreWithin s.vars (clauses_of s.form s.log)
   pub distinct : AllDistinct (clauses_of s.form s.log)
-  -- each block is that of a set of selectors
+  -- each block is that of a set of selectors, without a chain
   pub blocks : All (IsBlock s.n) (blocks_of s.log)
+  pub chainless : AreChainless s.log
   -- no assignment of form and blocks selects fewer than `size`: at k + 1 there is no further set of at most k
   pub closed : NoneBelow s.n s.size (listed_over s)
   pub sizes : s.size ≤ s.k + 1
@@ -89,12 +101,13 @@ with_imported s steps = record {
 }
 
 -- the steps may be imported: sizes are still open, the steps are accepted behind those that are there, with their blocks and over
--- the form's variables, and each block is that of a set of selectors
+-- the form's variables, and each block is that of a set of selectors, without a chain
 pub record MayBeImported (s : EnumState) (steps : List Step) : Type 0 where
   pub open_size : s.size ≤ s.k
   pub accepted : IsAccepted s.form (blocks_of (s.log ++ steps)) (s.log ++ steps)
   pub within : AreWithin s.vars (map (λ step. step.clause) steps)
   pub blocks : All (IsBlock s.n) (blocks_of steps)
+  pub chainless : AreChainless steps
 
 -- some of the steps were imported, from the first on
 pub record ImportedSome (old new : EnumState) (steps : List Step) : Type 0 where

@@ -59,4 +59,5 @@ may_take_over from new h e = subst (λ s. MayBeImported s from.log) (sym e) reco
   within = subst (AreWithin from.vars) (drop_at from.form (map (λ (s : Step). s.clause) from.log) (length from.form) refl)
       (All-drop (IsWithin from.vars) (length from.form) (clauses_of from.form from.log) h.within);
   blocks = h.blocks;
+  chainless = h.chainless;
 }
