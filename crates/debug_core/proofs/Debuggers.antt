@@ -1,7 +1,7 @@
 -- What holds of a debugger that stands between two calls.
 use Rattle.std.proofs.Common.{◌≡◌, ℕ, ◌+◌, ◌^◌, ◌<◌, Bool, true, false, List, [], ◌∷◌, ◌++◌, length, map}
 use Rattle.std.proofs.Common.{refl, ap, sym, ◌∙◌, subst, arith}
-use Rattle.std.specs.Prelude.{All, cond, count_by, filter, nat_lt}
+use Rattle.std.specs.Prelude.{All, IsTrue, cond, count_by, filter, nat_lt}
 use Rattle.std.proofs.lemmas.Bool.{le-ltb, ltb-true}
 use Rattle.std.proofs.lemmas.List.{length-map}
 use Rattle.std.proofs.lemmas.List.Elements.{All-cons, All-head, All-tail}
@@ -10,7 +10,7 @@ use Rattle.clause_base.specs.declared.form.Form.{Form}
 use Rattle.clause_base.specs.declared.literal.Lit.{Lit}
 use Rattle.clause_base.specs.declared.log.Step.{Step}
 use Rattle.clause_base.specs.Acceptance.{IsAccepted, clauses_of, is_block}
-use Rattle.clause_base.specs.Literal.{AllDistinct, AreWithin, IsWithin}
+use Rattle.clause_base.specs.Literal.{AllDistinct, AreWithin, IsWithin, has_distinct_variables}
 use Rattle.clause_base.specs.Progress.{IsClosing}
 use Rattle.sat_core.specs.Outcome.{is_learned}
 use Rattle.sat_core.specs.SolverState.{blocks_of}
@@ -24,7 +24,7 @@ use Rattle.list_laws.proofs.Fronts.{empty-front, whole}
 use Rattle.debug_core.specs.Debugging.{Begins, IsDebugger}
 use Rattle.debug_core.specs.Problems.{Problem, suspect_count, suspects_of}
 use Rattle.debug_core.specs.Standing.{IsEncodingOf, IsStanding, members_of, state_of}
-use Rattle.debug_core.proofs.Encoded.{encodes, within}
+use Rattle.debug_core.proofs.Encoded.{counter, encodes, within}
 
 -- the members of a block are those of its set
 pub members-block : (set : List ℕ) → members_of (block_of set) ≡ set
@@ -87,12 +87,20 @@ module _ (p : Problem) (made : Form) (u : Unrolling) (e : EnumState) (is : IsSta
       subst (λ blocks. IsAccepted made.clauses blocks e.log) blocks-are
       (subst (λ form. IsAccepted form (blocks_of e.log) e.log) is.over.form is.over.holds.accepted)
 
+  -- the clauses of the log's steps
+  log-within : AreWithin made.vars (map (λ (s : Step). s.clause) e.log)
+  log-within =
+      subst (λ vars. AreWithin vars (map (λ (s : Step). s.clause) e.log)) is.over.vars
+      (all-behind (IsWithin e.vars) e.form (map (λ (s : Step). s.clause) e.log) is.over.holds.within)
+
+  log-distinct : AllDistinct (map (λ (s : Step). s.clause) e.log)
+  log-distinct =
+      all-behind (λ clause. IsTrue (has_distinct_variables clause)) e.form (map (λ (s : Step). s.clause) e.log) is.over.holds.distinct
+
   few-learned : count_by is_learned e.log < 3 ^ made.vars
   few-learned =
       few_fresh made.vars made.clauses (map block_of listed) e.log 0 (within p made u is.encoding)
-      (subst (AreWithin made.vars) blocks-are
-      (subst (λ vars. AreWithin vars (blocks_of e.log)) is.over.vars
-      (blocks-in (IsWithin e.vars) e.log (all-behind (IsWithin e.vars) e.form (map (λ (s : Step). s.clause) e.log) is.over.holds.within))))
+      (subst (AreWithin made.vars) blocks-are (blocks-in (IsWithin made.vars) e.log log-within))
       (subst (λ form. AllDistinct (clauses_of form e.log)) is.over.form is.over.holds.distinct)
       accepted is.searched.fresh
 
@@ -124,6 +132,11 @@ module _ (p : Problem) (made : Form) (u : Unrolling) (e : EnumState) (is : IsSta
     form = is.encoding.form;
     accepted = accepted;
     blocks = blocks-are;
+    form_within = within p made u is.encoding;
+    few_suspects = omega (arith, (counter p made u is.encoding).within);
+    log_within = log-within;
+    distinct = log-distinct;
+    chainless = is.over.holds.chainless;
     fresh = is.searched.fresh;
     few_learned = few-learned;
     few_derived = omega (arith, is.searched.few, is.over.holds.sizes, is.over.size);

@@ -3,3 +3,4 @@ pub mod Encoded
 pub mod Refusals
 pub mod Debuggers
 pub mod Steps
+pub mod Rooms

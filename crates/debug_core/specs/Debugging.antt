@@ -8,6 +8,7 @@ use Rattle.design_core.specs.Listing.{IsFront, IsList}
 use Rattle.clause_base.specs.declared.literal.Lit.{Lit}
 use Rattle.clause_base.specs.declared.log.Step.{Step}
 use Rattle.clause_base.specs.declared.log.StepKind.TheVariants.{Derived}
+use Rattle.clause_base.specs.Literal.{AllDistinct, AreWithin}
 use Rattle.clause_base.specs.Steps.{step_at}
 use Rattle.clause_base.specs.Acceptance.{IsAccepted}
 use Rattle.clause_base.specs.Counted.{EndsASize}
@@ -16,6 +17,7 @@ use Rattle.sat_core.specs.Outcome.{added, is_derived, is_learned}
 use Rattle.sat_core.specs.SolverState.{blocks_of}
 use Rattle.set_enum.specs.Sets.{block_of}
 use Rattle.set_enum.specs.Bounds.{bound_of, bounds_of}
+use Rattle.set_enum.specs.EnumState.{AreChainless}
 use Rattle.debug_core.specs.declared.found.Found.{Found}
 use Rattle.debug_core.specs.declared.found.Found.TheVariants as found
 use Rattle.debug_core.specs.Problems.{Problem, IsFormFor, IsProblem, suspect_count, suspects_of}
@@ -45,6 +47,13 @@ pub record IsDebugger (s : DebugState) : Type 0 where
   -- the log is accepted after the form, with the blocks of the sets listed so far, in their order
   pub accepted : IsAccepted s.form (map block_of s.listed) s.log
   pub blocks : blocks_of s.log ≡ map block_of s.listed
+  -- form and log are over the form's variables, of which the first are the suspects'; the clauses of the log's steps are of distinct
+  -- variables, and no block has a chain
+  pub form_within : AreWithin s.vars s.form
+  pub few_suspects : suspect_count s.problem ≤ s.vars
+  pub log_within : AreWithin s.vars (map (λ step. step.clause) s.log)
+  pub distinct : AllDistinct (map (λ step. step.clause) s.log)
+  pub chainless : AreChainless s.log
   -- its learned steps are fresh, so that they are fewer than 3^V; its derived steps are at most k + 1, and each ends a size
   pub fresh : LearnedAreFresh s.form s.log 0
   pub few_learned : count_by is_learned s.log < 3 ^ s.vars
