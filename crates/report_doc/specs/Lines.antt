@@ -10,10 +10,10 @@ use Rattle.suspect_map.specs.declared.group.Group.{Group}
 abbrev pub set_line : List ℕ → List ℕ
 set_line members = codes "set {" ++ join_by decimal (codes ",") members ++ codes "}" ++ newline
 
--- the line of a group's least place, and 0 for a group without places
+-- the line of a group's first place, which is its least where they ascend, and 0 for a group without places
 abbrev pub line_of : List Place → List ℕ → ℕ
 line_of places [] = 0
-line_of places (least ∷ more) = option_map_or (λ place. place.line) (slice_get places least) 0
+line_of places (first ∷ more) = option_map_or (λ place. place.line) (slice_get places first) 0
 
 -- two spaces, and of a suspect its number, its kind, its line and its label
 abbrev pub group_line : List Place → ℕ → Group → List ℕ

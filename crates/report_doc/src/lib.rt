@@ -7,5 +7,5 @@ pub mod types;
 mod write;
 
 pub use cycle_texts::CycleTexts;
-pub use lines::set_lines;
+pub use lines::{line_of, set_lines};
 pub use write::report_text;

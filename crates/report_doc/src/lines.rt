@@ -31,13 +31,13 @@ fn push_set(text: &mut Vec<u8>, members: &[u32]) -> Result<(), NoMemory>
     push_bytes(text, b"}\n")
 }
 
-/// The line of the least of some places, and 0 where there are none.
-fn line_of(places: &[Place], numbers: &[u32]) -> u32
+/// The line of the first of some places, and 0 where there are none.
+pub fn line_of(places: &[Place], numbers: &[u32]) -> u32
     requires { All (λ place. place < length places.now) numbers.now }
     ensures { result ≡ line_of places.now numbers.now }
 {
     match numbers.first() {
-        Some(least) => places[*least as usize].line,
+        Some(first) => places[*first as usize].line,
         None => 0,
     }
 }
@@ -102,8 +102,8 @@ fn push_members(
     Ok(())
 }
 
-/// The lines that are printed of a set: its members, and for each its number, its kind, the line of its least place and
-/// its label.
+/// The lines that are printed of a set: its members, and for each its number, its kind, the line of its first place (the least,
+/// since a group's places ascend) and its label.
 pub fn set_lines(
     alloc: Global,
     set: &SetWithValues,

@@ -6,7 +6,7 @@ use Rattle.std.specs.List.{flat_map}
 use Rattle.std.specs.Str.{bytes_eq}
 use Rattle.std.specs.Cmp.Lexicographic.{bytes_decides}
 use Rattle.std.proofs.lemmas.Bool.{false_from_ne_true}
-use Rattle.std.proofs.lemmas.List.{append-nil, length-append, take_all}
+use Rattle.std.proofs.lemmas.List.{append-nil, length-append}
 use Rattle.std.proofs.lemmas.Grind.{flat_map-append}
 use Rattle.std.proofs.lemmas.Option.{slice_get_within}
 use Rattle.std.proofs.Math.Seq.{take-append-add}
@@ -221,12 +221,5 @@ pub begun-within : (first next : List Write) (o : Outputs) → AreBegun first o 
 begun-within first next o begun = record {
   count = begun.count;
   within = omega (arith, begun.within, length-append first next);
-  done = subst (λ (ws : List Write). AreDone ws o) (sym (take-before first next begun.count begun.within)) begun.done;
-}
-
-pub all-begun : (writes : List Write) (o : Outputs) → AreDone writes o → AreBegun writes o
-all-begun writes o done = record {
-  count = length writes;
-  within = omega (arith);
-  done = subst (λ (ws : List Write). AreDone ws o) (sym (take_all (length writes) writes (omega (arith)))) done;
+  done = subst (λ (ws : List Write). AreDone ws o) (sym (take-before first next begun.count (omega (arith, begun.within)))) begun.done;
 }

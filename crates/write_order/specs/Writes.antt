@@ -1,6 +1,6 @@
 -- Writes in order: texts under names are begun and grow by pieces, and pieces are printed. What stands once writes are carried
 -- out, and what stands where one of them fails.
-use Rattle.std.specs.Prelude.{ℕ, ◌≡◌, ◌≤◌, ◌⊎◌, if◌then◌else◌, List, [], ◌∷◌, ◌++◌, length, take, slice_get, Option, Some, unwrap_or}
+use Rattle.std.specs.Prelude.{ℕ, ◌≡◌, ◌<◌, ◌⊎◌, if◌then◌else◌, List, [], ◌∷◌, ◌++◌, length, take, slice_get, Option, Some, unwrap_or}
 use Rattle.std.specs.Prelude.{Result, Ok, Err}
 use Rattle.std.specs.List.{flat_map}
 use Rattle.std.specs.Str.{bytes_eq}
@@ -67,13 +67,14 @@ pub record StopsIn (writes : List Write) (o : Outputs) : Type 0 where
   pub is_part : IsPartOf failed part
   pub done : AreDone (take count writes ++ part) o
 
--- some of the writes were carried out, from the first one on
+-- some of the writes were carried out, from the first one on, but not all
 pub record AreBegun (writes : List Write) (o : Outputs) : Type 0 where
   pub count : ℕ
-  pub within : count ≤ length writes
+  pub within : count < length writes
   pub done : AreDone (take count writes) o
 
--- what stands where writes were to be carried out: all of them, or a part where one failed, or some where memory was refused
+-- what stands where writes were to be carried out: all of them, or a part where one failed, or some, but not all, where memory was
+-- refused
 abbrev pub Leaves : {X : Type 0} → List Write → Outputs → Result X WriteErr → Type 0
 Leaves writes o (Ok _) = AreDone writes o
 Leaves writes o (Err Failed) = StopsIn writes o
