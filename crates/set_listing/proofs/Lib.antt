@@ -1,0 +1,8 @@
+mod Examples
+pub mod Putting
+pub mod Pairs
+pub mod Steps
+pub mod Turning
+pub mod Ended
+pub mod Runs
+pub mod Others

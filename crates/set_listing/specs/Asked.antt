@@ -1,0 +1,25 @@
+-- What a listing is asked: which problem, how much may be spent on it, under which names it writes, and what its report says of
+-- the run.
+use Rattle.std.specs.Prelude.{ℕ, ◌≤◌, ◌≢◌, List, Option}
+use Rattle.loc_base.specs.declared.digest.Digest.{Digest}
+use Rattle.debug_core.specs.Problems.{Problem, IsProblem}
+
+pub record Asked : Type 0 where
+  pub problem : Problem
+  -- the most steps that may be learned, and the most sets that may be found
+  pub budget : ℕ
+  pub sets : ℕ
+  -- the names of the two texts that are written
+  pub log : List ℕ
+  pub report : List ℕ
+  -- the digest of the run's inputs, and the words that the report repeats
+  pub inputs : Digest
+  pub top : List ℕ
+  pub clock : Option (List ℕ)
+  pub kinds : List (List ℕ)
+
+-- what can be asked
+pub record CanBeAsked (asked : Asked) : Type 0 where
+  pub problem : IsProblem asked.problem
+  pub some_sets : 1 ≤ asked.sets
+  pub apart : asked.log ≢ asked.report

@@ -1,0 +1,11 @@
+pub mod Asked
+pub mod Found
+pub mod Lines
+pub mod Jobs
+pub mod Texts
+pub mod Due
+pub mod Outcomes
+pub mod Stops
+pub mod Going
+pub mod Reporting
+pub mod Checks

@@ -1,0 +1,27 @@
+-- How a listing ended: its status, what stands then, and which count of faults rose.
+use Rattle.std.specs.Prelude.{ℕ}
+use Rattle.command_contract.specs.Contract.{Counts, NoneRose, OneRose}
+use Rattle.write_order.specs.Writes.{Outputs}
+use Rattle.set_listing.specs.declared.outcome.Outcome.{Outcome}
+use Rattle.set_listing.specs.declared.outcome.Outcome.TheVariants.{Ended, Failed, Memory}
+use Rattle.set_listing.specs.Asked.{Asked}
+use Rattle.set_listing.specs.Due.{IsCut, IsListed, IsStopped}
+use Rattle.set_listing.specs.Lines.{ending_status}
+
+-- the status of the program
+abbrev pub status_of : Outcome → ℕ
+status_of (Ended ending) = ending_status ending
+status_of Failed = 6
+status_of Memory = 7
+
+-- what stands on the outputs
+abbrev pub Leaves : Asked → Outputs → Outcome → Type 0
+Leaves asked o (Ended ending) = IsListed asked o (ending_status ending)
+Leaves asked o Failed = IsStopped asked o
+Leaves asked o Memory = IsCut asked o
+
+-- one of the counts of faults rose where a write failed, and no other outcome lets one rise
+abbrev pub OutcomeCause : Counts → Outcome → Type 0
+OutcomeCause counts (Ended ending) = NoneRose counts
+OutcomeCause counts Failed = OneRose counts
+OutcomeCause counts Memory = NoneRose counts

@@ -1,0 +1,48 @@
+ghost use Rattle.std.specs.Prelude.{◌≡◌, IfOk, OnErr};
+ghost use Rattle.debug_core.specs.Debugging.{DebugState, FindsNothing, Gives, HasRoom, IsDebugger, Searches};
+
+use clause_base::{Form, Log};
+use debug_core::{Debugger, Found};
+use loc_base::NoMemory;
+use sat_core::Budget;
+
+/// What finds the sets of a problem, one after another, with a log that shows them.
+///
+/// Its meaning: `state` is what is known of it between two calls.
+pub trait Search {
+    ghost state: { Self → DebugState };
+
+    /// The next set of the list with values that make every trace right, or that the list is whole, or that the budget is spent.
+    /// After `NoMemory` no set is lost.
+    fn next(&mut self, budget: &mut Budget) -> Result<Found, NoMemory>
+        requires { HasRoom (state self.old) budget.old }
+        ensures holds { IsDebugger (state self.new) }
+        ensures searches { Searches (state self.old) (state self.new) budget.old budget.new }
+        ensures gives { IfOk result (Gives (state self.old) (state self.new) budget.new) }
+        ensures err { OnErr result (FindsNothing (state self.old) (state self.new)) };
+
+    /// The form, whose first variables are the suspects' selectors.
+    fn form(&self) -> &Form
+        ensures variables { result.now.vars ≡ (state self.now).vars }
+        ensures clauses { result.now.clauses ≡ (state self.now).form };
+
+    /// The steps so far.
+    fn log(&self) -> &Log
+        ensures { result.now ≡ (state self.now).log };
+}
+
+impl Search for Debugger<'_> {
+    ghost state = { λ debugger. debugger };
+
+    fn next(&mut self, budget: &mut Budget) -> Result<Found, NoMemory> {
+        Debugger::next(self, budget)
+    }
+
+    fn form(&self) -> &Form {
+        Debugger::form(self)
+    }
+
+    fn log(&self) -> &Log {
+        Debugger::log(self)
+    }
+}
