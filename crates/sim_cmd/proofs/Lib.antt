@@ -1,5 +1,4 @@
 pub mod Ready
-pub mod Loaded
 pub mod Ending
 pub mod Statuses
 pub mod Counting

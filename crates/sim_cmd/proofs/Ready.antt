@@ -1,13 +1,15 @@
--- A design that is read can be simulated, and has ports.
+-- A design that is read can be simulated, and traces that are read are of it.
 use Rattle.std.proofs.Common.{ℕ, suc, ◌≡◌, ◌<◌, List, [], ◌∷◌, length, ap, refl, ◌∙◌, arith}
 use Rattle.std.specs.Prelude.{All, true, ◌&&◌, nat_lt}
 use Rattle.std.specs.List.{list_all}
 use Rattle.std.proofs.lemmas.Bool.{lt-ltb}
 use Rattle.design_core.specs.declared.design.Design.{Design}
 use Rattle.plain_sim.proofs.EvaluateRun.{can-run}
-use Rattle.vcd_traces.specs.Ports.{FormedHasPorts, HasPorts}
+use Rattle.design_core.specs.declared.trace.Trace.{Trace}
+use Rattle.design_core.specs.TraceFits.{IsTraceOf}
 use Rattle.sim_lines.specs.CanShow.{CanShow}
 use Rattle.front_end.specs.Means.{IsReady}
+use Rattle.run_inputs.specs.Means.{IsReadOf}
 
 below-passes : (n : ℕ) (xs : List ℕ) → All (λ p. p < n) xs → list_all (λ i. nat_lt i n) xs ≡ true
 below-passes n [] all = refl
@@ -25,7 +27,8 @@ can-show d order ready = record {
   few = ready.outputs;
 }
 
-pub has-ports : FormedHasPorts → (d : Design) (order : List ℕ) → IsReady d order → HasPorts d
-has-ports formed d order ready = formed d (omega (arith, ready.signals)) ready.well_formed
+-- traces that were read can be shown
+pub are-fit : (d : Design) (traces : List Trace) → All (IsReadOf d) traces → All (IsTraceOf d) traces
+are-fit d traces all i x low = (all i x low).fits
 
-pub ruleset ready_rules = (can-show)
+pub ruleset ready_rules = (can-show, are-fit)

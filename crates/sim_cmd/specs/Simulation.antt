@@ -1,25 +1,19 @@
 -- The case of a simulation: it prints the lines of the traces, for the design and the traces that the texts mean.
-use Rattle.std.specs.Prelude.{ℕ, ◌+◌, ◌≡◌, ◌≢◌, ◌<◌, ◌⊎◌, List, [], ◌++◌, All, length, take, slice_get}
-use Rattle.std.specs.Prelude.{Option, Some, IsSomeAnd}
+use Rattle.std.specs.Prelude.{ℕ, ◌+◌, ◌≡◌, ◌⊎◌, List, [], ◌++◌, All, take}
 use Rattle.io_ports.specs.Faults.{Rose}
 use Rattle.io_ports.specs.Shelf.{AppendsFront}
 use Rattle.command_contract.specs.Contract.{Case, Run, Texts}
 use Rattle.design_core.specs.declared.design.Design.{Design}
 use Rattle.design_core.specs.declared.trace.Trace.{Trace}
-use Rattle.vcd_reading.specs.declared.error.VcdErr.TheVariants as vcd
-use Rattle.vcd_traces.specs.Samples.{IsRefused}
 use Rattle.refusal_lines.specs.Refusals.{memory_line}
 use Rattle.sim_lines.specs.Lines.{AreLines, Line, text_of}
-use Rattle.front_end.specs.Means.{Meaning, Refuses, Refusing}
-use Rattle.sim_cmd.specs.declared.refusal.LoadFault.{LoadFault}
-use Rattle.sim_cmd.specs.declared.refusal.LoadFault.TheVariants as load
-use Rattle.sim_cmd.specs.declared.refusal.DesignFault.{DesignFault}
-use Rattle.sim_cmd.specs.declared.refusal.DesignFault.TheVariants as design
-use Rattle.sim_cmd.specs.declared.refusal.TraceFault.{TraceFault}
-use Rattle.sim_cmd.specs.declared.refusal.TraceFault.TheVariants as trace
+use Rattle.front_end.specs.Means.{Meaning, Refusing}
+use Rattle.run_inputs.specs.declared.faults.DesignFault.{DesignFault}
+use Rattle.run_inputs.specs.declared.faults.TraceFault.{TraceFault}
 use Rattle.sim_cmd.specs.Requests.{Asked}
-use Rattle.sim_cmd.specs.Means.{IsReadAnd, Means, MeansDesign, MeanTraces, MeansTrace, most_bytes}
-use Rattle.sim_cmd.specs.Refusals.{design_fault_line, design_fault_status, trace_fault_line, trace_fault_status}
+use Rattle.run_inputs.specs.Causes.{DesignCause, TraceRefused}
+use Rattle.run_inputs.specs.Means.{Means, MeansDesign, MeansTrace}
+use Rattle.run_inputs.specs.Refusals.{design_fault_line, design_fault_status, trace_fault_line, trace_fault_status}
 
 -- ---- what is simulated
 pub record Simulated (M : Meaning) (asked : Asked) (texts : Texts) (lines : List Line) : Type 0 where
@@ -29,33 +23,6 @@ pub record Simulated (M : Meaning) (asked : Asked) (texts : Texts) (lines : List
   pub are : AreLines design 1 traces lines
 
 -- ---- refusals
--- a text that isn't handed over: too big only where it is; of a fault and of want of memory nothing is said here
-abbrev pub LoadCause : Option (List ℕ) → LoadFault → Type 0
-LoadCause text load.Size = IsSomeAnd text (λ bytes. most_bytes < length bytes)
-LoadCause text load.Fault = Unit {0}
-LoadCause text load.NoMemory = Unit {0}
-
--- the design's text is refused: it isn't handed over, or it is, and means no design
-abbrev pub DesignCause : Refusing → Asked → Texts → DesignFault → Type 0
-DesignCause R asked texts (design.Load fault) = LoadCause (texts asked.design) fault
-DesignCause R asked texts (design.Text fault) =
-    IsReadAnd (texts asked.design) (λ text. Refuses (R text asked.top asked.clock) fault)
-
--- and that of a trace
-abbrev pub TraceCause : Option (List ℕ) → Design → Option (List ℕ) → TraceFault → Type 0
-TraceCause text d clock (trace.Load fault) = LoadCause text fault
-TraceCause text d clock (trace.Text fault) =
-    IsReadAnd text (λ bytes. fault ≢ vcd.NoMemory → IsRefused bytes d clock fault)
-
--- the design's text means a design, those of the traces before one mean traces of it, and that one's is refused
-pub record TraceRefused (M : Meaning) (asked : Asked) (texts : Texts)
-    (d : Design) (place : ℕ) (name : List ℕ) (fault : TraceFault) : Type 0 where
-  pub design : MeansDesign M asked texts d
-  pub before : List Trace
-  pub mean : MeanTraces texts asked.clock d (take place asked.traces) before
-  pub at : slice_get asked.traces place ≡ Some name
-  pub cause : TraceCause (texts name) d asked.clock fault
-
 -- a refusal with its status and its line: traces are counted from 1
 pub data Refused (M : Meaning) (R : Refusing) (asked : Asked) (texts : Texts) : ℕ → List ℕ → Type 0 where
   for_design : (fault : DesignFault) → DesignCause R asked texts fault

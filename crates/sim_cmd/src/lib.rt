@@ -1,9 +1,7 @@
 //! The command that simulates: from the names of texts to the lines of the traces on the sink, and a status.
 #![tactic(auto)]
 
-mod loads;
 mod outcome;
-mod refusal;
 mod request;
 mod run;
 

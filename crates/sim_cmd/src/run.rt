@@ -1,27 +1,27 @@
 //! A run of the command.
-ghost use Rattle.std.specs.Prelude.{◌≡◌, ◌<◌, ◌+◌, ◌^◌, ◌⊎◌, ◌&&◌, List, Some, length, slice_get, true};
+ghost use Rattle.std.specs.Prelude.{◌≡◌, ◌<◌, ◌^◌, ◌⊎◌, ◌&&◌, List, length, true};
 ghost use Rattle.io_ports.specs.Shelf.{AppendsFront};
-ghost use Rattle.design_core.specs.declared.design.Design.{Design as SomeDesign};
 ghost use Rattle.refusal_lines.specs.Refusals.{memory_line};
 ghost use Rattle.sim_lines.specs.Lines.{AreLines, Line as SomeLine};
 ghost use Rattle.sim_lines.specs.CanShow.{AreShown};
 ghost use Rattle.sim_cmd.specs.declared.outcome.Outcome.TheVariants as outcome;
 ghost use Rattle.sim_cmd.specs.Requests.{asked_of};
 ghost use Rattle.front_end.specs.Means.{IsReady};
-ghost use Rattle.sim_cmd.specs.Refusals.{design_fault_line, trace_fault_line};
+ghost use Rattle.run_inputs.specs.Refusals.{design_fault_line, trace_fault_line};
 ghost use Rattle.command_contract.specs.Contract.{Keeps, OneRose, counts_of, run_of};
 ghost use Rattle.sim_cmd.specs.Simulation.{IsReady as IsInOrder, simulation};
 ghost use Rattle.sim_cmd.specs.Ends.{EndsShown, IsRefusal, Leaves, PutsLine, PutsMemory, RunCounts, SinkCounts};
 ghost use Rattle.sim_cmd.specs.Ends.{status_of};
 
-use crate::loads::{load_design, load_traces};
 use crate::outcome::Outcome;
-use crate::refusal::{DesignFault, TraceFault, TraceName};
 use crate::request::Request;
-use design_core::{Design, Trace};
+use design_core::Trace;
 use front_end::{FrontEnd, Ordered};
 use io_ports::{Shelf, Sink, SinkFault};
 use loc_base::NoMemory;
+use run_inputs::{
+    DesignFault, DesignRead, NoImprint, TraceFault, TraceName, TracesRead, load_design, load_traces,
+};
 use sim_lines::{Simulation, show_traces};
 use std::alloc::Global;
 
@@ -67,21 +67,6 @@ fn refuse_design<O: Sink>(
     match fault.push(&mut line, request.design.as_str()) {
         Ok(()) => put_line(&line, Outcome::NoDesign(fault), out),
         Err(NoMemory) => put_memory(out),
-    }
-}
-
-/// What a trace's line names.
-fn trace_name<'a>(request: &'a Request, design: &'a Design, place: usize) -> TraceName<'a>
-    requires place { place < length request.now.traces.items }
-    requires few { length request.now.traces.items < 2 ^ 32 }
-    ensures number { result.number ≡ place + 1 }
-    ensures name { slice_get (asked_of request.now).traces place ≡ Some result.name.now }
-    ensures signals { result.signals.now ≡ design.now.signals.items }
-{
-    TraceName {
-        number: place as u32 + 1,
-        name: request.traces[place].as_str(),
-        signals: &design.signals,
     }
 }
 
@@ -146,17 +131,20 @@ fn run<F: FrontEnd, S: Shelf, O: Sink>(
         → ¬ OneRose (counts_of (S.faults shelf.old) (S.faults shelf.new) (O.faults out.old) (O.faults out.new))
         → (status_of result ≡ 0) ⊎ (status_of result ≡ 7) }
 {
-    let ordered = match load_design(alloc, front, request, shelf) {
-        Ok(ordered) => ordered,
+    let sources = request.sources();
+    let read: DesignRead<NoImprint> = match load_design(alloc, front, &sources, shelf) {
+        Ok(read) => read,
         Err(fault) => return refuse_design(alloc, request, fault, out),
     };
-    match load_traces(alloc, request, &ordered.design, shelf) {
-        Ok(traces) => show(alloc, &ordered, &traces, out),
+    let ordered = &read.ordered;
+    let traces: TracesRead<NoImprint> = match load_traces(alloc, &sources, &ordered.design, shelf) {
+        Ok(traces) => traces,
         Err(refusal) => {
-            let source = trace_name(request, &ordered.design, refusal.place);
-            refuse_trace(alloc, &source, refusal.fault, out)
+            let source = sources.trace_name(&ordered.design, refusal.place);
+            return refuse_trace(alloc, &source, refusal.fault, out);
         }
-    }
+    };
+    show(alloc, ordered, &traces.traces, out)
 }
 
 /// Simulates the traces of a design: for each of them, counted from 1, a line for each cycle with the outputs in the

@@ -1,0 +1,5 @@
+pub mod Digests
+pub mod Problems
+pub mod Causes
+pub mod Keeping
+pub mod Listed

@@ -1,0 +1,45 @@
+-- What a list is asked of, as plain data.
+use Rattle.std.specs.Prelude.{ℕ, ◌≡◌, ◌≢◌, ◌≤◌, List, [], ◌∷◌, length, All, AllPairs, Option, None}
+use Rattle.suspect_map.specs.Choose.{unknown}
+use Rattle.run_inputs.specs.Asked.{Asked as Sources}
+
+-- the names of the design's text, of the module that is the top, of the traces' texts and of the clock; the names of the kinds of
+-- suspects; the most members of a set, the most steps that may be learned, the most sets; how many workers check the log; the
+-- names of the log and of the report
+pub record Asked : Type 0 where
+  pub design : List ℕ
+  pub top : List ℕ
+  pub traces : List (List ℕ)
+  pub clock : Option (List ℕ)
+  pub suspects : List (List ℕ)
+  pub size : ℕ
+  pub budget : ℕ
+  pub sets : ℕ
+  pub workers : ℕ
+  pub log : List ℕ
+  pub report : List ℕ
+
+-- the texts that are read, and what they are read by
+abbrev pub sources_of : Asked → Sources
+sources_of asked = record { design = asked.design; top = asked.top; traces = asked.traces; clock = asked.clock }
+
+-- a number from 1 to the most
+abbrev pub IsUpTo : ℕ → ℕ → Type 0
+IsUpTo most n = (1 ≤ n) × (n ≤ most)
+
+-- what may be asked; the two texts that are written have names of their own
+pub record IsAsked (asked : Asked) : Type 0 where
+  pub traces : IsUpTo 256 (length asked.traces)
+  pub some_kinds : asked.suspects ≢ []
+  pub kinds_once : AllPairs (λ one other. one ≢ other) asked.suspects
+  pub size : asked.size ≤ 8
+  pub budget : IsUpTo 10000000 asked.budget
+  pub sets : IsUpTo 100000 asked.sets
+  pub workers : IsUpTo 64 asked.workers
+  pub apart : asked.log ≢ asked.report
+  pub own_log : All (λ name. name ≢ asked.log) (asked.design ∷ asked.traces)
+  pub own_report : All (λ name. name ≢ asked.report) (asked.design ∷ asked.traces)
+
+-- each kind of suspects that is asked for is the name of one of some
+abbrev pub AreKnown : {G : Type 0} → (G → List ℕ) → List G → Asked → Type 0
+AreKnown called kinds asked = unknown called kinds asked.suspects ≡ None

@@ -1,0 +1,49 @@
+ghost use Rattle.std.specs.Prelude.{◌≡◌, length};
+ghost use Rattle.run_inputs.specs.Asked.{asked_of as sources_asked};
+ghost use Rattle.find_sets.specs.Asked.{sources_of};
+ghost use Rattle.find_sets.specs.Requests.{asked_of};
+
+use loc_base::Name;
+use run_inputs::Sources;
+
+/// What a list is asked of.
+#[derive(Drop)]
+pub struct Request {
+    /// The name of the design's text.
+    pub design: String,
+    /// The module that is the top.
+    pub top: Name,
+    /// The names of the traces' texts, 1 to 256.
+    pub traces: Vec<String>,
+    /// The input of the top that is the clock.
+    pub clock: Option<Name>,
+    /// The kinds of suspects, each once.
+    pub suspects: Vec<Name>,
+    /// The most members of a set, 0 to 8.
+    pub size: u32,
+    /// The most steps that may be learned, 1 to 10,000,000.
+    pub budget: u32,
+    /// The most sets that are listed, 1 to 100,000.
+    pub sets: u32,
+    /// How many workers check the log, 1 to 64. No answer depends on their number.
+    pub workers: u32,
+    /// The name of the log that is written.
+    pub log: String,
+    /// The name of the report that is written.
+    pub report: String,
+}
+
+impl Request {
+    /// The texts that are read, and what they are read by.
+    pub(crate) fn sources(&self) -> Sources<'_>
+        ensures asked { sources_asked result ≡ sources_of (asked_of self.now) }
+        ensures traces { length result.traces.now ≡ length self.now.traces.items }
+    {
+        Sources {
+            design: self.design.as_str(),
+            top: &self.top,
+            traces: &self.traces,
+            clock: self.clock.as_ref(),
+        }
+    }
+}

@@ -1,0 +1,62 @@
+//! A run of the command.
+ghost use Rattle.std.specs.Prelude.{◌&&◌};
+ghost use Rattle.suspect_map.specs.Choose.{joined};
+ghost use Rattle.command_contract.specs.Contract.{Keeps, counts_of, run_of};
+ghost use Rattle.find_sets.specs.Asked.{AreKnown, IsAsked};
+ghost use Rattle.find_sets.specs.Finding.{finding};
+ghost use Rattle.find_sets.specs.Requests.{asked_of};
+
+use crate::inputs::read;
+use crate::refusal::Refusal;
+use crate::request::Request;
+use crate::tools::Tools;
+use debug_core::Debugger;
+use front_end::FrontEnd;
+use io_ports::{Shelf, Sink};
+use loc_base::Gate;
+use set_listing::{Task, list};
+use std::alloc::Global;
+use std::thread::Threads;
+use suspect_map::Granularity;
+
+/// Lists the sets of suspects that can make every trace right: writes the log and the report, prints the lines of each set and a
+/// last line, and answers the status of the program.
+///
+/// | status | meaning | last line |
+/// |---|---|---|
+/// | 0 | the list is whole | `complete N` |
+/// | 1 | a front of it is listed | `front N budget`, `front N sets` |
+/// | 3 | a text is refused | `input CODE` and where |
+/// | 4 | a limit is passed | `limit CODE`, `limit size` |
+/// | 5 | a text wasn't handed over | `read fault NAME` |
+/// | 6 | writing failed | none |
+/// | 7 | memory was wanted | `front N memory`, `memory`, or none |
+pub fn find<F: FrontEnd, R: Threads + Sync, G: Gate + Sync, S: Shelf, O: Sink>(
+    alloc: Global,
+    tools: &Tools<'_, F, R, G>,
+    request: &Request,
+    shelf: &mut S,
+    out: &mut O,
+) -> u8
+    requires asked { IsAsked (asked_of request.now) }
+    requires known { AreKnown (λ kind. called kind) tools.now.kinds.now (asked_of request.now) }
+    ensures { Keeps (finding F.means F.refuses
+        (joined (λ kind. called kind) (λ kind. lists kind) tools.now.kinds.now) (asked_of request.now))
+        (run_of (S.tells shelf.old && O.tells out.old) (S.texts shelf.old) (S.written shelf.old) (S.written shelf.new)
+        (O.written out.old) (O.written out.new)
+        (counts_of (S.faults shelf.old) (S.faults shelf.new) (O.faults out.old) (O.faults out.new)))
+        result }
+{
+    let inputs = match read(alloc, tools, request, shelf) {
+        Ok(inputs) => inputs,
+        Err(refusal) => return refusal.print(out),
+    };
+    let job = inputs.job(request);
+    match Debugger::new(alloc, &job.question) {
+        Ok(search) => {
+            let workers = tools.workers(alloc, request.workers);
+            list(&workers, Task { job, search }, shelf, out).status()
+        }
+        Err(fault) => Refusal::of_problem(alloc, fault).print(out),
+    }
+}

@@ -1,0 +1,4 @@
+pub mod Loaded
+pub mod Ports
+pub mod Statuses
+pub mod Counting

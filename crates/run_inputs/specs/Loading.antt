@@ -1,0 +1,57 @@
+-- What loading and reading texts leaves: the count of the shelf's faults, the trace at which reading stops, and a refusal that comes
+-- although a text means something.
+use Rattle.std.specs.Prelude.{ℕ, ◌≡◌, ◌⊎◌, List, take, slice_get, Some, Result, Ok, Err}
+use Rattle.io_ports.specs.Faults.{Rose}
+use Rattle.command_contract.specs.Contract.{Texts}
+use Rattle.design_core.specs.declared.design.Design.{Design}
+use Rattle.design_core.specs.declared.trace.Trace.{Trace}
+use Rattle.run_inputs.specs.declared.faults.LoadFault.TheVariants as load
+use Rattle.run_inputs.specs.declared.faults.DesignFault.{DesignFault}
+use Rattle.run_inputs.specs.declared.faults.DesignFault.TheVariants as design
+use Rattle.run_inputs.specs.declared.faults.TraceFault.{TraceFault}
+use Rattle.run_inputs.specs.declared.faults.TraceFault.TheVariants as trace
+use Rattle.run_inputs.specs.Asked.{Asked}
+use Rattle.run_inputs.specs.Causes.{TraceCause}
+use Rattle.run_inputs.specs.Means.{MeansTrace, MeanTraces}
+use Rattle.run_inputs.specs.Refusals.{design_fault_status, trace_fault_status}
+
+-- ---- the count of the shelf's faults
+abbrev pub DesignCounts : ℕ → ℕ → DesignFault → Type 0
+DesignCounts old new (design.Load load.Fault) = Rose old new
+DesignCounts old new (design.Load load.Size) = new ≡ old
+DesignCounts old new (design.Load load.NoMemory) = new ≡ old
+DesignCounts old new (design.Text fault) = new ≡ old
+
+abbrev pub TraceCounts : ℕ → ℕ → TraceFault → Type 0
+TraceCounts old new (trace.Load load.Fault) = Rose old new
+TraceCounts old new (trace.Load load.Size) = new ≡ old
+TraceCounts old new (trace.Load load.NoMemory) = new ≡ old
+TraceCounts old new (trace.Text fault) = new ≡ old
+
+-- after a load, of the design's text and of a trace's
+abbrev pub CountsOfDesign : {X : Type 0} → ℕ → ℕ → Result X DesignFault → Type 0
+CountsOfDesign old new (Ok _) = new ≡ old
+CountsOfDesign old new (Err fault) = DesignCounts old new fault
+
+abbrev pub CountsOfTrace : {X : Type 0} → ℕ → ℕ → Result X TraceFault → Type 0
+CountsOfTrace old new (Ok _) = new ≡ old
+CountsOfTrace old new (Err fault) = TraceCounts old new fault
+
+-- the traces before a place are read, and the one there is refused
+pub record StopsAt (texts : Texts) (asked : Asked) (d : Design) (place : ℕ) (fault : TraceFault) : Type 0 where
+  pub before : List Trace
+  pub mean : MeanTraces texts asked.clock d (take place asked.traces) before
+  pub name : List ℕ
+  pub at : slice_get asked.traces place ≡ Some name
+  pub cause : TraceCause (texts name) d asked.clock fault
+
+-- a refusal that comes although the text means a design, or a trace: a fault of the shelf, or want of memory
+abbrev pub DesignSpared : DesignFault → Type 0
+DesignSpared fault = (design_fault_status fault ≡ 5) ⊎ (design_fault_status fault ≡ 7)
+
+abbrev pub TraceSpared : TraceFault → Type 0
+TraceSpared fault = (trace_fault_status fault ≡ 5) ⊎ (trace_fault_status fault ≡ 7)
+
+-- the text under a name means some trace
+abbrev pub HasTrace : Texts → Asked → Design → List ℕ → Type 0
+HasTrace texts asked d name = (found : Trace) × MeansTrace texts asked.clock d name found
