@@ -20,10 +20,10 @@ neither : {A : Type 0} (first second : Bool) (x y z : A) → first ≡ false →
     → (if first then x else (if second then y else z)) ≡ z
 neither first second x y z not-first not-second = rw (not-first, not-second) refl
 
-pub asked-other : {S : Type 0} (text : S → List ℕ) (words : List S) (command : S) → Some command ≡ slice_get words 0
-    → text command ≢ codes "find" → text command ≢ codes "sim" → asked (map text words) ≡ Err Command
-asked-other text [] command first not-find not-sim = cc
-asked-other text (word ∷ words) command first not-find not-sim =
+pub asked-other : {S : Type 0} (known : List (List ℕ)) (text : S → List ℕ) (words : List S) (command : S) → Some command ≡ slice_get words 0
+    → text command ≢ codes "find" → text command ≢ codes "sim" → asked known (map text words) ≡ Err Command
+asked-other known text [] command first not-find not-sim = cc
+asked-other known text (word ∷ words) command first not-find not-sim =
     let same : text command ≡ text word = ap text (Some-same first) in
     neither (bytes_eq (text word) (codes "find")) (bytes_eq (text word) (codes "sim")) _ _ (Err Command)
     (bytes_eq-false (text word) (codes "find") (subst (λ t. t ≢ codes "find") same not-find))

@@ -20,17 +20,6 @@ one_or_more id = record (new_rule id) { action = Some Append; required = true }
 abbrev pub option : List ℕ → Rule
 option id = record (new_rule id) { long = Some id; action = Some Set }
 
--- `find DESIGN TOP TRACE [--size K] [--report NAME]`
-abbrev pub find_app : App
-find_app =
-    with_rule
-    (with_rule
-    (with_rule
-    (with_rule (with_rule (new_app (codes "find")) (required (codes "design"))) (required (codes "top")))
-    (required (codes "trace")))
-    (option (codes "size")))
-    (option (codes "report"))
-
 -- `sim DESIGN TOP TRACE.. [--clock NAME]`
 abbrev pub sim_app : App
 sim_app =
@@ -39,6 +28,24 @@ sim_app =
     (with_rule (with_rule (new_app (codes "sim")) (required (codes "design"))) (required (codes "top")))
     (one_or_more (codes "trace")))
     (option (codes "clock"))
+
+-- `find DESIGN TOP TRACE..`
+abbrev pub find_words_app : App
+find_words_app =
+    with_rule (with_rule (with_rule (new_app (codes "find")) (required (codes "design"))) (required (codes "top")))
+    (one_or_more (codes "trace"))
+
+-- with two options more
+abbrev pub with_two : App → List ℕ → List ℕ → App
+with_two app first second = with_rule (with_rule app (option first)) (option second)
+
+-- and its options
+abbrev pub find_app : App
+find_app =
+    with_two
+    (with_two (with_two (with_two find_words_app (codes "clock") (codes "size")) (codes "budget") (codes "sets"))
+    (codes "suspects") (codes "workers"))
+    (codes "log") (codes "report")
 
 -- the values of a command's arguments, where its words, itself the first, stand as its table says
 unfoldable pub values_of : App → List (List ℕ) → Option (List Row)

@@ -13,8 +13,14 @@ abbrev pub find_asked_of : FindWords → FindAsked
 find_asked_of words = record {
   design = string_bytes words.design;
   top = words.top;
-  trace = string_bytes words.trace;
+  traces = map string_bytes words.traces.items;
+  clock = words.clock;
+  suspects = words.suspects.items;
   size = words.size;
+  budget = words.budget;
+  sets = words.sets;
+  workers = words.workers;
+  log = string_bytes words.log;
   report = string_bytes words.report;
 }
 

@@ -2,7 +2,7 @@
 ghost use Rattle.std.specs.Prelude.{◌≡◌, IfOk, true, false, map, string_bytes, unwrap_or};
 ghost use Rattle.std.specs.Option.{option_map};
 ghost use Rattle.clap.specs.Words.{all_of, app_of, first_of, found_of, is_simple_and_free, new_app, rows_of, rule_of, with_rule};
-ghost use Rattle.command_words.specs.Arguments.{find_app, one_or_more, option, required, sim_app, values_of};
+ghost use Rattle.command_words.specs.Arguments.{find_app, find_app, find_words_app, one_or_more, option, required, sim_app, values_of};
 
 use clap::error::ErrorKind;
 use clap::{Arg, ArgAction, ArgMatches, Command};
@@ -41,15 +41,38 @@ fn with<'a>(command: Command<'a>, arg: Arg<'a>) -> Result<Command<'a>, NoMemory>
     Ok(command.arg(arg)?)
 }
 
-pub(crate) fn find_command<'a>(alloc: Global) -> Result<Command<'a>, NoMemory>
-    ensures { IfOk result (λ c. app_of c ≡ find_app) }
+/// The positional words of `find`.
+fn find_words<'a>(alloc: Global) -> Result<Command<'a>, NoMemory>
+    ensures { IfOk result (λ c. app_of c ≡ find_words_app) }
 {
     let command = Command::new(alloc, "find");
     let command = with(command, required(alloc, "design"))?;
     let command = with(command, required(alloc, "top"))?;
-    let command = with(command, required(alloc, "trace"))?;
-    let command = with(command, option(alloc, "size"))?;
-    with(command, option(alloc, "report"))
+    with(command, one_or_more(alloc, "trace"))
+}
+
+/// A command with two more options.
+fn with_two<'a>(
+    alloc: Global,
+    command: Command<'a>,
+    first: &'a str,
+    second: &'a str,
+) -> Result<Command<'a>, NoMemory>
+    ensures { IfOk result (λ c. app_of c
+        ≡ with_rule (with_rule (app_of command.entry) (option first.entry.now)) (option second.entry.now)) }
+{
+    let command = with(command, option(alloc, first))?;
+    with(command, option(alloc, second))
+}
+
+pub(crate) fn find_command<'a>(alloc: Global) -> Result<Command<'a>, NoMemory>
+    ensures { IfOk result (λ c. app_of c ≡ find_app) }
+{
+    let command = find_words(alloc)?;
+    let command = with_two(alloc, command, "clock", "size")?;
+    let command = with_two(alloc, command, "budget", "sets")?;
+    let command = with_two(alloc, command, "suspects", "workers")?;
+    with_two(alloc, command, "log", "report")
 }
 
 pub(crate) fn sim_command<'a>(alloc: Global) -> Result<Command<'a>, NoMemory>

@@ -4,6 +4,7 @@
 
 mod arguments;
 mod find;
+mod kinds;
 mod requests;
 mod sim;
 mod values;

@@ -16,6 +16,8 @@ pub enum Usage {
     Number,
     /// A value that is to be a name isn't one, or is one that is taken, or there are too many names.
     Name,
+    /// A kind of suspects isn't known, or is named twice.
+    Kind,
 }
 
 /// Why there is no request.
@@ -58,10 +60,22 @@ pub struct FindWords {
     pub design: String,
     /// The module that is the top.
     pub top: Name,
-    /// The name of the trace's text.
-    pub trace: String,
+    /// The names of the traces' texts.
+    pub traces: Vec<String>,
+    /// The input of the top that is the clock.
+    pub clock: Option<Name>,
+    /// The kinds of suspects.
+    pub suspects: Vec<Name>,
     /// The most suspects that a set may have.
     pub size: u32,
+    /// The most steps that may be learned.
+    pub budget: u32,
+    /// The most sets that are listed.
+    pub sets: u32,
+    /// How many threads check the log.
+    pub workers: u32,
+    /// The name of the log.
+    pub log: String,
     /// The name of the report.
     pub report: String,
 }

@@ -2,7 +2,7 @@
 ghost use Rattle.std.specs.Prelude.{◌≡◌, IfOk, true, map, string_bytes};
 ghost use Rattle.clap.specs.Words.{found_of, rows_of};
 ghost use Rattle.command_words.specs.Asked.{IsSimAsked};
-ghost use Rattle.command_words.specs.Words.{are_sim_names, sim_asked, sim_in};
+ghost use Rattle.command_words.specs.Sim.{are_sim_names, sim_asked, sim_in};
 ghost use Rattle.command_words.specs.Requests.{Gives, Says, sim_asked_of};
 ghost use Rattle.command_words.specs.Views.{sim_values};
 
@@ -24,7 +24,8 @@ pub(crate) struct SimValues<'m, 'a> {
     pub(crate) clock: Option<&'a str>,
 }
 
-fn values_in<'m, 'a>(matches: &'m ArgMatches<'a>) -> Result<SimValues<'m, 'a>, Usage>
+/// The values of the arguments that say what is read.
+pub(crate) fn values_in<'m, 'a>(matches: &'m ArgMatches<'a>) -> Result<SimValues<'m, 'a>, Usage>
     ensures { Says sim_values (sim_in (rows_of (found_of matches.entry.now))) result }
 {
     let Some(design) = value_of(matches, "design") else {
@@ -45,7 +46,7 @@ fn values_in<'m, 'a>(matches: &'m ArgMatches<'a>) -> Result<SimValues<'m, 'a>, U
 }
 
 /// Whether the names are names, and there are 1 to 256 traces.
-fn are_names(values: &SimValues) -> bool
+pub(crate) fn are_names(values: &SimValues) -> bool
     ensures { result ≡ are_sim_names (sim_values values.now) }
 {
     is_file_name(values.design)
@@ -56,7 +57,7 @@ fn are_names(values: &SimValues) -> bool
         && values.traces.len() <= 256
 }
 
-fn copied(alloc: Global, values: &SimValues) -> Result<SimWords, NoMemory>
+pub(crate) fn copied(alloc: Global, values: &SimValues) -> Result<SimWords, NoMemory>
     requires { are_sim_names (sim_values values.now) ≡ true }
     ensures { IfOk result (λ request. sim_asked_of request ≡ sim_values values.now) }
 {

@@ -2,7 +2,7 @@
 ghost use Rattle.std.specs.Prelude.{◌≡◌, ◌≤◌, IfOk, IfSome, true, map, string_bytes};
 ghost use Rattle.std.specs.List.{list_all};
 ghost use Rattle.std.specs.Option.{option_map};
-ghost use Rattle.command_words.specs.Values.{is_file_byte, is_file_name, is_name, is_numeral, number_of, option_all};
+ghost use Rattle.command_words.specs.Values.{is_file_byte, is_file_name, is_name, is_numeral, is_one_of, number_from, number_of, option_all};
 ghost use Rattle.loc_base.specs.Ascii.{is_decimal, is_visible};
 
 use loc_base::{Name, NoMemory, is_decimal, is_visible};
@@ -20,6 +20,17 @@ pub(crate) fn number_of(word: &str, most: u32) -> Option<u32>
         return None;
     };
     if number <= most { Some(number) } else { None }
+}
+
+/// The number that a word of 1 to 10 decimal digits writes, where it is from `least` to `most`.
+pub(crate) fn number_from(word: &str, least: u32, most: u32) -> Option<u32>
+    ensures number { result ≡ number_from least most word.now }
+    ensures range { IfSome result (λ number. (least ≤ number) × (number ≤ most)) }
+{
+    match number_of(word, most) {
+        Some(number) if least <= number => Some(number),
+        Some(_) | None => None,
+    }
 }
 
 /// Whether a word is 1 to 10 decimal digits.
@@ -113,4 +124,28 @@ pub(crate) fn copies_of(alloc: Global, words: &[&str]) -> Result<Vec<String>, No
         texts.push(String::from_str(alloc, word)?)?;
     }
     Ok(texts)
+}
+
+/// The names that words are.
+pub(crate) fn names_of(alloc: Global, words: &[&str]) -> Result<Vec<Name>, NoMemory>
+    requires { list_all is_name (map (λ w. w.now) words.now) ≡ true }
+    ensures { IfOk result (λ names. names.items ≡ map (λ w. w.now) words.now) }
+{
+    let mut names = Vec::new(alloc);
+    for word in words {
+        names.push(name_of(alloc, word)?)?;
+    }
+    Ok(names)
+}
+
+/// Whether a word is one of some.
+pub(crate) fn is_one_of(words: &[&str], word: &str) -> bool
+    ensures { result ≡ is_one_of (map (λ w. w.now) words.now) word.now }
+{
+    for other in words {
+        if word == *other {
+            return true;
+        }
+    }
+    false
 }

@@ -9,19 +9,24 @@ use crate::requests::{Request, Usage, WordsErr};
 use crate::sim::sim_words;
 use std::alloc::Global;
 
-/// What the words behind the program's name ask for: `find DESIGN TOP TRACE [--size K] [--report NAME]`, where K is
-/// 0, 1 or 2 (without it 2) and the report has another name than what is read (without it `localise.json`), or `sim
-/// DESIGN TOP TRACE.. [--clock NAME]`, with 1 to 256 traces. An option is `--x v` or `--x=v`, stands anywhere behind
-/// the command and once at most; after `--` all words are positional.
-pub fn request(alloc: Global, words: &[String]) -> Result<Request, WordsErr>
-    ensures gives { Gives asked_of (asked (map string_bytes words.now)) result }
-    ensures holds { IfOk result (λ request. IsAsked (asked_of request)) }
+/// What the words behind the program's name ask for, where kinds of suspects of these names are known:
+///
+/// `find DESIGN TOP TRACE.. [--clock NAME] [--size K] [--budget B] [--sets M] [--suspects A,B] [--workers N] [--log NAME]
+/// [--report NAME]` or `sim DESIGN TOP TRACE.. [--clock NAME]`.
+///
+/// There are 1 to 256 traces. The size is 0 to 8 (without the option 2), the budget 1 to 10,000,000 (200,000), the number of sets
+/// 1 to 100,000 (1,000), that of workers 1 to 64 (1). The suspects (`stmt`) are known, each once. The log (`localise.log`) and the
+/// report (`localise.json`) have names that differ from each other and from those that are read. An option is `--x v` or `--x=v`,
+/// stands anywhere behind the command and once at most; after `--` all words are positional.
+pub fn request(alloc: Global, words: &[String], known: &[&str]) -> Result<Request, WordsErr>
+    ensures gives { Gives asked_of (asked (map (λ w. w.now) known.now) (map string_bytes words.now)) result }
+    ensures holds { IfOk result (λ request. IsAsked (map (λ w. w.now) known.now) (asked_of request)) }
 {
     let Some(command) = words.first() else {
         return Err(WordsErr::Usage(Usage::Command));
     };
     match command.as_str() {
-        "find" => Ok(Request::Find(find_words(alloc, words)?)),
+        "find" => Ok(Request::Find(find_words(alloc, words, known)?)),
         "sim" => Ok(Request::Sim(sim_words(alloc, words)?)),
         _ => Err(WordsErr::Usage(Usage::Command)),
     }

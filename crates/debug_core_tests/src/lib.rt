@@ -4,6 +4,6 @@
 #[cfg(test)]
 mod lists;
 #[cfg(test)]
-mod networks;
-#[cfg(test)]
 mod refusals;
+#[cfg(test)]
+mod suspects;

@@ -1,37 +1,32 @@
 //! Whole lists, beside those of a plain trial, and a budget that ends and goes on.
 
 ghost use Rattle.std.specs.Prelude.{All};
-ghost use Rattle.design_core.specs.DrivenOnce.{IsDrivenOnce};
-ghost use Rattle.design_core.specs.Reads.{IsOrder};
 ghost use Rattle.design_core.specs.TraceFits.{IsTraceOf};
+ghost use Rattle.front_end.specs.Means.{IsReady};
 ghost use Rattle.plain_list.specs.Network.{IsNetwork};
 ghost use Rattle.debug_core.specs.Problems.{IsProblem, problem_of};
 
-use crate::networks::{fan_out, or_not, suspects, traces, two_copies};
+use crate::suspects::suspects;
 use debug_core::{Debugger, Found, Question, have_few_cycles};
 use design_core::{SetWithValues, Trace};
-use first_form::FirstDesign;
+use front_end::Ordered;
 use plain_list::PlainSearch;
 use sat_core::Budget;
+use small_networks::{FAN_OUT, OR_NOT, TWO_COPIES, network, traces};
 use std::alloc::Global;
 use std::test::Fail;
 
 /// The sets of a plain trial, run to its end, which is to come within 100 sets.
-fn tried(
-    alloc: Global,
-    first: &FirstDesign,
-    traces: &[Trace],
-    size: u32,
-) -> Result<PlainSearch, Fail>
-    requires network { IsNetwork first.now.design first.now.order }
-    requires traces { All (IsTraceOf first.now.design) traces.now }
+fn tried(alloc: Global, ordered: &Ordered, traces: &[Trace], size: u32) -> Result<PlainSearch, Fail>
+    requires network { IsNetwork ordered.now.design ordered.now.order }
+    requires traces { All (IsTraceOf ordered.now.design) traces.now }
 {
-    if first.design.places.len() > 100 || size > 100 {
+    if ordered.design.places.len() > 100 || size > 100 {
         return Err(Fail::new("too large"));
     }
-    let mut search = PlainSearch::new(alloc, &first.design, size)?;
+    let mut search = PlainSearch::new(alloc, &ordered.design, size)?;
     for _step in 0..100u32 {
-        if !search.next(alloc, &first.design, first.order.as_slice(), traces)? {
+        if !search.next(alloc, &ordered.design, ordered.order.as_slice(), traces)? {
             return Ok(search);
         }
     }
@@ -71,19 +66,17 @@ fn run_with(alloc: Global, question: &Question<'_>, units: u32) -> Result<Run, F
 }
 
 /// The run for the sets of at most so many places.
-fn listed(alloc: Global, first: &FirstDesign, traces: &[Trace], size: u32) -> Result<Run, Fail>
-    requires network { IsNetwork first.now.design first.now.order }
-    requires once { IsDrivenOnce first.now.design }
-    requires ordered { IsOrder first.now.design first.now.order }
-    requires traces { All (IsTraceOf first.now.design) traces.now }
+fn listed(alloc: Global, ordered: &Ordered, traces: &[Trace], size: u32) -> Result<Run, Fail>
+    requires ready { IsReady ordered.now.design ordered.now.order }
+    requires traces { All (IsTraceOf ordered.now.design) traces.now }
 {
-    if size > 8 || !have_few_cycles(traces) || first.design.signals.len() > 100 {
+    if size > 8 || !have_few_cycles(traces) {
         return Err(Fail::new("too large"));
     }
-    let groups = suspects(alloc, &first.design)?;
+    let groups = suspects(alloc, &ordered.design)?;
     let question = Question {
-        design: &first.design,
-        order: &first.order,
+        design: &ordered.design,
+        order: &ordered.order,
         traces,
         groups: &groups,
         k: size,
@@ -123,55 +116,55 @@ fn are_alike(one: &[SetWithValues], other: &[SetWithValues]) -> bool {
 #[test]
 fn an_inverted_or_is_explained_by_each_of_its_places(rt: HostRuntime) -> Result<(), Fail> {
     let alloc = rt.alloc();
-    let first = or_not(alloc)?;
-    let traces = traces(alloc, &first.design, &[&["001", "011", "101", "110"]])?;
-    let run = listed(alloc, &first, &traces, 2)?;
+    let ordered = network(alloc, OR_NOT)?;
+    let traces = traces(alloc, &ordered.design, &[&["001", "011", "101", "110"]])?;
+    let run = listed(alloc, &ordered, &traces, 2)?;
     assert!(rt; has_sets(&run.sets, &[&[1], &[2]]));
-    assert!(rt; are_alike(&run.sets, tried(alloc, &first, &traces, 2)?.found()));
+    assert!(rt; are_alike(&run.sets, tried(alloc, &ordered, &traces, 2)?.found()));
     Ok(())
 }
 
 #[test]
 fn what_is_right_already_is_explained_by_the_empty_set(rt: HostRuntime) -> Result<(), Fail> {
     let alloc = rt.alloc();
-    let first = or_not(alloc)?;
-    let traces = traces(alloc, &first.design, &[&["001", "010", "100", "110"]])?;
-    let run = listed(alloc, &first, &traces, 2)?;
+    let ordered = network(alloc, OR_NOT)?;
+    let traces = traces(alloc, &ordered.design, &[&["001", "010", "100", "110"]])?;
+    let run = listed(alloc, &ordered, &traces, 2)?;
     assert!(rt; has_sets(&run.sets, &[&[]]));
-    assert!(rt; are_alike(&run.sets, tried(alloc, &first, &traces, 2)?.found()));
+    assert!(rt; are_alike(&run.sets, tried(alloc, &ordered, &traces, 2)?.found()));
     Ok(())
 }
 
 #[test]
 fn two_faults_are_explained_by_both_places_alone(rt: HostRuntime) -> Result<(), Fail> {
     let alloc = rt.alloc();
-    let first = two_copies(alloc)?;
-    let traces = traces(alloc, &first.design, &[&["0011"]])?;
-    let one = listed(alloc, &first, &traces, 1)?;
+    let ordered = network(alloc, TWO_COPIES)?;
+    let traces = traces(alloc, &ordered.design, &[&["0011"]])?;
+    let one = listed(alloc, &ordered, &traces, 1)?;
     assert!(rt; has_sets(&one.sets, &[]));
-    let two = listed(alloc, &first, &traces, 2)?;
+    let two = listed(alloc, &ordered, &traces, 2)?;
     assert!(rt; has_sets(&two.sets, &[&[1, 2]]));
-    assert!(rt; are_alike(&two.sets, tried(alloc, &first, &traces, 2)?.found()));
+    assert!(rt; are_alike(&two.sets, tried(alloc, &ordered, &traces, 2)?.found()));
     Ok(())
 }
 
 #[test]
 fn a_second_trace_rules_a_place_out(rt: HostRuntime) -> Result<(), Fail> {
     let alloc = rt.alloc();
-    let first = fan_out(alloc)?;
-    let traces = traces(alloc, &first.design, &[&["001x"], &["0011"]])?;
-    let run = listed(alloc, &first, &traces, 2)?;
+    let ordered = network(alloc, FAN_OUT)?;
+    let traces = traces(alloc, &ordered.design, &[&["001x"], &["0011"]])?;
+    let run = listed(alloc, &ordered, &traces, 2)?;
     assert!(rt; has_sets(&run.sets, &[&[1], &[2, 3]]));
-    assert!(rt; are_alike(&run.sets, tried(alloc, &first, &traces, 2)?.found()));
+    assert!(rt; are_alike(&run.sets, tried(alloc, &ordered, &traces, 2)?.found()));
     Ok(())
 }
 
 #[test]
 fn a_search_goes_on_where_its_budget_was_spent(rt: HostRuntime) -> Result<(), Fail> {
     let alloc = rt.alloc();
-    let first = fan_out(alloc)?;
-    let traces = traces(alloc, &first.design, &[&["001x"], &["0011"]])?;
-    let run = listed(alloc, &first, &traces, 2)?;
+    let ordered = network(alloc, FAN_OUT)?;
+    let traces = traces(alloc, &ordered.design, &[&["001x"], &["0011"]])?;
+    let run = listed(alloc, &ordered, &traces, 2)?;
     assert!(rt; run.spent >= 1);
     assert_eq!(rt; run.sets.len(), 2);
     Ok(())

@@ -1,24 +1,22 @@
 //! Problems with too many variables or literals, by their suspects alone.
 
 ghost use Rattle.std.specs.Prelude.{All, IfOk, length};
-ghost use Rattle.design_core.specs.DrivenOnce.{IsDrivenOnce};
-ghost use Rattle.design_core.specs.Reads.{IsOrder};
 ghost use Rattle.design_core.specs.TraceFits.{IsTraceOf};
-ghost use Rattle.plain_list.specs.Network.{IsNetwork};
+ghost use Rattle.front_end.specs.Means.{IsReady};
 ghost use Rattle.suspect_map.specs.Groups.{AreWithin};
 
-use crate::networks::{checked, name, or_not, traces, word};
 use debug_core::{DebugErr, Debugger, Question, have_few_cycles};
 use design_core::{Design, Trace};
 use design_fits::is_trace_of;
-use first_form::{FirstDesign, FormErr};
+use front_end::Ordered;
 use loc_base::Items;
+use small_networks::{NetworkErr, OR_NOT, checked, name, network, traces, word};
 use std::alloc::Global;
 use std::test::Fail;
 use suspect_map::{Group, Groups};
 
-/// So many suspects, all with the first place of a design, or with none.
-fn alike(alloc: Global, d: &Design, count: u32, with_place: bool) -> Result<Groups, FormErr>
+/// So many suspects, all with the ordered place of a design, or with none.
+fn alike(alloc: Global, d: &Design, count: u32, with_place: bool) -> Result<Groups, NetworkErr>
     ensures { IfOk result (AreWithin (length d.now.places.items)) }
 {
     let mut groups = Items::new(alloc);
@@ -40,7 +38,7 @@ fn alike(alloc: Global, d: &Design, count: u32, with_place: bool) -> Result<Grou
 }
 
 /// One trace of so many cycles, for two inputs that are 0 and an output that is to be 1.
-fn long(alloc: Global, d: &Design, cycles: u32) -> Result<Vec<Trace>, FormErr>
+fn long(alloc: Global, d: &Design, cycles: u32) -> Result<Vec<Trace>, NetworkErr>
     ensures { IfOk result (λ traces. All (IsTraceOf d.now) traces.items) }
 {
     let mut trace = Trace {
@@ -55,7 +53,7 @@ fn long(alloc: Global, d: &Design, cycles: u32) -> Result<Vec<Trace>, FormErr>
     }
     let mut traces = Vec::new(alloc);
     if !is_trace_of(d, &trace) {
-        return Err(FormErr::Form);
+        return Err(NetworkErr::Unfit);
     }
     traces.push(trace)?;
     Ok(traces)
@@ -64,22 +62,20 @@ fn long(alloc: Global, d: &Design, cycles: u32) -> Result<Vec<Trace>, FormErr>
 /// Why a question is refused, for sets of at most 8.
 fn refusal(
     alloc: Global,
-    first: &FirstDesign,
+    ordered: &Ordered,
     traces: &[Trace],
     groups: &Groups,
 ) -> Result<DebugErr, Fail>
-    requires network { IsNetwork first.now.design first.now.order }
-    requires once { IsDrivenOnce first.now.design }
-    requires ordered { IsOrder first.now.design first.now.order }
-    requires traces { All (IsTraceOf first.now.design) traces.now }
-    requires groups { AreWithin (length first.now.design.places.items) groups.now }
+    requires ready { IsReady ordered.now.design ordered.now.order }
+    requires traces { All (IsTraceOf ordered.now.design) traces.now }
+    requires groups { AreWithin (length ordered.now.design.places.items) groups.now }
 {
-    if !have_few_cycles(traces) || first.design.signals.len() > 100 {
+    if !have_few_cycles(traces) {
         return Err(Fail::new("too large"));
     }
     let question = Question {
-        design: &first.design,
-        order: &first.order,
+        design: &ordered.design,
+        order: &ordered.order,
         traces,
         groups,
         k: 8,
@@ -93,10 +89,10 @@ fn refusal(
 #[test]
 fn suspects_and_their_counters_are_too_many_variables(rt: HostRuntime) -> Result<(), Fail> {
     let alloc = rt.alloc();
-    let first = or_not(alloc)?;
-    let traces = traces(alloc, &first.design, &[&["001"]])?;
-    let groups = alike(alloc, &first.design, 400_010, false)?;
-    let cause = refusal(alloc, &first, &traces, &groups)?;
+    let ordered = network(alloc, OR_NOT)?;
+    let traces = traces(alloc, &ordered.design, &[&["001"]])?;
+    let groups = alike(alloc, &ordered.design, 400_010, false)?;
+    let cause = refusal(alloc, &ordered, &traces, &groups)?;
     assert_eq!(rt; cause, DebugErr::Vars);
     Ok(())
 }
@@ -104,10 +100,10 @@ fn suspects_and_their_counters_are_too_many_variables(rt: HostRuntime) -> Result
 #[test]
 fn many_suspects_with_one_place_are_too_many_literals(rt: HostRuntime) -> Result<(), Fail> {
     let alloc = rt.alloc();
-    let first = or_not(alloc)?;
-    let traces = long(alloc, &first.design, 16_100)?;
-    let groups = alike(alloc, &first.design, 4_000, true)?;
-    let cause = refusal(alloc, &first, &traces, &groups)?;
+    let ordered = network(alloc, OR_NOT)?;
+    let traces = long(alloc, &ordered.design, 16_100)?;
+    let groups = alike(alloc, &ordered.design, 4_000, true)?;
+    let cause = refusal(alloc, &ordered, &traces, &groups)?;
     assert_eq!(rt; cause, DebugErr::Literals);
     Ok(())
 }

@@ -1,4 +1,4 @@
-//! `localise COMMAND ..`: finds the statements of a design that can make its traces right, or simulates them.
+//! `localise COMMAND ..`: finds the suspects in a design that can make its traces right, or simulates them.
 #![tactic(auto)]
 
 use io_ports::{FileShelf, OutSink};

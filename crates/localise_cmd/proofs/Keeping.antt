@@ -1,6 +1,6 @@
 -- The promises of a run that prints one line: what is wrong with the words, or that memory was wanted before anything
 -- was read.
-use Rattle.std.proofs.Common.{ℕ, ◌≡◌, ◌++◌, ◌⊎◌, true, ap, refl, arith, inl, inr}
+use Rattle.std.proofs.Common.{ℕ, ◌≡◌, ◌≤◌, ◌++◌, ◌⊎◌, true, ap, refl, arith, inl, inr}
 use Rattle.io_ports.specs.Faults.{Rose}
 use Rattle.io_ports.specs.Shelf.{AppendsFront}
 use Rattle.refusal_lines.specs.Refusals.{memory_line}
@@ -73,9 +73,9 @@ usage-keeps usage run NoMemory text cause written shelf = record {
 }
 
 -- ---- want of memory before anything is read
--- what a case says of such a run: its only answer is 0, and it allows `memory`, a front of it, or nothing
+-- what a case says of such a run: its answers are 0 and 1, and it allows `memory`, a front of it, or nothing
 pub record AllowsMemory (c : Case) (run : Run) : Type 0 where
-  pub answer : (status : ℕ) → c.MayAnswer status → status ≡ 0
+  pub answer : (status : ℕ) → c.MayAnswer status → status ≤ 1
   pub stopped : run.told ≡ true → Rose run.counts.sink run.counts.now_sink
       → AppendsFront memory_line run.printed run.now_printed → c.Stopped run
   pub cut : run.told ≡ true → (run.now_printed ≡ run.printed) ⊎ (run.now_printed ≡ run.printed ++ memory_line)
@@ -87,13 +87,13 @@ at-seven : (c : Case) (run : Run) → AllowsMemory c run → run.now_written ≡
     → Keeps c run 7
 at-seven c run allows written sink text = record {
   is_status = inr (inr (inr refl));
-  answered = λ told may. absurd (let zero = allows.answer 7 may in omega (arith, zero));
+  answered = λ told may. absurd (let low = allows.answer 7 may in omega (arith, low));
   refused = λ told is. absurd (seven-no_refusal is);
   stopped = λ told e. absurd (omega (arith, e));
   cut = λ told e. allows.cut told (text told);
   others = λ told name no. ap (λ texts. texts name) written;
   causes = record {
-    answer = λ may. absurd (let zero = allows.answer 7 may in omega (arith, zero));
+    answer = λ may. absurd (let low = allows.answer 7 may in omega (arith, low));
     none = λ low. absurd (omega (arith, low));
     read = λ e. absurd (omega (arith, e));
     write = λ e. absurd (omega (arith, e));
@@ -110,13 +110,13 @@ memory-keeps c run Whole allows text cause written = at-seven c run allows writt
 memory-keeps c run NoMemory allows text cause written = at-seven c run allows written cause (λ told. inl (text told))
 memory-keeps c run Failed allows text cause written = record {
   is_status = inr (inr (inl refl));
-  answered = λ told may. absurd (let zero = allows.answer 6 may in omega (arith, zero));
+  answered = λ told may. absurd (let low = allows.answer 6 may in omega (arith, low));
   refused = λ told is. absurd (six-no_refusal is);
   stopped = λ told e. allows.stopped told cause (text told);
   cut = λ told e. absurd (omega (arith, e));
   others = λ told name no. ap (λ texts. texts name) written;
   causes = record {
-    answer = λ may. absurd (let zero = allows.answer 6 may in omega (arith, zero));
+    answer = λ may. absurd (let low = allows.answer 6 may in omega (arith, low));
     none = λ low. absurd (omega (arith, low));
     read = λ e. absurd (omega (arith, e));
     write = λ e. inr cause;

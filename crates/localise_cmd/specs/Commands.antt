@@ -5,24 +5,43 @@ use Rattle.command_contract.specs.Contract.{Case, Keeps, Run}
 use Rattle.command_words.specs.declared.requests.Usage.{Usage}
 use Rattle.command_words.specs.Asked.{Asked, FindAsked, SimAsked, find, sim}
 use Rattle.command_words.specs.Words.{asked as asked_by}
-use Rattle.find_cmd.specs.Requests.{Asked as Finding}
-use Rattle.find_cmd.specs.Finding.{finding}
+use Rattle.find_sets.specs.Asked.{Asked as Finding}
+use Rattle.find_sets.specs.Finding.{finding}
+use Rattle.find_sets.specs.Means.{Suspecting}
 use Rattle.front_end.specs.Means.{Meaning, Refusing}
 use Rattle.sim_cmd.specs.Requests.{Asked as Simulating}
 use Rattle.sim_cmd.specs.Simulation.{simulation}
 use Rattle.localise_cmd.specs.Usage.{no_request}
 
--- what `find` is asked for
+-- ---- what a run works with
+-- what designs mean, and why a text means none; the names of the kinds of suspects, and which suspects kinds make
+pub record Tools : Type 1 where
+  pub means : Meaning
+  pub refuses : Refusing
+  pub known : List (List ℕ)
+  pub suspecting : Suspecting
+
+abbrev pub tools_of : Meaning → Refusing → List (List ℕ) → Suspecting → Tools
+tools_of M R known suspecting = record { means = M; refuses = R; known = known; suspecting = suspecting }
+
+-- ---- what a command is asked for
+-- `find`
 abbrev pub finding_of : FindAsked → Finding
 finding_of asked = record {
   design = asked.design;
   top = asked.top;
-  trace = asked.trace;
+  traces = asked.traces;
+  clock = asked.clock;
+  suspects = asked.suspects;
   size = asked.size;
+  budget = asked.budget;
+  sets = asked.sets;
+  workers = asked.workers;
+  log = asked.log;
   report = asked.report;
 }
 
--- what `sim` is asked for
+-- `sim`
 abbrev pub simulating_of : SimAsked → Simulating
 simulating_of asked = record {
   design = asked.design;
@@ -31,12 +50,13 @@ simulating_of asked = record {
   clock = asked.clock;
 }
 
--- the case of a request, by what designs mean
-abbrev pub case_of : Meaning → Refusing → Result Asked Usage → Case
-case_of M R (Ok (find asked)) = finding (finding_of asked)
-case_of M R (Ok (sim asked)) = simulation M R (simulating_of asked)
-case_of M R (Err usage) = no_request usage
+-- ---- the case
+-- of a request
+abbrev pub case_of : Tools → Result Asked Usage → Case
+case_of tools (Ok (find asked)) = finding tools.means tools.refuses tools.suspecting (finding_of asked)
+case_of tools (Ok (sim asked)) = simulation tools.means tools.refuses (simulating_of asked)
+case_of tools (Err usage) = no_request usage
 
 -- a run for these words that ends with a status keeps the promises of their case
-unfoldable pub KeepsWords : Meaning → Refusing → List (List ℕ) → Run → ℕ → Type 0
-KeepsWords M R words run status = Keeps (case_of M R (asked_by words)) run status
+unfoldable pub KeepsWords : Tools → List (List ℕ) → Run → ℕ → Type 0
+KeepsWords tools words run status = Keeps (case_of tools (asked_by tools.known words)) run status

@@ -7,13 +7,14 @@ use Rattle.printed_text.specs.Numerals.{newline}
 use Rattle.refusal_lines.specs.Refusals.{memory_line}
 use Rattle.command_contract.specs.Contract.{Case, Run}
 use Rattle.command_words.specs.declared.requests.Usage.{Usage}
-use Rattle.command_words.specs.declared.requests.Usage.TheVariants.{Command, Words, Number, Name}
+use Rattle.command_words.specs.declared.requests.Usage.TheVariants.{Command, Words, Number, Name, Kind}
 
 abbrev pub usage_word : Usage → List ℕ
 usage_word Command = codes "command"
 usage_word Words = codes "words"
 usage_word Number = codes "number"
 usage_word Name = codes "name"
+usage_word Kind = codes "kind"
 
 -- `usage W`
 abbrev pub usage_line : Usage → List ℕ

@@ -1,6 +1,7 @@
 //! The top call: what the words behind the program's name ask for is read, and carried out by its command.
 #![tactic(auto)]
 
+mod kinds;
 mod lines;
 mod requests;
 mod run;

@@ -52,6 +52,7 @@ pub(crate) fn print_usage<O: Sink>(usage: Usage, out: &mut O) -> Printed
         Usage::Words => print(b"usage words\n", out),
         Usage::Number => print(b"usage number\n", out),
         Usage::Name => print(b"usage name\n", out),
+        Usage::Kind => print(b"usage kind\n", out),
     }
 }
 

@@ -1,27 +1,57 @@
-//! The commands' requests, as words give them.
-ghost use Rattle.std.specs.Prelude.{◌≡◌};
-ghost use Rattle.command_words.specs.Requests.{find_asked_of, sim_asked_of};
-ghost use Rattle.find_cmd.specs.Requests.{asked_of as asked_of_find};
+//! What words ask for, and the commands' own requests.
+ghost use Rattle.std.specs.Prelude.{◌≡◌, IfOk, map, string_bytes};
+ghost use Rattle.command_words.specs.Asked.{IsAsked};
+ghost use Rattle.command_words.specs.Requests.{Gives, asked_of, find_asked_of, sim_asked_of};
+ghost use Rattle.command_words.specs.Words.{asked};
+ghost use Rattle.find_sets.specs.Requests.{asked_of as asked_of_find};
 ghost use Rattle.sim_cmd.specs.Requests.{asked_of as asked_of_sim};
 ghost use Rattle.localise_cmd.specs.Commands.{finding_of, simulating_of};
 
-use command_words::{FindWords, SimWords};
+use crate::kinds::names_of;
+use command_words::{FindWords, Request, SimWords, WordsErr, request};
+use std::alloc::Global;
+use suspect_map::Granularity;
 
-pub(crate) fn find_request(words: FindWords) -> find_cmd::Request
+/// What words ask for, where there are these kinds of suspects.
+pub(crate) fn request_by(
+    alloc: Global,
+    words: &[String],
+    kinds: &[Box<dyn Granularity>],
+) -> Result<Request, WordsErr>
+    ensures gives { Gives asked_of (asked (map (λ kind. called kind) kinds.now) (map string_bytes words.now)) result }
+    ensures holds { IfOk result (λ request. IsAsked (map (λ kind. called kind) kinds.now) (asked_of request)) }
+{
+    let known = names_of(alloc, kinds)?;
+    request(alloc, words, &known)
+}
+
+pub(crate) fn find_request(words: FindWords) -> find_sets::Request
     ensures { asked_of_find result ≡ finding_of (find_asked_of words) }
 {
     let FindWords {
         design,
         top,
-        trace,
+        traces,
+        clock,
+        suspects,
         size,
+        budget,
+        sets,
+        workers,
+        log,
         report,
     } = words;
-    find_cmd::Request {
+    find_sets::Request {
         design,
         top,
-        trace,
+        traces,
+        clock,
+        suspects,
         size,
+        budget,
+        sets,
+        workers,
+        log,
         report,
     }
 }

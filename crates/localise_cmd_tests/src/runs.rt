@@ -6,7 +6,7 @@ use localise_cmd::run_words;
 use std::alloc::Global;
 use std::test::Fail;
 use std::thread::Threads;
-use suspect_map::{Granularity, Statements};
+use suspect_map::{Blocks, Granularity, Statements};
 
 /// Two assignments, and a trace that either explains.
 const OR_NOT: &[u8] =
@@ -23,6 +23,18 @@ const BY_TWO_TRACE: &[u8] =
     b"$timescale 1ns $end\n$scope module tb $end\n$var reg 1 ! clk $end\n$var wire 4 \" q [3:0] $end\n$upscope $end\n$enddefinitions $end\n#0\n$dumpvars\n0!\nbx \"\n$end\n#2\nb0 \"\n#5\n1!\nb1 \"\n#10\n0!\n#15\n1!\nb10 \"\n#20\n0!\n#25\n1!\n";
 
 const FOUND: &str = "set {1}\n  1 stmt 3 m\nset {2}\n  2 stmt 4 m\ncomplete 2\n";
+
+/// The report of that list; its digest is that of the texts above, computed apart from the program.
+const REPORT: &[u8] =
+    b"{\"clock\":\"\",\"ending\":\"complete\",\"inputs\":\"4e8cae5cec1457bb6699c30389d997b502e30db26b5b032c76537885b4803196\",\"kinds\":[\"stmt\"],\"sets\":[{\"members\":[1],\"values\":[[[\"0\"],[\"0\"],[\"0\"],[\"1\"]]]},{\"members\":[2],\"values\":[[[\"1\"],[\"1\"],[\"1\"],[\"0\"]]]}],\"size\":2,\"suspects\":[{\"kind\":\"stmt\",\"label\":\"m\",\"line\":3},{\"kind\":\"stmt\",\"label\":\"m\",\"line\":4}],\"top\":\"m\",\"version\":1}\n";
+
+/// The head of its log.
+const LOG_HEAD: &[u8] =
+    b"localise-log 1\ninputs 4e8cae5cec1457bb6699c30389d997b502e30db26b5b032c76537885b4803196\n";
+
+const FIRST: &str = "set {1}\n  1 stmt 3 m\n";
+
+const BOTH: &str = "set {1}\n  1 stmt 3 m\nset {2}\n  2 stmt 4 m\n";
 
 const COUNTED: &str = "1 0 q=0\n1 1 q=2\n1 2 q=4\ntrace 1 miss 1 q\n";
 
@@ -64,6 +76,7 @@ fn run<R: Threads + Sync>(rt: &R, alloc: Global, line: &str, fails: Fails) -> Re
     }
     let mut kinds: Vec<Box<dyn Granularity>> = Vec::new(alloc);
     kinds.push(Box::new(alloc, Statements)?)?;
+    kinds.push(Box::new(alloc, Blocks)?)?;
     let shelf_fails = Numbers::copy_of(alloc, fails.shelf)?;
     let mut shelf = MemShelf::new(alloc, texts_of(alloc)?, shelf_fails);
     let mut out = MemSink::new(alloc, Numbers::copy_of(alloc, fails.sink)?);
@@ -80,10 +93,27 @@ fn run<R: Threads + Sync>(rt: &R, alloc: Global, line: &str, fails: Fails) -> Re
 }
 
 /// Words with what is printed, and the status.
-const RUNS: [(&str, &str, u8); 18] = [
+const RUNS: [(&str, &str, u8); 27] = [
     ("find m.v m t.vcd", FOUND, 0),
-    ("find --size=1 -- m.v m t.vcd", FOUND, 0),
+    ("find --size=1 --workers 2 -- m.v m t.vcd", FOUND, 0),
+    ("find m.v m t.vcd t.vcd --budget 1594323", FOUND, 0),
     ("find m.v m t.vcd --size 0", "complete 0\n", 0),
+    ("find m.v m t.vcd --suspects block", "complete 0\n", 0),
+    (
+        "find m.v m t.vcd --sets 1",
+        "set {1}\n  1 stmt 3 m\nfront 1 sets\n",
+        1,
+    ),
+    (
+        "find c.v c c.vcd --clock clk",
+        "set {1}\n  1 stmt 3 c\ncomplete 1\n",
+        0,
+    ),
+    (
+        "find c.v c c.vcd --clock clk --suspects block,stmt",
+        "set {1}\n  1 block 3 c\nset {2}\n  2 stmt 3 c\ncomplete 2\n",
+        0,
+    ),
     ("sim c.v c c.vcd --clock clk", COUNTED, 0),
     (
         "sim m.v m t.vcd",
@@ -103,8 +133,12 @@ const RUNS: [(&str, &str, u8); 18] = [
     ("sim m.v m", "usage words\n", 2),
     ("find m.v m t.vcd --size 9", "usage number\n", 2),
     ("find m.v m t.vcd --report t.vcd", "usage name\n", 2),
+    ("find m.v m t.vcd --log localise.json", "usage name\n", 2),
+    ("find m.v m t.vcd --suspects foo", "usage kind\n", 2),
+    ("find m.v m t.vcd --suspects stmt,stmt", "usage kind\n", 2),
     ("sim m.v m t.vcd --clock=", "usage name\n", 2),
     ("find other.v m t.vcd", "read fault other.v\n", 5),
+    ("find m.v other t.vcd", "input E5\n", 3),
     ("sim m.v other t.vcd", "input E5\n", 3),
     ("sim m.v m other.vcd", "read fault other.vcd\n", 5),
 ];
@@ -120,27 +154,48 @@ fn each_command_is_asked_for_by_its_words(rt: HostRuntime) -> Result<(), Fail> {
 }
 
 #[test]
-fn only_a_list_writes_and_only_its_report(rt: HostRuntime) -> Result<(), Fail> {
-    let ran = run(&rt, rt.alloc(), "find m.v m t.vcd --report r", NONE)?;
-    assert_eq!(rt;
-        ran.shelf.text("r").map(Bytes::as_slice),
-        Some(b"1 1 0 0\n1 1 1 0\n1 1 2 0\n1 1 3 1\n2 1 0 1\n2 1 1 1\n2 1 2 1\n2 1 3 0\n".as_slice())
-    );
+fn only_a_list_writes_and_only_its_log_and_its_report(rt: HostRuntime) -> Result<(), Fail> {
+    let ran = run(&rt, rt.alloc(), "find m.v m t.vcd --report r --log l", NONE)?;
+    assert_eq!(rt; ran.shelf.text("r").map(Bytes::as_slice), Some(REPORT));
+    let Some(log) = ran.shelf.text("l") else {
+        return Err(Fail::new("no log"));
+    };
+    assert!(rt; log.as_slice().starts_with(LOG_HEAD));
     assert!(rt; ran.shelf.text("localise.json").is_none());
+    assert!(rt; ran.shelf.text("localise.log").is_none());
     let ran = run(&rt, rt.alloc(), "sim m.v m t.vcd", NONE)?;
     assert!(rt; ran.shelf.text("localise.json").is_none());
+    assert!(rt; ran.shelf.text("localise.log").is_none());
+    Ok(())
+}
+
+#[test]
+fn the_number_of_workers_changes_nothing_that_is_written(rt: HostRuntime) -> Result<(), Fail> {
+    let one = run(&rt, rt.alloc(), "find m.v m t.vcd --workers 1", NONE)?;
+    let more = run(&rt, rt.alloc(), "find m.v m t.vcd --workers 3", NONE)?;
+    for name in ["localise.log", "localise.json"] {
+        assert!(rt; one.shelf.text(name).is_some());
+        assert_eq!(rt;
+            one.shelf.text(name).map(Bytes::as_slice),
+            more.shelf.text(name).map(Bytes::as_slice)
+        );
+    }
     Ok(())
 }
 
 #[test]
 fn each_call_of_the_shelf_that_fails_ends_the_run(rt: HostRuntime) -> Result<(), Fail> {
-    let sets = "set {1}\n  1 stmt 3 m\nset {2}\n  2 stmt 4 m\n";
     for (line, fails, printed, status) in [
         ("find m.v m t.vcd", 0, "read fault m.v\n", 5),
         ("find m.v m t.vcd", 1, "read fault t.vcd\n", 5),
-        ("find m.v m t.vcd", 2, sets, 6),
-        ("find m.v m t.vcd", 3, sets, 6),
-        ("find m.v m t.vcd", 4, FOUND, 0),
+        ("find m.v m t.vcd", 2, "", 6),
+        ("find m.v m t.vcd", 3, "", 6),
+        ("find m.v m t.vcd", 4, "", 6),
+        ("find m.v m t.vcd", 5, FIRST, 6),
+        ("find m.v m t.vcd", 6, BOTH, 6),
+        ("find m.v m t.vcd", 7, BOTH, 6),
+        ("find m.v m t.vcd", 8, BOTH, 6),
+        ("find m.v m t.vcd", 9, FOUND, 0),
         ("sim c.v c c.vcd --clock clk", 0, "read fault c.v\n", 5),
         ("sim c.v c c.vcd --clock clk", 1, "read fault c.vcd\n", 5),
         ("sim c.v c c.vcd --clock clk", 2, COUNTED, 0),

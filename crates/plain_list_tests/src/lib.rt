@@ -1,4 +1,4 @@
-//! Worked examples of `plain_list`, on networks that `first_form` makes.
+//! Worked examples of `plain_list`, on small networks.
 #![tactic(auto)]
 
 #[cfg(test)]

@@ -1,6 +1,6 @@
 use Rattle.std.proofs.Common.{rules, ◌≡◌, true, subst, sym}
 use Rattle.command_words.specs.Asked.{IsSimAsked}
-use Rattle.command_words.specs.Words.{are_sim_names}
+use Rattle.command_words.specs.Sim.{are_sim_names}
 use Rattle.command_words.specs.Views.{sim_values}
 use Rattle.command_words.proofs.Holding.{sim-holds}
 use Rattle.command_words.proofs.sim.sim_words.Goals as goal

@@ -1,6 +1,0 @@
-use Rattle.std.specs.Prelude.{All}
-use Rattle.design_core.specs.TraceFits.{IsTraceOf}
-use Rattle.debug_core_tests.proofs.networks.traces.Given as goal
-
-abbrev pub invariant-loop-cycles : goal.invariant-loop-cycles
-invariant-loop-cycles l = All (IsTraceOf l.d) l.traces.items

@@ -1,9 +1,0 @@
-pub mod Requests
-pub mod Means
-pub mod Refusals
-pub mod Lines
-pub mod Report
-pub mod Finding
-pub mod Inputs
-pub mod Listed
-pub mod Ends

@@ -1,5 +1,0 @@
-//! Worked examples of `first_form`.
-#![tactic(auto)]
-
-#[cfg(test)]
-mod designs;

@@ -1,3 +1,0 @@
-pub mod Formulas
-pub mod Netlists
-pub mod Seen

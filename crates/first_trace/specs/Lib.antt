@@ -1,5 +1,0 @@
-pub mod Dump
-pub mod Machine
-pub mod Same
-pub mod Sight
-pub mod Words

@@ -1,0 +1,64 @@
+-- What words ask of `find` is what a list may be asked.
+use Rattle.std.proofs.Common.{ℕ, ◌≡◌, ◌⊎◌, Bool, true, false, List, [], ◌∷◌, map, refl, sym, ap, subst, ◌∙◌, inl, inr, Some, None, Option}
+use Rattle.std.specs.Prelude.{All, Contains, if◌then◌else◌, nat_eq}
+use Rattle.std.specs.Cmp.Lexicographic.{pointwise}
+use Rattle.std.proofs.lemmas.Bool.{false≢true}
+use Rattle.std.proofs.lemmas.List.Elements.{All-head, All-tail}
+use Rattle.loc_base.proofs.ShelfLists.{Contains-cons, Contains-empty}
+use Rattle.suspect_map.specs.Choose.{named, unknown, unknown_or}
+use Rattle.suspect_map.proofs.Steps.{same_name}
+use Rattle.command_words.specs.Asked.{FindAsked, IsFindAsked}
+use Rattle.find_sets.specs.Asked.{AreKnown, Asked as Finding, IsAsked}
+use Rattle.localise_cmd.specs.Commands.{finding_of}
+
+-- ---- kinds that are known
+same-pointwise : (name : List ℕ) → pointwise nat_eq name name ≡ true
+same-pointwise name = (same_name name name).1 refl
+
+-- a name that some kind has
+named-some : {G : Type 0} (called : G → List ℕ) (kinds : List G) (name : List ℕ) → Contains (map called kinds) name
+    → (kind : G) × (named called kinds name ≡ Some kind)
+named-some called [] name has = absurd (Contains-empty name has)
+named-some called (kind ∷ kinds) name has =
+    at (pointwise nat_eq (called kind) name) refl (Contains-cons (called kind) (map called kinds) name has)
+    (named-some called kinds name)
+  where
+    at : (test : Bool) → pointwise nat_eq (called kind) name ≡ test → (called kind ≡ name) ⊎ Contains (map called kinds) name
+        → (Contains (map called kinds) name → (k : _) × (named called kinds name ≡ Some k))
+        → (k : _) × (named called (kind ∷ kinds) name ≡ Some k)
+    at true is has later = (kind, rw is refl)
+    at false is (inl same) later = absurd (false≢true (sym is ∙ ap (pointwise nat_eq (called kind)) (sym same) ∙ same-pointwise (called kind)))
+    at false is (inr rest) later = let (k, found) = later rest in (k, rw is found)
+
+unknown-step : {G : Type 0} (name : List ℕ) (found : Option G) (rest : Option (List ℕ)) (kind : G) → found ≡ Some kind
+    → rest ≡ None → unknown_or name found rest ≡ None
+unknown-step name found rest kind is none = rw (is, none) refl
+
+pub unknown-none : {G : Type 0} (called : G → List ℕ) (kinds : List G) (names : List (List ℕ))
+    → All (Contains (map called kinds)) names → unknown called kinds names ≡ None
+unknown-none called kinds [] all = refl
+unknown-none called kinds (name ∷ names) all =
+    let (kind, found) = named-some called kinds name (All-head (Contains (map called kinds)) name names all) in
+    unknown-step name (named called kinds name) (unknown called kinds names) kind found
+    (unknown-none called kinds names (All-tail (Contains (map called kinds)) name names all))
+
+-- ---- what is asked
+pub asked-held : (known : List (List ℕ)) (words : FindAsked) (request : Finding) → request ≡ finding_of words
+    → IsFindAsked known words → IsAsked request
+asked-held known words request same held = subst IsAsked (sym same) (record {
+  traces = (held.sources.some, held.sources.most);
+  some_kinds = held.some_kinds;
+  kinds_once = held.kinds_once;
+  size = held.size;
+  budget = held.budget;
+  sets = held.sets;
+  workers = held.workers;
+  apart = held.apart;
+  own_log = held.own_log;
+  own_report = held.own_report;
+})
+
+pub known-held : {G : Type 0} (called : G → List ℕ) (kinds : List G) (words : FindAsked) (request : Finding)
+    → request ≡ finding_of words → IsFindAsked (map called kinds) words → AreKnown called kinds request
+known-held called kinds words request same held =
+    subst (λ (asked : Finding). AreKnown called kinds asked) (sym same) (unknown-none called kinds words.suspects held.known_kinds)
