@@ -17,7 +17,7 @@ fn differ(values: &[u128]) -> bool {
 
 /// Whether net and simulator give the same outputs in twelve cycles, which are not all the same, whichever of the first places are
 /// freed.
-fn agree(alloc: Global, text: &str) -> Result<bool, Fail> {
+pub(super) fn agree(alloc: Global, text: &str) -> Result<bool, Fail> {
     let ready = read_clocked(alloc, text)?;
     let net = net_of(alloc, &ready)?;
     for free in [0, 1, 2] {

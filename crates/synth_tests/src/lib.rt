@@ -1,4 +1,5 @@
-//! Tests of synthesis, from texts of designs: circuits node by node, and cycles beside the simulator.
+//! Tests of synthesis, from texts of designs: circuits node by node, cycles beside the simulator, operators beside Icarus Verilog, and
+//! the most nodes that a circuit may have.
 #![tactic(auto)]
 
 #[cfg(test)]
@@ -7,5 +8,11 @@ mod build;
 mod circuits;
 #[cfg(test)]
 mod cycles;
+#[cfg(test)]
+mod limits;
+#[cfg(test)]
+mod named;
+#[cfg(test)]
+mod operators;
 #[cfg(test)]
 mod run;
