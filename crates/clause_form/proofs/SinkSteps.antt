@@ -1,13 +1,15 @@
 -- Steps of a clause that is simplified, and of clauses that are taken one after another.
 use Rattle.std.proofs.Common.{◌≡◌, ℕ, zero, suc, ◌+◌, ◌^◌, ◌<◌, ◌≤◌, Bool, true, false, if◌then◌else◌, List, [], ◌∷◌, ◌++◌, length, get_or, take, drop, max, Option, Some, None, refl, sym, ◌∙◌, ap, ap₂, arith, append_assoc, append-nil}
-use Rattle.std.proofs.lemmas.List.{drop_all, take_all, take_more, take-append-drop}
+use Rattle.std.specs.Option.{option_map}
+use Rattle.std.proofs.lemmas.List.{drop_all, length-append, take_all, take_more, take-append-drop}
+use Rattle.loc_base.proofs.ShelfOptions.{Some-same}
 use Rattle.clause_base.specs.declared.literal.Lit.{Lit}
 use Rattle.gate_base.specs.declared.literal.Literal.{Literal}
 use Rattle.gate_base.specs.declared.literal.Literal.TheVariants.{Known, Of}
 use Rattle.gate_base.proofs.Chains.{drop-literal}
 use Rattle.clause_form.specs.Clauses.{simplified, with_literal, with_selectors, clause_of, defined, literals_in, weight_of}
 use Rattle.clause_form.specs.Fields.{Sunk, after}
-use Rattle.clause_form.specs.Variables.{HaveVariables}
+use Rattle.clause_form.specs.Variables.{HaveVariables, size_of}
 
 -- literals before those of a clause, where there is one
 abbrev pub behind : List Lit → Option (List Lit) → Option (List Lit)
@@ -59,6 +61,63 @@ variable-at base (Of n s ∷ xs) (suc i) node negated have within is =
     variable-at base xs i node negated have.1 (omega (arith, within)) is
 
 pub ruleset drafts = (variable-at, draft-of, draft-false, draft-true, draft-end, draft-begin)
+
+-- ---- how many literals a clause has
+
+-- so many literals more, where there is a clause
+abbrev pub more : ℕ → Option ℕ → Option ℕ
+more count o = option_map (λ n. count + n) o
+
+more-one : (count : ℕ) (o : Option ℕ) → more count (option_map (λ n. n + 1) o) ≡ more (count + 1) o
+more-one count None = refl
+more-one count (Some n) = let e : count + (n + 1) ≡ count + 1 + n = omega arith in ap Some e
+
+module _ (xs : List Literal) (i count : ℕ) where
+  size-at : i < length xs → more count (size_of (drop i xs)) ≡ more count (size_of (get_or xs i (Known false) ∷ drop (i + 1) xs))
+  size-at within = ap (λ ys. more count (size_of ys)) (drop-literal xs i within)
+
+  pub size-open : (node : ℕ) (negated : Bool) → i < length xs → get_or xs i (Known false) ≡ Of node negated
+      → more count (size_of (drop i xs)) ≡ more (count + 1) (size_of (drop (i + 1) xs))
+  size-open node negated within is =
+      size-at within ∙ ap (λ l. more count (size_of (l ∷ drop (i + 1) xs))) is ∙ more-one count (size_of (drop (i + 1) xs))
+
+  pub size-false : i < length xs → get_or xs i (Known false) ≡ Known false
+      → more count (size_of (drop i xs)) ≡ more count (size_of (drop (i + 1) xs))
+  size-false within is = size-at within ∙ ap (λ l. more count (size_of (l ∷ drop (i + 1) xs))) is
+
+  pub size-true : i < length xs → get_or xs i (Known false) ≡ Known true → more count (size_of (drop i xs)) ≡ None
+  size-true within is = size-at within ∙ ap (λ l. more count (size_of (l ∷ drop (i + 1) xs))) is
+
+  pub size-end : length xs ≤ i → more count (size_of (drop i xs)) ≡ Some count
+  size-end end =
+      let e : count + 0 ≡ count = omega arith in ap (λ ys. more count (size_of ys)) (drop_all i xs end) ∙ ap Some e
+
+pub size-begin : (o : Option ℕ) → more 0 o ≡ o
+size-begin None = refl
+size-begin (Some n) = let e : 0 + n ≡ n = omega arith in ap Some e
+
+pub ruleset sizes = (size-open, size-false, size-true, size-end, size-begin)
+
+size-with : (l : Lit) (o : Option (List Lit)) → option_map (λ n. n + 1) (option_map length o) ≡ option_map length (with_literal l o)
+size-with l None = refl
+size-with l (Some clause) = let e : length clause + 1 ≡ suc (length clause) = omega arith in ap Some e
+
+-- those of the clause that is made
+size-simplified : (base : ℕ) (xs : List Literal) → size_of xs ≡ option_map length (simplified base xs)
+unfolding simplified
+size-simplified base [] = refl
+size-simplified base (Known true ∷ xs) = refl
+size-simplified base (Known false ∷ xs) = size-simplified base xs
+size-simplified base (Of node negated ∷ xs) =
+    ap (option_map (λ n. n + 1)) (size-simplified base xs) ∙ size-with (defined base node negated) (simplified base xs)
+
+-- no clause is made where a literal is true
+pub no-clause : (base : ℕ) (xs : List Literal) (selectors : List Lit) → size_of xs ≡ None → clause_of base xs selectors ≡ []
+no-clause base xs selectors none = at (simplified base xs) (sym none ∙ size-simplified base xs)
+  where
+    at : (o : Option (List Lit)) → None ≡ option_map length o → with_selectors o selectors ≡ []
+    at None e = refl
+    at (Some clause) e = cc
 
 -- the clause, with selectors behind it
 pub drafted-some : (base : ℕ) (xs : List Literal) (selectors clause : List Lit) → simplified base xs ≡ Some clause
@@ -112,11 +171,35 @@ pub literals_in-one : (clause : List Lit) → literals_in (clause ∷ []) ≡ ma
 unfolding literals_in
 literals_in-one clause = omega arith
 
-pub after-one : (s : Sunk) (clause : List Lit) (count : ℕ) (clauses : List (List Lit)) → count ≡ s.count + max 1 (length clause)
-    → clauses ≡ (if s.writes then s.clauses ++ clause ∷ [] else s.clauses)
-    → record { base = s.base; writes = s.writes; count = count; clauses = clauses } ≡ after s (clause ∷ [])
-after-one s clause count clauses is_count is_clauses =
-    ap₂ (sunk s.base s.writes) (is_count ∙ ap (λ n. s.count + n) (sym (literals_in-one clause))) is_clauses
+pub after-all : (s : Sunk) (clauses : List (List Lit)) (of : Sunk) → of.base ≡ s.base → of.writes ≡ s.writes
+    → of.count ≡ s.count + literals_in clauses → of.clauses ≡ (if s.writes then s.clauses ++ clauses else s.clauses)
+    → of ≡ after s clauses
+after-all s clauses of base writes count kept =
+    ap₂ (λ b w. sunk b w of.count of.clauses) base writes ∙ ap₂ (sunk s.base s.writes) count kept
+
+-- so many literals are in the clause with its selectors
+pub literals-sized : (base : ℕ) (xs : List Literal) (selectors : List Lit) (size : ℕ) → size_of xs ≡ Some size
+    → literals_in (clause_of base xs selectors) ≡ max 1 (size + length selectors)
+literals-sized base xs selectors size some = at (simplified base xs) (sym some ∙ size-simplified base xs)
+  where
+    at : (o : Option (List Lit)) → Some size ≡ option_map length o → literals_in (with_selectors o selectors) ≡ max 1 (size + length selectors)
+    at None e = cc
+    at (Some clause) e = omega (arith, literals_in-one (clause ++ selectors), length-append clause selectors, Some-same e)
+
+-- what is kept of clauses that were made
+pub kept-off : (writes : Bool) (clauses made : List (List Lit)) → writes ≡ false → (if writes then clauses ++ made else clauses) ≡ clauses
+kept-off true clauses made off = cc
+kept-off false clauses made off = refl
+
+pub kept-on : (writes : Bool) (clauses made : List (List Lit)) → writes ≡ true → (if writes then clauses ++ made else clauses) ≡ clauses ++ made
+kept-on true clauses made on = refl
+kept-on false clauses made on = cc
+
+pub kept-none : (writes : Bool) (clauses made : List (List Lit)) → made ≡ [] → (if writes then clauses ++ made else clauses) ≡ clauses
+kept-none writes clauses made none =
+    ap (λ (cs : List (List Lit)). if writes then clauses ++ cs else clauses) none ∙ if-none writes clauses
+
+pub ruleset keeps = (kept-off, kept-on, kept-none)
 
 -- ---- how many literals clauses have
 

@@ -1,6 +1,6 @@
 -- The clauses of an unrolled form (Tseitin 1968), in which sets of at most k suspects are asked for: a counter of the selectors,
 -- then for each cycle the clauses of its definitions and one for each bit that is checked.
-use Rattle.std.specs.Prelude.{ℕ, ◌+◌, ◌==◌, max, Bool, true, false, if◌then◌else◌, List, [], ◌∷◌, ◌++◌, length, sum, map, Option, Some, None, slice_range}
+use Rattle.std.specs.Prelude.{ℕ, ◌+◌, ◌==◌, max, Bool, true, false, if◌then◌else◌, List, [], ◌∷◌, ◌++◌, length, Option, Some, None, slice_range}
 use Rattle.std.specs.List.{list_any}
 use Rattle.loc_base.specs.Bits.{bit_of}
 use Rattle.gate_base.specs.declared.literal.Literal.{Literal}

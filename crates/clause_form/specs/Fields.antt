@@ -1,5 +1,5 @@
 -- What is kept while the clauses of a form are counted and made; only private contracts cite it.
-use Rattle.std.specs.Prelude.{ℕ, ◌≡◌, ◌+◌, ◌<◌, ◌≤◌, ◌^◌, Bool, true, if◌then◌else◌, List, [], ◌∷◌, ◌++◌, get_or}
+use Rattle.std.specs.Prelude.{ℕ, ◌+◌, Bool, if◌then◌else◌, List, [], ◌++◌}
 use Rattle.clause_base.specs.declared.literal.Lit.{Lit}
 use Rattle.clause_form.specs.declared.sink.Sink.{Sink}
 use Rattle.clause_form.specs.Clauses.{literals_in}

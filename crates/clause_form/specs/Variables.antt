@@ -1,5 +1,6 @@
--- What the variables of literals are; only private contracts cite it.
-use Rattle.std.specs.Prelude.{ℕ, ◌≡◌, ◌==◌, ◌+◌, ◌-◌, ◌<◌, ◌^◌, Bool, true, if◌then◌else◌, List, [], ◌∷◌, ◌++◌, length, get_or}
+-- What the variables of literals are, and how many literals a clause has; only private contracts cite it.
+use Rattle.std.specs.Prelude.{ℕ, ◌≡◌, ◌==◌, ◌+◌, ◌-◌, ◌<◌, ◌^◌, Bool, true, false, if◌then◌else◌, List, [], ◌∷◌, ◌++◌, length, get_or, Option, Some, None}
+use Rattle.std.specs.Option.{option_map}
 use Rattle.clause_base.specs.declared.literal.Lit.{Lit}
 use Rattle.clause_base.specs.Literal.{positive, has_distinct_variables}
 use Rattle.gate_base.specs.declared.literal.Literal.{Literal}
@@ -10,6 +11,13 @@ abbrev pub HaveVariables : ℕ → List Literal → Type 0
 HaveVariables base [] = Unit {0}
 HaveVariables base (Known value ∷ xs) = HaveVariables base xs
 HaveVariables base (Of node negated ∷ xs) = (base + node < 2 ^ 32) × HaveVariables base xs
+
+-- how many literals a clause has without those that are false, and nothing where one is true
+abbrev pub size_of : List Literal → Option ℕ
+size_of [] = Some 0
+size_of (Known true ∷ xs) = None
+size_of (Known false ∷ xs) = size_of xs
+size_of (Of node negated ∷ xs) = option_map (λ n. n + 1) (size_of xs)
 
 -- each variable is below a number
 abbrev pub AreBelow : ℕ → List Lit → Type 0

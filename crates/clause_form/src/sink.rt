@@ -1,10 +1,10 @@
 //! Clauses that are counted, or counted and kept.
 
-ghost use Rattle.std.specs.Prelude.{[], ◌∷◌, ◌++◌, ◌≡◌, ◌<◌, ◌≤◌, IfErr, IfOk, IsTrue, MatchOption, None, OnOk, Some, false, if◌then◌else◌, true};
-ghost use Rattle.clause_base.specs.Literal.{AllDistinct, has_distinct_variables};
+ghost use Rattle.std.specs.Prelude.{[], ◌∷◌, ◌++◌, ◌≡◌, ◌<◌, ◌≤◌, IfErr, IfOk, MatchOption, None, OnOk, Some, false, if◌then◌else◌, true};
+ghost use Rattle.clause_base.specs.Literal.{AllDistinct};
 ghost use Rattle.clause_form.specs.Clauses.{clause_of, literals_in, simplified};
 ghost use Rattle.clause_form.specs.Limits.{IsRefused};
-ghost use Rattle.clause_form.specs.Variables.{HaveVariables};
+ghost use Rattle.clause_form.specs.Variables.{HaveVariables, size_of};
 
 use crate::error::FormErr;
 use clause_base::{Clauses, Lit};
@@ -22,7 +22,7 @@ pub(crate) struct Sink {
     pub writes: bool,
     pub count: u64,
     pub clauses: Clauses,
-    /// The literals of the clause at hand.
+    /// The literals of the clause that is kept.
     pub literals: Vec<Lit>,
     pub ghost within: { count ≤ 64000000 },
 }
@@ -51,6 +51,22 @@ pub(crate) fn literals_of(clauses: &Clauses) -> Option<u64>
             return None;
         }
         count += weight;
+    }
+    Some(count)
+}
+
+/// How many literals a clause has without those that are false, and `None` where one is true.
+#[tactic(auto, using(crate::proofs::SinkSteps::sizes))]
+fn size(all: &[Literal]) -> Option<u64>
+    ensures { result ≡ size_of all.now }
+{
+    let mut count = 0;
+    for i in 0..all.len() {
+        match all[i] {
+            Literal::Known(true) => return None,
+            Literal::Known(false) => {}
+            Literal::Of { .. } => count += 1,
+        }
     }
     Some(count)
 }
@@ -91,17 +107,6 @@ fn draft(
     }
     literals.extend_from_slice(selectors)?;
     Ok(true)
-}
-
-/// Appends a clause, where clauses are kept.
-fn keep(clauses: &mut Clauses, writes: bool, literals: &[Lit]) -> Result<(), NoMemory>
-    requires { IsTrue (has_distinct_variables literals.now) }
-    ensures { OnOk result (clauses.new ≡ (if writes then clauses.old ++ literals.now ∷ [] else clauses.old)) }
-{
-    if writes {
-        clauses.push(literals)?;
-    }
-    Ok(())
 }
 
 impl Sink {
@@ -150,17 +155,38 @@ impl Sink {
         clauses
     }
 
-    /// Takes the clause at hand.
-    fn take(&mut self) -> Result<(), FormErr>
-        requires { IsTrue (has_distinct_variables self.old.literals.items) }
-        ensures ok { OnOk result (sunk_of self.new ≡ after (sunk_of self.old) (self.old.literals.items ∷ [])) }
-        ensures err { IfErr result (λ e. IsRefused e (64000000 < (after (sunk_of self.old) (self.old.literals.items ∷ [])).count)) }
+    /// Keeps the clause of some literals and selectors, where clauses are kept.
+    #[tactic(auto, using(crate::proofs::SinkSteps::keeps))]
+    fn keep(&mut self, literals: &[Literal], selectors: &[Lit]) -> Result<(), NoMemory>
+        requires variables { HaveVariables self.old.base literals.now }
+        requires distinct { AllDistinct (clause_of self.old.base literals.now selectors.now) }
+        ensures kept { OnOk result (self.new.clauses ≡ (if self.old.writes then self.old.clauses ++ clause_of self.old.base literals.now selectors.now else self.old.clauses)) }
+        ensures base { self.new.base ≡ self.old.base }
+        ensures writes { self.new.writes ≡ self.old.writes }
+        ensures count { self.new.count ≡ self.old.count }
     {
-        let weight = (self.literals.len() as u64).max(1);
+        if !self.writes {
+            return Ok(());
+        }
+        if draft(&mut self.literals, self.base, literals, selectors)? {
+            self.clauses.push(&self.literals)?;
+        }
+        Ok(())
+    }
+
+    /// Takes the clause of some literals, `size` of which are no constants, and selectors. It is made only where clauses are kept.
+    fn take(&mut self, literals: &[Literal], selectors: &[Lit], size: u64) -> Result<(), FormErr>
+        requires variables { HaveVariables self.old.base literals.now }
+        requires distinct { AllDistinct (clause_of self.old.base literals.now selectors.now) }
+        requires size { size_of literals.now ≡ Some size }
+        ensures ok { OnOk result (sunk_of self.new ≡ after (sunk_of self.old) (clause_of self.old.base literals.now selectors.now)) }
+        ensures err { IfErr result (λ e. IsRefused e (64000000 < (after (sunk_of self.old) (clause_of self.old.base literals.now selectors.now)).count)) }
+    {
+        let weight = size.saturating_add(selectors.len() as u64).max(1);
         if weight > LITERALS - self.count {
             return Err(FormErr::Literals);
         }
-        keep(&mut self.clauses, self.writes, &self.literals)?;
+        self.keep(literals, selectors)?;
         self.count += weight;
         Ok(())
     }
@@ -172,9 +198,9 @@ impl Sink {
         ensures ok { OnOk result (sunk_of self.new ≡ after (sunk_of self.old) (clause_of self.old.base literals.now selectors.now)) }
         ensures err { IfErr result (λ e. IsRefused e (64000000 < (after (sunk_of self.old) (clause_of self.old.base literals.now selectors.now)).count)) }
     {
-        if draft(&mut self.literals, self.base, literals, selectors)? {
-            self.take()?;
+        match size(literals) {
+            Some(size) => self.take(literals, selectors, size),
+            None => Ok(()),
         }
-        Ok(())
     }
 }

@@ -1,10 +1,10 @@
-use Rattle.std.proofs.Common.{◌∷◌, [], ◌∙◌, ap, sym, if◌then◌else◌}
+use Rattle.std.proofs.Common.{ap, sym, ◌∙◌}
 use Rattle.clause_form.specs.Fields.{after, sunk_of}
-use Rattle.clause_form.proofs.SinkSteps.{after-none}
+use Rattle.clause_form.proofs.SinkSteps.{after-none, no-clause}
 use Rattle.clause_form.proofs.sink.Sink.push.Goals as goal
 
-pub returns-else-branch-clause-ok : goal.returns-else-branch-clause-ok
-returns-else-branch-clause-ok c =
-    sym (ap (after (sunk_of c.args.self.now))
-    (c.in_ok-draft.ensures ∙ ap (λ there. if there then c.draft.new.literals.items ∷ [] else []) c.if-branch.false)
-    ∙ after-none (sunk_of c.args.self.now))
+pub returns-in-None-clause-ok : goal.returns-in-None-clause-ok
+returns-in-None-clause-ok c =
+    let self = c.args.self.now in
+    sym (ap (after (sunk_of self))
+    (no-clause self.base c.args.literals.now c.args.selectors.now (sym c.size.ensures ∙ c.in-None.is)) ∙ after-none (sunk_of self))
