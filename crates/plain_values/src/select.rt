@@ -60,7 +60,6 @@ pub fn distance_of(left: i32, right: i32, index: i64) -> i64
 }
 
 /// The position of the bit of a signal that has an index and an offset (IEEE 1364-2005, 4.3).
-#[tactic(auto, using(crate::proofs::EvaluateSelect::near_bounds, crate::proofs::EvaluateSelect::near_position, crate::proofs::EvaluateSelect::far_position, std::proofs::lemmas::Int::ints))]
 pub fn position_from(signal: &Signal, index: Bits, signed: bool, offset: i32) -> Option<u32>
     ensures { result ≡ position_of signal.now (integer_of signed (width_of index) (value_of index) +ℤ offset) }
 {

@@ -115,6 +115,16 @@ counted_pop table es e h v n c =
     let some : is_some (get_or table (e.lit.var - 1) None) ≡ true = rw slot refl in
     omega (arith, c, length_push es e, count_by-set_fails is_some table (e.lit.var - 1) None None (omega (arith, v.above, v.within)) some refl)
 
+-- the variable of the last of the first entries
+pub last_variable : (all es left : List Entry) (vars m : ℕ) (e : Entry) → AreNew vars all → 1 ≤ m → m ≤ length all
+    → es ≡ take m all → es ≡ left ++ e ∷ [] → IsVariable vars e.lit.var
+last_variable all es left vars m e new some within front pushed =
+    let n : ℕ = m - 1 in
+    let number : m ≡ n + 1 = omega arith in
+    let more = ap (λ k. take k all) number ∙ take_more all n e (omega arith) in
+    let both = same_from_push left (take n all) e (get_or all n e) (sym pushed ∙ (front ∙ more)) in
+    subst (λ (x : Entry). IsVariable vars x.lit.var) (sym both.1) (new n e (omega arith)).0
+
 -- one entry taken off the first n + 1 of the entries, and out of the table
 pub record Pops (all : List Entry) (table : List (Option Entry)) (n : ℕ) (left : List Entry) (e : Entry) : Type 0 where
   pub left_is : left ≡ take n all

@@ -55,6 +55,15 @@ pub few-within : (width count : ℕ) (d : ℤ) → bits_below count d + bits_wit
 few-within width count (pos n) = omega arith
 few-within width count (negsuc n) = omega arith
 
+-- what a count of bits is, where it is computed of a distance that is cut
+pub below-cut : (count n bits : ℕ) (d f : ℤ) → count ≡ n → count ≤ 255 → d ≡ capped f → bits ≡ bits_below count d → bits ≡ bits_below n f
+below-cut count n bits d f same few cut is = is ∙ ap (bits_below count) cut ∙ below-capped count f few ∙ ap (λ k. bits_below k f) same
+
+pub within-cut : (width count n bits : ℕ) (d f : ℤ) → count ≡ n → width ≤ 255 → count ≤ 255 → d ≡ capped f
+    → bits ≡ bits_within width count d → bits ≡ bits_within width n f
+within-cut width count n bits d f same small few cut is =
+    is ∙ ap (bits_within width count) cut ∙ within-capped width count f small few ∙ ap (λ k. bits_within width k f) same
+
 pub bit-capped : (bits : ℕ → Bool) (width : ℕ) (d : ℤ) → width ≤ 255 → bit_or_zero bits (place_within width (capped d)) ≡ bit_or_zero bits (place_within width d)
 bit-capped bits width d small = ap (bit_or_zero bits) (place-capped width d small)
 

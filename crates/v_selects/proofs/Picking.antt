@@ -19,7 +19,7 @@ use Rattle.v_selects.specs.declared.closed.Picked.{Picked}
 use Rattle.v_selects.specs.declared.closed.Picked.TheVariants as picked
 use Rattle.v_selects.specs.Named.{select_in}
 use Rattle.v_selects.specs.Taken.{taken}
-use Rattle.v_selects.proofs.Parted.{within-capped, start-capped, below-capped, near-within, from-capped, few-within}
+use Rattle.v_selects.proofs.Parted.{within-capped, start-capped}
 
 -- the first bit of a part of one bit
 pub one-offset : (down : Bool) (index : ℤ) → index +ℤ part_offset kind.Up down 1 0 ≡ index
@@ -58,8 +58,6 @@ zeros-around a b part = by (a == 0)
     by false = refl
 
 pub ruleset zeros_around = (zeros-around)
-
-pub ruleset word_parts = (within-capped, below-capped, near-within, from-capped, few-within, to_z-of_z)
 
 -- ---- nodes of names
 one-offsets : (down : Bool) → offsets_to (part_offset kind.Up down 1) 1 ≡ offsets_to (λ b. pos 0) 1

@@ -106,7 +106,6 @@ struct Placement {
 }
 
 /// Where the bits of a select lie in a word that has some of them.
-#[tactic(auto, using(crate::proofs::Picking::word_parts))]
 fn placed(width: u8, bounds: Bounds, one: &Picked) -> Placement
     requires most { width ≤ 128 }
     requires some { 1 ≤ bits_within width (chosen_width (chosen_in one.now)) (first_distance bounds.left bounds.right (chosen_in one.now)) }
