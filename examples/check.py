@@ -11,6 +11,7 @@ one isn't.
 """
 
 import itertools
+import json
 import os
 import re
 import shutil
@@ -91,17 +92,32 @@ def lines_of(found, assigns, module):
     return "".join(line + "\n" for line in lines + ["complete %d" % len(found)])
 
 
-def report_is_right(text, found, inputs, outputs, assigns, cycles):
-    """Each set has a line for each cycle, whose values make the cycle right."""
-    rows = [row.split() for row in text.splitlines()]
-    heads = [[str(number), "1", str(cycle)] for number in range(1, len(found) + 1) for cycle in range(len(cycles))]
-    if [row[:3] for row in rows] != heads:
+def report_is_right(text, found, name, design, cycles):
+    """The report has these sets, and of each a value for each cycle and member, with which the cycle is right."""
+    report = json.loads(text)
+    inputs, outputs, assigns = design
+    heads = {"clock": "", "ending": "complete", "kinds": ["stmt"], "size": SIZE, "top": name, "version": 1}
+    suspects = [{"kind": "stmt", "label": name, "line": line} for line, _, _ in assigns]
+    if any(report[key] != value for key, value in heads.items()) or report["suspects"] != suspects:
         return False
-    for row in rows:
-        freed = dict(zip(found[int(row[0]) - 1], map(int, row[3:])))
-        if not is_right(inputs, outputs, assigns, cycles[int(row[2])], freed):
+    if [tuple(it["members"]) for it in report["sets"]] != found:
+        return False
+    for it in report["sets"]:
+        (rows,) = it["values"]
+        if len(rows) != len(cycles):
             return False
+        for cycle, row in zip(cycles, rows):
+            freed = dict(zip(it["members"], (int(value, 16) for value in row)))
+            if len(row) != len(it["members"]) or not is_right(inputs, outputs, assigns, cycle, freed):
+                return False
     return True
+
+
+def read_or_none(path):
+    if not os.path.exists(path):
+        return None
+    with open(path) as text:
+        return text.read()
 
 
 def check(program, name):
@@ -111,9 +127,10 @@ def check(program, name):
         expected = text.read()
     with tempfile.TemporaryDirectory() as scratch:
         report = os.path.join(scratch, "report")
-        run = subprocess.run([program, "find", design, name, dump, "--report", report], capture_output=True, text=True)
-        with open(report) as text:
-            values = text.read()
+        log = os.path.join(scratch, "log")
+        words = [program, "find", design, name, dump, "--report", report, "--log", log]
+        run = subprocess.run(words, capture_output=True, text=True)
+        values = read_or_none(report)
     inputs, outputs, assigns = read_design(design)
     cycles = read_dump(dump)
     found = minimal_sets(inputs, outputs, assigns, cycles)
@@ -124,7 +141,7 @@ def check(program, name):
         faults.append("printed other lines than expected.txt")
     if lines_of(found, assigns, name) != expected:
         faults.append("expected.txt isn't the list by trial")
-    if not report_is_right(values, found, inputs, outputs, assigns, cycles):
+    if values is None or not report_is_right(values, found, name, (inputs, outputs, assigns), cycles):
         faults.append("the report's values don't make each cycle right")
     print("%s: %s" % (name, ", ".join(faults) or "%d sets, %d cycles, right" % (len(found), len(cycles))))
     return not faults
