@@ -29,9 +29,9 @@ BUGS = {
     "uart": (300, "count <= DIVISOR + DIVISOR / 2 - 1;", "count <= DIVISOR / 2 - 1;"),
     "fifo": (200, "assign full = count == 8;", "assign full = count == 7;"),
     "alu": (100, "(a[31] == second[31])", "(a[31] == b[31])"),
-    "pipeline": (50, "if (m_writes && !m_load && m_rd == x_rb && x_rb != 0) b = m_value;", "if (m_writes && !m_load && m_rd == x_rb && x_rb != 0) b = w_value;"),
+    "pipeline": (50, "default: value = a + x_immediate;", "default: value = a + b;"),
     "accumulator": (400, "+ {1'b0, word};", "+ {2'b0, word[62:0]};"),
-    "arbiter": (200, "chosen = last + 1 + i;", "chosen = last + i;"),
+    "arbiter": (200, "chosen = last + 3'd1 + next;", "chosen = last + next;"),
 }
 
 

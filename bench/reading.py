@@ -3,8 +3,8 @@
 
     bench/reading.py [PROGRAM] [--runs N]
 
-PROGRAM is crates/localise/out/localise where it isn't given. Each text has a second, empty module, so the program reads it
-whole and then answers `input form`: a text is timed from its first byte to its tree, with nothing built from it. Times are
+PROGRAM is crates/localise/out/localise where it isn't given. It is asked for a module that no text has, so it reads a text
+whole and then answers `input E5`: a text is timed from its first byte to its tree, with nothing built from it. Times are
 the processor's, user and system, the least of N runs (3). A family is one shape of text at growing sizes; `x before` divides
 a time by that of the line above, and `ns/byte` says whether a byte costs the same at every size. `MB` is the most memory that
 the program held. Where `iverilog` is installed (Debian's package of that name) its time on the first family stands beside:
@@ -110,8 +110,8 @@ def main():
                 text = make(size)
                 with open(os.path.join(folder, "m.v"), "w") as file:
                     file.write(text)
-                taken, memory, printed = least(words.runs, [program, "find", "m.v", "m", "t.vcd"], folder)
-                if printed != "input form m.v\n":
+                taken, memory, printed = least(words.runs, [program, "sim", "m.v", "none", "t.vcd"], folder)
+                if printed != "input E5\n":
                     sys.exit("%s of %d bytes: %s" % (name, len(text), printed))
                 other, ratio = "", ""
                 if beside and icarus:
