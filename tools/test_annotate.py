@@ -62,6 +62,8 @@ class Annotating(unittest.TestCase):
         room = tempfile.TemporaryDirectory()
         self.addCleanup(room.cleanup)
         self.room = room.name
+        self.addCleanup(os.chdir, os.getcwd())
+        os.chdir(self.room)
         for name, text in (("m.v", DESIGN), ("t.vcd", DUMP), ("r.json", json.dumps(REPORT))):
             self.write(name, text)
 
@@ -72,7 +74,7 @@ class Annotating(unittest.TestCase):
     def run_script(self, *words):
         """The status, what was printed, and what standard error says."""
         printed, error = io.StringIO(), io.StringIO()
-        with contextlib.chdir(self.room), contextlib.redirect_stdout(printed), contextlib.redirect_stderr(error):
+        with contextlib.redirect_stdout(printed), contextlib.redirect_stderr(error):
             try:
                 status = annotate.main(list(words))
             except SystemExit as ended:
