@@ -220,7 +220,7 @@ header { padding: .2rem 1.2rem .8rem; border-bottom: 1px solid var(--rule); }
 dl { display: flex; flex-wrap: wrap; gap: .2rem 1.6rem; margin: .5rem 0 0; } dl div { display: flex; gap: .45rem; }
 dt { color: var(--faint); } dd { margin: 0; overflow-wrap: anywhere; }
 .side, .design { padding: 0 1.2rem 1rem; min-width: 0; }
-.note { color: var(--faint); } .warn { color: var(--warn); font-weight: 600; }
+.note { color: var(--faint); font-size: .875rem; } .warn { color: var(--warn); font-weight: 600; }
 ul.sets { list-style: none; margin: .3rem 0; padding: .2rem 0; border: 1px solid var(--rule); border-radius: 4px; }
 ul.sets li { padding: .12rem .7rem; border-left: 5px solid transparent; } ul.sets li.chosen { background: var(--chosen); border-left-color: var(--strong); }
 ul.sets a, .who a { font-family: ui-monospace, "DejaVu Sans Mono", Consolas, monospace; } ul.sets li.chosen a { font-weight: 700; }
@@ -280,7 +280,7 @@ SCRIPT = """
     const section = sections.find((it) => "#" + it.id === location.hash);
     if (!section) return;
     const lines = choose(section);
-    section.scrollIntoView({ block: "nearest" });
+    section.querySelector("h3").scrollIntoView({ block: "nearest" });
     if (isWide.matches && lines.length) lines[0].scrollIntoView({ block: "nearest" });
   }
 
@@ -319,13 +319,13 @@ def page_of(report, wanted, wrong):
         sections.append(section)
         used += cells
     about = "" if not numbers else (
-        "<h2>Values</h2>\n<p>With these values (base 16) in place of what the members compute, every dump is right. Cycles with the same values share a "
+        "<h2>Values</h2>\n<p class=\"note\">With these values (base 16) in place of what the members compute, every dump is right. Cycles with the same values share a "
         "row; in several columns, a strong value differs from the one above it.</p>\n")
     title = "%s: %s of %s" % (shown(os.path.basename(wanted.design)), many(len(report["sets"]), "set"), shown(report["top"]))
     head = '<meta charset="utf-8">\n<meta name="viewport" content="width=device-width, initial-scale=1">\n<title>%s</title>\n<style>%s</style>\n' \
         '<script>document.documentElement.classList.add("scripted");</script>\n' % (title, STYLE)
     side = '<div class="side">\n<h2>Sets</h2>\n%s%s%s</div>\n' % (choices_html(report, numbers), about, "".join(sections))
-    marks = "<p>A line that has a member of a set is marked, those of the chosen set more so; beside it stand the suspect's number and its sets.</p>\n"
+    marks = "<p class=\"note\">A line that has a member of a set is marked, those of the chosen set more so; beside it stand the suspect's number and its sets.</p>\n"
     design = '<div class="design">\n<h2>The design</h2>\n%s%s</div>\n' % (marks if numbers else "", text_html(report, wanted.lines, numbers))
     script = "<script>%s</script>\n" % SCRIPT if numbers else ""
     return '<!DOCTYPE html>\n<html lang="en">\n<head>\n%s</head>\n<body>\n%s<main>\n%s%s</main>\n%s</body>\n</html>\n' % (
