@@ -2,7 +2,8 @@
 """Runs the built program on each example and compares what it prints with expected.txt, and both with what this script
 finds by itself. Of the examples for `find` it makes the list: it reads the design and the dump in its own way and tries
 every set of assignments with every choice of values. Of `uart`, for `sim`, it has the lines from Icarus Verilog, where
-that is installed: a run of the design, sampled before each rising edge, beside what the dump wants.
+that is installed: a run of the design, sampled before each rising edge, beside what the dump wants. tools/annotate.py
+has to show each report with the members and lines that were printed.
 
     examples/check.py [PROGRAM]
 
@@ -21,6 +22,7 @@ import tempfile
 
 HERE = os.path.dirname(os.path.abspath(__file__))
 BUILT = os.path.join(HERE, "..", "crates", "localise", "out", "localise")
+ANNOTATE = os.path.join(HERE, "..", "tools", "annotate.py")
 EXAMPLES = ["voter", "full_adder", "multiplexer"]
 SIZE = 2
 
@@ -113,6 +115,18 @@ def report_is_right(text, found, name, design, cycles):
     return True
 
 
+def annotations_of(lines, design):
+    """What tools/annotate.py is to print where `find` printed these lines."""
+    said, found = "", ""
+    for line in lines.splitlines():
+        if line.startswith("  "):
+            number, kind, at, label = line.split()
+            said += "%s:%s: %s: %s %s %s\n" % (design, at, found, kind, number, label)
+        else:
+            found = line
+    return said
+
+
 def read_or_none(path):
     if not os.path.exists(path):
         return None
@@ -131,6 +145,7 @@ def check(program, name):
         words = [program, "find", design, name, dump, "--report", report, "--log", log]
         run = subprocess.run(words, capture_output=True, text=True)
         values = read_or_none(report)
+        shown = subprocess.run([sys.executable, ANNOTATE, report, design, "--trace", dump], capture_output=True, text=True)
     inputs, outputs, assigns = read_design(design)
     cycles = read_dump(dump)
     found = minimal_sets(inputs, outputs, assigns, cycles)
@@ -143,6 +158,8 @@ def check(program, name):
         faults.append("expected.txt isn't the list by trial")
     if values is None or not report_is_right(values, found, name, (inputs, outputs, assigns), cycles):
         faults.append("the report's values don't make each cycle right")
+    if (shown.returncode, shown.stdout) != (0, annotations_of(expected, design)):
+        faults.append("tools/annotate.py doesn't show these sets: %s" % shown.stderr.strip())
     print("%s: %s" % (name, ", ".join(faults) or "%d sets, %d cycles, right" % (len(found), len(cycles))))
     return not faults
 
