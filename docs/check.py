@@ -1,0 +1,96 @@
+#!/usr/bin/env python3
+"""Runs the commands of the documents, and compares what they print with what stands behind them.
+
+    docs/check.py [PROGRAM] [--only FILE..]
+
+A command is a line that begins with `$ ` in a block of a document; what stands behind it up to the next one is what it prints. The commands of a document are
+run one after the other by one shell, in a copy of the tracked files, with PROGRAM (crates/localise/out/localise where it isn't given) on the path as
+`localise`. A command whose program isn't installed is passed over, and so is gtkwave. The last line is `N commands right`; the status is 1 where one isn't.
+"""
+
+import argparse
+import os
+import re
+import shlex
+import shutil
+import subprocess
+import sys
+import tempfile
+
+HERE = os.path.dirname(os.path.abspath(__file__))
+TOP = os.path.dirname(HERE)
+DOCUMENTS = ["walkthrough.md", "annotate.md", "waves.md"]
+PASSED = {"gtkwave"}
+END = "\x1dend of the command\x1d"
+
+
+def commands_of(path):
+    """The commands of a document, each with its line and with what it is to print."""
+    with open(path, encoding="utf-8") as file:
+        lines = file.read().split("\n")
+    found, is_inside, is_open = [], False, False
+    for number, line in enumerate(lines, 1):
+        if line.startswith("```"):
+            is_inside, is_open = not is_inside, False
+        elif is_inside and line.startswith("$ "):
+            found.append([number, line[2:], ""])
+            is_open = True
+        elif is_inside and is_open:
+            found[-1][2] += line + "\n"
+    return found
+
+
+def is_installed(command, path):
+    words = shlex.split(command)
+    return words[0] not in PASSED and (words[0] in ("cd", "export") or "/" in words[0] or shutil.which(words[0], path=path) is not None)
+
+
+def run_all(commands, room, path):
+    """What each command prints, in one shell; None where it was passed over."""
+    wanted = [is_installed(command, path) for _, command, _ in commands]
+    script = "".join("%s\nprintf '%s'\n" % (command if good else ":", END) for good, (_, command, _) in zip(wanted, commands))
+    ran = subprocess.run(["bash"], input=script, cwd=room, env={**os.environ, "PATH": path, "COLUMNS": "80"}, capture_output=True, text=True)
+    if ran.stderr:
+        print(ran.stderr, end="")
+    return [text if good else None for good, text in zip(wanted, ran.stdout.split(END))]
+
+
+def check(name, program):
+    """How many commands of a document print what it says, and how many don't."""
+    commands = commands_of(os.path.join(HERE, name))
+    with tempfile.TemporaryDirectory() as room:
+        copy, programs = os.path.join(room, "copy"), os.path.join(room, "programs")
+        os.makedirs(copy), os.makedirs(programs)
+        os.symlink(program, os.path.join(programs, "localise"))
+        files = subprocess.run(["git", "ls-files", "-z", "examples", "tools"], cwd=TOP, capture_output=True, text=True, check=True).stdout
+        for file in filter(None, files.split("\0")):
+            os.makedirs(os.path.dirname(os.path.join(copy, file)), exist_ok=True)
+            shutil.copy(os.path.join(TOP, file), os.path.join(copy, file))
+        printed = run_all(commands, copy, programs + os.pathsep + os.environ["PATH"])
+    rights = wrongs = 0
+    for (line, command, wanted), said in zip(commands, printed):
+        if said is None:
+            print("%s:%d: passed over: %s" % (name, line, command))
+        elif said == wanted or command.startswith("ls") and said.split() == wanted.split():
+            rights += 1
+        else:
+            wrongs += 1
+            print("%s:%d: %s\n--- it says\n%s--- it prints\n%s" % (name, line, command, wanted, said))
+    return rights, wrongs
+
+
+def main():
+    parser = argparse.ArgumentParser(description=__doc__, formatter_class=argparse.RawDescriptionHelpFormatter)
+    parser.add_argument("program", nargs="?", default=os.path.join(TOP, "crates", "localise", "out", "localise"))
+    parser.add_argument("--only", nargs="*", default=DOCUMENTS)
+    asked = parser.parse_args()
+    program = os.path.abspath(asked.program)
+    if not os.path.exists(program):
+        sys.exit("no program at %s; build it first" % program)
+    counts = [check(name, program) for name in asked.only]
+    print("%d commands right" % sum(right for right, _ in counts))
+    return 1 if any(wrong for _, wrong in counts) else 0
+
+
+if __name__ == "__main__":
+    sys.exit(main())
