@@ -156,7 +156,7 @@ def section_html(report, number, wanted, room):
 def where_text(report, found):
     lines = lines_of(report, found)
     if not lines:
-        return "nothing is wrong"
+        return "nothing has to be freed"
     return ("line %s" if len(lines) == 1 else "lines %s") % ", ".join(map(str, lines))
 
 
