@@ -3,7 +3,8 @@
 finds by itself. Of the examples for `find` it makes the list: it reads the design and the dump in its own way and tries
 every set of assignments with every choice of values. Of `uart`, for `sim`, it has the lines from Icarus Verilog, where
 that is installed: a run of the design, sampled before each rising edge, beside what the dump wants. tools/annotate.py
-has to show each report with the members and lines that were printed.
+has to show each report with the members and lines that were printed, and `check` has to say yes to it; to the report without its
+last set it has to say no.
 
     examples/check.py [PROGRAM]
 
@@ -127,6 +128,18 @@ def annotations_of(lines, design):
     return said
 
 
+def answers_of_check(program, files, name):
+    """What `check` prints of a report, and what of the same without its last set."""
+    design, dump, report, log = files
+    with open(report) as text:
+        less = json.load(text)
+    del less["sets"][-1]
+    with open(report + "-less", "w") as text:
+        json.dump(less, text)
+    runs = [subprocess.run([program, "check", design, name, it, log, dump], capture_output=True, text=True) for it in (report, report + "-less")]
+    return [(run.returncode, run.stdout) for run in runs]
+
+
 def read_or_none(path):
     if not os.path.exists(path):
         return None
@@ -145,6 +158,7 @@ def check(program, name):
         words = [program, "find", design, name, dump, "--report", report, "--log", log]
         run = subprocess.run(words, capture_output=True, text=True)
         values = read_or_none(report)
+        answers = answers_of_check(program, (design, dump, report, log), name) if values else [(None, ""), (None, "")]
         shown = subprocess.run([sys.executable, ANNOTATE, report, design, "--trace", dump], capture_output=True, text=True)
     inputs, outputs, assigns = read_design(design)
     cycles = read_dump(dump)
@@ -158,6 +172,8 @@ def check(program, name):
         faults.append("expected.txt isn't the list by trial")
     if values is None or not report_is_right(values, found, name, (inputs, outputs, assigns), cycles):
         faults.append("the report's values don't make each cycle right")
+    if answers[0] != (0, "yes %d\n" % len(found)) or answers[1][0] != 8 or not answers[1][1].startswith("no step "):
+        faults.append("check says %r and %r" % tuple(answers))
     if (shown.returncode, shown.stdout) != (0, annotations_of(expected, design)):
         faults.append("tools/annotate.py doesn't show these sets: %s" % shown.stderr.strip())
     print("%s: %s" % (name, ", ".join(faults) or "%d sets, %d cycles, right" % (len(found), len(cycles))))
