@@ -48,7 +48,7 @@ pub text_same : (s t : List ℕ) (d : Data) → string s ≡ d → string t ≡ 
 text_same s t d one other = let same : string t ≡ string s = other ∙ sym one in ap (λ o. from_some s o) (ap as_str same)
 
 pub not_true : (b : Bool) → b ≡ false → IsTrue b → ⊥
-not_true b no yes = false≢true (sym no ∙ yes)
+not_true b off on = false≢true (sym off ∙ on)
 
 texts_from : (xs ys : List (List ℕ)) → map string xs ≡ map string ys → xs ≡ ys
 texts_from [] [] e = refl

@@ -4,4 +4,4 @@ pub mod Lists
 pub mod Objects
 pub mod Once
 pub mod Digests
-pub mod Reports
+pub mod Writable

@@ -1,4 +1,4 @@
-use Rattle.report_reading.proofs.Reports.{written_again}
+use Rattle.report_reading.proofs.Writable.{written_again}
 use Rattle.report_reading.proofs.reading.read_report.Goals as goal
 
 pub returns-clause-can_be_written : goal.returns-clause-can_be_written
