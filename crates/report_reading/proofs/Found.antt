@@ -1,5 +1,6 @@
 -- What is found in a JSON value.
-use Rattle.std.proofs.Common.{◌≡◌, ◌≢◌, ℕ, Bool, true, false, List, [], ◌∷◌, map, Option, Some, None, Result, Ok, Err, option_and_then, refl, sym, ap, ap₂, ◌∙◌}
+use Rattle.std.proofs.Common.{◌≡◌, ◌≢◌, ℕ, Bool, true, false}
+use Rattle.std.proofs.Common.{List, [], ◌∷◌, map, Option, Some, None, Result, Ok, Err, option_and_then, refl, sym, ap, ap₂, ◌∙◌}
 use Rattle.std.specs.Prelude.{IsErrAnd, IsTrue}
 use Rattle.std.proofs.lemmas.Bool.{false≢true}
 use Rattle.serde_json.specs.View.{items_of}
@@ -23,7 +24,8 @@ pub not_read : {T A : Type 0} (P : T → Type 0) (f : T → Data) (d : Data) (r 
 not_read P f d (Ok x) e is h gives = absurd is
 not_read P f d (Err y) e is h gives = rw is (refused e gives h)
 
-pub no_memory : {T : Type 0} (P : T → Type 0) (f : T → Data) (d : Data) (r : Result T ReportErr) → IsErrAnd r (λ y. y ≡ NoMemory) → Reads P f d r
+pub no_memory : {T : Type 0} (P : T → Type 0) (f : T → Data) (d : Data) (r : Result T ReportErr)
+    → IsErrAnd r (λ y. y ≡ NoMemory) → Reads P f d r
 no_memory P f d (Ok x) is = absurd is
 no_memory P f d (Err y) is = rw is tt
 

@@ -1,5 +1,6 @@
 -- What the elements of a JSON list are read as.
-use Rattle.std.proofs.Common.{◌≡◌, ◌≢◌, ℕ, zero, suc, ◌+◌, ◌<◌, ◌≤◌, List, [], ◌∷◌, ◌++◌, length, map, take, get_or, refl, sym, ap, ap₂, ◌∙◌, subst, arith}
+use Rattle.std.proofs.Common.{◌≡◌, ◌≢◌, ℕ, zero, suc, ◌+◌, ◌<◌, ◌≤◌}
+use Rattle.std.proofs.Common.{List, [], ◌∷◌, ◌++◌, length, map, take, get_or, refl, sym, ap, ap₂, ◌∙◌, subst, arith}
 use Rattle.std.specs.Prelude.{All}
 use Rattle.std.proofs.lemmas.List.{map-append, take_all}
 use Rattle.std.proofs.lemmas.List.Elements.{All-nil, All-push}
@@ -20,11 +21,13 @@ module _ {T : Type 0} (P : T → Type 0) (f : T → Data) where
   none_read values = record { each = All-nil P; written = refl }
 
   -- one more
-  pub more_read : (xs : List T) (values : List Value) (i : ℕ) (x : T) (value : Value) → AreRead P f xs values i → i < length values
-      → value ≡ get_or values i value → P x → f x ≡ view value → AreRead P f (xs ++ x ∷ []) values (i + 1)
+  pub more_read : (xs : List T) (values : List Value) (i : ℕ) (x : T) (value : Value) → AreRead P f xs values i
+      → i < length values → value ≡ get_or values i value → P x → f x ≡ view value → AreRead P f (xs ++ x ∷ []) values (i + 1)
   more_read xs values i x value read within at holds is = record {
     each = All-push P xs x read.each holds;
-    written = map-append f xs (x ∷ []) ∙ ap₂ (λ front last. front ++ last ∷ []) read.written is ∙ sym (map-take_at view values i value within at);
+    written =
+        map-append f xs (x ∷ [])
+        ∙ ap₂ (λ front last. front ++ last ∷ []) read.written is ∙ sym (map-take_at view values i value within at);
   }
 
   -- all of them

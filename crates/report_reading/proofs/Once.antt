@@ -1,5 +1,6 @@
 -- Names, each once: what a table of those that were seen shows.
-use Rattle.std.proofs.Common.{◌≡◌, ◌≢◌, ℕ, ◌+◌, ◌<◌, ◌≤◌, ◌⊎◌, Bool, true, false, List, [], ◌∷◌, ◌++◌, length, take, get_or, Option, Some, None, inl, inr, refl, sym, ap, ◌∙◌, subst, arith}
+use Rattle.std.proofs.Common.{◌≡◌, ◌≢◌, ℕ, ◌+◌, ◌<◌, ◌≤◌, ◌⊎◌, Bool, true, false}
+use Rattle.std.proofs.Common.{List, [], ◌∷◌, ◌++◌, length, take, get_or, Option, Some, None, inl, inr, refl, sym, ap, ◌∙◌, subst, arith}
 use Rattle.std.specs.Prelude.{All, AllPairs, is_some, if◌then◌else◌, nat_eq, not}
 use Rattle.std.specs.Cmp.Lexicographic.{pointwise}
 use Rattle.std.proofs.lemmas.Bool.{false≢true}
@@ -43,14 +44,17 @@ has : (b : Bool) → false ≡ not b → b ≡ true
 has true e = refl
 has false e = absurd (false≢true e)
 
-module _ (names : List (List ℕ)) (seen : NameTable) (i : ℕ) (name : List ℕ) (before : AreSeen names seen i) (within : i < length names) (at : name ≡ get_or names i name) where
+module _ (names : List (List ℕ)) (seen : NameTable) (i : ℕ) (name : List ℕ)
+    (before : AreSeen names seen i) (within : i < length names) (at : name ≡ get_or names i name) where
   -- a name that wasn't seen is one more
   pub one_more : (new : NameTable) → true ≡ not (has_number seen name)
       → ((other : List ℕ) → number_of new other ≡ with_number name 0 (number_of seen) other) → AreSeen names new (i + 1)
   one_more new absent added =
       let next = sym (take-at names i name within at) in
       record {
-        once = subst AreOnce next (all_pairs_push (λ one other. one ≢ other) (take i names) name before.once (before.fresh name (has_not _ absent)));
+        once =
+            subst AreOnce next
+            (all_pairs_push (λ one other. one ≢ other) (take i names) name before.once (before.fresh name (has_not _ absent)));
         fresh = λ other e.
             let parts = other_or_old (pointwise nat_eq name other) (number_of seen other) (sym (ap is_some (added other)) ∙ e) in
             let apart : name ≢ other = λ same. false≢true (sym parts.0 ∙ (bytes_eq-Decides name other).1 same) in

@@ -31,3 +31,7 @@ Reads {T} P f value read = Answers (λ x. P x × (f x ≡ value)) ((x : T) → P
 abbrev pub Takes : {T : Type 0} → (T → Type 0) → (T → Data) → List ℕ → Members → Members → Result T ReportErr → Type 0
 Takes {T} P f name old new read =
     Answers (λ x. P x × (member name (f x) new ≡ old)) ((x : T) (more : Members) → P x → member name (f x) more ≢ old) read
+
+-- a report whose kinds have names of kinds
+abbrev pub IsReadable : Report → Type 0
+IsReadable r = IsReport r × All IsKindName r.kinds

@@ -26,7 +26,8 @@ impl Drop for Fields<'_> {
 impl<'a> Fields<'a> {
     /// The members of the object that the value is.
     pub(crate) fn of(alloc: Global, value: &'a Value) -> Result<Fields<'a>, ReportErr>
-        ensures { Answers (λ fields. object (members_view fields.left) ≡ view value.now) ((members : Members) → object members ≢ view value.now) result }
+        ensures { Answers (λ fields. object (members_view fields.left) ≡ view value.now)
+            ((members : Members) → object members ≢ view value.now) result }
     {
         match value.as_object() {
             Some(members) => Ok(Fields {

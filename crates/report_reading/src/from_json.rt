@@ -43,7 +43,8 @@ fn number_in(value: &Value) -> Result<u64, ReportErr>
 
 /// The elements of the list that the value is.
 pub(crate) fn list_in(value: &Value) -> Result<&[Value], ReportErr>
-    ensures { Answers (λ values. array (items_view values.now) ≡ view value.now) ((items : JsonItems) → array items ≢ view value.now) result }
+    ensures { Answers (λ values. array (items_view values.now) ≡ view value.now)
+        ((items : JsonItems) → array items ≢ view value.now) result }
 {
     match value.as_array() {
         Some(values) => Ok(values.as_slice()),

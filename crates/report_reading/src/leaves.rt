@@ -84,7 +84,8 @@ fn is_spelled(digits: &[u8], bytes: &[u8; 32]) -> bool
 
 /// The digest that has these lower-case hex digits.
 fn digest_in(digits: &[u8]) -> Result<Digest, ReportErr>
-    ensures { Answers (λ digest. IsDigest digest × (encode_lower digest.bytes ≡ digits.now)) ((digest : SpecDigest) → IsDigest digest → encode_lower digest.bytes ≢ digits.now) result }
+    ensures { Answers (λ digest. IsDigest digest × (encode_lower digest.bytes ≡ digits.now))
+        ((digest : SpecDigest) → IsDigest digest → encode_lower digest.bytes ≢ digits.now) result }
 {
     match <[u8; 32]>::from_hex(digits) {
         Ok(bytes) => {

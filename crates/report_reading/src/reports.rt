@@ -1,9 +1,8 @@
 //! Suspects, sets and the whole.
 
-ghost use Rattle.std.specs.Prelude.{All};
 ghost use Rattle.report_doc.specs.Document.{report_data, set_data, suspect_data};
-ghost use Rattle.report_doc.specs.Shape.{IsReport, IsSet, IsSuspect};
-ghost use Rattle.report_reading.specs.Reading.{IsKindName};
+ghost use Rattle.report_doc.specs.Shape.{IsSet, IsSuspect};
+ghost use Rattle.report_reading.specs.Answers.{IsReadable};
 
 use crate::fields::Fields;
 use crate::from_json::FromJson;
@@ -43,7 +42,7 @@ impl FromJson for ReportSet {
 }
 
 impl FromJson for Report {
-    ghost holds = { λ r. IsReport r × All IsKindName r.kinds };
+    ghost holds = { IsReadable };
 
     ghost written = { report_data };
 

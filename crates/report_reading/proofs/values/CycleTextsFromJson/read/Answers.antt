@@ -19,5 +19,6 @@ returns-in_err-cycle c =
 pub loop-element-preserved : goal.loop-element-preserved
 loop-element-preserved c =
     rw c.in_ok-found.ensures
-    (more_read (All IsHexText) (list_data string) c.loop-element.found c.in_ok-elements.elements.now c.loop-element.element-index c.in_ok-cycle.cycle
+    (more_read (All IsHexText) (list_data string) c.loop-element.found c.in_ok-elements.elements.now c.loop-element.element-index
+    c.in_ok-cycle.cycle
     c.element-item.result c.loop-element.invariant (omega arith) c.element-item.is c.in_ok-cycle.ensures.0 c.in_ok-cycle.ensures.1)
