@@ -1,5 +1,5 @@
 -- What is found in a JSON value.
-use Rattle.std.proofs.Common.{◌≡◌, ◌≢◌, ℕ, Bool, true, false}
+use Rattle.std.proofs.Common.{◌≡◌, ◌≢◌, ℕ, Bool, false}
 use Rattle.std.proofs.Common.{List, [], ◌∷◌, map, Option, Some, None, Result, Ok, Err, option_and_then, refl, sym, ap, ap₂, ◌∙◌}
 use Rattle.std.specs.Prelude.{IsErrAnd, IsTrue}
 use Rattle.std.proofs.lemmas.Bool.{false≢true}

@@ -1,16 +1,15 @@
 -- The text of a report is UTF-8.
-use Rattle.std.proofs.Common.{◌≡◌, ℕ, suc, ◌<◌, ◌^◌}
-use Rattle.std.proofs.Common.{Bool, true, false, List, [], ◌∷◌, ◌++◌, map, Some, None, Option, refl, sym, subst, arith}
+use Rattle.std.proofs.Common.{◌≡◌, ℕ, suc}
+use Rattle.std.proofs.Common.{Bool, true, false, List, [], ◌∷◌, map, Some, None, Option, refl, sym, subst, arith}
 use Rattle.std.specs.Prelude.{All, IfSome, IsUtf8, codes, decimal}
 use Rattle.std.proofs.lemmas.Fmt.{IsAscii-decimal}
 use Rattle.std.proofs.lemmas.Str.{IsUtf8-append, IsUtf8-from_ascii, IsUtf8-nil}
 use Rattle.hex.specs.Hex.{encode_lower}
-use Rattle.json.specs.Print.{quoted, print}
-use Rattle.json.specs.Tree.{json_tokens}
+use Rattle.json.specs.Print.{quoted}
 use Rattle.json.proofs.Printed.Utf8.{are_ascii, IsUtf8-are_ascii, IsUtf8-quoted}
 use Rattle.serde_json.specs.Data.{Data, Members, member, no_members, object, string}
 use Rattle.serde_json.specs.View.{items_of}
-use Rattle.serde_json.specs.Written.{comma_if, compact_text, items_text, members_text, outline}
+use Rattle.serde_json.specs.Written.{comma_if, compact_text, items_text, members_text}
 use Rattle.serde_json.proofs.Texts.{print-outline}
 use Rattle.loc_base.specs.Name.{IsName}
 use Rattle.loc_base.specs.declared.digest.Digest.{Digest}
@@ -21,7 +20,7 @@ use Rattle.report_doc.specs.declared.types.ReportSet.{ReportSet}
 use Rattle.report_doc.specs.declared.types.ReportSuspect.{ReportSuspect}
 use Rattle.report_doc.specs.Document.{clock_text, ending_text, report_data, set_data, suspect_data, text_of, trace_data}
 use Rattle.report_doc.specs.Json.{IsJsonOf, list_data, number_data}
-use Rattle.report_doc.specs.Shape.{AreValues, IsDigest, IsHexText, IsReport, IsSet, IsSuspect, IsWord}
+use Rattle.report_doc.specs.Shape.{AreValues, IsHexText, IsReport, IsSet, IsSuspect, IsWord}
 use Rattle.report_doc.proofs.Plain.{is_json}
 use Rattle.report_doc.proofs.Tokens.{IsAscii-name, IsAscii-digits, IsAscii-encode_lower}
 

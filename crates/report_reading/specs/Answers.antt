@@ -1,15 +1,10 @@
 -- What is read of JSON; for private clauses.
-use Rattle.std.specs.Prelude.{◌≡◌, ◌≢◌, ⊤, ℕ, List, Option, Some, None, Result, Ok, Err, All, IfSome}
-use Rattle.hex.specs.Hex.{encode_lower}
-use Rattle.serde_json.specs.Data.{Data, string, Members, member}
-use Rattle.loc_base.specs.Name.{IsName}
-use Rattle.loc_base.specs.declared.digest.Digest.{Digest}
-use Rattle.report_doc.specs.declared.types.Ending.{Ending}
+use Rattle.std.specs.Prelude.{◌≡◌, ◌≢◌, ⊤, ℕ, List, Result, Ok, Err, All}
+use Rattle.serde_json.specs.Data.{Data, Members, member}
 use Rattle.report_doc.specs.declared.types.Report.{Report}
 use Rattle.report_doc.specs.declared.types.ReportErr.{ReportErr}
 use Rattle.report_doc.specs.declared.types.ReportErr.TheVariants.{Syntax, Shape, NoMemory}
-use Rattle.report_doc.specs.Document.{clock_text, ending_text}
-use Rattle.report_doc.specs.Shape.{AreKinds, IsReport}
+use Rattle.report_doc.specs.Shape.{IsReport}
 use Rattle.report_reading.specs.Reading.{IsKindName}
 
 -- why nothing was read of a value: never its syntax, and its shape only where there is nothing to read

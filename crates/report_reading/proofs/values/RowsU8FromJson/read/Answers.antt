@@ -1,4 +1,4 @@
-use Rattle.std.proofs.Common.{arith, rules, subst}
+use Rattle.std.proofs.Common.{arith, subst}
 use Rattle.std.specs.Prelude.{All}
 use Rattle.serde_json.specs.Data.{string}
 use Rattle.serde_json.specs.View.{view}
