@@ -6,7 +6,8 @@ ghost use Rattle.design_core.specs.WellFormed.{signal_fits};
 ghost use Rattle.word_net.specs.Build.{made};
 ghost use Rattle.v_synth_parts.specs.Store.{nodes_made};
 ghost use Rattle.v_synth_parts.specs.Statement.{maps};
-ghost use Rattle.v_synth.specs.Clocked.{active_made, body_made, left_at, left_made, own_made, own_mask, owns_made, register_mask, reset_made, turned_made};
+ghost use Rattle.v_synth.specs.Clocked.{active_made, left_at, left_made, own_made, own_mask, owns_made, turned_made};
+ghost use Rattle.v_synth.specs.Clocked.{body_made, register_mask, reset_made};
 ghost use Rattle.v_synth.specs.Owned.{AreBlank, AreDriven, AreOwn, BlockFits, HasBegun, IsBlank};
 ghost use Rattle.v_synth.specs.Rows.{IsRow};
 ghost use Rattle.v_synth_parts.specs.Arms.{StatementFits};
@@ -104,7 +105,8 @@ impl Own<'_> {
     /// The bits of a signal that are registers of the block.
     #[tactic(auto, using(crate::proofs::OwnSteps::mask_steps))]
     fn mask(&self, s: usize) -> u128
-        requires own { AreOwn self.now.design.now self.now.block.now self.now.registers.now self.now.assigned.now.drives self.now.assigned.now.later.items }
+        requires own { AreOwn self.now.design.now self.now.block.now self.now.registers.now
+            self.now.assigned.now.drives self.now.assigned.now.later.items }
         requires signal { s < length self.now.design.now.signals.items }
         ensures { result ≡ own_mask self.now.design.now self.now.block.now s }
     {
@@ -114,11 +116,13 @@ impl Own<'_> {
     /// The node that the block leaves for a signal.
     #[tactic(auto, using(crate::proofs::OwnSteps::mark_steps))]
     fn left_for(&self, s: usize) -> u32
-        requires own { AreOwn self.now.design.now self.now.block.now self.now.registers.now self.now.assigned.now.drives self.now.assigned.now.later.items }
+        requires own { AreOwn self.now.design.now self.now.block.now self.now.registers.now
+            self.now.assigned.now.drives self.now.assigned.now.later.items }
         requires current { length self.now.assigned.now.both.current.now ≡ length self.now.design.now.signals.items }
         requires later { length self.now.assigned.now.both.later.now ≡ length self.now.design.now.signals.items }
         requires signal { s < length self.now.design.now.signals.items }
-        ensures { result ≡ left_at self.now.block.now (maps [] self.now.assigned.now.both.current.now self.now.assigned.now.both.later.now) s }
+        ensures { result ≡ left_at self.now.block.now
+            (maps [] self.now.assigned.now.both.current.now self.now.assigned.now.both.later.now) s }
     {
         if self.assigned.later[s] {
             self.assigned.both.later.as_slice()[s]
@@ -139,12 +143,14 @@ impl Own<'_> {
     /// A signal after the block where that counts.
     #[tactic(auto, using(crate::proofs::OwnSteps::own_steps))]
     fn signal(&self, nodes: &mut Nodes, turn: Turn, s: usize, so_far: u32) -> Result<u32, NoMemory>
-        requires own { AreOwn self.now.design.now self.now.block.now self.now.registers.now self.now.assigned.now.drives self.now.assigned.now.later.items }
+        requires own { AreOwn self.now.design.now self.now.block.now self.now.registers.now
+            self.now.assigned.now.drives self.now.assigned.now.later.items }
         requires current { length self.now.assigned.now.both.current.now ≡ length self.now.design.now.signals.items }
         requires later { length self.now.assigned.now.both.later.now ≡ length self.now.design.now.signals.items }
         requires signal { s < length self.now.design.now.signals.items }
         ensures { IfOk result (λ n. made nodes.new n
-            ≡ own_made self.now.design.now self.now.block.now turn (maps [] self.now.assigned.now.both.current.now self.now.assigned.now.both.later.now) nodes.old s so_far) }
+            ≡ own_made self.now.design.now self.now.block.now turn
+            (maps [] self.now.assigned.now.both.current.now self.now.assigned.now.both.later.now) nodes.old s so_far) }
     {
         let mask = self.mask(s);
         if mask == 0 {
@@ -177,13 +183,15 @@ impl Own<'_> {
         driven: &[u32],
         map: &mut Items<u32>,
     ) -> Result<(), NoMemory>
-        requires own { AreOwn self.now.design.now self.now.block.now self.now.registers.now self.now.assigned.now.drives self.now.assigned.now.later.items }
+        requires own { AreOwn self.now.design.now self.now.block.now self.now.registers.now
+            self.now.assigned.now.drives self.now.assigned.now.later.items }
         requires current { length self.now.assigned.now.both.current.now ≡ length self.now.design.now.signals.items }
         requires later { length self.now.assigned.now.both.later.now ≡ length self.now.design.now.signals.items }
         requires driven { AreDriven self.now.design.now self.now.block.now driven.now }
         requires each { length map.old ≡ length self.now.design.now.signals.items }
         ensures ok { OnOk result (nodes_made nodes.new map.new
-            ≡ owns_made self.now.design.now self.now.block.now turn (maps nodes.old self.now.assigned.now.both.current.now self.now.assigned.now.both.later.now)
+            ≡ owns_made self.now.design.now self.now.block.now turn
+            (maps nodes.old self.now.assigned.now.both.current.now self.now.assigned.now.both.later.now)
             nodes.old map.old 0 (length self.now.design.now.signals.items)) }
         ensures each { length map.new ≡ length self.now.design.now.signals.items }
     {
@@ -204,7 +212,8 @@ impl Block<'_> {
         requires fits { IsTrue (list_all signal_fits self.now.design.now.signals.items) }
         requires registers { IsRow (register_mask self.now.design.now) (length self.now.design.now.signals.items) self.now.registers.now }
         requires blank { IsBlank (length self.now.design.now.signals.items) assigned.old }
-        ensures own { OnOk result (AreOwn self.now.design.now self.now.block.now self.now.registers.now assigned.new.drives assigned.new.later.items) }
+        ensures own { OnOk result (AreOwn self.now.design.now self.now.block.now self.now.registers.now
+            assigned.new.drives assigned.new.later.items) }
         ensures both { assigned.new.both ≡ assigned.old.both }
     {
         add_block(
@@ -219,7 +228,8 @@ impl Block<'_> {
     /// Takes the marks back.
     #[tactic(auto, using(crate::proofs::AssignedSteps::assigns_steps))]
     fn unmark(&self, assigned: &mut Assigned)
-        requires own { AreOwn self.now.design.now self.now.block.now self.now.registers.now assigned.old.drives assigned.old.later.items }
+        requires own { AreOwn self.now.design.now self.now.block.now self.now.registers.now
+            assigned.old.drives assigned.old.later.items }
         ensures blank { AreBlank (length self.now.design.now.signals.items) assigned.new.drives assigned.new.later.items }
         ensures both { assigned.new.both ≡ assigned.old.both }
     {
@@ -249,12 +259,14 @@ impl Block<'_> {
         run: &Run,
     ) -> Result<(), NoMemory>
         requires few { length self.now.design.now.signals.items < 2 ^ 32 }
-        requires own { AreOwn self.now.design.now self.now.block.now self.now.registers.now assigned.old.drives assigned.old.later.items }
+        requires own { AreOwn self.now.design.now self.now.block.now self.now.registers.now
+            assigned.old.drives assigned.old.later.items }
         requires begun { HasBegun (length self.now.design.now.signals.items) assigned.old.both }
         requires each { length map.old ≡ length self.now.design.now.signals.items }
         requires fits { StatementFits self.now.design.now.signals.items run.now.statement.now }
         ensures ok { OnOk result (nodes_made nodes.new map.new
-            ≡ left_made self.now.design.now self.now.block.now run.now.turn run.now.statement.now nodes.old assigned.old.both.current.now map.old) }
+            ≡ left_made self.now.design.now self.now.block.now run.now.turn run.now.statement.now
+            nodes.old assigned.old.both.current.now map.old) }
         ensures each { length map.new ≡ length self.now.design.now.signals.items }
         ensures drives { assigned.new.drives ≡ assigned.old.drives }
         ensures later { assigned.new.later ≡ assigned.old.later }
@@ -292,7 +304,8 @@ impl Block<'_> {
         requires each { length map.old ≡ length self.now.design.now.signals.items }
         requires fits { StatementFits self.now.design.now.signals.items run.now.statement.now }
         ensures ok { OnOk result (nodes_made nodes.new map.new
-            ≡ left_made self.now.design.now self.now.block.now run.now.turn run.now.statement.now nodes.old assigned.old.both.current.now map.old) }
+            ≡ left_made self.now.design.now self.now.block.now run.now.turn run.now.statement.now
+            nodes.old assigned.old.both.current.now map.old) }
         ensures each { length map.new ≡ length self.now.design.now.signals.items }
         ensures blank { OnOk result (IsBlank (length self.now.design.now.signals.items) assigned.new) }
         ensures both { OnOk result (assigned.new.both ≡ assigned.old.both) }
@@ -319,7 +332,8 @@ impl Block<'_> {
         requires each { length map.old ≡ length self.now.design.now.signals.items }
         requires fits { BlockFits self.now.design.now self.now.block.now }
         ensures ok { OnOk result (nodes_made nodes.new map.new
-            ≡ reset_made self.now.design.now assigned.old.both.current.now self.now.block.now self.now.block.now.reset nodes.old map.old) }
+            ≡ reset_made self.now.design.now assigned.old.both.current.now self.now.block.now self.now.block.now.reset
+            nodes.old map.old) }
         ensures each { length map.new ≡ length self.now.design.now.signals.items }
         ensures blank { OnOk result (IsBlank (length self.now.design.now.signals.items) assigned.new) }
         ensures both { OnOk result (assigned.new.both ≡ assigned.old.both) }
@@ -352,7 +366,8 @@ impl Block<'_> {
         requires each { length map.old ≡ length self.now.design.now.signals.items }
         requires fits { BlockFits self.now.design.now self.now.block.now }
         ensures ok { OnOk result (nodes_made nodes.new map.new
-            ≡ body_made self.now.design.now assigned.old.both.current.now self.now.block.now self.now.block.now.reset nodes.old map.old) }
+            ≡ body_made self.now.design.now assigned.old.both.current.now self.now.block.now self.now.block.now.reset
+            nodes.old map.old) }
         ensures each { length map.new ≡ length self.now.design.now.signals.items }
         ensures blank { OnOk result (IsBlank (length self.now.design.now.signals.items) assigned.new) }
         ensures both { OnOk result (assigned.new.both ≡ assigned.old.both) }
