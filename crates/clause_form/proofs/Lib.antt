@@ -6,3 +6,4 @@ pub mod NodeSteps
 pub mod CycleSteps
 pub mod FormSteps
 pub mod Examples
+pub mod GateSteps

@@ -3,6 +3,8 @@ use Rattle.std.specs.Prelude.{ℕ, ◌≡◌, ◌==◌, ◌+◌, ◌-◌, ◌<�
 use Rattle.std.specs.Option.{option_map}
 use Rattle.clause_base.specs.declared.literal.Lit.{Lit}
 use Rattle.clause_base.specs.Literal.{positive, has_distinct_variables}
+use Rattle.clause_base.specs.Literal.{opposite as negated_of}
+use Rattle.clause_form.specs.Clauses.{defined}
 use Rattle.gate_base.specs.declared.literal.Literal.{Literal}
 use Rattle.gate_base.specs.declared.literal.Literal.TheVariants.{Known, Of}
 
@@ -36,3 +38,12 @@ ends_with v xs = (get_or xs (length xs - 1) (positive 0)).var == v
 -- some literals with a variable behind them, where it isn't the last of them
 abbrev pub once : ℕ → List Lit → List Lit
 once v xs = if ends_with v xs then xs else xs ++ positive v ∷ []
+
+-- the literal of a definition, where it is no constant
+abbrev pub literal_of : ℕ → Literal → Option Lit
+literal_of base (Known value) = None
+literal_of base (Of node negated) = Some (defined base node negated)
+
+-- the clauses of v = AND(x, y), where none of them is a constant
+unfoldable pub gate_clauses : Lit → Lit → Lit → List (List Lit)
+gate_clauses v x y = (negated_of v ∷ x ∷ []) ∷ (negated_of v ∷ y ∷ []) ∷ (v ∷ negated_of x ∷ negated_of y ∷ []) ∷ []

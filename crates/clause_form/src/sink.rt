@@ -4,7 +4,7 @@ ghost use Rattle.std.specs.Prelude.{[], ◌∷◌, ◌++◌, ◌≡◌, ◌<◌,
 ghost use Rattle.clause_base.specs.Literal.{AllDistinct};
 ghost use Rattle.clause_form.specs.Clauses.{clause_of, literals_in, simplified};
 ghost use Rattle.clause_form.specs.Limits.{IsRefused};
-ghost use Rattle.clause_form.specs.Variables.{HaveVariables, size_of};
+ghost use Rattle.clause_form.specs.Variables.{HaveVariables, gate_clauses, literal_of, size_of};
 
 use crate::error::FormErr;
 use clause_base::{Clauses, Lit};
@@ -14,6 +14,9 @@ use std::alloc::Global;
 
 /// How many literals the clauses of a form may have.
 pub(crate) const LITERALS: u64 = 64_000_000;
+
+/// How many literals the three clauses of an AND have.
+const GATE: u64 = 7;
 
 /// How many literals the clauses have so far and, where `writes` is true, the clauses.
 pub(crate) struct Sink {
@@ -53,6 +56,20 @@ pub(crate) fn literals_of(clauses: &Clauses) -> Option<u64>
         count += weight;
     }
     Some(count)
+}
+
+/// The literal of a definition, where it is no constant.
+pub(crate) fn literal_of(base: u32, literal: Literal) -> Option<Lit>
+    requires { HaveVariables base (literal ∷ []) }
+    ensures { result ≡ literal_of base literal }
+{
+    match literal {
+        Literal::Known(_) => None,
+        Literal::Of { node, negated } => Some(Lit {
+            var: base + node,
+            negated,
+        }),
+    }
 }
 
 /// How many literals a clause has without those that are false, and `None` where one is true.
@@ -202,5 +219,36 @@ impl Sink {
             Some(size) => self.take(literals, selectors, size),
             None => Ok(()),
         }
+    }
+
+    /// Keeps the clauses of v = AND(x, y).
+    #[tactic(auto, using(crate::proofs::GateSteps::kept))]
+    fn keep_gate(&mut self, v: Lit, x: Lit, y: Lit) -> Result<(), NoMemory>
+        requires distinct { AllDistinct (gate_clauses v x y) }
+        ensures kept { OnOk result (self.new.clauses ≡ self.old.clauses ++ gate_clauses v x y) }
+        ensures base { self.new.base ≡ self.old.base }
+        ensures writes { self.new.writes ≡ self.old.writes }
+        ensures count { self.new.count ≡ self.old.count }
+    {
+        self.clauses.push(&[v.opposite(), x])?;
+        self.clauses.push(&[v.opposite(), y])?;
+        self.clauses.push(&[v, x.opposite(), y.opposite()])
+    }
+
+    /// Takes the clauses of v = AND(x, y), of which none is a constant: no clause is looked at twice.
+    #[tactic(auto, using(crate::proofs::GateSteps::taken))]
+    pub(crate) fn gate(&mut self, v: Lit, x: Lit, y: Lit) -> Result<(), FormErr>
+        requires distinct { AllDistinct (gate_clauses v x y) }
+        ensures ok { OnOk result (sunk_of self.new ≡ after (sunk_of self.old) (gate_clauses v x y)) }
+        ensures err { IfErr result (λ e. IsRefused e (64000000 < (after (sunk_of self.old) (gate_clauses v x y)).count)) }
+    {
+        if LITERALS - self.count < GATE {
+            return Err(FormErr::Literals);
+        }
+        if self.writes {
+            self.keep_gate(v, x, y)?;
+        }
+        self.count += GATE;
+        Ok(())
     }
 }

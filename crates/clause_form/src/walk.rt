@@ -12,7 +12,7 @@ ghost use Rattle.clause_form.specs.Variables.{AreBelow, AreSelectors, HaveVariab
 
 use crate::error::FormErr;
 use crate::selectors::row_of;
-use crate::sink::Sink;
+use crate::sink::{Sink, literal_of};
 use clause_base::Lit;
 use design_core::Checked;
 use gate_base::{Literal, Node};
@@ -47,8 +47,8 @@ fn part(nodes: &[Node], from: u32, end: u32) -> &[Node]
 impl Sink {
     ghost use Rattle.clause_form.specs.Fields.{after, sunk_of};
 
-    /// The clauses of an AND.
-    fn and(&mut self, number: u32, left: Literal, right: Literal) -> Result<(), FormErr>
+    /// The clauses of an AND, one after another.
+    fn three(&mut self, number: u32, left: Literal, right: Literal) -> Result<(), FormErr>
         requires fits { NodeFits number (And left right) }
         requires variable { self.old.base + number < 2 ^ 32 }
         ensures ok { OnOk result (sunk_of self.new ≡ after (sunk_of self.old) (and_clauses self.old.base number left right)) }
@@ -65,6 +65,24 @@ impl Sink {
         self.push(&[not_here, left], &[])?;
         self.push(&[not_here, right], &[])?;
         self.push(&[here, left.opposite(), right.opposite()], &[])
+    }
+
+    /// The clauses of an AND.
+    #[tactic(auto, using(crate::proofs::GateSteps::ands))]
+    fn and(&mut self, number: u32, left: Literal, right: Literal) -> Result<(), FormErr>
+        requires fits { NodeFits number (And left right) }
+        requires variable { self.old.base + number < 2 ^ 32 }
+        ensures ok { OnOk result (sunk_of self.new ≡ after (sunk_of self.old) (and_clauses self.old.base number left right)) }
+        ensures err { IfErr result (λ e. IsRefused e (64000000 < (after (sunk_of self.old) (and_clauses self.old.base number left right)).count)) }
+    {
+        let here = Lit {
+            var: self.base + number,
+            negated: false,
+        };
+        match (literal_of(self.base, left), literal_of(self.base, right)) {
+            (Some(x), Some(y)) => self.gate(here, x, y),
+            _ => self.three(number, left, right),
+        }
     }
 
     /// Those of a bit of a place.

@@ -1,8 +1,8 @@
 -- Steps of the first map: the places of inputs, and the signals one after another.
-use Rattle.std.proofs.Common.{◌≡◌, ◌≢◌, ℕ, zero, suc, ◌+◌, ◌-◌, ◌<◌, ◌≤◌, Bool, true, false, not, List, [], ◌∷◌, ◌++◌, length, get_or, set, drop, replicate, Option, Some, None, refl, sym, ◌∙◌, ap, ap₂, subst, arith, drop-cons, length-append, append_assoc, append-nil, ◌⊎◌, inl, inr}
+use Rattle.std.proofs.Common.{◌≡◌, ◌≢◌, ℕ, suc, ◌+◌, ◌-◌, ◌<◌, ◌≤◌, Bool, true, false, not, List, [], ◌∷◌, ◌++◌, length, get_or, set, drop, replicate, Option, Some, None, refl, sym, ◌∙◌, ap, ap₂, subst, arith, drop-cons, length-append, append_assoc, append-nil, ◌⊎◌, inl, inr}
 use Rattle.std.specs.Prelude.{◌==◌, ◌||◌, if◌then◌else◌}
 use Rattle.std.specs.List.{list_any}
-use Rattle.std.proofs.lemmas.Bool.{eqb-true, eq-eqb, cases_eq}
+use Rattle.std.proofs.lemmas.Bool.{eq-eqb, cases_eq}
 use Rattle.std.proofs.lemmas.List.{drop_all, get_or-set_same, get_or-set_other, length-set, get_or-replicate}
 use Rattle.loc_base.proofs.ShelfBools.{equal-false}
 use Rattle.design_core.specs.declared.design.Design.{Design}
@@ -11,7 +11,7 @@ use Rattle.design_core.specs.Drives.{is_listed}
 use Rattle.word_net.specs.declared.node.Operation.TheVariants as operation
 use Rattle.word_net.specs.declared.node.WordNode.{WordNode}
 use Rattle.word_net.specs.Build.{Made, made, pushed}
-use Rattle.v_synth_parts.specs.Store.{Nodes, nodes_made}
+use Rattle.v_synth_parts.specs.Store.{nodes_made}
 use Rattle.v_synth.specs.Clocked.{register_mask, has_state, place_in, state_made, first_made, inputs_made, signals_made, begun_made}
 use Rattle.v_synth.specs.Net.{states_from, states_of}
 use Rattle.v_synth.specs.Rows.{place_from, ArePlaces}

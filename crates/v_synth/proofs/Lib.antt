@@ -5,6 +5,7 @@ pub mod OwnSteps
 pub mod BeginSteps
 pub mod MarkSteps
 pub mod RowSteps
+pub mod AssignedSteps
 pub mod BlockSteps
 pub mod FirstSteps
 pub mod NetSteps

@@ -1,6 +1,6 @@
 -- Steps of the loops over the states and outputs of a net, and the net as it is put together.
-use Rattle.std.proofs.Common.{◌≡◌, ℕ, ◌+◌, ◌-◌, ◌<◌, ◌≤◌, ◌^◌, Bool, true, false, List, [], ◌∷◌, ◌++◌, length, map, get_or, take, drop, All, Some, refl, sym, ◌∙◌, ap, ap₂, subst, arith, bit_and}
-use Rattle.std.specs.Prelude.{◌&&◌, ◌||◌, IsTrue, Contains, eqb, slice_get}
+use Rattle.std.proofs.Common.{◌≡◌, ℕ, ◌+◌, ◌<◌, ◌≤◌, ◌^◌, Bool, true, false, List, [], ◌∷◌, ◌++◌, length, map, get_or, take, drop, All, refl, sym, ◌∙◌, ap, ap₂, subst, arith, bit_and}
+use Rattle.std.specs.Prelude.{◌&&◌, ◌||◌, IsTrue, Contains, eqb}
 use Rattle.std.specs.List.{list_all, list_any}
 use Rattle.std.specs.Option.{option_map_or}
 use Rattle.std.proofs.lemmas.Bool.{and_parts, and_from, eqb-true, lt-ltb, ltb-true}
@@ -14,21 +14,19 @@ use Rattle.loc_base.specs.Bits.{value_of, width_of}
 use Rattle.loc_base.proofs.ShelfLists.{drop-at, slice_get-at, map-take_at, list_all-member, All-member, Contains-at, Contains-first, Contains-later}
 use Rattle.design_core.specs.declared.design.Design.{Design}
 use Rattle.design_core.specs.declared.signal.Signal.{Signal}
-use Rattle.design_core.specs.Valuation.{Valuation, bit, number, width_at, distance_of}
+use Rattle.design_core.specs.Valuation.{bit, number, width_at, distance_of}
 use Rattle.design_core.specs.Drives.{is_register_bit}
-use Rattle.design_core.specs.Reads.{IsOrder}
 use Rattle.design_core.specs.Run.{start_state}
 use Rattle.design_core.specs.WellFormed.{IsWellFormed, is_signal, is_width, spans, signal_fits, input_fits}
 use Rattle.design_core.proofs.NumberLaws.{number-same, number-below}
 use Rattle.word_net.specs.declared.node.WordNode.{WordNode}
 use Rattle.word_net.specs.Build.{Made, made}
-use Rattle.word_net.specs.Nets.{Net}
 use Rattle.v_synth_parts.specs.Store.{Nodes, nodes_made}
 use Rattle.v_synth_parts.specs.Arms.{DriversFit}
 use Rattle.v_synth_parts.specs.Driver.{drivers_made}
 use Rattle.v_synth_parts.proofs.Base.{signal-at, width-bounds}
 use Rattle.v_synth.specs.Clocked.{register_mask, masked_made, begun_made, resets_made, bodies_made}
-use Rattle.v_synth.specs.Net.{net_of, nexts_made, states_of, states_from}
+use Rattle.v_synth.specs.Net.{net_of, nexts_made, states_of}
 use Rattle.v_synth.specs.Matches.{IsNetOf}
 use Rattle.v_synth.specs.Rows.{IsRow}
 use Rattle.v_synth.proofs.RowSteps.{number-both}

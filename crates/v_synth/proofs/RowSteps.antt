@@ -1,10 +1,10 @@
 -- Rows with an entry for each signal.
-use Rattle.std.proofs.Common.{ℕ, ◌≡◌, ◌<◌, ◌≤◌, ◌+◌, ◌-◌, ◌^◌, ◌%◌, List, [], ◌∷◌, ◌++◌, length, get_or, take, replicate, Bool, true, false, not, refl, sym, ◌∙◌, ap, ap₂, subst, arith, length-append, ◌⊎◌, inl, inr, bit_and, Some}
-use Rattle.std.specs.Prelude.{◌&&◌, ◌||◌, nat_lt, slice_get, slice_index, IsTrue, if◌then◌else◌}
+use Rattle.std.proofs.Common.{ℕ, ◌≡◌, ◌<◌, ◌≤◌, ◌+◌, ◌-◌, ◌^◌, ◌%◌, List, [], ◌∷◌, ◌++◌, length, get_or, take, replicate, Bool, false, not, refl, sym, ◌∙◌, ap, ap₂, arith, length-append, ◌⊎◌, inl, inr, bit_and, Some}
+use Rattle.std.specs.Prelude.{◌&&◌, ◌||◌, slice_get, IsTrue}
 use Rattle.std.specs.Int.{bit_not, w128}
 use Rattle.std.specs.List.{list_all, list_any}
 use Rattle.std.specs.Option.{option_map_or}
-use Rattle.std.proofs.lemmas.Bool.{cases_lt, lt-ltb, and_parts}
+use Rattle.std.proofs.lemmas.Bool.{cases_lt, lt-ltb}
 use Rattle.std.proofs.lemmas.Nat.{pow_pos, and_le_l}
 use Rattle.std.proofs.Math.Nat.{mod-eq_of_lt}
 use Rattle.std.proofs.lemmas.List.{get_or_append_left, get_or-replicate}
@@ -14,19 +14,17 @@ use Rattle.design_core.specs.declared.signal.Signal.{Signal}
 use Rattle.design_core.specs.declared.signal.SignalKind.{SignalKind}
 use Rattle.design_core.specs.declared.signal.SignalKind.TheVariants as kind
 use Rattle.design_core.specs.declared.design.Design.{Design}
-use Rattle.design_core.specs.declared.driver.Clocked.{Clocked}
 use Rattle.design_core.specs.declared.driver.Driver.{Driver}
 use Rattle.design_core.specs.Valuation.{bit, number, width_at}
-use Rattle.design_core.specs.Drives.{driver_drives, is_driven, is_reg, is_register_bit, block_drives, block_assigns_later}
-use Rattle.design_core.specs.WellFormed.{signal_fits, is_width}
+use Rattle.design_core.specs.Drives.{driver_drives, is_driven, is_reg, is_register_bit}
+use Rattle.design_core.specs.WellFormed.{signal_fits}
 use Rattle.design_core.proofs.NumberLaws.{number-same, number-bit, number-below}
-use Rattle.design_bits.specs.Masks.{Adds, has}
+use Rattle.design_bits.specs.Masks.{Adds}
 use Rattle.design_bits.proofs.Masks.{bit-and, bit-not, bit-ones, bit-zero}
 use Rattle.design_bits.proofs.Added.{adds-none, adds-more, adds-all}
 use Rattle.v_synth_parts.proofs.Base.{bit-number, signal-at, width-bounds}
-use Rattle.v_synth.specs.Clocked.{register_mask, own_mask}
-use Rattle.v_synth.specs.Owned.{AreOwn}
-use Rattle.v_synth.specs.Rows.{IsRow, Marked}
+use Rattle.v_synth.specs.Clocked.{register_mask}
+use Rattle.v_synth.specs.Rows.{IsRow}
 
 -- ---- numbers of bits
 
@@ -131,31 +129,3 @@ signal-wide signals s signal fit within is =
     let same = signal-is signals s signal at in (omega (arith, wide.0, same), omega (arith, wide.1, same))
 
 pub ruleset registers_steps = (register-is, signal-wide, added-bits, row-none, row-push, row-all)
-
-pub ruleset both_steps = (row-none, row-push, row-all)
-
--- ---- the rows of a block
-
-pub own-is : (d : Design) (block : Clocked) (registers drives row : List ℕ) (marks later : List Bool) → IsTrue (list_all signal_fits d.signals.items)
-    → IsRow (register_mask d) (length d.signals.items) registers → Adds (replicate (length d.signals.items) 0) drives (λ s b. block_drives d.signals.items s b block)
-    → IsRow (λ s. bit_and (slice_index registers s) (slice_index drives s)) (length registers) row
-    → length marks ≡ length d.signals.items → ((s : ℕ) → s < length d.signals.items → get_or marks s false ≡ false) → length drives ≡ length d.signals.items
-    → Marked true marks later (λ s. block_assigns_later s block) → AreOwn d block row later
-own-is d block registers drives row marks later fit r added both blank none long m =
-    record {
-      masks = both.long ∙ r.long;
-      marks = m.long ∙ blank;
-      mask = λ s within.
-          let w = width-bounds (width_at d.signals.items s) (signal-at d.signals.items s fit (lt-ltb s (length d.signals.items) within)).0 in
-          both.each s (omega (arith, within, r.long))
-          ∙ ap (λ x. bit_and x (get_or drives s 0)) (r.each s within)
-          ∙ number-both (width_at d.signals.items s) (get_or drives s 0) (is_register_bit d s) (λ b. block_drives d.signals.items s b block) w.1
-          (λ b low. added-bits (length d.signals.items) drives (λ t k. block_drives d.signals.items t k block) s b added within low long);
-      mark = λ s within. m.each s (omega (arith, within, blank)) ∙ marked s (block_assigns_later s block) (none s within);
-    }
-  where
-    marked : (s : ℕ) (t : Bool) → get_or marks s false ≡ false → (if t then true else get_or marks s false) ≡ t
-    marked s true off = refl
-    marked s false off = off
-
-pub ruleset own_steps = (own-is)

@@ -1,8 +1,6 @@
 -- Rows that have an entry for each signal, as code makes them; only private contracts cite it.
-use Rattle.std.specs.Prelude.{ℕ, ◌≡◌, ◌<◌, ◌+◌, ◌==◌, Bool, false, ◌&&◌, if◌then◌else◌, List, [], ◌∷◌, length, get_or, Option, Some, None}
-use Rattle.std.specs.List.{list_any}
+use Rattle.std.specs.Prelude.{ℕ, ◌≡◌, ◌<◌, ◌+◌, ◌==◌, Bool, false, if◌then◌else◌, List, [], ◌∷◌, length, get_or, Option, Some, None}
 use Rattle.design_core.specs.declared.statement.CaseItem.{CaseItem}
-use Rattle.design_core.specs.declared.statement.Part.{Part}
 use Rattle.design_core.specs.Drives.{assigns_later}
 
 -- a row of numbers, one for each of so many signals

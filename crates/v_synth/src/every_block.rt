@@ -3,73 +3,16 @@ ghost use Rattle.std.specs.Prelude.{◌≡◌, ◌^◌, ◌<◌, length, IsTrue,
 ghost use Rattle.std.specs.List.{list_all};
 ghost use Rattle.design_core.specs.WellFormed.{clocked_fits, signal_fits};
 ghost use Rattle.v_synth_parts.specs.Store.{nodes_made};
-ghost use Rattle.v_synth.specs.Clocked.{bodies_made, body_made, register_mask, reset_made, resets_made};
-ghost use Rattle.v_synth.specs.Owned.{BlockFits};
+ghost use Rattle.v_synth.specs.Clocked.{bodies_made, register_mask, resets_made};
 ghost use Rattle.v_synth.specs.Rows.{IsRow};
 
+use crate::assigned::Assigned;
 use crate::block::Block;
 use crate::rows::Blocks;
-use design_core::Clocked;
 use loc_base::{Items, NoMemory};
 use v_synth_parts::Nodes;
 
 impl Blocks<'_> {
-    /// The reset values of a block.
-    fn reset(
-        &self,
-        nodes: &mut Nodes,
-        map: &mut Items<u32>,
-        from: &[u32],
-        block: &Clocked,
-    ) -> Result<(), NoMemory>
-        requires few { length self.now.design.now.signals.items < 2 ^ 32 }
-        requires signals { IsTrue (list_all signal_fits self.now.design.now.signals.items) }
-        requires registers { IsRow (register_mask self.now.design.now) (length self.now.design.now.signals.items) self.now.registers.now }
-        requires from { length from.now ≡ length self.now.design.now.signals.items }
-        requires each { length map.old ≡ length self.now.design.now.signals.items }
-        requires fits { BlockFits self.now.design.now block.now }
-        ensures ok { OnOk result (nodes_made nodes.new map.new ≡ reset_made self.now.design.now from.now block.now block.now.reset nodes.old map.old) }
-        ensures each { length map.new ≡ length self.now.design.now.signals.items }
-    {
-        let rows = self.rows(block)?;
-        let block = Block {
-            alloc: self.alloc,
-            design: self.design,
-            block,
-            masks: rows.masks.as_slice(),
-            later: rows.later.as_slice(),
-        };
-        block.reset(nodes, map, from)
-    }
-
-    /// The next states of a block.
-    fn body(
-        &self,
-        nodes: &mut Nodes,
-        map: &mut Items<u32>,
-        from: &[u32],
-        block: &Clocked,
-    ) -> Result<(), NoMemory>
-        requires few { length self.now.design.now.signals.items < 2 ^ 32 }
-        requires signals { IsTrue (list_all signal_fits self.now.design.now.signals.items) }
-        requires registers { IsRow (register_mask self.now.design.now) (length self.now.design.now.signals.items) self.now.registers.now }
-        requires from { length from.now ≡ length self.now.design.now.signals.items }
-        requires each { length map.old ≡ length self.now.design.now.signals.items }
-        requires fits { BlockFits self.now.design.now block.now }
-        ensures ok { OnOk result (nodes_made nodes.new map.new ≡ body_made self.now.design.now from.now block.now block.now.reset nodes.old map.old) }
-        ensures each { length map.new ≡ length self.now.design.now.signals.items }
-    {
-        let rows = self.rows(block)?;
-        let block = Block {
-            alloc: self.alloc,
-            design: self.design,
-            block,
-            masks: rows.masks.as_slice(),
-            later: rows.later.as_slice(),
-        };
-        block.body(nodes, map, from)
-    }
-
     /// The reset values of all blocks, where their resets are active.
     #[tactic(auto, using(crate::proofs::BlockSteps::resets_steps))]
     pub(crate) fn resets(
@@ -87,8 +30,15 @@ impl Blocks<'_> {
         ensures ok { OnOk result (nodes_made nodes.new map.new ≡ resets_made self.now.design.now from.now nodes.old map.old self.now.design.now.clocked.items) }
         ensures each { length map.new ≡ length self.now.design.now.signals.items }
     {
+        let mut assigned = Assigned::new(self.alloc, from)?;
         for i in 0..self.design.clocked.len() {
-            self.reset(nodes, map, from, &self.design.clocked[i])?;
+            let block = Block {
+                alloc: self.alloc,
+                design: self.design,
+                registers: self.registers,
+                block: &self.design.clocked[i],
+            };
+            block.reset(nodes, map, &mut assigned)?;
         }
         Ok(())
     }
@@ -110,8 +60,15 @@ impl Blocks<'_> {
         ensures ok { OnOk result (nodes_made nodes.new map.new ≡ bodies_made self.now.design.now from.now nodes.old map.old self.now.design.now.clocked.items) }
         ensures each { length map.new ≡ length self.now.design.now.signals.items }
     {
+        let mut assigned = Assigned::new(self.alloc, from)?;
         for i in 0..self.design.clocked.len() {
-            self.body(nodes, map, from, &self.design.clocked[i])?;
+            let block = Block {
+                alloc: self.alloc,
+                design: self.design,
+                registers: self.registers,
+                block: &self.design.clocked[i],
+            };
+            block.body(nodes, map, &mut assigned)?;
         }
         Ok(())
     }

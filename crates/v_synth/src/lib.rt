@@ -2,6 +2,7 @@
 //! are each computed once.
 #![tactic(auto)]
 
+mod assigned;
 mod begin;
 mod block;
 mod clocked;

@@ -1,4 +1,4 @@
-//! Rows with an entry for each signal: which of its bits are registers, and which a clocked block drives.
+//! Which bits of each signal are registers.
 ghost use Rattle.std.specs.Prelude.{◌≡◌, ◌≤◌, ◌<◌, ◌&&◌, ℕ, Bool, true, false, not, bit_and, length, replicate, slice_index, IfOk, IsTrue};
 ghost use Rattle.std.specs.List.{list_all};
 ghost use Rattle.design_core.specs.Valuation.{bit, number};
@@ -9,9 +9,8 @@ ghost use Rattle.v_synth.specs.Clocked.{register_mask};
 ghost use Rattle.v_synth.specs.Owned.{AreOwn};
 ghost use Rattle.v_synth.specs.Rows.{IsRow, Marked};
 
-use crate::marks::mark_block;
-use design_bits::{BitSet, add_block, add_driver};
-use design_core::{Clocked, Design, Signal, SignalKind};
+use design_bits::{BitSet, add_driver};
+use design_core::{Design, Signal, SignalKind};
 use loc_base::{Bits, Items, NoMemory};
 use std::alloc::Global;
 
@@ -55,63 +54,10 @@ pub(crate) fn registers(alloc: Global, design: &Design) -> Result<Items<u128>, N
     Ok(row)
 }
 
-/// For each signal which of its bits are registers of a clocked block, and whether the block assigns it by `<=`.
-pub(crate) struct Rows {
-    pub masks: Items<u128>,
-    pub later: Items<bool>,
-}
-
-impl Drop for Rows {
-    fn drop(self) {
-        let Rows { masks: _, later: _ } = self;
-    }
-}
-
-/// The bits that are in both rows.
-#[tactic(auto, using(crate::proofs::RowSteps::both_steps))]
-fn both(alloc: Global, registers: &[u128], drives: &BitSet) -> Result<Items<u128>, NoMemory>
-    requires { length drives.now ≡ length registers.now }
-    ensures { IfOk result (IsRow (λ s. bit_and (slice_index registers.now s) (slice_index drives.now s)) (length registers.now)) }
-{
-    let mut row = Items::new(alloc);
-    for s in 0..registers.len() {
-        row.push(registers[s] & drives.mask(s))?;
-    }
-    Ok(row)
-}
-
-/// Whether a clocked block assigns each signal by `<=`.
-fn marks(alloc: Global, count: usize, block: &Clocked) -> Result<Vec<bool>, NoMemory>
-    ensures { IfOk result (λ later. Marked true (replicate count false) later.items (λ s. block_assigns_later s block.now)) }
-{
-    let mut later = vec![in alloc; false; count]?;
-    mark_block(&mut later, true, block);
-    Ok(later)
-}
-
 /// A design, and for each signal which of its bits are registers.
 #[derive(Clone, Copy, Drop)]
 pub(crate) struct Blocks<'a> {
     pub alloc: Global,
     pub design: &'a Design,
     pub registers: &'a [u128],
-}
-
-impl Blocks<'_> {
-    /// The rows of a block.
-    pub(crate) fn rows(&self, block: &Clocked) -> Result<Rows, NoMemory>
-        requires fits { IsTrue (list_all signal_fits self.now.design.now.signals.items) }
-        requires registers { IsRow (register_mask self.now.design.now) (length self.now.design.now.signals.items) self.now.registers.now }
-        ensures { IfOk result (λ rows. AreOwn self.now.design.now block.now rows.masks rows.later) }
-    {
-        let count = self.design.signals.len();
-        let mut drives = BitSet::new(count, self.alloc)?;
-        add_block(&mut drives, self.design.signals.as_slice(), block)?;
-        let later = marks(self.alloc, count, block)?;
-        let masks = both(self.alloc, self.registers, &drives)?;
-        Ok(Rows {
-            masks,
-            later: Items::from_vec(later),
-        })
-    }
 }

@@ -1,6 +1,5 @@
 use Rattle.std.proofs.Common.{◌≡◌, ◌^◌, ◌-◌, ap, arith, inl, inr}
 use Rattle.std.specs.Prelude.{false}
-use Rattle.loc_base.specs.Bits.{width_of}
 use Rattle.design_core.specs.Drives.{is_reg}
 use Rattle.v_synth.proofs.RowSteps.{registers-kind, registers-other}
 use Rattle.v_synth.proofs.rows.registers_of.Goals as goal

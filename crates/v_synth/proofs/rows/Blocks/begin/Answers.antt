@@ -1,4 +1,4 @@
-use Rattle.std.proofs.Common.{◌≡◌, ℕ, ◌<◌, List, length, get_or, arith, ap, ◌∙◌}
+use Rattle.std.proofs.Common.{◌≡◌, ℕ, ◌<◌, length, get_or, arith, ap, ◌∙◌}
 use Rattle.design_core.specs.declared.design.Design.{Design}
 use Rattle.word_net.specs.Build.{made}
 use Rattle.v_synth.specs.Clocked.{first_made}

@@ -1,6 +1,5 @@
-use Rattle.std.proofs.Common.{◌≡◌, ℕ, ◌<◌, ◌^◌, List, [], length, All, arith, ap, ap₂, sym, ◌∙◌, subst}
+use Rattle.std.proofs.Common.{◌≡◌, ℕ, ◌<◌, List, [], length, All, arith, ap, ap₂, sym, ◌∙◌, subst}
 use Rattle.std.specs.Prelude.{map, get_or}
-use Rattle.loc_base.specs.Bits.{value_of, width_of}
 use Rattle.design_core.specs.declared.design.Design.{Design}
 use Rattle.design_core.specs.Valuation.{number, width_at}
 use Rattle.design_core.specs.Run.{start_state}

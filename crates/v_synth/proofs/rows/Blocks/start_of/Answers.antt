@@ -1,4 +1,4 @@
-use Rattle.std.proofs.Common.{◌≡◌, ℕ, sym, ◌∙◌, subst, bit_and, get_or}
+use Rattle.std.proofs.Common.{◌≡◌, sym, ◌∙◌, subst, bit_and, get_or}
 use Rattle.std.specs.Prelude.{IfSome}
 use Rattle.loc_base.specs.Bits.{width_of, value_of}
 use Rattle.v_synth.proofs.NetSteps.{StartFits, start-fits}

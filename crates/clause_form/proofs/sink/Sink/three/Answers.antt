@@ -8,7 +8,7 @@ use Rattle.clause_form.specs.Fields.{after, sunk_of}
 use Rattle.clause_form.proofs.Distinct.{pair-distinct}
 use Rattle.clause_form.proofs.WalkSteps.{refused-more}
 use Rattle.clause_form.proofs.NodeSteps.{triple-have_at, triple-distinct_at, and-done, and-count-one, and-count-two, and-count-three}
-use Rattle.clause_form.proofs.sink.Sink.and.Goals as goal
+use Rattle.clause_form.proofs.sink.Sink.three.Goals as goal
 
 pub push-requires-clause-distinct : goal.push-requires-clause-distinct
 push-requires-clause-distinct c =
