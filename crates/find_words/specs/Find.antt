@@ -12,7 +12,7 @@ use Rattle.word_values.specs.Values.{begins_with, is_file_name, is_kind_name, is
 use Rattle.find_words.specs.Sim.{IsSimAsked, SimAsked, are_sim_names, sim_in}
 
 -- `find DESIGN TOP TRACE..` and its options
-abbrev pub find_arguments : Arguments
+unfoldable pub find_arguments : Arguments
 find_arguments = record {
   command = codes "find";
   words = codes "design" ∷ codes "top" ∷ [];

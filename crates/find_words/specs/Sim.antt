@@ -9,7 +9,7 @@ use Rattle.word_values.specs.Standing.{named, standing}
 use Rattle.word_values.specs.Values.{is_file_name, is_name, option_all}
 
 -- `sim DESIGN TOP TRACE.. [--clock NAME]`
-abbrev pub sim_arguments : Arguments
+unfoldable pub sim_arguments : Arguments
 sim_arguments = record {
   command = codes "sim";
   words = codes "design" ∷ codes "top" ∷ [];

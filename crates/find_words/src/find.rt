@@ -2,6 +2,7 @@
 ghost use Rattle.std.specs.Prelude.{◌≡◌, IfOk, true, map, string_bytes};
 ghost use Rattle.std.specs.List.{list_all};
 ghost use Rattle.word_values.specs.Answers.{Gives, Says};
+ghost use Rattle.word_values.specs.Arguments.{IsPlain};
 ghost use Rattle.word_values.specs.Numbers.{AreNumbers};
 ghost use Rattle.word_values.specs.Tables.{arguments_of};
 ghost use Rattle.word_values.specs.Values.{is_name, kinds_in, option_all};
@@ -59,8 +60,10 @@ pub(crate) struct FindValues<'m, 'a> {
     pub(crate) waves: Option<&'a str>,
 }
 
+#[tactic(auto, unfolding(crate::specs::Find::find_arguments))]
 fn find_table() -> Table<'static>
-    ensures { arguments_of result ≡ find_arguments }
+    ensures is { arguments_of result ≡ find_arguments }
+    ensures plain { IsPlain (arguments_of result) }
 {
     Table {
         command: "find",

@@ -1,6 +1,7 @@
 //! The words of `sim`.
 ghost use Rattle.std.specs.Prelude.{◌≡◌, IfOk, true, map, string_bytes};
 ghost use Rattle.word_values.specs.Answers.{Gives, Says};
+ghost use Rattle.word_values.specs.Arguments.{IsPlain};
 ghost use Rattle.word_values.specs.Tables.{arguments_of};
 ghost use Rattle.find_words.specs.Requests.{sim_asked_of};
 ghost use Rattle.find_words.specs.Sim.{IsSimAsked, are_sim_names, sim_arguments, sim_asked, sim_in};
@@ -33,8 +34,10 @@ pub(crate) struct SimValues<'m, 'a> {
     pub(crate) clock: Option<&'a str>,
 }
 
+#[tactic(auto, unfolding(crate::specs::Sim::sim_arguments))]
 fn sim_table() -> Table<'static>
-    ensures { arguments_of result ≡ sim_arguments }
+    ensures is { arguments_of result ≡ sim_arguments }
+    ensures plain { IsPlain (arguments_of result) }
 {
     Table {
         command: "sim",
