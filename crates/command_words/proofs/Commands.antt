@@ -4,7 +4,7 @@ use Rattle.std.specs.Prelude.{if◌then◌else◌, slice_get}
 use Rattle.std.specs.Str.{bytes_eq}
 use Rattle.std.proofs.lemmas.Slice.Eq.{bytes_eq-Decides}
 use Rattle.loc_base.proofs.ShelfOptions.{Some-same}
-use Rattle.command_words.specs.declared.requests.Usage.TheVariants.{Command}
+use Rattle.word_values.specs.declared.usage.Usage.TheVariants.{Command}
 use Rattle.command_words.specs.Words.{asked}
 
 -- texts that differ
@@ -15,16 +15,24 @@ bytes_eq-false xs ys apart = told (bytes_eq xs ys) refl
     told true is = absurd (apart ((bytes_eq-Decides xs ys).0 is))
     told false is = refl
 
--- the last of three choices
-neither : {A : Type 0} (first second : Bool) (x y z : A) → first ≡ false → second ≡ false
-    → (if first then x else (if second then y else z)) ≡ z
-neither first second x y z not-first not-second = rw (not-first, not-second) refl
+-- the last of five choices
+last : {A : Type 0} (first second third fourth : Bool) (v w x y z : A) → first ≡ false → second ≡ false → third ≡ false
+    → fourth ≡ false → (if first then v else (if second then w else (if third then x else (if fourth then y else z)))) ≡ z
+last first second third fourth v w x y z none no_more not_third not_fourth = rw (none, no_more, not_third, not_fourth) refl
+
+-- the word is the name of none of the commands
+pub record IsOther (word : List ℕ) : Type 0 where
+  pub not_find : word ≢ codes "find"
+  pub not_sim : word ≢ codes "sim"
+  pub not_check : word ≢ codes "check"
+  pub not_make : word ≢ codes "make"
 
 pub asked-other : {S : Type 0} (known : List (List ℕ)) (text : S → List ℕ) (words : List S) (command : S) → Some command ≡ slice_get words 0
-    → text command ≢ codes "find" → text command ≢ codes "sim" → asked known (map text words) ≡ Err Command
-asked-other known text [] command first not-find not-sim = cc
-asked-other known text (word ∷ words) command first not-find not-sim =
-    let same : text command ≡ text word = ap text (Some-same first) in
-    neither (bytes_eq (text word) (codes "find")) (bytes_eq (text word) (codes "sim")) _ _ (Err Command)
-    (bytes_eq-false (text word) (codes "find") (subst (λ t. t ≢ codes "find") same not-find))
-    (bytes_eq-false (text word) (codes "sim") (subst (λ t. t ≢ codes "sim") same not-sim))
+    → IsOther (text command) → asked known (map text words) ≡ Err Command
+asked-other known text [] command first other = cc
+asked-other known text (word ∷ words) command first other =
+    let is = subst IsOther (ap text (Some-same first)) other in
+    last (bytes_eq (text word) (codes "find")) (bytes_eq (text word) (codes "sim")) (bytes_eq (text word) (codes "check"))
+    (bytes_eq (text word) (codes "make")) _ _ _ _ (Err Command) (bytes_eq-false (text word) (codes "find") is.not_find)
+    (bytes_eq-false (text word) (codes "sim") is.not_sim) (bytes_eq-false (text word) (codes "check") is.not_check)
+    (bytes_eq-false (text word) (codes "make") is.not_make)

@@ -1,10 +1,14 @@
 -- What some words ask for.
 use Rattle.std.specs.Prelude.{◌≡◌, ℕ, List, [], ◌∷◌, Option, Some, None, Result, Ok, Err, codes, refl}
 use Rattle.clap.proofs.OnLiterals.{clap_on_literals}
-use Rattle.command_words.specs.declared.requests.Usage.{Usage}
-use Rattle.command_words.specs.declared.requests.Usage.TheVariants.{Command, Words, Number, Name, Kind}
-use Rattle.command_words.specs.Arguments.{values_of}
-use Rattle.command_words.specs.Asked.{Asked, find, sim}
+use Rattle.word_values.specs.declared.usage.Usage.{Usage}
+use Rattle.word_values.specs.declared.usage.Usage.TheVariants.{Command, Words, Number, Name, Kind}
+use Rattle.word_values.specs.Arguments.{read_by}
+use Rattle.check_words.specs.Check.{check_arguments}
+use Rattle.find_words.specs.Find.{find_arguments}
+use Rattle.find_words.specs.Sim.{sim_arguments}
+use Rattle.make_words.specs.Make.{make_arguments}
+use Rattle.command_words.specs.Asked.{Asked, find, sim, check, make}
 use Rattle.command_words.specs.Words.{asked as asked_by}
 
 -- where two kinds of suspects are known
@@ -35,12 +39,43 @@ what_stands_where_no_option_is_given
       workers = 1;
       log = codes "localise.log";
       report = codes "localise.json";
+      waves = None;
     }))
-unfolding clap_on_literals values_of
+unfolding clap_on_literals read_by find_arguments
 what_stands_where_no_option_is_given = refl
 
-two_kinds_of_suspects
-    : asked (find_words (codes "--suspects" ∷ codes "block,stmt" ∷ codes "u" ∷ codes "--clock=c" ∷ []))
+what_is_made_where_no_option_is_given
+    : asked (codes "make" ∷ codes "7" ∷ [])
+    ≡ Ok (make (record {
+      number = 7;
+      design = codes "made.v";
+      trace = codes "made.vcd";
+      suspects = codes "stmt" ∷ [];
+      size = 2;
+      budget = 200000;
+      sets = 1000;
+      workers = 1;
+      log = codes "localise.log";
+      report = codes "localise.json";
+    }))
+unfolding clap_on_literals read_by make_arguments
+what_is_made_where_no_option_is_given = refl
+
+the_report_stands_before_the_log
+    : asked (codes "check" ∷ codes "m.v" ∷ codes "m" ∷ codes "r" ∷ codes "l" ∷ codes "t" ∷ codes "u" ∷ [])
+    ≡ Ok (check (record {
+      design = codes "m.v";
+      top = codes "m";
+      report = codes "r";
+      log = codes "l";
+      traces = codes "t" ∷ codes "u" ∷ [];
+      workers = 1;
+    }))
+unfolding clap_on_literals read_by check_arguments
+the_report_stands_before_the_log = refl
+
+two_kinds_of_suspects_and_waves
+    : asked (find_words (codes "--suspects" ∷ codes "block,stmt" ∷ codes "u" ∷ codes "--clock=c" ∷ codes "--waves=w" ∷ []))
     ≡ Ok (find (record {
       design = codes "m.v";
       top = codes "m";
@@ -53,52 +88,38 @@ two_kinds_of_suspects
       workers = 1;
       log = codes "localise.log";
       report = codes "localise.json";
+      waves = Some (codes "w");
     }))
-unfolding clap_on_literals values_of
-two_kinds_of_suspects = refl
+unfolding clap_on_literals read_by find_arguments
+two_kinds_of_suspects_and_waves = refl
 
-a_size_of_9_is_no_number : asked (find_words (codes "--size=9" ∷ [])) ≡ Err Number
-unfolding clap_on_literals values_of
-a_size_of_9_is_no_number = refl
+waves_among_which_a_trace_would_be : asked (find_words (codes "t-1-1.vcd" ∷ codes "--waves=t" ∷ [])) ≡ Err Name
+unfolding clap_on_literals read_by find_arguments
+waves_among_which_a_trace_would_be = refl
 
-a_budget_of_nothing_is_no_number : asked (find_words (codes "--budget=0" ∷ [])) ≡ Err Number
-unfolding clap_on_literals values_of
-a_budget_of_nothing_is_no_number = refl
+an_input_of_the_number_10000 : asked (codes "make" ∷ codes "10000" ∷ []) ≡ Err Number
+unfolding clap_on_literals read_by make_arguments
+an_input_of_the_number_10000 = refl
 
 an_option_that_stands_twice : asked (find_words (codes "--size=1" ∷ codes "--size=1" ∷ [])) ≡ Err Words
-unfolding clap_on_literals values_of
+unfolding clap_on_literals read_by find_arguments
 an_option_that_stands_twice = refl
 
 a_request_for_help : asked (codes "sim" ∷ codes "--help" ∷ []) ≡ Err Words
-unfolding clap_on_literals values_of
+unfolding clap_on_literals read_by sim_arguments
 a_request_for_help = refl
 
 the_report_under_the_name_of_the_trace : asked (find_words (codes "--report" ∷ codes "t" ∷ [])) ≡ Err Name
-unfolding clap_on_literals values_of
+unfolding clap_on_literals read_by find_arguments
 the_report_under_the_name_of_the_trace = refl
 
-a_kind_that_is_not_known : asked (find_words (codes "--suspects=foo" ∷ [])) ≡ Err Kind
-unfolding clap_on_literals values_of
-a_kind_that_is_not_known = refl
-
 a_kind_that_is_named_twice : asked (find_words (codes "--suspects=stmt,stmt" ∷ [])) ≡ Err Kind
-unfolding clap_on_literals values_of
+unfolding clap_on_literals read_by find_arguments
 a_kind_that_is_named_twice = refl
 
 a_dashed_word_is_no_value : asked (sim_words (codes "t" ∷ codes "--clock" ∷ codes "-c" ∷ [])) ≡ Err Words
-unfolding clap_on_literals values_of
+unfolding clap_on_literals read_by sim_arguments
 a_dashed_word_is_no_value = refl
-
-an_option_among_the_traces
-    : asked (sim_words (codes "a" ∷ codes "--clock" ∷ codes "c" ∷ codes "b" ∷ []))
-    ≡ Ok (sim (record {
-      design = codes "m.v";
-      top = codes "m";
-      traces = codes "a" ∷ codes "b" ∷ [];
-      clock = Some (codes "c");
-    }))
-unfolding clap_on_literals values_of
-an_option_among_the_traces = refl
 
 behind_two_dashes_all_words_are_positional
     : asked (sim_words (codes "--" ∷ codes "--clock" ∷ codes "-" ∷ []))
@@ -108,5 +129,5 @@ behind_two_dashes_all_words_are_positional
       traces = codes "--clock" ∷ codes "-" ∷ [];
       clock = None;
     }))
-unfolding clap_on_literals values_of
+unfolding clap_on_literals read_by sim_arguments
 behind_two_dashes_all_words_are_positional = refl

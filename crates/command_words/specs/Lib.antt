@@ -1,9 +1,3 @@
-pub mod Arguments
-pub mod Values
 pub mod Asked
-pub mod Standing
-pub mod Sim
-pub mod Find
 pub mod Words
 pub mod Requests
-pub mod Views

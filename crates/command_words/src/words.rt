@@ -1,23 +1,32 @@
 //! The words behind the program's name.
 ghost use Rattle.std.specs.Prelude.{◌≡◌, IfOk, map, string_bytes};
+ghost use Rattle.word_values.specs.Answers.{Gives};
 ghost use Rattle.command_words.specs.Asked.{IsAsked};
 ghost use Rattle.command_words.specs.Words.{asked};
-ghost use Rattle.command_words.specs.Requests.{Gives, asked_of};
+ghost use Rattle.command_words.specs.Requests.{asked_of};
 
-use crate::find::find_words;
-use crate::requests::{Request, Usage, WordsErr};
-use crate::sim::sim_words;
+use crate::requests::Request;
+use check_words::check_words;
+use find_words::{find_words, sim_words};
+use make_words::make_words;
 use std::alloc::Global;
+use word_values::{Usage, WordsErr};
 
 /// What the words behind the program's name ask for, where kinds of suspects of these names are known:
 ///
-/// `find DESIGN TOP TRACE.. [--clock NAME] [--size K] [--budget B] [--sets M] [--suspects A,B] [--workers N] [--log NAME]
-/// [--report NAME]` or `sim DESIGN TOP TRACE.. [--clock NAME]`.
+/// - `find DESIGN TOP TRACE.. [--clock NAME] [--size K] [--budget B] [--sets M] [--suspects A,B] [--workers N] [--log NAME]
+///   [--report NAME] [--waves PREFIX]`
+/// - `sim DESIGN TOP TRACE.. [--clock NAME]`
+/// - `check DESIGN TOP REPORT LOG TRACE.. [--workers N]`
+/// - `make NUMBER [--size K] [--budget B] [--sets M] [--suspects A,B] [--workers N] [--log NAME] [--report NAME] [--design NAME]
+///   [--trace NAME]`
 ///
 /// There are 1 to 256 traces. The size is 0 to 8 (without the option 2), the budget 1 to 10,000,000 (200,000), the number of sets
-/// 1 to 100,000 (1,000), that of workers 1 to 64 (1). The suspects (`stmt`) are known, each once. The log (`localise.log`) and the
-/// report (`localise.json`) have names that differ from each other and from those that are read. An option is `--x v` or `--x=v`,
-/// stands anywhere behind the command and once at most; after `--` all words are positional.
+/// 1 to 100,000 (1,000), that of workers 1 to 64 (1), that of an input that is made 0 to 9999. The suspects (`stmt`) are known,
+/// each once. What is written, the log (`localise.log`), the report (`localise.json`), and for `make` the design (`made.v`) and
+/// the trace (`made.vcd`), have names that differ from each other and from those that are read; with `--waves` no other name
+/// begins with its value and `-`. An option is `--x v` or `--x=v`, stands anywhere behind the command and once at most; after
+/// `--` all words are positional.
 pub fn request(alloc: Global, words: &[String], known: &[&str]) -> Result<Request, WordsErr>
     ensures gives { Gives asked_of (asked (map (λ w. w.now) known.now) (map string_bytes words.now)) result }
     ensures holds { IfOk result (λ request. IsAsked (map (λ w. w.now) known.now) (asked_of request)) }
@@ -28,6 +37,8 @@ pub fn request(alloc: Global, words: &[String], known: &[&str]) -> Result<Reques
     match command.as_str() {
         "find" => Ok(Request::Find(find_words(alloc, words, known)?)),
         "sim" => Ok(Request::Sim(sim_words(alloc, words)?)),
+        "check" => Ok(Request::Check(check_words(alloc, words)?)),
+        "make" => Ok(Request::Make(make_words(alloc, words, known)?)),
         _ => Err(WordsErr::Usage(Usage::Command)),
     }
 }

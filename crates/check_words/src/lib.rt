@@ -1,0 +1,6 @@
+//! The words of `check`.
+#![tactic(auto)]
+
+mod check;
+
+pub use check::{CheckWords, check_words};

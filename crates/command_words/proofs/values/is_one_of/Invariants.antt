@@ -1,9 +1,0 @@
-use Rattle.std.proofs.Common.{◌≡◌, drop, map}
-use Rattle.command_words.specs.Values.{is_one_of}
-use Rattle.command_words.proofs.values.is_one_of.Given as goal
-
-abbrev pub invariant-loop-other : goal.invariant-loop-other
-invariant-loop-other l = record {
-  rest : is_one_of (map (λ w. w.now) l.words) l.word
-      ≡ is_one_of (map (λ w. w.now) (drop l.other-index l.words)) l.word;
-}

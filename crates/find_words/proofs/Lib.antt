@@ -1,0 +1,2 @@
+pub mod SimHolding
+pub mod FindHolding

@@ -1,0 +1,4 @@
+pub mod Sim
+pub mod Find
+pub mod Requests
+pub mod Views

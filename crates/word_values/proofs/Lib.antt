@@ -1,0 +1,5 @@
+pub mod Reading
+pub mod Numerals
+pub mod KindNames
+pub mod Prefixes
+pub mod Holding

@@ -1,0 +1,21 @@
+-- What values that aren't copied yet say: for contracts of the crates that read words.
+use Rattle.std.specs.Prelude.{map}
+use Rattle.word_values.specs.declared.numbers.Numbers.{Numbers}
+use Rattle.word_values.specs.declared.sources.Sources.{Sources}
+use Rattle.word_values.specs.Numbers.{Numbers as ListNumbers}
+use Rattle.word_values.specs.Sources.{Sources as SourceNames}
+
+abbrev pub numbers_view : Numbers → ListNumbers
+numbers_view numbers = record {
+  size = numbers.size;
+  budget = numbers.budget;
+  sets = numbers.sets;
+  workers = numbers.workers;
+}
+
+abbrev pub sources_view : Sources → SourceNames
+sources_view sources = record {
+  design = sources.design.now;
+  top = sources.top.now;
+  traces = map (λ word. word.now) sources.traces.now;
+}

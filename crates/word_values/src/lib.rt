@@ -1,0 +1,21 @@
+//! How the words of a command are read: the values that they give to the arguments of its table, and what a value means.
+#![tactic(auto)]
+
+mod given;
+mod kinds;
+mod numbers;
+mod sources;
+mod table;
+mod usage;
+mod values;
+
+pub use given::{Given, given_by};
+pub use kinds::{are_kinds, kinds_in};
+pub use numbers::{Numbers, numbers_in, workers_in};
+pub use sources::{Sources, are_source_names, sources_in};
+pub use table::Table;
+pub use usage::{Usage, WordsErr};
+pub use values::{
+    are_file_names, begins_with, copies_of, is_file_name, is_name, is_name_if, is_once, is_one_of,
+    name_if, name_of, names_of, number_from, one_begins_with, text_if,
+};

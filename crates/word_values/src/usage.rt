@@ -1,0 +1,54 @@
+//! Why words give no request.
+ghost use Rattle.std.specs.Prelude.{◌≡◌};
+ghost use Rattle.word_values.specs.declared.usage.WordsErr.TheVariants as words_err;
+
+use loc_base::NoMemory;
+use std::alloc::AllocError;
+
+/// The first thing that is wrong with the words; each stands for all that come before it.
+#[derive(Clone, Copy, Debug, PartialEq, Eq)]
+pub enum Usage {
+    /// There is no command of this name.
+    Command,
+    /// The words don't stand as the command's words do.
+    Words,
+    /// A value that is to be a number isn't one, or not in its range.
+    Number,
+    /// A value that is to be a name isn't one, or is one that is taken, or there are too many names.
+    Name,
+    /// A kind of suspects isn't known, or is named twice.
+    Kind,
+}
+
+/// Why there is no request.
+#[derive(Clone, Copy, Debug, PartialEq, Eq)]
+pub enum WordsErr {
+    /// The words ask for nothing.
+    Usage(Usage),
+    /// Memory was refused.
+    NoMemory,
+}
+
+impl From<Usage> for WordsErr {
+    ghost from_gives = { λ usage e. e ≡ words_err.Usage usage };
+
+    fn from(usage: Usage) -> WordsErr {
+        WordsErr::Usage(usage)
+    }
+}
+
+impl From<NoMemory> for WordsErr {
+    ghost from_gives = { λ _ e. e ≡ words_err.NoMemory };
+
+    fn from(_error: NoMemory) -> WordsErr {
+        WordsErr::NoMemory
+    }
+}
+
+impl From<AllocError> for WordsErr {
+    ghost from_gives = { λ _ e. e ≡ words_err.NoMemory };
+
+    fn from(_error: AllocError) -> WordsErr {
+        WordsErr::NoMemory
+    }
+}
