@@ -40,10 +40,10 @@ fn push_row(
         return Ok(false);
     }
     for place in 0..widths.len() {
-        let Some(word) = word_of(widths[place], texts.text(cycle, place)) else {
-            return Ok(false);
-        };
-        words.push(word)?;
+        match word_of(widths[place], texts.text(cycle, place)) {
+            Some(word) => words.push(word)?,
+            None => return Ok(false),
+        }
     }
     Ok(true)
 }
