@@ -2,7 +2,6 @@
 use Rattle.std.proofs.Common.{◌≡◌, ◌≢◌, ◌⊎◌, inl, inr, ℕ, zero, suc, ◌+◌, ◌-◌, ◌<◌, ◌≤◌, ◌==◌, ◌||◌, ◌&&◌, Bool, true, false, List, [], ◌∷◌, ◌++◌, length, get_or, map, take, refl, sym, ap, ap₂, ◌∙◌, subst, arith, length-append}
 use Rattle.std.specs.Prelude.{Contains, Err, IfOk, IsPermutation, Ok, Result, Some, Vec, slice_get}
 use Rattle.std.specs.declared.alloc.Global.{Global}
-
 use Rattle.std.specs.List.{list_any}
 use Rattle.std.specs.List.Sorted.{IsNonDecreasing, IsSorted, IsStrictlyIncreasing}
 use Rattle.std.specs.Ordering.{nat_cmp}
@@ -88,20 +87,24 @@ taken-most sorted place p up some few has =
     let (k, low, is) = one-of (take place sorted) p has in
     let long : length (take place sorted) ≡ place = length-take-le place sorted few in
     let below : k < place = omega (arith, low, long) in
-    omega (arith, up k (place - 1) 0 (omega (arith, below)) (omega (arith, some, few)), get_or-take place sorted k 0 below,
-    get_or_default (take place sorted) k p 0 low, is)
+    omega (
+      arith,
+      up k (place - 1) 0 (omega (arith, below)) (omega (arith, some, few)),
+      get_or-take place sorted k 0 below,
+      get_or_default (take place sorted) k p 0 low,
+      is,
+    )
 
 pub once-pushed : (sorted once new : List ℕ) (place x : ℕ) → IsNonDecreasing sorted → place < length sorted → x ≡ get_or sorted place x
     → (0 < place → get_or sorted (place - 1) 0 ≢ x) → IsStrictlyIncreasing once
     → ((p : ℕ) → is_one_of once p ≡ is_one_of (take place sorted) p) → new ≡ once ++ x ∷ []
     → IsStrictlyIncreasing new × ((p : ℕ) → is_one_of new p ≡ is_one_of (take (place + 1) sorted) p)
-once-pushed sorted once new place x up within is other rises same grown =
-    (
-      subst IsStrictlyIncreasing (sym grown) (rises-pushed once x rises (λ k low. below k low (cases_lt 0 place))),
-      λ p. ap (λ xs. is_one_of xs p) grown ∙ list_any-append (λ y. y == p) once (x ∷ [])
-          ∙ ap (λ b. b || is_one_of (x ∷ []) p) (same p) ∙ sym (list_any-append (λ y. y == p) (take place sorted) (x ∷ []))
-          ∙ ap (λ xs. is_one_of xs p) (ap (λ y. take place sorted ++ y ∷ []) is ∙ sym (take_more sorted place x within)),
-    )
+once-pushed sorted once new place x up within is other rises same grown = (
+  subst IsStrictlyIncreasing (sym grown) (rises-pushed once x rises (λ k low. below k low (cases_lt 0 place))),
+  λ p. ap (λ xs. is_one_of xs p) grown ∙ list_any-append (λ y. y == p) once (x ∷ [])
+      ∙ ap (λ b. b || is_one_of (x ∷ []) p) (same p) ∙ sym (list_any-append (λ y. y == p) (take place sorted) (x ∷ []))
+      ∙ ap (λ xs. is_one_of xs p) (ap (λ y. take place sorted ++ y ∷ []) is ∙ sym (take_more sorted place x within)),
+)
   where
     below : (k : ℕ) → k < length once → (0 < place) ⊎ (place ≤ 0) → get_or once k 0 < x
     below k low (inl some) =
@@ -135,10 +138,12 @@ once-met sorted once place x within some is last same p =
 
     there : x ≡ p → is_one_of (take place sorted) p ≡ true
     there same_one =
-        is-one (take place sorted) p
-        (place - 1, omega (arith, long, some),
-        get_or_default (take place sorted) (place - 1) p 0 (omega (arith, long, some))
-        ∙ (get_or-take place sorted (place - 1) 0 (omega (arith, some)) ∙ (last ∙ same_one)))
+        is-one (take place sorted) p (
+          place - 1,
+          omega (arith, long, some),
+          get_or_default (take place sorted) (place - 1) p 0 (omega (arith, long, some))
+              ∙ (get_or-take place sorted (place - 1) 0 (omega (arith, some)) ∙ (last ∙ same_one)),
+        )
 
 pub ruleset once_rules = (once-pushed, once-met)
 

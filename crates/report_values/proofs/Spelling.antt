@@ -76,9 +76,11 @@ hex-digits (suc count) number place within = at (cases_lt place count) (hex-digi
     at (inl before) rest =
         let (digit, small, is) = rest before in
         (digit, small, get_or_append_left (hex count (number / 16)) (hex_digit (number % 16) ∷ []) 0 place (omega (arith, before, long)) ∙ is)
-    at (inr last) rest =
-        (number % 16, omega arith,
-        get_or_at (hex count (number / 16)) (hex_digit (number % 16)) [] 0 place (omega (arith, last, within, long)))
+    at (inr last) rest = (
+      number % 16,
+      omega arith,
+      get_or_at (hex count (number / 16)) (hex_digit (number % 16)) [] 0 place (omega (arith, last, within, long)),
+    )
 
 -- two numbers of so many digits, which are the same, are one
 pub hex-same : (count one other : ℕ) → one < 16 ^ count → other < 16 ^ count → hex count one ≡ hex count other → one ≡ other
@@ -159,11 +161,10 @@ none-spelled text = (omega arith, hex-none 0)
 pub more-spelled : (text : List ℕ) (place number digit byte : ℕ) → place < length text → byte ≡ get_or text place byte → digit < 16
     → hex_digit digit ≡ byte → (number < 16 ^ place) × (hex place number ≡ take place text)
     → (number * 16 + digit < 16 ^ (place + 1)) × (hex (place + 1) (number * 16 + digit) ≡ take (place + 1) text)
-more-spelled text place number digit byte within is small spells (below, front) =
-    (
-      below-more place number digit below small,
-      hex-more place number digit small ∙ ap₂ (λ xs (x : ℕ). xs ++ x ∷ []) front (spells ∙ is) ∙ sym (take_more text place byte within),
-    )
+more-spelled text place number digit byte within is small spells (below, front) = (
+  below-more place number digit below small,
+  hex-more place number digit small ∙ ap₂ (λ xs (x : ℕ). xs ++ x ∷ []) front (spells ∙ is) ∙ sym (take_more text place byte within),
+)
 
 -- a byte that is no digit
 pub none-digit : (text : List ℕ) (place byte : ℕ) → place < length text → byte ≡ get_or text place byte
