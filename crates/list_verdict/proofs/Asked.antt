@@ -14,6 +14,7 @@ use Rattle.card_counter.specs.InForm.{HasCounter}
 use Rattle.card_counter.specs.Places.{starts}
 use Rattle.cycle_sim.specs.Simulated.{CanSimulate, IsSimulable}
 use Rattle.unroller.specs.Unrolls.{variables_of}
+use Rattle.unroller.proofs.Whole.{base-unrolled}
 use Rattle.bit_circuit.specs.Circuits.{BitNet, circuit_of}
 use Rattle.debug_core.specs.Problems.{IsFormFor, IsProblem, Problem, clauses_for, suspect_count, suspects_of, unrolling_for}
 use Rattle.debug_core.specs.Standing.{IsEncodingOf, IsUnrollingFor}
@@ -49,7 +50,7 @@ module _ (p : Problem) (made : Form) (can : IsProblem p) (form : IsFormFor p mad
       is = refl;
       few_nodes = subst (λ (c : BitNet). counted c.nodes ≤ 4000000) form.of_design.is form.few_nodes;
       few_variables = omega (arith, form.few_variables, form.vars_are, ap (λ (c : BitNet). variables_of (unrolling_for p c)) form.of_design.is);
-      base = refl;
+      base = base-unrolled (circuit_of form.of_design.net) p.traces p.groups p.k;
     };
     form = form;
     vars_are = form.vars_are ∙ ap (λ (c : BitNet). variables_of (unrolling_for p c)) form.of_design.is;
@@ -70,7 +71,7 @@ module _ (p : Problem) (made : Form) (can : IsProblem p) (form : IsFormFor p mad
   few-suspects = omega (arith, form-counter.within)
 
   -- there is room for the bound
-  pub bound-fits : suspect_count p + 1 + starts p.k (suspect_count p + 1) ≤ 2 ^ 32
+  pub bound-fits : suspect_count p + 1 + starts p.k (suspect_count p + 1) < 2 ^ 32
   bound-fits = omega (arith, form-counter.within, form.few_variables)
 
 pub suspects-long : (p : Problem) → length (suspects_of p) ≡ suspect_count p

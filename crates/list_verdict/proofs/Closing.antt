@@ -3,7 +3,7 @@ use Rattle.std.proofs.Common.{◌≡◌, ◌⊎◌, inl, inr, ℕ, ◌+◌, ◌-
 use Rattle.std.specs.Prelude.{All, IsSomeAnd, None, Option, if◌then◌else◌, not, ◌||◌}
 use Rattle.std.proofs.lemmas.Bool.{cases_lt, false≢true, le-ltb}
 use Rattle.std.proofs.lemmas.List.{get_or-map, length-map}
-use Rattle.std.proofs.lemmas.List.Elements.{All-cons, All-get_or, All-head, All-tail}
+use Rattle.std.proofs.lemmas.List.Elements.{All-cons, All-get_or, All-head, All-nil, All-tail}
 use Rattle.clause_base.specs.declared.literal.Lit.{Lit}
 use Rattle.clause_base.specs.declared.log.Step.{Step}
 use Rattle.clause_base.specs.Satisfaction.{Satisfies, SatisfiesClause, is_satisfied}
@@ -38,7 +38,7 @@ module _ (n k vars : ℕ) (form : List (List Lit)) (sets : List (List ℕ)) (log
 
   all-blocks : (a b : ℕ → Bool) → ((v : ℕ) → v ≤ n → b v ≡ a v) → (list : List (List ℕ)) → All (λ set. All (λ m. m ≤ n) set) list
       → Satisfies a (map block_of list) → Satisfies b (map block_of list)
-  all-blocks a b same [] all holds = holds
+  all-blocks a b same [] all holds = All-nil (SatisfiesClause b)
   all-blocks a b same (set ∷ list) all holds =
       All-cons (SatisfiesClause b) (block_of set) (map block_of list)
       (same-blocks a b same set (All-head (λ s. All (λ m. m ≤ n) s) set list all)

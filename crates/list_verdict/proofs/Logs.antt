@@ -1,8 +1,9 @@
 -- Blocks of ascending members, and the bound that closes.
-use Rattle.std.proofs.Common.{◌≡◌, ℕ, cond, zero, suc, ◌+◌, ◌<◌, ◌≤◌, ◌==◌, Bool, true, false, not, ◌&&◌, ◌||◌, List, [], ◌∷◌, length, get_or, map, Some, refl, sym, ap, ap₂, ◌∙◌, subst, arith}
+use Rattle.std.proofs.Common.{◌≡◌, ℕ, cond, zero, suc, ◌+◌, ◌<◌, ◌≤◌, ◌==◌, Bool, true, false, not, ◌&&◌, ◌||◌, List, [], ◌∷◌, length, get_or, map, take, Some, refl, sym, ap, ap₂, ◌∙◌, subst, arith}
 use Rattle.std.specs.Prelude.{All, IfNone, IfSome, IsTrue, None, Option}
 use Rattle.std.specs.List.Sorted.{IsStrictlyIncreasing}
 use Rattle.std.proofs.lemmas.Bool.{ne_eqb, le-ltb}
+use Rattle.std.proofs.lemmas.List.{take_all}
 use Rattle.std.proofs.lemmas.List.Elements.{All-head, All-tail}
 use Rattle.clause_base.specs.declared.literal.Lit.{Lit}
 use Rattle.clause_base.specs.Literal.{IsWithin, AreWithin, has_distinct_variables, has_variable, positive}
@@ -34,6 +35,12 @@ pub block-distinct : (members : List ℕ) → IsStrictlyIncreasing members → I
 block-distinct [] up = refl
 block-distinct (x ∷ xs) up =
     ap₂ (λ a b. not a && b) (no-variable x xs (lower-head x xs up)) (block-distinct xs (rest-up x xs up))
+
+-- and so are the literals that are collected of all of them
+pub block-collected : (members : List ℕ) (literals : List Lit) (at : ℕ) → length members ≤ at → literals ≡ block_of (take at members)
+    → IsStrictlyIncreasing members → IsTrue (has_distinct_variables literals)
+block-collected members literals at past are up =
+    ap has_distinct_variables (are ∙ ap block_of (take_all at members past)) ∙ block-distinct members up
 
 -- the block of numbers up to n is over variables from 1 to n
 pub block-within : (vars n : ℕ) (members : List ℕ) → n ≤ vars → All (λ m. (1 ≤ m) × (m ≤ n)) members → IsWithin vars (block_of members)

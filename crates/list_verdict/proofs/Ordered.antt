@@ -1,6 +1,7 @@
 -- Sets that are in order: their numbers, one set more, and each comes before all behind it.
 use Rattle.std.proofs.Common.{◌≡◌, ◌⊎◌, inl, inr, ℕ, zero, suc, ◌+◌, ◌-◌, ◌<◌, ◌≤◌, true, List, [], ◌∷◌, ◌++◌, length, get_or, map, Some, refl, sym, ap, ◌∙◌, subst, arith, length-append}
-use Rattle.std.specs.Prelude.{All, IsTrue, Option, None, slice_get}
+use Rattle.std.specs.Prelude.{All, Err, IfNone, IfOk, IfSome, IsTrue, Ok, Option, None, Result, slice_get}
+use Rattle.loc_base.specs.declared.memory.NoMemory.{NoMemory}
 use Rattle.std.specs.List.Sorted.{IsStrictlyIncreasing}
 use Rattle.std.proofs.lemmas.Bool.{cases_lt}
 use Rattle.std.proofs.lemmas.List.{length-map}
@@ -15,7 +16,7 @@ use Rattle.report_values.specs.Written.{HasValues, IsWritten}
 use Rattle.debug_core.specs.Problems.{Problem, suspect_count, suspects_of}
 use Rattle.list_verdict.specs.Claims.{AreItsValues, Claim, IsSetAt}
 use Rattle.list_verdict.specs.Conditions.{AreInOrder, ComesAfter, IsFirstOutOfOrder, IsInOrder}
-use Rattle.list_verdict.specs.Judging.{AreAscending, AreFound, AreMembers, FoundAt, IsFound}
+use Rattle.list_verdict.specs.Judging.{AreAscending, AreFound, AreMembers, FoundAt, IsFound, SaysValues}
 use Rattle.list_verdict.proofs.Comparing.{before-trans}
 
 -- ---- lists
@@ -23,6 +24,9 @@ pub got-within : {X : Type 0} (xs : List X) (i : ℕ) (x : X) → slice_get xs i
 got-within [] i x there = cc
 got-within (y ∷ xs) zero x there = omega arith
 got-within (y ∷ xs) (suc i) x there = omega (arith, got-within xs i x there)
+
+got-none : {X : Type 0} (i : ℕ) (x : X) → slice_get [] i ≡ Some x → ⊥
+got-none i x there = cc
 
 pub got-same : {X : Type 0} (xs : List X) (i j : ℕ) (x y : X) → slice_get xs i ≡ Some x → slice_get xs j ≡ Some y → i ≡ j → x ≡ y
 got-same xs i j x y one other same = inner (sym one ∙ ap (slice_get xs) same ∙ other)
@@ -131,12 +135,30 @@ found-at c place set found there members after written again at =
       values = written;
     })
 
+pub found-says : (c : Claim) (place : ℕ) (set : ReportSet) (r : Result (Option SetWithValues) NoMemory) → slice_get c.sets place ≡ Some set
+    → AreMembers c.problem set.members → ComesAfter c.sets (place + 1) set → IfOk r (SaysValues c set) → IfOk r (FoundAt c place)
+found-says c place set (Ok None) there members after says = not-valued c place set there says
+found-says c place set (Ok (Some found)) there members after says = found-at c place set found there members after says
+found-says c place set (Err e) there members after says = tt
+
+-- what values_of answers, by the values that it found
+pub none-said : (c : Claim) (set : ReportSet) (o : Option Values) → o ≡ None
+    → IfNone o (¬ HasValues c.problem.design c.problem.traces (suspects_of c.problem) set) → SaysValues c set None
+none-said c set None is none = none
+none-said c set (Some values) is none = cc
+
+pub some-said : (c : Claim) (set : ReportSet) (o : Option Values) (found : SetWithValues) → o ≡ Some found.values
+    → IfSome o (IsWritten c.problem.design c.problem.traces (suspects_of c.problem) set) → SaysValues c set (Some found)
+some-said c set None found is some = cc
+some-said c set (Some values) found is some =
+    subst (IsWritten c.problem.design c.problem.traces (suspects_of c.problem) set) (inner is) some
+  where
+    inner : Some values ≡ Some found.values → values ≡ found.values
+    inner e = cc
+
 -- ---- all sets
 pub found-none : (c : Claim) → AreFound c 0 []
-found-none c = record { long = refl; each = λ place set f there at. absurd (none place f at) }
-  where
-    none : (place : ℕ) (f : SetWithValues) → slice_get {A = SetWithValues} [] place ≡ Some f → ⊥
-    none place f at = cc
+found-none c = record { long = refl; each = λ place set f there at. absurd (got-none place f at) }
 
 pub found-more : (c : Claim) (place : ℕ) (old new : List SetWithValues) (found : SetWithValues) → AreFound c place old
     → FoundAt c place (Some found) → new ≡ old ++ found ∷ [] → AreFound c (place + 1) new
@@ -182,7 +204,9 @@ first-out c place found within are none =
       first = λ other before low is. in-order c place found are other before (omega (arith, low)) is;
     }
 
-pub ruleset found_rules = (not-members, not-after, not-valued, found-at)
+pub ruleset found_rules = (not-members, not-after, found-says)
+
+pub ruleset valued_rules = (none-said, some-said)
 
 pub ruleset ordered_rules = (found-none, found-more, all-found, first-out)
 

@@ -5,12 +5,18 @@ use Rattle.design_core.specs.declared.values.SetWithValues.{SetWithValues}
 use Rattle.design_core.specs.Listing.{is_before}
 use Rattle.design_core.specs.Works.{IsSet, IsWithin}
 use Rattle.report_doc.specs.declared.types.ReportSet.{ReportSet}
+use Rattle.report_values.specs.Written.{HasValues}
 use Rattle.debug_core.specs.Problems.{Problem, suspects_of}
 use Rattle.list_verdict.specs.declared.holding.Holding.{Holding}
 use Rattle.list_verdict.specs.declared.order.Order.{Order}
 use Rattle.list_verdict.specs.declared.order.Order.TheVariants as order
 use Rattle.list_verdict.specs.Claims.{AreItsValues, Claim}
-use Rattle.list_verdict.specs.Conditions.{AreInOrder, Holds, IsFirstOutOfOrder, IsFirstToHold, IsInOrder, NoneHolds}
+use Rattle.clause_base.specs.Acceptance.{Follows}
+use Rattle.cycle_sim.specs.declared.miss.Miss.{Miss}
+use Rattle.proof_check.specs.declared.claim.BadStep.{BadStep}
+use Rattle.list_verdict.specs.declared.verdict.Verdict.{Verdict}
+use Rattle.list_verdict.specs.Conditions.{AreInOrder, AreRight, Holds, IsAcceptedLog, IsFirstOutOfOrder, IsFirstRefusedStep, IsFirstToHold, IsFirstToMiss, IsInOrder, NoneHolds, blocks_for}
+use Rattle.list_verdict.specs.Verdicts.{IsVerdict, IsWholeListIf}
 
 -- ---- order
 -- members that may be a set's: numbers of suspects, ascending, at most k
@@ -27,6 +33,11 @@ pub record IsFound (c : Claim) (place : ℕ) (set : ReportSet) (found : SetWithV
 abbrev pub FoundAt : Claim → ℕ → Option SetWithValues → Type 0
 FoundAt c place None = (set : ReportSet) → slice_get c.sets place ≡ Some set → ¬ IsInOrder c (place + 1) set
 FoundAt c place (Some found) = (set : ReportSet) → slice_get c.sets place ≡ Some set → IsFound c place set found
+
+-- what is found of a set's texts: values that they say, or that they say none
+abbrev pub SaysValues : Claim → ReportSet → Option SetWithValues → Type 0
+SaysValues c set None = ¬ HasValues c.problem.design c.problem.traces (suspects_of c.problem) set
+SaysValues c set (Some found) = AreItsValues c set found.values
 
 -- the values of so many sets, from the first on, were found
 pub record AreFound (c : Claim) (count : ℕ) (found : List SetWithValues) : Type 0 where
@@ -58,3 +69,19 @@ NoneWithin sets outer place = (i : ℕ) (inner : ReportSet) → i < place → sl
 abbrev pub FirstToHold : List ReportSet → Option Holding → Type 0
 FirstToHold sets None = NoneHolds sets
 FirstToHold sets (Some holding) = IsFirstToHold sets holding.set holding.other
+
+-- ---- what the replay and the log say
+-- each set makes the traces right, or the set of a place is the first that misses
+abbrev pub ValuesSay : Claim → Option (ℕ × Miss) → Type 0
+ValuesSay c None = AreRight c
+ValuesSay c (Some (place, miss)) = (place < length c.sets) × IsFirstToMiss c (place + 1) miss
+
+-- the log is accepted, and follows from the form and the blocks, or a step is the first that is refused
+abbrev pub LogSays : Claim → Option BadStep → Type 0
+LogSays c None = IsAcceptedLog c × Follows c.form (blocks_for c.sets) c.log
+LogSays c (Some bad) = IsFirstRefusedStep c bad.n
+
+-- an answer, and what it says where it is that the list is whole
+pub record Judges (c : Claim) (verdict : Verdict) : Type 0 where
+  pub verdict_is : IsVerdict c verdict
+  pub list : IsWholeListIf c verdict

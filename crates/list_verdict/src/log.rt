@@ -1,6 +1,6 @@
 //! The blocks of the sets, and how a log closes.
 
-ghost use Rattle.std.specs.Prelude.{◌≡◌, ◌↔◌, ◌≤◌, ◌+◌, ◌^◌, [], ◌⊎◌, ◌∷◌, All, IfOk, IsSomeAnd, IsTrue};
+ghost use Rattle.std.specs.Prelude.{◌≡◌, ◌↔◌, ◌<◌, ◌+◌, ◌^◌, [], ◌⊎◌, ◌∷◌, All, IfOk, IsSomeAnd, IsTrue};
 ghost use Rattle.std.specs.List.Sorted.{IsStrictlyIncreasing};
 ghost use Rattle.clause_base.specs.Progress.{IsClosing};
 ghost use Rattle.card_counter.specs.Places.{starts};
@@ -65,7 +65,7 @@ fn closes_with(log: &Log, literal: Option<Lit>) -> bool
 
 /// Whether the log closes the list of the sets of at most `k` of `n` suspects.
 pub(crate) fn closes(log: &Log, n: u32, k: u32) -> bool
-    requires { n + 1 + starts k (n + 1) ≤ 2 ^ 32 }
+    requires { n + 1 + starts k (n + 1) < 2 ^ 32 }
     ensures { IsTrue result ↔ IsClosing (bound_of n k k) log.now }
 {
     closes_with(log, bound(n, k, k, n + 1))

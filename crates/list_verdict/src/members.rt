@@ -60,9 +60,16 @@ pub(crate) fn is_before(one: &[u32], other: &[u32]) -> bool
     one.len() < other.len() || (one.len() == other.len() && is_lower(one, other))
 }
 
+/// Whether a number is one of some.
+fn has(numbers: &[u32], number: u32) -> bool
+    ensures { IsTrue result ↔ Contains numbers.now number }
+{
+    numbers.contains(&number)
+}
+
 /// Whether each member of one list is one of another.
 pub(crate) fn is_within(inner: &[u32], outer: &[u32]) -> bool
     ensures { IsTrue result ↔ IsWithin inner.now outer.now }
 {
-    inner.iter().all(|member| outer.contains(member))
+    inner.iter().all(|member| has(outer, *member))
 }

@@ -2,9 +2,10 @@
 
 ghost use Rattle.std.specs.Prelude.{◌≡◌, ◌+◌, ◌<◌, ◌↔◌, IfOk, IsTrue, Some, length, slice_get};
 ghost use Rattle.report_doc.specs.declared.types.ReportSet.{ReportSet as SpecSet};
+ghost use Rattle.debug_core.specs.Problems.{problem_of};
 ghost use Rattle.list_verdict.specs.Claims.{CanBeJudged, claim_of};
 ghost use Rattle.list_verdict.specs.Conditions.{ComesAfter};
-ghost use Rattle.list_verdict.specs.Judging.{FoundAt, Orders};
+ghost use Rattle.list_verdict.specs.Judging.{AreMembers, FoundAt, Orders, SaysValues};
 
 use crate::members::{are_members, is_before};
 use crate::verdict::Listed;
@@ -42,6 +43,32 @@ fn comes_after(sets: &[ReportSet], place: usize) -> bool
         )
 }
 
+/// A set with the values that its texts say, where they say some.
+#[tactic(auto, using(crate::proofs::Ordered::valued_rules))]
+fn valued(
+    alloc: Global,
+    listed: &Listed<'_>,
+    set: &ReportSet,
+) -> Result<Option<SetWithValues>, NoMemory>
+    requires can { CanBeJudged listed.now }
+    requires set { AreMembers (problem_of listed.now.question.now) set.now.members }
+    ensures { IfOk result (SaysValues (claim_of listed.now) set.now) }
+{
+    let question = listed.question;
+    let scene = Scene {
+        design: question.design,
+        traces: question.traces,
+        groups: question.groups,
+    };
+    match values_of(alloc, &scene, set)? {
+        Some(values) => {
+            let members = Items::copy_of(alloc, set.members.as_slice())?;
+            Ok(Some(SetWithValues { members, values }))
+        }
+        None => Ok(None),
+    }
+}
+
 /// The set of a place, counted from 0, with the values that its texts say, where it is in order.
 #[tactic(auto, using(crate::proofs::Ordered::found_rules))]
 fn found_at(
@@ -54,20 +81,13 @@ fn found_at(
     ensures { IfOk result (FoundAt (claim_of listed.now) place) }
 {
     let set = set_at(listed.sets, place);
-    let question = listed.question;
-    if !are_members(question, set.members.as_slice()) || !comes_after(listed.sets, place) {
+    if !are_members(listed.question, set.members.as_slice()) {
         return Ok(None);
     }
-    let scene = Scene {
-        design: question.design,
-        traces: question.traces,
-        groups: question.groups,
-    };
-    let Some(values) = values_of(alloc, &scene, set)? else {
+    if !comes_after(listed.sets, place) {
         return Ok(None);
-    };
-    let members = Items::copy_of(alloc, set.members.as_slice())?;
-    Ok(Some(SetWithValues { members, values }))
+    }
+    valued(alloc, listed, set)
 }
 
 /// The values of the sets, where they are in order, or the first set that isn't.
