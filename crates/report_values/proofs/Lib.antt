@@ -1,0 +1,5 @@
+pub mod Spelling
+pub mod Pushing
+pub mod Writing
+pub mod Once
+pub mod Saying
