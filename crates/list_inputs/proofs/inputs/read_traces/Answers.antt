@@ -2,8 +2,8 @@ use Rattle.std.proofs.Common.{sym, subst}
 use Rattle.std.specs.Prelude.{All}
 use Rattle.run_inputs.specs.Asked.{Asked as Sources}
 use Rattle.run_inputs.specs.Loading.{HasTrace}
-use Rattle.find_sets.proofs.Causes.{trace-spared}
-use Rattle.find_sets.proofs.inputs.read_traces.Goals as goal
+use Rattle.list_inputs.proofs.Causes.{trace-spared}
+use Rattle.list_inputs.proofs.inputs.read_traces.Goals as goal
 
 pub returns-in-Err-clause-only : goal.returns-in-Err-clause-only
 returns-in-Err-clause-only g c = λ told have.

@@ -2,21 +2,18 @@ use Rattle.std.proofs.Common.{sym, subst}
 use Rattle.run_inputs.specs.Asked.{Asked as Sources}
 use Rattle.run_inputs.specs.Causes.{DesignCause}
 use Rattle.run_inputs.specs.Means.{MeansDesign}
-use Rattle.run_inputs.specs.Refusals.{design_fault_line, design_fault_status}
-use Rattle.find_sets.specs.Ends.{Says}
-use Rattle.find_sets.specs.Requests.{asked_of}
-use Rattle.find_sets.proofs.Causes.{design-cause, design-spared}
-use Rattle.find_sets.proofs.inputs.read_design.Goals as goal
+use Rattle.list_inputs.specs.Asked.{asked_of}
+use Rattle.list_inputs.proofs.Causes.{design-cause, design-spared}
+use Rattle.list_inputs.proofs.inputs.read_design.Goals as goal
 
 pub returns-in-Err-clause-refused : goal.returns-in-Err-clause-refused
 returns-in-Err-clause-refused g c = λ told kinds.
-    let asked = asked_of c.args.request.now in
+    let asked = asked_of c.args.wanted.now in
     let texts = g.S.Shelf.texts c.args.shelf.now in
     design-cause g.F.FrontEnd.means g.F.FrontEnd.refuses kinds asked texts c.in-Err.fault c.of_design.result
     (subst (λ (s : Sources). DesignCause g.F.FrontEnd.refuses s texts c.in-Err.fault) c.sources.ensures.asked
     (c.in-Err.ensures.refused told))
-    (subst (λ name. Says c.of_design.result (design_fault_status c.in-Err.fault) (design_fault_line name c.in-Err.fault))
-    c.as_str.ensures.value c.of_design.ensures.says)
+    c.of_design.ensures.says
 
 pub returns-in-Err-clause-only : goal.returns-in-Err-clause-only
 returns-in-Err-clause-only g c = λ told d means.

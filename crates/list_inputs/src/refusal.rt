@@ -3,8 +3,8 @@ ghost use Rattle.std.specs.Prelude.{◌≡◌, ◌+◌, ◌⊎◌, codes, true};
 ghost use Rattle.command_contract.specs.Contract.{IsRefusal};
 ghost use Rattle.refusal_lines.specs.Refusals.{limit_line};
 ghost use Rattle.run_inputs.specs.Refusals.{design_fault_line, design_fault_status, trace_fault_line, trace_fault_status};
-ghost use Rattle.find_sets.specs.Ends.{HasStatus, PrintCounts, Prints, Says, line_of, status_of};
-ghost use Rattle.find_sets.specs.Refusals.{problem_line, problem_status};
+ghost use Rattle.list_inputs.specs.Ends.{HasStatus, PrintCounts, Prints, Says, line_of, status_of};
+ghost use Rattle.list_inputs.specs.Refusals.{problem_line, problem_status};
 
 use debug_core::DebugErr;
 use io_ports::{Sink, SinkFault};
@@ -15,7 +15,7 @@ use std::alloc::Global;
 
 /// Why nothing is listed.
 #[derive(Debug, Drop)]
-pub(crate) enum Refusal {
+pub enum Refusal {
     /// A line that says so, with the status of the program.
     Line { status: u8, line: Vec<u8> },
     /// Memory was refused.
@@ -74,7 +74,7 @@ impl Refusal {
     }
 
     /// There is no form.
-    pub(crate) fn of_problem(alloc: Global, fault: DebugErr) -> Refusal
+    pub fn of_problem(alloc: Global, fault: DebugErr) -> Refusal
         ensures says { Says result (problem_status fault) (problem_line fault) }
         ensures status { HasStatus result }
     {
@@ -87,7 +87,7 @@ impl Refusal {
     }
 
     /// Prints the line, and answers the status of the program.
-    pub(crate) fn print<O: Sink>(&self, out: &mut O) -> u8
+    pub fn print<O: Sink>(&self, out: &mut O) -> u8
         ensures text { O.tells out.old ≡ true
             → Prints (line_of self.now) (status_of self.now) (O.written out.old) (O.written out.new) result }
         ensures counts { PrintCounts (status_of self.now) (O.faults out.old) (O.faults out.new) result }

@@ -15,17 +15,17 @@ use Rattle.run_inputs.specs.Causes.{DesignCause, TraceCause}
 use Rattle.run_inputs.specs.Loading.{DesignSpared, TraceSpared}
 use Rattle.run_inputs.specs.Means.{MeansDesign}
 use Rattle.run_inputs.specs.Refusals.{design_fault_line, design_fault_status, trace_fault_line, trace_fault_status}
-use Rattle.find_sets.specs.declared.refusal.Refusal.{Refusal}
-use Rattle.find_sets.specs.declared.refusal.Refusal.TheVariants.{Line, Memory}
-use Rattle.find_sets.specs.Asked.{Asked, sources_of}
-use Rattle.find_sets.specs.Ends.{HasCause, HasStatus, HasTooMany, IsSpared, RefusalCounts, Says, StopsTraces}
-use Rattle.find_sets.specs.Finding.{IsReady}
-use Rattle.find_sets.specs.Means.{Means, Suspecting, most_suspects}
-use Rattle.find_sets.specs.Refusals.{Refused, for_design, for_problem, for_suspects, for_trace, problem_line, problem_status}
+use Rattle.list_inputs.specs.declared.refusal.Refusal.{Refusal}
+use Rattle.list_inputs.specs.declared.refusal.Refusal.TheVariants.{Line, Memory}
+use Rattle.list_inputs.specs.Asked.{Asked, sources_of}
+use Rattle.list_inputs.specs.Ends.{HasCause, HasStatus, IsSpared, RefusalCounts, Says}
+use Rattle.list_inputs.specs.Within.{HasTooMany, StopsTraces}
+use Rattle.list_inputs.specs.Means.{Means, Suspecting, most_suspects}
+use Rattle.list_inputs.specs.Refusals.{IsReady, Refused, for_design, for_problem, for_suspects, for_trace, problem_line, problem_status}
 
 -- what a refusal says has the cause of that
 said : (M : Meaning) (R : Refusing) (S : Suspecting) (asked : Asked) (texts : Texts) (r : Refusal) (status : ℕ) (line : List ℕ)
-    → Refused M R S asked texts status line → Says r status line → HasCause M R S asked texts r
+    → Refused M R S asked texts status line → Says r status line → HasCause (Refused M R S asked texts) r
 said M R S asked texts (Line s l) status line refused (e, f) =
     subst (λ n. Refused M R S asked texts n l.items) (sym e)
     (subst (λ (text : List ℕ). Refused M R S asked texts status text) (sym f) refused)
@@ -40,7 +40,7 @@ spared Memory status line has says which = tt
 -- ---- the design
 pub design-cause : (M : Meaning) (R : Refusing) (S : Suspecting) (asked : Asked) (texts : Texts) (fault : DesignFault) (r : Refusal)
     → DesignCause R (sources_of asked) texts fault → Says r (design_fault_status fault) (design_fault_line asked.design fault)
-    → HasCause M R S asked texts r
+    → HasCause (Refused M R S asked texts) r
 design-cause M R S asked texts fault r cause says =
     said M R S asked texts r (design_fault_status fault) (design_fault_line asked.design fault) (for_design fault cause) says
 
@@ -52,7 +52,7 @@ design-spared fault r name has says which =
 -- ---- the number of suspects
 pub many-cause : (M : Meaning) (R : Refusing) (S : Suspecting) (asked : Asked) (texts : Texts) (d : Design) (r : Refusal)
     (names : List (List ℕ)) (places : List Place) → names ≡ asked.suspects → places ≡ d.places.items
-    → MeansDesign M (sources_of asked) texts d → HasTooMany (length (S names places)) r → HasCause M R S asked texts r
+    → MeansDesign M (sources_of asked) texts d → HasTooMany (length (S names places)) r → HasCause (Refused M R S asked texts) r
 many-cause M R S asked texts d (Line s l) names places e f means (is, line, many) =
     said M R S asked texts (Line s l) 4 _
     (for_suspects d means
@@ -79,7 +79,7 @@ some-same e = cc
 pub trace-cause : (M : Meaning) (R : Refusing) (S : Suspecting) (asked : Asked) (texts : Texts) (d : Design) (r : Refusal)
     (names : List (List ℕ)) (places : List Place) (groups : List Group) → names ≡ asked.suspects → places ≡ d.places.items
     → MeansDesign M (sources_of asked) texts d → groups ≡ S names places → length groups ≤ most_suspects
-    → StopsTraces texts (sources_of asked) d r → HasCause M R S asked texts r
+    → StopsTraces texts (sources_of asked) d r → HasCause (Refused M R S asked texts) r
 trace-cause M R S asked texts d r names places groups e f means are few is =
     let stops = is.stops in
     let small : length (S asked.suspects d.places.items) ≤ most_suspects =
@@ -104,7 +104,7 @@ trace-spared fault r line has says which = spared r (trace_fault_status fault) l
 -- ---- the form
 pub problem-cause : (M : Meaning) (R : Refusing) (S : Suspecting) (asked : Asked) (texts : Texts) (p : Problem) (fault : DebugErr)
     (r : Refusal) → Means M S asked texts p → IsRefused p fault → Says r (problem_status fault) (problem_line fault)
-    → HasCause M R S asked texts r
+    → HasCause (Refused M R S asked texts) r
 problem-cause M R S asked texts p fault r means refused says =
     said M R S asked texts r (problem_status fault) (problem_line fault) (for_problem p fault means refused) says
 

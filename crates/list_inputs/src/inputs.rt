@@ -6,19 +6,18 @@ ghost use Rattle.vcd_traces.specs.Ports.{HasPorts};
 ghost use Rattle.suspect_map.specs.Choose.{joined, unknown};
 ghost use Rattle.suspect_map.specs.Groups.{AreWithin};
 ghost use Rattle.front_end.specs.Means.{IsReady as IsReadyDesign};
-ghost use Rattle.debug_core.specs.Problems.{IsProblem};
+ghost use Rattle.debug_core.specs.Problems.{IsProblem, problem_of};
 ghost use Rattle.run_inputs.specs.Loading.{HasTrace};
 ghost use Rattle.run_inputs.specs.Means.{AreKeptOf, IsKeptOf, IsReadOf, MeansDesign, MeanTraces};
-ghost use Rattle.find_sets.specs.Asked.{AreKnown, IsAsked, sources_of};
-ghost use Rattle.find_sets.specs.Ends.{CountsOf, HasCause, HasStatus, HasTooMany, IsSpared, StopsTraces, digest_text, problem_in};
-ghost use Rattle.set_listing.specs.Jobs.{asked_of as job_asked};
-ghost use Rattle.find_sets.specs.Finding.{IsReady, listing_of};
-ghost use Rattle.find_sets.specs.Means.{IsDigestOf, Means, Suspecting};
-ghost use Rattle.find_sets.specs.Requests.{asked_of};
+ghost use Rattle.list_inputs.specs.Asked.{AreKnown, IsAsked, asked_of, sources_of};
+ghost use Rattle.list_inputs.specs.Ends.{CountsOf, HasCause, HasStatus, IsSpared, problem_in};
+ghost use Rattle.list_inputs.specs.Within.{HasTooMany, StopsTraces, digest_text};
+ghost use Rattle.list_inputs.specs.Means.{IsDigestOf, Means, Suspecting};
+ghost use Rattle.list_inputs.specs.Refusals.{IsReady, Refused};
 
 use crate::refusal::Refusal;
-use crate::request::Request;
 use crate::tools::Tools;
+use crate::wanted::Wanted;
 use debug_core::Question;
 use design_core::{Design, Place, Trace};
 use front_end::{FrontEnd, Ordered};
@@ -26,20 +25,19 @@ use io_ports::Shelf;
 use loc_base::{Digest, Gate, Name};
 use run_digest::inputs_digest;
 use run_inputs::{DesignRead, TracesRead, load_design, load_traces};
-use set_listing::Job;
 use std::alloc::Global;
 use std::thread::Threads;
 use suspect_map::{ChooseErr, Granularity, Groups, chosen};
 
 /// What a run reads.
-pub(crate) struct Inputs {
+pub struct Inputs {
     /// The design, with the order of its drivers.
-    pub(crate) ordered: Ordered,
+    pub ordered: Ordered,
     /// The suspects.
-    pub(crate) groups: Groups,
-    pub(crate) traces: Vec<Trace>,
+    pub groups: Groups,
+    pub traces: Vec<Trace>,
     /// The digest of all inputs.
-    pub(crate) digest: Digest,
+    pub digest: Digest,
 }
 
 impl Drop for Inputs {
@@ -54,27 +52,16 @@ impl Drop for Inputs {
 }
 
 impl Inputs {
-    /// The listing that is to be done.
-    pub(crate) fn job<'a>(&'a self, request: &'a Request) -> Job<'a>
-        ensures { job_asked result ≡ listing_of (asked_of request.now)
-            (problem_in self.now request.now.size) self.now.digest }
+    /// What is asked of them, by the greatest size of a set.
+    pub fn question(&self, size: u32) -> Question<'_>
+        ensures { problem_of result ≡ problem_in self.now size }
     {
-        Job {
-            question: Question {
-                design: &self.ordered.design,
-                order: &self.ordered.order,
-                traces: &self.traces,
-                groups: &self.groups,
-                k: request.size,
-            },
-            budget: request.budget,
-            sets: request.sets,
-            log: request.log.as_str(),
-            report: request.report.as_str(),
-            inputs: self.digest,
-            top: &request.top,
-            clock: request.clock.as_ref(),
-            kinds: &request.suspects,
+        Question {
+            design: &self.ordered.design,
+            order: &self.ordered.order,
+            traces: &self.traces,
+            groups: &self.groups,
+            k: size,
         }
     }
 }
@@ -83,7 +70,7 @@ impl Inputs {
 fn read_design<F: FrontEnd, S: Shelf>(
     alloc: Global,
     front: &F,
-    request: &Request,
+    wanted: &Wanted,
     shelf: &mut S,
 ) -> Result<DesignRead<Digest>, Refusal>
     ensures tells { S.tells shelf.new ≡ S.tells shelf.old }
@@ -92,18 +79,18 @@ fn read_design<F: FrontEnd, S: Shelf>(
     ensures counts { CountsOf (S.faults shelf.old) (S.faults shelf.new) result }
     ensures status { IfErr result HasStatus }
     ensures means { S.tells shelf.old ≡ true → IfOk result
-        (λ r. MeansDesign F.means (sources_of (asked_of request.now)) (S.texts shelf.old) r.ordered.design) }
+        (λ r. MeansDesign F.means (sources_of (asked_of wanted.now)) (S.texts shelf.old) r.ordered.design) }
     ensures kept { S.tells shelf.old ≡ true → IfOk result
-        (λ r. IsKeptOf (λ digest text. digest.bytes ≡ sha256 text) (S.texts shelf.old) (asked_of request.now).design r.imprint) }
+        (λ r. IsKeptOf (λ digest text. digest.bytes ≡ sha256 text) (S.texts shelf.old) (asked_of wanted.now).design r.imprint) }
     ensures ready { IfOk result (λ r. IsReadyDesign r.ordered.design r.ordered.order) }
     ensures refused { S.tells shelf.old ≡ true → (kinds : Suspecting)
-        → IfErr result (HasCause F.means F.refuses kinds (asked_of request.now) (S.texts shelf.old)) }
+        → IfErr result (HasCause (Refused F.means F.refuses kinds (asked_of wanted.now) (S.texts shelf.old))) }
     ensures only { S.tells shelf.old ≡ true → (d : SomeDesign)
-        → MeansDesign F.means (sources_of (asked_of request.now)) (S.texts shelf.old) d → IfErr result IsSpared }
+        → MeansDesign F.means (sources_of (asked_of wanted.now)) (S.texts shelf.old) d → IfErr result IsSpared }
 {
-    match load_design(alloc, front, &request.sources(), shelf) {
+    match load_design(alloc, front, &wanted.sources(), shelf) {
         Ok(read) => Ok(read),
-        Err(fault) => Err(Refusal::of_design(alloc, request.design.as_str(), fault)),
+        Err(fault) => Err(Refusal::of_design(alloc, wanted.design, fault)),
     }
 }
 
@@ -135,30 +122,30 @@ fn choose(
 /// The traces of the texts under their names.
 fn read_traces<S: Shelf>(
     alloc: Global,
-    request: &Request,
+    wanted: &Wanted,
     design: &Design,
     shelf: &mut S,
 ) -> Result<TracesRead<Digest>, Refusal>
     requires ports { HasPorts design.now }
-    requires few { length request.now.traces.items < 2 ^ 32 }
+    requires few { length wanted.now.traces.now < 2 ^ 32 }
     ensures tells { S.tells shelf.new ≡ S.tells shelf.old }
     ensures texts { S.texts shelf.new ≡ S.texts shelf.old }
     ensures written { S.written shelf.new ≡ S.written shelf.old }
     ensures counts { CountsOf (S.faults shelf.old) (S.faults shelf.new) result }
     ensures status { IfErr result HasStatus }
     ensures means { S.tells shelf.old ≡ true → IfOk result (λ read. MeanTraces (S.texts shelf.old)
-        (asked_of request.now).clock design.now (asked_of request.now).traces read.traces.items) }
+        (asked_of wanted.now).clock design.now (asked_of wanted.now).traces read.traces.items) }
     ensures kept { S.tells shelf.old ≡ true → IfOk result (λ read. AreKeptOf (λ digest text. digest.bytes ≡ sha256 text)
-        (S.texts shelf.old) (asked_of request.now).traces read.imprints.items) }
+        (S.texts shelf.old) (asked_of wanted.now).traces read.imprints.items) }
     ensures fits { IfOk result (λ read. All (IsReadOf design.now) read.traces.items) }
-    ensures count { IfOk result (λ read. length read.traces.items ≡ length request.now.traces.items) }
+    ensures count { IfOk result (λ read. length read.traces.items ≡ length wanted.now.traces.now) }
     ensures refused { S.tells shelf.old ≡ true → IfErr result
-        (StopsTraces (S.texts shelf.old) (sources_of (asked_of request.now)) design.now) }
+        (StopsTraces (S.texts shelf.old) (sources_of (asked_of wanted.now)) design.now) }
     ensures only { S.tells shelf.old ≡ true
-        → All (HasTrace (S.texts shelf.old) (sources_of (asked_of request.now)) design.now) (asked_of request.now).traces
+        → All (HasTrace (S.texts shelf.old) (sources_of (asked_of wanted.now)) design.now) (asked_of wanted.now).traces
         → IfErr result IsSpared }
 {
-    let sources = request.sources();
+    let sources = wanted.sources();
     match load_traces(alloc, &sources, design, shelf) {
         Ok(read) => Ok(read),
         Err(refused) => {
@@ -169,56 +156,56 @@ fn read_traces<S: Shelf>(
 }
 
 /// The digest of all inputs.
-fn digest_of(request: &Request, design: Digest, traces: &[Digest]) -> Digest
-    ensures { result.bytes ≡ sha256 (digest_text (asked_of request.now) design traces.now) }
+fn digest_of(wanted: &Wanted, design: Digest, traces: &[Digest]) -> Digest
+    ensures { result.bytes ≡ sha256 (digest_text (asked_of wanted.now) design traces.now) }
 {
     inputs_digest(&run_digest::Inputs {
-        top: &request.top,
-        clock: request.clock.as_ref(),
-        kinds: &request.suspects,
-        size: request.size,
+        top: wanted.top,
+        clock: wanted.clock,
+        kinds: wanted.suspects,
+        size: wanted.size,
         design,
         traces,
     })
 }
 
 /// All that a run reads, in this order: the design, the suspects, the traces. The first that is refused ends it.
-pub(crate) fn read<F: FrontEnd, R: Threads + Sync, G: Gate + Sync, S: Shelf>(
+pub fn read<F: FrontEnd, R: Threads + Sync, G: Gate + Sync, S: Shelf>(
     alloc: Global,
     tools: &Tools<'_, F, R, G>,
-    request: &Request,
+    wanted: &Wanted,
     shelf: &mut S,
 ) -> Result<Inputs, Refusal>
-    requires asked { IsAsked (asked_of request.now) }
-    requires known { AreKnown (λ kind. called kind) tools.now.kinds.now (asked_of request.now) }
+    requires asked { IsAsked (asked_of wanted.now) }
+    requires known { AreKnown (λ kind. called kind) tools.now.kinds.now (asked_of wanted.now) }
     ensures tells { S.tells shelf.new ≡ S.tells shelf.old }
     ensures texts { S.texts shelf.new ≡ S.texts shelf.old }
     ensures written { S.written shelf.new ≡ S.written shelf.old }
     ensures counts { CountsOf (S.faults shelf.old) (S.faults shelf.new) result }
     ensures status { IfErr result HasStatus }
     ensures means { S.tells shelf.old ≡ true → IfOk result (λ i. Means F.means
-        (joined (λ kind. called kind) (λ kind. lists kind) tools.now.kinds.now) (asked_of request.now) (S.texts shelf.old)
-        (problem_in i request.now.size)) }
+        (joined (λ kind. called kind) (λ kind. lists kind) tools.now.kinds.now) (asked_of wanted.now) (S.texts shelf.old)
+        (problem_in i wanted.now.size)) }
     ensures digest { S.tells shelf.old ≡ true
-        → IfOk result (λ i. IsDigestOf (asked_of request.now) (S.texts shelf.old) i.digest) }
-    ensures problem { IfOk result (λ i. IsProblem (problem_in i request.now.size)) }
-    ensures refused { S.tells shelf.old ≡ true → IfErr result (HasCause F.means F.refuses
-        (joined (λ kind. called kind) (λ kind. lists kind) tools.now.kinds.now) (asked_of request.now) (S.texts shelf.old)) }
+        → IfOk result (λ i. IsDigestOf (asked_of wanted.now) (S.texts shelf.old) i.digest) }
+    ensures problem { IfOk result (λ i. IsProblem (problem_in i wanted.now.size)) }
+    ensures refused { S.tells shelf.old ≡ true → IfErr result (HasCause (Refused F.means F.refuses
+        (joined (λ kind. called kind) (λ kind. lists kind) tools.now.kinds.now) (asked_of wanted.now) (S.texts shelf.old))) }
     ensures only { S.tells shelf.old ≡ true
-        → IsReady F.means (joined (λ kind. called kind) (λ kind. lists kind) tools.now.kinds.now) (asked_of request.now)
+        → IsReady F.means (joined (λ kind. called kind) (λ kind. lists kind) tools.now.kinds.now) (asked_of wanted.now)
         (S.texts shelf.old)
         → IfErr result IsSpared }
 {
-    let read = read_design(alloc, tools.front, request, shelf)?;
+    let read = read_design(alloc, tools.front, wanted, shelf)?;
     let design = &read.ordered.design;
     let groups = choose(
         alloc,
         tools.kinds,
-        &request.suspects,
+        wanted.suspects,
         design.places.as_slice(),
     )?;
-    let traces = read_traces(alloc, request, design, shelf)?;
-    let digest = digest_of(request, read.imprint, &traces.imprints);
+    let traces = read_traces(alloc, wanted, design, shelf)?;
+    let digest = digest_of(wanted, read.imprint, &traces.imprints);
     Ok(Inputs {
         ordered: read.ordered,
         groups,

@@ -13,7 +13,7 @@ use Rattle.front_end.specs.Means.{Meaning}
 use Rattle.run_inputs.specs.Means.{MeansDesign, MeanTraces}
 use Rattle.debug_core.specs.Problems.{Problem}
 use Rattle.run_digest.specs.Inputs.{joined, line}
-use Rattle.find_sets.specs.Asked.{Asked, sources_of}
+use Rattle.list_inputs.specs.Asked.{Asked, sources_of}
 
 -- which suspects the kinds of these names make of a design's places, one kind's behind the other's
 abbrev pub Suspecting : Type 0

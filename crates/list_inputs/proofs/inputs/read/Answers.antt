@@ -9,24 +9,25 @@ use Rattle.run_inputs.proofs.Loaded.{passed_on}
 use Rattle.run_inputs.proofs.Ports.{has-ports}
 use Rattle.run_inputs.specs.Loading.{HasTrace}
 use Rattle.run_inputs.specs.Means.{AreKeptOf}
-use Rattle.find_sets.specs.Asked.{sources_of}
-use Rattle.find_sets.specs.Ends.{HasCause, IsSpared, StopsTraces}
-use Rattle.find_sets.specs.Requests.{asked_of}
-use Rattle.find_sets.proofs.Causes.{many-cause, many-spared, trace-cause}
-use Rattle.find_sets.proofs.Digests.{IsSum, is-digest}
-use Rattle.find_sets.proofs.Problems.{is-problem}
-use Rattle.find_sets.proofs.inputs.read.Goals as goal
+use Rattle.list_inputs.specs.Asked.{asked_of, sources_of}
+use Rattle.list_inputs.specs.Ends.{HasCause, IsSpared}
+use Rattle.list_inputs.specs.Refusals.{Refused}
+use Rattle.list_inputs.specs.Within.{StopsTraces}
+use Rattle.list_inputs.proofs.Causes.{many-cause, many-spared, trace-cause}
+use Rattle.list_inputs.proofs.Digests.{IsSum, is-digest}
+use Rattle.list_inputs.proofs.Problems.{is-problem}
+use Rattle.list_inputs.proofs.inputs.read.Goals as goal
 
 pub returns-in_err-read-clause-refused : goal.returns-in_err-read-clause-refused
 returns-in_err-read-clause-refused g c = λ told.
-    passed_on (HasCause g.F.FrontEnd.means g.F.FrontEnd.refuses _ (asked_of c.args.request.now) (g.S.Shelf.texts c.args.shelf.now))
+    passed_on (HasCause (Refused g.F.FrontEnd.means g.F.FrontEnd.refuses _ (asked_of c.args.wanted.now) (g.S.Shelf.texts c.args.shelf.now)))
     c.from_residual.result c.in_err-read.field-0.0 c.from_residual.ensures.1 (c.in_err-read.ensures.refused told _)
 
 pub returns-in_err-groups-clause-refused : goal.returns-in_err-groups-clause-refused
 returns-in_err-groups-clause-refused g c = λ told.
-    let asked = asked_of c.args.request.now in
+    let asked = asked_of c.args.wanted.now in
     let texts = g.S.Shelf.texts c.args.shelf.now in
-    passed_on (HasCause g.F.FrontEnd.means g.F.FrontEnd.refuses _ asked texts)
+    passed_on (HasCause (Refused g.F.FrontEnd.means g.F.FrontEnd.refuses _ asked texts))
     c.from_residual-in_err-groups.result c.in_err-groups.field-0.0 c.from_residual-in_err-groups.ensures.1
     (many-cause g.F.FrontEnd.means g.F.FrontEnd.refuses _ asked texts c.in_ok-read.read.ordered.design c.in_err-groups.field-0.0
     c.deref.result.now c.as_slice.result.now c.deref.ensures.value c.as_slice.ensures.value (c.in_ok-read.ensures.means told)
@@ -34,7 +35,7 @@ returns-in_err-groups-clause-refused g c = λ told.
 
 pub returns-in_err-groups-clause-only : goal.returns-in_err-groups-clause-only
 returns-in_err-groups-clause-only g c = λ told ready.
-    let asked = asked_of c.args.request.now in
+    let asked = asked_of c.args.wanted.now in
     let texts = g.S.Shelf.texts c.args.shelf.now in
     passed_on IsSpared
     c.from_residual-in_err-groups.result c.in_err-groups.field-0.0 c.from_residual-in_err-groups.ensures.1
@@ -48,10 +49,10 @@ read_traces-requires-clause-ports g c =
 
 pub returns-in_err-traces-clause-refused : goal.returns-in_err-traces-clause-refused
 returns-in_err-traces-clause-refused g c = λ told.
-    let asked = asked_of c.args.request.now in
+    let asked = asked_of c.args.wanted.now in
     let texts = g.S.Shelf.texts c.args.shelf.now in
     let design = c.in_ok-read.read.ordered.design in
-    passed_on (HasCause g.F.FrontEnd.means g.F.FrontEnd.refuses _ asked texts)
+    passed_on (HasCause (Refused g.F.FrontEnd.means g.F.FrontEnd.refuses _ asked texts))
     c.from_residual-in_err-traces.result c.in_err-traces.field-0.0 c.from_residual-in_err-traces.ensures.1
     (trace-cause g.F.FrontEnd.means g.F.FrontEnd.refuses _ asked texts design c.in_err-traces.field-0.0
     c.deref.result.now c.as_slice.result.now c.in_ok-groups.groups c.deref.ensures.value c.as_slice.ensures.value
@@ -61,7 +62,7 @@ returns-in_err-traces-clause-refused g c = λ told.
 
 pub returns-in_err-traces-clause-only : goal.returns-in_err-traces-clause-only
 returns-in_err-traces-clause-only g c = λ told ready.
-    let asked = asked_of c.args.request.now in
+    let asked = asked_of c.args.wanted.now in
     let design = c.in_ok-read.read.ordered.design in
     passed_on IsSpared
     c.from_residual-in_err-traces.result c.in_err-traces.field-0.0 c.from_residual-in_err-traces.ensures.1
@@ -71,7 +72,7 @@ returns-in_err-traces-clause-only g c = λ told ready.
 
 pub returns-clause-digest : goal.returns-clause-digest
 returns-clause-digest g c = λ told.
-    let asked = asked_of c.args.request.now in
+    let asked = asked_of c.args.wanted.now in
     let texts = g.S.Shelf.texts c.args.shelf.now in
     is-digest asked texts c.in_ok-read.read.imprint c.deref-2.result.now c.digest_of-digest.result
     (c.in_ok-read.ensures.kept told)
@@ -88,9 +89,9 @@ pub returns-clause-problem : goal.returns-clause-problem
 returns-clause-problem g c =
     let design = c.in_ok-read.read.ordered.design in
     is-problem design c.in_ok-read.read.ordered.order c.in_ok-traces.traces.traces.items c.in_ok-groups.groups
-    c.args.request.now.size c.in_ok-read.ensures.ready
+    c.args.wanted.now.size c.in_ok-read.ensures.ready
     (subst (λ (ps : List Place). AreWithin (length ps) c.in_ok-groups.groups) c.as_slice.ensures.value c.in_ok-groups.ensures.within)
     c.in_ok-traces.ensures.fits
-    (few-traces _ c.in_ok-traces.traces.traces.items c.args.request.now.traces.items c.in_ok-traces.ensures.count
-    c.requires.asked.traces.1)
+    (few-traces _ c.in_ok-traces.traces.traces.items c.args.wanted.now.traces.now c.in_ok-traces.ensures.count
+    c.requires.asked.traces)
     c.requires.asked.size

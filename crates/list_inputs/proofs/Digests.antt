@@ -9,9 +9,9 @@ use Rattle.loc_base.specs.declared.digest.Digest.{Digest}
 use Rattle.command_contract.specs.Contract.{Texts}
 use Rattle.run_digest.specs.Inputs.{joined, line, name_or_nothing, trace_line}
 use Rattle.run_inputs.specs.Means.{AreKeptOf, IsKeptOf, IsReadAnd}
-use Rattle.find_sets.specs.Asked.{Asked}
-use Rattle.find_sets.specs.Ends.{digest_text}
-use Rattle.find_sets.specs.Means.{IsDigestOf, hash_line, inputs_text}
+use Rattle.list_inputs.specs.Asked.{Asked}
+use Rattle.list_inputs.specs.Within.{digest_text}
+use Rattle.list_inputs.specs.Means.{IsDigestOf, hash_line, inputs_text}
 
 -- the clock's name
 pub clock-name : (clock : Option (Bor (List ℕ))) → name_or_nothing clock ≡ option_map_or (λ name. name) (option_copied clock) []

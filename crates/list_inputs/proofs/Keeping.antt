@@ -1,63 +1,72 @@
--- The promises of the command, from how a run ends: by the line of a refusal, or by a listing.
-use Rattle.std.proofs.Common.{ℕ, ◌≡◌, ◌≢◌, ◌≤◌, true, ap, refl, sym, subst, ◌∙◌, arith, inl, inr}
+-- The promises of a command, where a run of it ends by the line of a refusal.
+use Rattle.std.proofs.Common.{ℕ, ◌≡◌, ◌≢◌, ◌≤◌, true, List, ap, refl, sym, subst, ◌∙◌, arith, inl, inr}
 use Rattle.io_ports.specs.Faults.{Rose}
-use Rattle.command_contract.specs.Contract.{Causes, EndsRefused, IsRefusal, IsStatus, Keeps, OneRose, Run}
+use Rattle.command_contract.specs.Contract.{Case, Causes, EndsRefused, IsRefusal, IsStatus, Keeps, OneRose, Run}
 use Rattle.command_contract.proofs.Statuses.{refusal-range}
-use Rattle.front_end.specs.Means.{Meaning, Refusing}
 use Rattle.refusal_lines.specs.Refusals.{memory_line}
-use Rattle.find_sets.specs.declared.refusal.Refusal.{Refusal}
-use Rattle.find_sets.specs.declared.refusal.Refusal.TheVariants.{Line, Memory}
-use Rattle.find_sets.specs.Asked.{Asked}
-use Rattle.find_sets.specs.Ends.{HasCause, HasStatus, IsSpared, PrintCounts, Prints, RefusalCounts, line_of, status_of}
-use Rattle.find_sets.specs.Finding.{IsReady, LineCut, LineStops, finding}
-use Rattle.find_sets.specs.Means.{Suspecting}
+use Rattle.list_inputs.specs.declared.refusal.Refusal.{Refusal}
+use Rattle.list_inputs.specs.declared.refusal.Refusal.TheVariants.{Line, Memory}
+use Rattle.list_inputs.specs.Ends.{HasCause, HasStatus, IsSpared, PrintCounts, Prints, RefusalCounts, line_of, status_of}
+use Rattle.list_inputs.specs.Lines.{LineCut, LineStops}
 
--- ---- by the line of a refusal
+-- a case that such a run may be of: no answer has a status of 2 to 7, and it says of a run that a line stops, and of one that is cut
+-- there, no more than these
+pub record EndsByLines (c : Case) (run : Run) : Type 0 where
+  pub no_answer : (s : ℕ) → c.MayAnswer s → 2 ≤ s → s ≤ 7 → ⊥
+  pub stops : OneRose run.counts → LineStops (c.Refused run) run → c.Stopped run
+  pub cut : LineCut run → c.Cut run
+
 -- what is known of a run that prints a refusal's line, and ends with a status
-pub record IsRefused (M : Meaning) (R : Refusing) (S : Suspecting) (asked : Asked) (run : Run)
-    (refusal : Refusal) (status : ℕ) : Type 0 where
+pub record IsRefused (c : Case) (run : Run) (refusal : Refusal) (status : ℕ) : Type 0 where
   pub has_status : HasStatus refusal
-  pub cause : run.told ≡ true → HasCause M R S asked run.texts refusal
+  pub cause : run.told ≡ true → HasCause (c.Refused run) refusal
   pub nothing : run.now_written ≡ run.written
   pub prints : run.told ≡ true → Prints (line_of refusal) (status_of refusal) run.printed run.now_printed status
   pub shelf : RefusalCounts run.counts.shelf run.counts.now_shelf refusal
   pub sink : PrintCounts (status_of refusal) run.counts.sink run.counts.now_sink status
-  pub spared : run.told ≡ true → IsReady M S asked run.texts → IsSpared refusal
+  pub spared : run.told ≡ true → c.Ready run → IsSpared refusal
 
--- the status of a refusal is above 1, and not 6
-above-one : (refusal : Refusal) → HasStatus refusal → 2 ≤ status_of refusal
-above-one (Line s line) has = (refusal-range s has).0
-above-one Memory has = omega arith
+-- the status of a refusal is 2 to 7, and not 6
+status-range : (refusal : Refusal) → HasStatus refusal → (2 ≤ status_of refusal) × (status_of refusal ≤ 7)
+status-range (Line s line) has = ((refusal-range s has).0, omega (arith, refusal-range s has))
+status-range Memory has = (omega arith, omega arith)
 
 not-six : (refusal : Refusal) → HasStatus refusal → status_of refusal ≢ 6
 not-six (Line s line) has e = omega (arith, e, refusal-range s has)
 not-six Memory has e = omega (arith, e)
 
-module _ (M : Meaning) (R : Refusing) (S : Suspecting) (asked : Asked) (run : Run) where
+module _ (c : Case) (run : Run) where
   abbrev Refuses : Refusal → ℕ → Type 0
-  Refuses = IsRefused M R S asked run
+  Refuses = IsRefused c run
 
   -- the status that the run ends with
-  ended-above_one : (refusal : Refusal) (status : ℕ) → HasStatus refusal
-      → PrintCounts (status_of refusal) run.counts.sink run.counts.now_sink status → 2 ≤ status
-  ended-above_one refusal status has (inl (e, rose)) = omega (arith, e)
-  ended-above_one refusal status has (inr (inl e, same)) = omega (arith, e, above-one refusal has)
-  ended-above_one refusal status has (inr (inr e, same)) = omega (arith, e)
+  ended-range : (refusal : Refusal) (status : ℕ) → HasStatus refusal
+      → PrintCounts (status_of refusal) run.counts.sink run.counts.now_sink status → (2 ≤ status) × (status ≤ 7)
+  ended-range refusal status has (inl (e, rose)) = (omega (arith, e), omega (arith, e))
+  ended-range refusal status has (inr (inl e, same)) =
+      (omega (arith, e, status-range refusal has), omega (arith, e, status-range refusal has))
+  ended-range refusal status has (inr (inr e, same)) = (omega (arith, e), omega (arith, e))
+
+  -- so that it is no answer
+  no-answer : EndsByLines c run → (refusal : Refusal) (status : ℕ) → Refuses refusal status → c.MayAnswer status → ⊥
+  no-answer ends refusal status is may =
+      let range = ended-range refusal status is.has_status is.sink in
+      ends.no_answer status may range.0 range.1
 
   line-status : (refusal : Refusal) (status : ℕ) → HasStatus refusal
-      → PrintCounts (status_of refusal) run.counts.sink run.counts.now_sink status → IsStatus (finding M R S asked) status
+      → PrintCounts (status_of refusal) run.counts.sink run.counts.now_sink status → IsStatus c status
   line-status refusal status has (inl (e, rose)) = inr (inr (inl e))
   line-status (Line s line) status has (inr (inl e, same)) = inr (inl (subst IsRefusal (sym e) has))
   line-status Memory status has (inr (inl e, same)) = inr (inr (inr e))
   line-status refusal status has (inr (inr e, same)) = inr (inr (inr e))
 
   -- ---- what it leaves
-  line-refused : (refusal : Refusal) (status : ℕ) → HasStatus refusal → HasCause M R S asked run.texts refusal
+  line-refused : (refusal : Refusal) (status : ℕ) → HasStatus refusal → HasCause (c.Refused run) refusal
       → run.now_written ≡ run.written → Prints (line_of refusal) (status_of refusal) run.printed run.now_printed status
-      → IsRefusal status → EndsRefused (finding M R S asked) run status
+      → IsRefusal status → EndsRefused c run status
   line-refused (Line s line) status has cause nothing (inl (e, put)) is = record {
     line = line.items;
-    refused = subst (λ n. HasCause M R S asked run.texts (Line n line)) (sym e) cause;
+    refused = subst (λ n. HasCause (c.Refused run) (Line n line)) (sym e) cause;
     printed = put;
     nothing_written = nothing;
   }
@@ -65,9 +74,9 @@ module _ (M : Meaning) (R : Refusing) (S : Suspecting) (asked : Asked) (run : Ru
   line-refused refusal status has cause nothing (inr (inl (e, front))) is = absurd (omega (arith, e, refusal-range status is))
   line-refused refusal status has cause nothing (inr (inr (e, same))) is = absurd (omega (arith, e, refusal-range status is))
 
-  line-stops : (refusal : Refusal) (status : ℕ) → HasStatus refusal → HasCause M R S asked run.texts refusal
+  line-stops : (refusal : Refusal) (status : ℕ) → HasStatus refusal → HasCause (c.Refused run) refusal
       → run.now_written ≡ run.written → Prints (line_of refusal) (status_of refusal) run.printed run.now_printed status
-      → Rose run.counts.sink run.counts.now_sink → status ≡ 6 → LineStops M R S asked run
+      → Rose run.counts.sink run.counts.now_sink → status ≡ 6 → LineStops (c.Refused run) run
   line-stops refusal status has cause nothing (inl (e, put)) rose six = absurd (not-six refusal has (sym e ∙ six))
   line-stops (Line s line) status has cause nothing (inr (inl (e, front))) rose six = record {
     line = line.items;
@@ -122,22 +131,20 @@ module _ (M : Meaning) (R : Refusing) (S : Suspecting) (asked : Asked) (run : Ru
   shelf-rose Memory status shelf (inr (inl e, same)) five = absurd (omega (arith, e, five))
   shelf-rose refusal status shelf (inr (inr e, same)) five = absurd (omega (arith, e, five))
 
-  line-causes : (refusal : Refusal) (status : ℕ) → Refuses refusal status → Causes (finding M R S asked) run.counts status
-  line-causes refusal status is =
-      let low = ended-above_one refusal status is.has_status is.sink in
-      record {
-        answer = elim [ inl e ↦ absurd (omega (arith, e, low)) | inr e ↦ absurd (omega (arith, e, low)) ];
-        none = λ small. (
-          shelf-same refusal status is.shelf is.sink small,
-          sink-same refusal status is.sink (λ six. omega (arith, six, small)),
-        );
-        read = λ five. (
-          shelf-rose refusal status is.shelf is.sink five,
-          sink-same refusal status is.sink (λ six. omega (arith, six, five)),
-        );
-        write = λ six. inr (sink-rose refusal status is.has_status is.sink six);
-        memory = λ seven. sink-same refusal status is.sink (λ six. omega (arith, six, seven));
-      }
+  line-causes : EndsByLines c run → (refusal : Refusal) (status : ℕ) → Refuses refusal status → Causes c run.counts status
+  line-causes ends refusal status is = record {
+    answer = λ may. absurd (no-answer ends refusal status is may);
+    none = λ small. (
+      shelf-same refusal status is.shelf is.sink small,
+      sink-same refusal status is.sink (λ six. omega (arith, six, small)),
+    );
+    read = λ five. (
+      shelf-rose refusal status is.shelf is.sink five,
+      sink-same refusal status is.sink (λ six. omega (arith, six, five)),
+    );
+    write = λ six. inr (sink-rose refusal status is.has_status is.sink six);
+    memory = λ seven. sink-same refusal status is.sink (λ six. omega (arith, six, seven));
+  }
 
   -- where no count rises it ends with 7
   line-complete : (refusal : Refusal) (status : ℕ) → IsSpared refusal
@@ -149,21 +156,17 @@ module _ (M : Meaning) (R : Refusing) (S : Suspecting) (asked : Asked) (run : Ru
   line-complete refusal status spared shelf (inr (inr e, same)) none = e
 
   -- ---- all of them
-  pub refused-keeps : (refusal : Refusal) (status : ℕ) → Refuses refusal status → Keeps (finding M R S asked) run status
-  refused-keeps refusal status is =
-      let low = ended-above_one refusal status is.has_status is.sink in
-      record {
-        is_status = line-status refusal status is.has_status is.sink;
-        answered = λ told. elim [ inl e ↦ absurd (omega (arith, e, low)) | inr e ↦ absurd (omega (arith, e, low)) ];
-        refused = λ told. line-refused refusal status is.has_status (is.cause told) is.nothing (is.prints told);
-        stopped = λ told six. (
-          inr (sink-rose refusal status is.has_status is.sink six),
-          inr
-              (line-stops refusal status is.has_status (is.cause told) is.nothing (is.prints told)
-              (sink-rose refusal status is.has_status is.sink six) six),
-        );
-        cut = λ told seven. inr (line-cut refusal status is.has_status is.nothing (is.prints told) seven);
-        others = λ told name may. ap (λ texts. texts name) is.nothing;
-        causes = line-causes refusal status is;
-        complete = λ told ready none. inr (line-complete refusal status (is.spared told ready) is.shelf is.sink none);
-      }
+  pub refused-keeps : EndsByLines c run → (refusal : Refusal) (status : ℕ) → Refuses refusal status → Keeps c run status
+  refused-keeps ends refusal status is = record {
+    is_status = line-status refusal status is.has_status is.sink;
+    answered = λ told may. absurd (no-answer ends refusal status is may);
+    refused = λ told. line-refused refusal status is.has_status (is.cause told) is.nothing (is.prints told);
+    stopped = λ told six.
+        ends.stops (inr (sink-rose refusal status is.has_status is.sink six))
+        (line-stops refusal status is.has_status (is.cause told) is.nothing (is.prints told)
+        (sink-rose refusal status is.has_status is.sink six) six);
+    cut = λ told seven. ends.cut (line-cut refusal status is.has_status is.nothing (is.prints told) seven);
+    others = λ told name may. ap (λ texts. texts name) is.nothing;
+    causes = line-causes ends refusal status is;
+    complete = λ told ready none. inr (line-complete refusal status (is.spared told ready) is.shelf is.sink none);
+  }
