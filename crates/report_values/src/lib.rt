@@ -1,0 +1,2 @@
+//! The values that a report has of a set.
+#![tactic(auto)]
