@@ -1,5 +1,5 @@
 -- What was read, why nothing was, and what the line that says so leaves.
-use Rattle.std.specs.Prelude.{ℕ, ◌≡◌, ◌≢◌, ◌⊎◌, List, ◌++◌, Result, Ok, Err}
+use Rattle.std.specs.Prelude.{ℕ, ◌≡◌, ◌≢◌, ◌<◌, ◌≤◌, ◌^◌, ◌⊎◌, List, ◌++◌, length, Result, Ok, Err}
 use Rattle.io_ports.specs.Faults.{Rose}
 use Rattle.io_ports.specs.Shelf.{AppendsFront}
 use Rattle.command_contract.specs.Contract.{IsRefusal}
@@ -19,6 +19,11 @@ problem_in inputs size = record {
   groups = inputs.groups;
   k = size;
 }
+
+-- there are numbers of 32 bits for their traces and for their design's outputs
+pub record HaveNumbers (inputs : Inputs) : Type 0 where
+  pub traces : length inputs.traces.items ≤ 256
+  pub outputs : length inputs.ordered.design.outputs.items < 2 ^ 32
 
 -- ---- refusals
 -- the status of a refusal with a line is one of a refusal

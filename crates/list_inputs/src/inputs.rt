@@ -10,7 +10,7 @@ ghost use Rattle.debug_core.specs.Problems.{IsProblem, problem_of};
 ghost use Rattle.run_inputs.specs.Loading.{HasTrace};
 ghost use Rattle.run_inputs.specs.Means.{AreKeptOf, IsKeptOf, IsReadOf, MeansDesign, MeanTraces};
 ghost use Rattle.list_inputs.specs.Asked.{AreKnown, IsAsked, asked_of, sources_of};
-ghost use Rattle.list_inputs.specs.Ends.{CountsOf, HasCause, HasStatus, IsSpared, problem_in};
+ghost use Rattle.list_inputs.specs.Ends.{CountsOf, HasCause, HasStatus, HaveNumbers, IsSpared, problem_in};
 ghost use Rattle.list_inputs.specs.Within.{HasTooMany, StopsTraces, digest_text};
 ghost use Rattle.list_inputs.specs.Means.{IsDigestOf, Means, Suspecting};
 ghost use Rattle.list_inputs.specs.Refusals.{IsReady, Refused};
@@ -189,6 +189,7 @@ pub fn read<F: FrontEnd, R: Threads + Sync, G: Gate + Sync, S: Shelf>(
     ensures digest { S.tells shelf.old ≡ true
         → IfOk result (λ i. IsDigestOf (asked_of wanted.now) (S.texts shelf.old) i.digest) }
     ensures problem { IfOk result (λ i. IsProblem (problem_in i wanted.now.size)) }
+    ensures numbers { IfOk result HaveNumbers }
     ensures refused { S.tells shelf.old ≡ true → IfErr result (HasCause (Refused F.means F.refuses
         (joined (λ kind. called kind) (λ kind. lists kind) tools.now.kinds.now) (asked_of wanted.now) (S.texts shelf.old))) }
     ensures only { S.tells shelf.old ≡ true

@@ -8,6 +8,6 @@ mod tools;
 mod wanted;
 
 pub use inputs::{Inputs, read};
-pub use refusal::Refusal;
+pub use refusal::{Refusal, print_line};
 pub use tools::Tools;
 pub use wanted::Wanted;

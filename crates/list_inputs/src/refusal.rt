@@ -1,8 +1,10 @@
 //! Why nothing is listed, and the line that says so.
 ghost use Rattle.std.specs.Prelude.{◌≡◌, ◌+◌, ◌⊎◌, codes, true};
 ghost use Rattle.command_contract.specs.Contract.{IsRefusal};
+ghost use Rattle.refusal_lines.specs.Codes.{code_line, code_status};
 ghost use Rattle.refusal_lines.specs.Refusals.{limit_line};
 ghost use Rattle.run_inputs.specs.Refusals.{design_fault_line, design_fault_status, trace_fault_line, trace_fault_status};
+ghost use Rattle.run_inputs.specs.Refusals.{load_line, load_status};
 ghost use Rattle.list_inputs.specs.Ends.{HasStatus, PrintCounts, Prints, Says, line_of, status_of};
 ghost use Rattle.list_inputs.specs.Refusals.{problem_line, problem_status};
 
@@ -10,7 +12,7 @@ use debug_core::DebugErr;
 use io_ports::{Sink, SinkFault};
 use loc_base::NoMemory;
 use refusal_lines::Code;
-use run_inputs::{DesignFault, TraceFault, TraceName};
+use run_inputs::{DesignFault, LoadFault, TraceFault, TraceName};
 use std::alloc::Global;
 
 /// Why nothing is listed.
@@ -24,7 +26,7 @@ pub enum Refusal {
 
 impl Refusal {
     /// The refusal with a status and a line.
-    fn of(status: u8, line: Vec<u8>) -> Refusal
+    pub fn of(status: u8, line: Vec<u8>) -> Refusal
         requires { IsRefusal status ⊎ (status ≡ 7) }
         ensures says { Says result status line.items }
         ensures status { HasStatus result }
@@ -34,6 +36,26 @@ impl Refusal {
         } else {
             Refusal::Line { status, line }
         }
+    }
+
+    /// The refusal of a code.
+    pub fn of_code(alloc: Global, code: Code) -> Refusal
+        ensures says { Says result (code_status code) (code_line code) }
+        ensures status { HasStatus result }
+    {
+        let mut line = Vec::new(alloc);
+        match code.push(&mut line) {
+            Ok(()) => Refusal::of(code.status(), line),
+            Err(NoMemory) => Refusal::Memory,
+        }
+    }
+
+    /// A text isn't handed over; `name` is that of the text.
+    pub fn of_load(alloc: Global, name: &str, fault: LoadFault) -> Refusal
+        ensures says { Says result (load_status fault) (load_line name.now fault) }
+        ensures status { HasStatus result }
+    {
+        Refusal::of_design(alloc, name, DesignFault::Load(fault))
     }
 
     /// There is no design; `name` is that of its text.
@@ -93,14 +115,14 @@ impl Refusal {
         ensures counts { PrintCounts (status_of self.now) (O.faults out.old) (O.faults out.new) result }
     {
         match self {
-            Refusal::Line { status, line } => print(line, *status, out),
-            Refusal::Memory => print(b"memory\n", 7, out),
+            Refusal::Line { status, line } => print_line(line, *status, out),
+            Refusal::Memory => print_line(b"memory\n", 7, out),
         }
     }
 }
 
-/// Prints a line; the status is that of the whole line.
-fn print<O: Sink>(line: &[u8], status: u8, out: &mut O) -> u8
+/// Prints a line. The status is that of the whole line; where the sink fails it is 6, where memory is wanted 7.
+pub fn print_line<O: Sink>(line: &[u8], status: u8, out: &mut O) -> u8
     ensures text { O.tells out.old ≡ true → Prints line.now status (O.written out.old) (O.written out.new) result }
     ensures counts { PrintCounts status (O.faults out.old) (O.faults out.new) result }
 {

@@ -95,3 +95,10 @@ returns-clause-problem g c =
     (few-traces _ c.in_ok-traces.traces.traces.items c.args.wanted.now.traces.now c.in_ok-traces.ensures.count
     c.requires.asked.traces)
     c.requires.asked.size
+
+pub returns-clause-numbers : goal.returns-clause-numbers
+returns-clause-numbers g c = record {
+  traces = few-traces _ c.in_ok-traces.traces.traces.items c.args.wanted.now.traces.now c.in_ok-traces.ensures.count
+      c.requires.asked.traces;
+  outputs = c.in_ok-read.ensures.ready.outputs;
+}
