@@ -1,8 +1,8 @@
 -- The promises of the command, from how a run ends: by the line of a refusal, or by a listing.
 use Rattle.std.proofs.Common.{ℕ, ◌≡◌, ◌≢◌, ◌≤◌, true, ap, refl, sym, subst, ◌∙◌, arith, inl, inr}
 use Rattle.io_ports.specs.Faults.{Rose}
-use Rattle.command_contract.specs.Contract.{Causes, EndsRefused, IsRefusal, IsStatus, Keeps, OneRose, Run}
-use Rattle.command_contract.proofs.Statuses.{refusal-range}
+use Rattle.command_contract.specs.Contract.{Causes, EndsRefused, IsInputRefusal, IsStatus, Keeps, OneRose, Run}
+use Rattle.command_contract.proofs.Statuses.{input-range, input-refusal}
 use Rattle.front_end.specs.Means.{Meaning, Refusing}
 use Rattle.refusal_lines.specs.Refusals.{memory_line}
 use Rattle.find_sets.specs.declared.refusal.Refusal.{Refusal}
@@ -26,11 +26,11 @@ pub record IsRefused (M : Meaning) (R : Refusing) (S : Suspecting) (asked : Aske
 
 -- the status of a refusal is above 1, and not 6
 above-one : (refusal : Refusal) → HasStatus refusal → 2 ≤ status_of refusal
-above-one (Line s line) has = (refusal-range s has).0
+above-one (Line s line) has = omega (arith, input-range s has)
 above-one Memory has = omega arith
 
 not-six : (refusal : Refusal) → HasStatus refusal → status_of refusal ≢ 6
-not-six (Line s line) has e = omega (arith, e, refusal-range s has)
+not-six (Line s line) has e = omega (arith, e, input-range s has)
 not-six Memory has e = omega (arith, e)
 
 module _ (M : Meaning) (R : Refusing) (S : Suspecting) (asked : Asked) (run : Run) where
@@ -47,23 +47,23 @@ module _ (M : Meaning) (R : Refusing) (S : Suspecting) (asked : Asked) (run : Ru
   line-status : (refusal : Refusal) (status : ℕ) → HasStatus refusal
       → PrintCounts (status_of refusal) run.counts.sink run.counts.now_sink status → IsStatus (finding M R S asked) status
   line-status refusal status has (inl (e, rose)) = inr (inr (inl e))
-  line-status (Line s line) status has (inr (inl e, same)) = inr (inl (subst IsRefusal (sym e) has))
+  line-status (Line s line) status has (inr (inl e, same)) = inr (inl (subst IsInputRefusal (sym e) has))
   line-status Memory status has (inr (inl e, same)) = inr (inr (inr e))
   line-status refusal status has (inr (inr e, same)) = inr (inr (inr e))
 
   -- ---- what it leaves
   line-refused : (refusal : Refusal) (status : ℕ) → HasStatus refusal → HasCause M R S asked run.texts refusal
       → run.now_written ≡ run.written → Prints (line_of refusal) (status_of refusal) run.printed run.now_printed status
-      → IsRefusal status → EndsRefused (finding M R S asked) run status
+      → IsInputRefusal status → EndsRefused (finding M R S asked) run status
   line-refused (Line s line) status has cause nothing (inl (e, put)) is = record {
     line = line.items;
     refused = subst (λ n. HasCause M R S asked run.texts (Line n line)) (sym e) cause;
     printed = put;
-    nothing_written = nothing;
+    stands = nothing;
   }
-  line-refused Memory status has cause nothing (inl (e, put)) is = absurd (omega (arith, e, refusal-range status is))
-  line-refused refusal status has cause nothing (inr (inl (e, front))) is = absurd (omega (arith, e, refusal-range status is))
-  line-refused refusal status has cause nothing (inr (inr (e, same))) is = absurd (omega (arith, e, refusal-range status is))
+  line-refused Memory status has cause nothing (inl (e, put)) is = absurd (omega (arith, e, input-range status is))
+  line-refused refusal status has cause nothing (inr (inl (e, front))) is = absurd (omega (arith, e, input-range status is))
+  line-refused refusal status has cause nothing (inr (inr (e, same))) is = absurd (omega (arith, e, input-range status is))
 
   line-stops : (refusal : Refusal) (status : ℕ) → HasStatus refusal → HasCause M R S asked run.texts refusal
       → run.now_written ≡ run.written → Prints (line_of refusal) (status_of refusal) run.printed run.now_printed status
@@ -87,7 +87,7 @@ module _ (M : Meaning) (R : Refusing) (S : Suspecting) (asked : Asked) (run : Ru
 
   line-cut : (refusal : Refusal) (status : ℕ) → HasStatus refusal → run.now_written ≡ run.written
       → Prints (line_of refusal) (status_of refusal) run.printed run.now_printed status → status ≡ 7 → LineCut run
-  line-cut (Line s line) status has nothing (inl (e, put)) seven = absurd (omega (arith, e, seven, refusal-range s has))
+  line-cut (Line s line) status has nothing (inl (e, put)) seven = absurd (omega (arith, e, seven, input-range s has))
   line-cut Memory status has nothing (inl (e, put)) seven = record { printed = inr put; nothing_written = nothing }
   line-cut refusal status has nothing (inr (inl (e, front))) seven = absurd (omega (arith, e, seven))
   line-cut refusal status has nothing (inr (inr (e, same))) seven = record { printed = inl same; nothing_written = nothing }
@@ -154,6 +154,7 @@ module _ (M : Meaning) (R : Refusing) (S : Suspecting) (asked : Asked) (run : Ru
       let low = ended-above_one refusal status is.has_status is.sink in
       record {
         is_status = line-status refusal status is.has_status is.sink;
+        refusals = input-refusal;
         answered = λ told. elim [ inl e ↦ absurd (omega (arith, e, low)) | inr e ↦ absurd (omega (arith, e, low)) ];
         refused = λ told. line-refused refusal status is.has_status (is.cause told) is.nothing (is.prints told);
         stopped = λ told six. (

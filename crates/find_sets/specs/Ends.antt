@@ -7,7 +7,7 @@ use Rattle.loc_base.specs.declared.digest.Digest.{Digest}
 use Rattle.run_digest.specs.Inputs.{joined, line, trace_line}
 use Rattle.io_ports.specs.Faults.{Rose}
 use Rattle.io_ports.specs.Shelf.{AppendsFront}
-use Rattle.command_contract.specs.Contract.{IsRefusal, Texts}
+use Rattle.command_contract.specs.Contract.{IsInputRefusal, Texts}
 use Rattle.design_core.specs.declared.design.Design.{Design}
 use Rattle.front_end.specs.Means.{Meaning, Refusing}
 use Rattle.refusal_lines.specs.Refusals.{limit_line, memory_line}
@@ -47,7 +47,7 @@ digest_text asked design traces =
 -- ---- refusals
 -- the status of a refusal with a line is one of a refusal
 abbrev pub HasStatus : Refusal → Type 0
-HasStatus (Line status line) = IsRefusal status
+HasStatus (Line status line) = IsInputRefusal status
 HasStatus Memory = Unit {0}
 
 -- it says a line, with a status; at want of memory it says nothing of them

@@ -8,7 +8,7 @@ use Rattle.loc_base.specs.declared.digest.Digest.{Digest}
 use Rattle.design_core.specs.declared.design.Design.{Design}
 use Rattle.design_core.specs.declared.trace.Trace.{Trace}
 use Rattle.refusal_lines.specs.Refusals.{memory_line}
-use Rattle.command_contract.specs.Contract.{Case, NoneRose, OneRose, Run, Texts}
+use Rattle.command_contract.specs.Contract.{Case, IsInputRefusal, NoneRose, NothingWritten, OneRose, Run, Texts}
 use Rattle.front_end.specs.Means.{Meaning, Refusing}
 use Rattle.run_inputs.specs.Means.{MeansDesign, MeansTrace}
 use Rattle.write_order.specs.Writes.{Outputs}
@@ -76,8 +76,10 @@ pub record IsReady (M : Meaning) (S : Suspecting) (asked : Asked) (texts : Texts
 abbrev pub finding : Meaning → Refusing → Suspecting → Asked → Case
 finding M R S asked = record {
   MayAnswer = λ status. (status ≡ 0) ⊎ (status ≡ 1);
+  MayRefuse = IsInputRefusal;
   Answered = λ run status. OfInputs M S asked run.texts (λ listing. IsListed listing (outputs_of run) status);
   Refused = λ run. Refused M R S asked run.texts;
+  Stands = NothingWritten;
   Stopped = λ run. OneRose run.counts
       × (OfInputs M S asked run.texts (λ listing. IsStopped listing (outputs_of run)) ⊎ LineStops M R S asked run);
   Cut = λ run. (NoneRose run.counts × OfInputs M S asked run.texts (λ listing. IsCut listing (outputs_of run))) ⊎ LineCut run;

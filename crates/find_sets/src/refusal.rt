@@ -1,6 +1,6 @@
 //! Why nothing is listed, and the line that says so.
 ghost use Rattle.std.specs.Prelude.{◌≡◌, ◌+◌, ◌⊎◌, codes, true};
-ghost use Rattle.command_contract.specs.Contract.{IsRefusal};
+ghost use Rattle.command_contract.specs.Contract.{IsInputRefusal};
 ghost use Rattle.refusal_lines.specs.Refusals.{limit_line};
 ghost use Rattle.run_inputs.specs.Refusals.{design_fault_line, design_fault_status, trace_fault_line, trace_fault_status};
 ghost use Rattle.find_sets.specs.Ends.{HasStatus, PrintCounts, Prints, Says, line_of, status_of};
@@ -25,7 +25,7 @@ pub(crate) enum Refusal {
 impl Refusal {
     /// The refusal with a status and a line.
     fn of(status: u8, line: Vec<u8>) -> Refusal
-        requires { IsRefusal status ⊎ (status ≡ 7) }
+        requires { IsInputRefusal status ⊎ (status ≡ 7) }
         ensures says { Says result status line.items }
         ensures status { HasStatus result }
     {
