@@ -1,7 +1,7 @@
 -- The promises of the command, from how a listing ends.
 use Rattle.std.proofs.Common.{ℕ, ◌≡◌, ◌≢◌, ◌≤◌, true, List, ap, refl, sym, subst, ◌∙◌, arith, ◌⊎◌, inl, inr}
-use Rattle.command_contract.specs.Contract.{Causes, IsRefusal, IsStatus, Keeps, NoneRose, OneRose, Run, Texts, counts_of}
-use Rattle.command_contract.proofs.Statuses.{refusal-range}
+use Rattle.command_contract.specs.Contract.{Causes, IsInputRefusal, IsStatus, Keeps, NoneRose, OneRose, Run, Texts, counts_of}
+use Rattle.command_contract.proofs.Statuses.{input-range, input-refusal}
 use Rattle.loc_base.specs.declared.digest.Digest.{Digest}
 use Rattle.front_end.specs.Means.{Meaning, Refusing}
 use Rattle.debug_core.specs.Problems.{Problem}
@@ -48,10 +48,10 @@ module _ (M : Meaning) (R : Refusing) (S : Suspecting) (asked : Asked) (run : Ru
   list-status Memory = inr (inr (inr refl))
 
   -- no outcome is a refusal
-  no-refusal : (o : Outcome) → IsRefusal (status_of o) → ⊥
-  no-refusal (Ended ending) is = omega (arith, refusal-range _ is, at-most-one _ (ending-range ending))
-  no-refusal Failed is = omega (arith, refusal-range _ is)
-  no-refusal Memory is = omega (arith, refusal-range _ is)
+  no-refusal : (o : Outcome) → IsInputRefusal (status_of o) → ⊥
+  no-refusal (Ended ending) is = omega (arith, input-range _ is, at-most-one _ (ending-range ending))
+  no-refusal Failed is = omega (arith, input-range _ is)
+  no-refusal Memory is = omega (arith, input-range _ is)
 
   list-causes : (o : Outcome)
       → OutcomeCause run.counts o
@@ -125,6 +125,7 @@ module _ (M : Meaning) (R : Refusing) (S : Suspecting) (asked : Asked) (run : Ru
   pub listed-keeps : (o : Outcome) → Is o → Keeps (finding M R S asked) run (status_of o)
   listed-keeps o is = record {
     is_status = list-status o;
+    refusals = input-refusal;
     answered = λ told. list-answered o (is.means told) (is.digest told) (is.leaves told);
     refused = λ told refusal. absurd (no-refusal o refusal);
     stopped = λ told six. (

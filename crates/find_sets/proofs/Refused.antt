@@ -22,6 +22,9 @@ low-answer s (inr e) least = omega (arith, e, least)
 pub ends-by_lines : (M : Meaning) (R : Refusing) (S : Suspecting) (asked : Asked) (run : Run) → EndsByLines (finding M R S asked) run
 ends-by_lines M R S asked run = record {
   no_answer = λ s may least most. low-answer s may least;
+  may_refuse = λ s is. is;
+  refuses = λ s is. is;
+  stands = λ nothing. nothing;
   stops = λ rose stops. (rose, inr stops);
   cut = λ cut. inr cut;
 }

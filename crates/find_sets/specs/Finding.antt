@@ -3,7 +3,7 @@
 -- it is whole and the log is accepted and closing.
 use Rattle.std.specs.Prelude.{ℕ, ◌≡◌, ◌⊎◌, List}
 use Rattle.loc_base.specs.declared.digest.Digest.{Digest}
-use Rattle.command_contract.specs.Contract.{Case, NoneRose, OneRose, Run, Texts}
+use Rattle.command_contract.specs.Contract.{Case, IsInputRefusal, NoneRose, NothingWritten, OneRose, Run, Texts}
 use Rattle.front_end.specs.Means.{Meaning, Refusing}
 use Rattle.write_order.specs.Writes.{Outputs}
 use Rattle.debug_core.specs.Problems.{Problem}
@@ -45,8 +45,10 @@ pub record OfInputs (M : Meaning) (S : Suspecting) (asked : Asked) (texts : Text
 abbrev pub finding : Meaning → Refusing → Suspecting → Asked → Case
 finding M R S asked = record {
   MayAnswer = λ status. (status ≡ 0) ⊎ (status ≡ 1);
+  MayRefuse = IsInputRefusal;
   Answered = λ run status. OfInputs M S asked run.texts (λ listing. IsListed listing (outputs_of run) status);
   Refused = λ run. Refused M R S (wanted_of asked) run.texts;
+  Stands = NothingWritten;
   Stopped = λ run. OneRose run.counts
       × (OfInputs M S asked run.texts (λ listing. IsStopped listing (outputs_of run)) ⊎ LineStops (Refused M R S (wanted_of asked) run.texts) run);
   Cut = λ run. (NoneRose run.counts × OfInputs M S asked run.texts (λ listing. IsCut listing (outputs_of run))) ⊎ LineCut run;

@@ -1,7 +1,7 @@
 -- Why nothing is listed: from the fault of a text, of the number of suspects or of the form to the refusal that says so.
 use Rattle.std.proofs.Common.{ℕ, ◌+◌, ◌≡◌, ◌<◌, ◌≤◌, List, length, refl, sym, subst, ◌∙◌, arith, Some, ◌⊎◌, inl, inr}
 use Rattle.command_contract.specs.Contract.{Texts}
-use Rattle.command_contract.proofs.Statuses.{refusal-range}
+use Rattle.command_contract.proofs.Statuses.{input-range}
 use Rattle.design_core.specs.declared.design.Design.{Design}
 use Rattle.design_core.specs.declared.place.Place.{Place}
 use Rattle.suspect_map.specs.declared.group.Group.{Group}
@@ -34,7 +34,7 @@ said M R S asked texts Memory status line refused says = tt
 -- a refusal that says a fault of the shelf, or want of memory
 spared : (r : Refusal) (status : ℕ) (line : List ℕ) → HasStatus r → Says r status line → (status ≡ 5) ⊎ (status ≡ 7) → IsSpared r
 spared (Line s l) status line has (e, f) (inl five) = e ∙ five
-spared (Line s l) status line has (e, f) (inr seven) = absurd (omega (arith, e, seven, refusal-range s has))
+spared (Line s l) status line has (e, f) (inr seven) = absurd (omega (arith, e, seven, input-range s has))
 spared Memory status line has says which = tt
 
 -- ---- the design

@@ -1,18 +1,21 @@
 -- The promises of a command, where a run of it ends by the line of a refusal.
 use Rattle.std.proofs.Common.{ℕ, ◌≡◌, ◌≢◌, ◌≤◌, true, List, ap, refl, sym, subst, ◌∙◌, arith, inl, inr}
 use Rattle.io_ports.specs.Faults.{Rose}
-use Rattle.command_contract.specs.Contract.{Case, Causes, EndsRefused, IsRefusal, IsStatus, Keeps, OneRose, Run}
-use Rattle.command_contract.proofs.Statuses.{refusal-range}
+use Rattle.command_contract.specs.Contract.{Case, Causes, EndsRefused, IsInputRefusal, IsStatus, Keeps, NothingWritten, OneRose, Run}
+use Rattle.command_contract.proofs.Statuses.{input-range, input-refusal}
 use Rattle.refusal_lines.specs.Refusals.{memory_line}
 use Rattle.list_inputs.specs.declared.refusal.Refusal.{Refusal}
 use Rattle.list_inputs.specs.declared.refusal.Refusal.TheVariants.{Line, Memory}
 use Rattle.list_inputs.specs.Ends.{HasCause, HasStatus, IsSpared, PrintCounts, Prints, RefusalCounts, line_of, status_of}
 use Rattle.list_inputs.specs.Lines.{LineCut, LineStops}
 
--- a case that such a run may be of: no answer has a status of 2 to 7, and it says of a run that a line stops, and of one that is cut
--- there, no more than these
+-- a case that such a run may be of: no answer has a status of 2 to 7, its refusals are those of inputs, and it says of a run that is
+-- refused, of one that a line stops, and of one that is cut there, no more than these
 pub record EndsByLines (c : Case) (run : Run) : Type 0 where
   pub no_answer : (s : ℕ) → c.MayAnswer s → 2 ≤ s → s ≤ 7 → ⊥
+  pub may_refuse : (s : ℕ) → IsInputRefusal s → c.MayRefuse s
+  pub refuses : (s : ℕ) → c.MayRefuse s → IsInputRefusal s
+  pub stands : NothingWritten run → c.Stands run
   pub stops : OneRose run.counts → LineStops (c.Refused run) run → c.Stopped run
   pub cut : LineCut run → c.Cut run
 
@@ -28,11 +31,11 @@ pub record IsRefused (c : Case) (run : Run) (refusal : Refusal) (status : ℕ) :
 
 -- the status of a refusal is 2 to 7, and not 6
 status-range : (refusal : Refusal) → HasStatus refusal → (2 ≤ status_of refusal) × (status_of refusal ≤ 7)
-status-range (Line s line) has = ((refusal-range s has).0, omega (arith, refusal-range s has))
+status-range (Line s line) has = (omega (arith, input-range s has), omega (arith, input-range s has))
 status-range Memory has = (omega arith, omega arith)
 
 not-six : (refusal : Refusal) → HasStatus refusal → status_of refusal ≢ 6
-not-six (Line s line) has e = omega (arith, e, refusal-range s has)
+not-six (Line s line) has e = omega (arith, e, input-range s has)
 not-six Memory has e = omega (arith, e)
 
 module _ (c : Case) (run : Run) where
@@ -53,26 +56,27 @@ module _ (c : Case) (run : Run) where
       let range = ended-range refusal status is.has_status is.sink in
       ends.no_answer status may range.0 range.1
 
-  line-status : (refusal : Refusal) (status : ℕ) → HasStatus refusal
+  line-status : EndsByLines c run → (refusal : Refusal) (status : ℕ) → HasStatus refusal
       → PrintCounts (status_of refusal) run.counts.sink run.counts.now_sink status → IsStatus c status
-  line-status refusal status has (inl (e, rose)) = inr (inr (inl e))
-  line-status (Line s line) status has (inr (inl e, same)) = inr (inl (subst IsRefusal (sym e) has))
-  line-status Memory status has (inr (inl e, same)) = inr (inr (inr e))
-  line-status refusal status has (inr (inr e, same)) = inr (inr (inr e))
+  line-status ends refusal status has (inl (e, rose)) = inr (inr (inl e))
+  line-status ends (Line s line) status has (inr (inl e, same)) =
+      inr (inl (ends.may_refuse status (subst IsInputRefusal (sym e) has)))
+  line-status ends Memory status has (inr (inl e, same)) = inr (inr (inr e))
+  line-status ends refusal status has (inr (inr e, same)) = inr (inr (inr e))
 
   -- ---- what it leaves
-  line-refused : (refusal : Refusal) (status : ℕ) → HasStatus refusal → HasCause (c.Refused run) refusal
+  line-refused : EndsByLines c run → (refusal : Refusal) (status : ℕ) → HasStatus refusal → HasCause (c.Refused run) refusal
       → run.now_written ≡ run.written → Prints (line_of refusal) (status_of refusal) run.printed run.now_printed status
-      → IsRefusal status → EndsRefused c run status
-  line-refused (Line s line) status has cause nothing (inl (e, put)) is = record {
+      → IsInputRefusal status → EndsRefused c run status
+  line-refused ends (Line s line) status has cause nothing (inl (e, put)) is = record {
     line = line.items;
     refused = subst (λ n. HasCause (c.Refused run) (Line n line)) (sym e) cause;
     printed = put;
-    nothing_written = nothing;
+    stands = ends.stands nothing;
   }
-  line-refused Memory status has cause nothing (inl (e, put)) is = absurd (omega (arith, e, refusal-range status is))
-  line-refused refusal status has cause nothing (inr (inl (e, front))) is = absurd (omega (arith, e, refusal-range status is))
-  line-refused refusal status has cause nothing (inr (inr (e, same))) is = absurd (omega (arith, e, refusal-range status is))
+  line-refused ends Memory status has cause nothing (inl (e, put)) is = absurd (omega (arith, e, input-range status is))
+  line-refused ends refusal status has cause nothing (inr (inl (e, front))) is = absurd (omega (arith, e, input-range status is))
+  line-refused ends refusal status has cause nothing (inr (inr (e, same))) is = absurd (omega (arith, e, input-range status is))
 
   line-stops : (refusal : Refusal) (status : ℕ) → HasStatus refusal → HasCause (c.Refused run) refusal
       → run.now_written ≡ run.written → Prints (line_of refusal) (status_of refusal) run.printed run.now_printed status
@@ -96,7 +100,7 @@ module _ (c : Case) (run : Run) where
 
   line-cut : (refusal : Refusal) (status : ℕ) → HasStatus refusal → run.now_written ≡ run.written
       → Prints (line_of refusal) (status_of refusal) run.printed run.now_printed status → status ≡ 7 → LineCut run
-  line-cut (Line s line) status has nothing (inl (e, put)) seven = absurd (omega (arith, e, seven, refusal-range s has))
+  line-cut (Line s line) status has nothing (inl (e, put)) seven = absurd (omega (arith, e, seven, input-range s has))
   line-cut Memory status has nothing (inl (e, put)) seven = record { printed = inr put; nothing_written = nothing }
   line-cut refusal status has nothing (inr (inl (e, front))) seven = absurd (omega (arith, e, seven))
   line-cut refusal status has nothing (inr (inr (e, same))) seven = record { printed = inl same; nothing_written = nothing }
@@ -158,9 +162,11 @@ module _ (c : Case) (run : Run) where
   -- ---- all of them
   pub refused-keeps : EndsByLines c run → (refusal : Refusal) (status : ℕ) → Refuses refusal status → Keeps c run status
   refused-keeps ends refusal status is = record {
-    is_status = line-status refusal status is.has_status is.sink;
+    is_status = line-status ends refusal status is.has_status is.sink;
+    refusals = λ s may. input-refusal s (ends.refuses s may);
     answered = λ told may. absurd (no-answer ends refusal status is may);
-    refused = λ told. line-refused refusal status is.has_status (is.cause told) is.nothing (is.prints told);
+    refused = λ told may.
+        line-refused ends refusal status is.has_status (is.cause told) is.nothing (is.prints told) (ends.refuses status may);
     stopped = λ told six.
         ends.stops (inr (sink-rose refusal status is.has_status is.sink six))
         (line-stops refusal status is.has_status (is.cause told) is.nothing (is.prints told)

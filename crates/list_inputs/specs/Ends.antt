@@ -2,7 +2,7 @@
 use Rattle.std.specs.Prelude.{ℕ, ◌≡◌, ◌≢◌, ◌<◌, ◌≤◌, ◌^◌, ◌⊎◌, List, ◌++◌, length, Result, Ok, Err}
 use Rattle.io_ports.specs.Faults.{Rose}
 use Rattle.io_ports.specs.Shelf.{AppendsFront}
-use Rattle.command_contract.specs.Contract.{IsRefusal}
+use Rattle.command_contract.specs.Contract.{IsInputRefusal}
 use Rattle.refusal_lines.specs.Refusals.{memory_line}
 use Rattle.debug_core.specs.Problems.{Problem}
 use Rattle.list_inputs.specs.declared.refusal.Refusal.{Refusal}
@@ -28,7 +28,7 @@ pub record HaveNumbers (inputs : Inputs) : Type 0 where
 -- ---- refusals
 -- the status of a refusal with a line is one of a refusal
 abbrev pub HasStatus : Refusal → Type 0
-HasStatus (Line status line) = IsRefusal status
+HasStatus (Line status line) = IsInputRefusal status
 HasStatus Memory = Unit {0}
 
 -- it says a line, with a status; at want of memory it says nothing of them

@@ -1,6 +1,6 @@
 //! Why nothing is listed, and the line that says so.
-ghost use Rattle.std.specs.Prelude.{◌≡◌, ◌+◌, ◌⊎◌, codes, true};
-ghost use Rattle.command_contract.specs.Contract.{IsRefusal};
+ghost use Rattle.std.specs.Prelude.{◌≡◌, ◌+◌, ◌⊎◌, ℕ, List, IfOk, codes, true};
+ghost use Rattle.command_contract.specs.Contract.{IsInputRefusal};
 ghost use Rattle.refusal_lines.specs.Codes.{code_line, code_status};
 ghost use Rattle.refusal_lines.specs.Refusals.{limit_line};
 ghost use Rattle.run_inputs.specs.Refusals.{design_fault_line, design_fault_status, trace_fault_line, trace_fault_status};
@@ -27,7 +27,7 @@ pub enum Refusal {
 impl Refusal {
     /// The refusal with a status and a line.
     pub fn of(status: u8, line: Vec<u8>) -> Refusal
-        requires { IsRefusal status ⊎ (status ≡ 7) }
+        requires { IsInputRefusal status ⊎ (status ≡ 7) }
         ensures says { Says result status line.items }
         ensures status { HasStatus result }
     {
@@ -35,6 +35,18 @@ impl Refusal {
             Refusal::Memory
         } else {
             Refusal::Line { status, line }
+        }
+    }
+
+    /// The refusal with a status and a line that was made, or none where memory was wanted for it.
+    pub fn of_made(status: u8, made: Result<Vec<u8>, NoMemory>) -> Refusal
+        requires { IsInputRefusal status ⊎ (status ≡ 7) }
+        ensures says { (text : List ℕ) → IfOk made (λ line. line.items ≡ text) → Says result status text }
+        ensures status { HasStatus result }
+    {
+        match made {
+            Ok(line) => Refusal::of(status, line),
+            Err(NoMemory) => Refusal::Memory,
         }
     }
 
