@@ -45,22 +45,22 @@ pub record IsFirstOutOfOrder (c : Claim) (number : ℕ) : Type 0 where
 
 -- ---- no set holds another
 -- each member of the set of the other number is one of the first's
-pub record Holds (c : Claim) (number other : ℕ) : Type 0 where
+pub record Holds (sets : List ReportSet) (number other : ℕ) : Type 0 where
   pub set : ReportSet
-  pub is_set : IsSetAt c.sets number set
+  pub is_set : IsSetAt sets number set
   pub inner : ReportSet
-  pub is_inner : IsSetAt c.sets other inner
+  pub is_inner : IsSetAt sets other inner
   pub apart : other ≢ number
   pub within : IsWithin inner.members set.members
 
-abbrev pub NoneHolds : Claim → Type 0
-NoneHolds c = (number other : ℕ) → ¬ Holds c number other
+abbrev pub NoneHolds : List ReportSet → Type 0
+NoneHolds sets = (number other : ℕ) → ¬ Holds sets number other
 
 -- the first set that holds another, and the first that it holds
-pub record IsFirstToHold (c : Claim) (number other : ℕ) : Type 0 where
-  pub holds : Holds c number other
-  pub first : (n o : ℕ) → n < number → ¬ Holds c n o
-  pub first_held : (o : ℕ) → o < other → ¬ Holds c number o
+pub record IsFirstToHold (sets : List ReportSet) (number other : ℕ) : Type 0 where
+  pub holds : Holds sets number other
+  pub first : (n o : ℕ) → n < number → ¬ Holds sets n o
+  pub first_held : (o : ℕ) → o < other → ¬ Holds sets number o
 
 -- ---- each set makes the traces right
 -- with the values that its texts say each trace is right

@@ -13,7 +13,7 @@ use Rattle.list_verdict.specs.Conditions.{AreInOrder, AreRight, Closes, IsAccept
 -- the list is whole by its log: all five conditions hold
 pub record IsWhole (c : Claim) : Type 0 where
   pub in_order : AreInOrder c
-  pub none_holds : NoneHolds c
+  pub none_holds : NoneHolds c.sets
   pub right : AreRight c
   pub accepted : IsAcceptedLog c
   pub closes : Closes c
@@ -22,10 +22,10 @@ pub record IsWhole (c : Claim) : Type 0 where
 abbrev pub IsVerdict : Claim → Verdict → Type 0
 IsVerdict c verdict.Whole = IsWhole c
 IsVerdict c (verdict.Order set) = IsFirstOutOfOrder c set
-IsVerdict c (verdict.Contains set other) = AreInOrder c × IsFirstToHold c set other
-IsVerdict c (verdict.Replay set miss) = AreInOrder c × NoneHolds c × IsFirstToMiss c set miss
-IsVerdict c (verdict.Step number) = AreInOrder c × NoneHolds c × AreRight c × IsFirstRefusedStep c number
-IsVerdict c verdict.Open = AreInOrder c × NoneHolds c × AreRight c × IsAcceptedLog c × ¬ Closes c
+IsVerdict c (verdict.Contains set other) = AreInOrder c × IsFirstToHold c.sets set other
+IsVerdict c (verdict.Replay set miss) = AreInOrder c × NoneHolds c.sets × IsFirstToMiss c set miss
+IsVerdict c (verdict.Step number) = AreInOrder c × NoneHolds c.sets × AreRight c × IsFirstRefusedStep c number
+IsVerdict c verdict.Open = AreInOrder c × NoneHolds c.sets × AreRight c × IsAcceptedLog c × ¬ Closes c
 
 -- the members of each set
 abbrev pub members_of : List ReportSet → List (List ℕ)
@@ -41,3 +41,13 @@ pub record IsExplained (c : Claim) (set : ReportSet) : Type 0 where
 pub record IsWholeList (c : Claim) : Type 0 where
   pub list : IsListOf c.problem (members_of c.sets)
   pub explained : All (IsExplained c) c.sets
+
+-- a list with its form's number of variables
+pub record Judged : Type 0 where
+  pub claim : Claim
+  pub vars : ℕ
+
+-- a list with an answer
+pub record Answered : Type 0 where
+  pub claim : Claim
+  pub verdict : Verdict
