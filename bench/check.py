@@ -62,6 +62,9 @@ def row_of(program, name, top, files, words, runs, room):
     """Measures one list, prints its row, and says whether the answers are right."""
     design, dump = files
     printed, found, _, _ = measured([program, *words], room)
+    if not all(os.path.exists(os.path.join(room, file)) for file in ("localise.log", "localise.json", *files)):
+        print("%s: no list was made: %r" % (name, last_line(printed)))
+        return False
     ending = [line for line in printed.split("\n") if line.startswith(("complete", "front"))][-1:] or [last_line(printed)]
     check = [program, "check", design, top, "localise.json", "localise.log", dump]
     one, alone, _, memory = least(check + ["--workers", "1"], room, runs)
