@@ -59,9 +59,10 @@ pub values-say : (c : Claim) (can : IsProblem c.problem) (found : List SetWithVa
     → IfOk r (λ answer. IsSimulable c.problem.design c.problem.order → FirstToMiss c.problem.design c.problem.traces found 0 (length found) answer)
     → IfOk r (ValuesSay c)
 values-say c can found are (Ok None) says = all-right c can found are (says (simulable c.problem can))
-values-say c can found are (Ok (Some (place, miss))) says =
-    (miss-within c can found are place miss (says (simulable c.problem can)),
-    first-misses c can found are place (place + 1) miss (says (simulable c.problem can)) refl)
+values-say c can found are (Ok (Some (place, miss))) says = (
+  miss-within c can found are place miss (says (simulable c.problem can)),
+  first-misses c can found are place (place + 1) miss (says (simulable c.problem can)) refl,
+)
 values-say c can found are (Err e) says = tt
 
 -- ---- the answers
@@ -115,8 +116,12 @@ replay-of c (Some (p, m)) place set miss is says next in_order none =
     let one : ℕ × Miss = (p, m) in
     let other : ℕ × Miss = (place, miss) in
     record {
-      verdict_is = (in_order, none, subst (λ n. IsFirstToMiss c n miss) (sym next)
-          (subst (λ (x : ℕ × Miss). IsFirstToMiss c (x.0 + 1) x.1) (some-same one other is) says.1));
+      verdict_is = (
+        in_order,
+        none,
+        subst (λ n. IsFirstToMiss c n miss) (sym next)
+            (subst (λ (x : ℕ × Miss). IsFirstToMiss c (x.0 + 1) x.1) (some-same one other is) says.1),
+      );
       list = replay-if c set miss;
     }
 
