@@ -76,3 +76,5 @@ module _ (p : Problem) (made : Form) (can : IsProblem p) (form : IsFormFor p mad
 
 pub suspects-long : (p : Problem) → length (suspects_of p) ≡ suspect_count p
 suspects-long p = length-map p.groups (λ (group : Group). group.places)
+
+pub ruleset form_rules = (bound-fits, few-suspects)

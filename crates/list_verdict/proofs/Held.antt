@@ -44,20 +44,19 @@ within-more sets outer place set there other before i inner low at = by (cases_l
 pub held-first : (sets : List ReportSet) (place other : ℕ) (set inner : ReportSet) → slice_get sets place ≡ Some set
     → slice_get sets other ≡ Some inner → other < place → IsWithin inner.members set.members → NoneWithin sets set.members other
     → FirstHeld sets place (Some other)
-held-first sets place other set inner here there less within none =
-    (
-      record {
-        set = set;
-        is_set = set-at sets place set here;
-        inner = inner;
-        is_inner = set-at sets other inner there;
-        apart = λ same. omega (arith, same, less);
-        within = within;
-      },
-      λ o low holds. none (o - 1) holds.inner (omega (arith, low, holds.is_inner.counted)) holds.is_inner.is
-          (subst (λ (s : ReportSet). IsWithin holds.inner.members s.members)
-          (got-same sets (place + 1 - 1) place holds.set set holds.is_set.is here (omega arith)) holds.within),
-    )
+held-first sets place other set inner here there less within none = (
+  record {
+    set = set;
+    is_set = set-at sets place set here;
+    inner = inner;
+    is_inner = set-at sets other inner there;
+    apart = λ same. omega (arith, same, less);
+    within = within;
+  },
+  λ o low holds. none (o - 1) holds.inner (omega (arith, low, holds.is_inner.counted)) holds.is_inner.is
+      (subst (λ (s : ReportSet). IsWithin holds.inner.members s.members)
+      (got-same sets (place + 1 - 1) place holds.set set holds.is_set.is here (omega arith)) holds.within),
+)
 
 -- where none before it is within it, it holds none
 pub held-none : (sets : List ReportSet) (place : ℕ) (set : ReportSet) → AreAscending sets → slice_get sets place ≡ Some set

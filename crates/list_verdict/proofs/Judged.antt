@@ -1,7 +1,10 @@
 -- From the conditions to the answers.
 use Rattle.std.proofs.Common.{◌≡◌, ◌⊎◌, inl, inr, ℕ, ◌+◌, ◌-◌, ◌<◌, ◌≤◌, List, length, get_or, map, Some, refl, sym, ap, ◌∙◌, subst, arith}
-use Rattle.std.specs.Prelude.{All, Err, IfOk, IfSome, IsNone, None, Ok, Option, Result, slice_get, ◌↔◌}
+use Rattle.std.specs.Prelude.{All, Err, IfOk, IfSome, IsNone, None, Ok, Option, Vec, Result, slice_get, ◌↔◌}
+use Rattle.std.specs.declared.alloc.Global.{Global}
 use Rattle.loc_base.specs.declared.memory.NoMemory.{NoMemory}
+use Rattle.list_verdict.specs.declared.order.Order.{Order}
+use Rattle.list_verdict.specs.declared.order.Order.TheVariants as order
 use Rattle.design_core.specs.declared.values.SetWithValues.{SetWithValues}
 use Rattle.proof_check.specs.declared.claim.BadStep.{BadStep}
 use Rattle.std.proofs.lemmas.List.Elements.{All-map}
@@ -22,8 +25,9 @@ use Rattle.design_core.proofs.RunLaws.{run-unique}
 use Rattle.list_verdict.specs.declared.verdict.Verdict.{Verdict}
 use Rattle.list_verdict.specs.declared.verdict.Verdict.TheVariants as verdict
 use Rattle.list_verdict.specs.Claims.{Claim}
-use Rattle.list_verdict.specs.Conditions.{AreInOrder, AreRight, Closes, IsAcceptedLog, IsFirstRefusedStep, IsFirstToHold, IsFirstToMiss, NoneHolds, blocks_for}
-use Rattle.list_verdict.specs.Judging.{AreFound, Judges, LogSays, ValuesSay}
+use Rattle.list_verdict.specs.Conditions.{AreInOrder, AreRight, Closes, IsAcceptedLog, IsFirstOutOfOrder, IsFirstRefusedStep, IsFirstToMiss, NoneHolds, blocks_for}
+use Rattle.list_verdict.specs.Judging.{AreFound, FirstToHold, Judges, LogSays, Orders, ValuesSay}
+use Rattle.list_verdict.specs.declared.holding.Holding.{Holding}
 use Rattle.list_verdict.specs.Verdicts.{IsVerdict, IsWhole, IsWholeListIf}
 use Rattle.list_verdict.proofs.Asked.{simulable, suspects-long}
 use Rattle.list_verdict.proofs.Logs.{block-within}
@@ -46,7 +50,7 @@ pub log-says : (c : Claim) (blocks : List (List Lit)) (r : Result (Option BadSte
     → IfOk r (λ found. IfSome found (λ bad. IsLeastRefused c.form blocks c.log bad.n))
     → IfOk r (λ found. IsNone found → Follows c.form blocks c.log) → IfOk r (LogSays c)
 log-says c blocks (Ok None) same accepted least sound =
-    (subst (λ bs. IsAccepted c.form bs c.log) same (accepted.0 tt), subst (λ bs. Follows c.form bs c.log) same (sound tt))
+    (subst (λ bs. IsAccepted c.form bs c.log) same (accepted.0 refl), subst (λ bs. Follows c.form bs c.log) same (sound refl))
 log-says c blocks (Ok (Some bad)) same accepted least sound = subst (λ bs. IsLeastRefused c.form bs c.log bad.n) same least
 log-says c blocks (Err e) same accepted least sound = tt
 
@@ -55,33 +59,86 @@ pub values-say : (c : Claim) (can : IsProblem c.problem) (found : List SetWithVa
     → IfOk r (λ answer. IsSimulable c.problem.design c.problem.order → FirstToMiss c.problem.design c.problem.traces found 0 (length found) answer)
     → IfOk r (ValuesSay c)
 values-say c can found are (Ok None) says = all-right c can found are (says (simulable c.problem can))
-values-say c can found are (Ok (Some (place, miss))) says =
-    (miss-within c can found are place miss (says (simulable c.problem can)),
-    first-misses c can found are place (place + 1) miss (says (simulable c.problem can)) refl)
+values-say c can found are (Ok (Some (place, miss))) says = (
+  miss-within c can found are place miss (says (simulable c.problem can)),
+  first-misses c can found are place (place + 1) miss (says (simulable c.problem can)) refl,
+)
 values-say c can found are (Err e) says = tt
 
 -- ---- the answers
-pub is-step : (c : Claim) (number : ℕ) → AreInOrder c → NoneHolds c.sets → AreRight c → IsFirstRefusedStep c number
-    → Judges c (verdict.Step number)
-is-step c number in_order none right refused = record { verdict_is = (in_order, none, right, refused); list = λ same. cc }
+some-same : {X : Type 0} (x y : X) → Some x ≡ Some y → x ≡ y
+some-same x y e = cc
 
-pub is-open : (c : Claim) → AreInOrder c → NoneHolds c.sets → AreRight c → IsAcceptedLog c → ¬ Closes c → Judges c verdict.Open
-is-open c in_order none right accepted unclosed =
-    record { verdict_is = (in_order, none, right, accepted, unclosed); list = λ same. cc }
+none-some : {X : Type 0} (x : X) → None ≡ Some x → ⊥
+none-some x e = cc
 
-pub is-whole : (c : Claim) (vars : ℕ) → IsProblem c.problem → IsFormFor c.problem vars c.form → AreInOrder c → NoneHolds c.sets → AreRight c
-    → IsAcceptedLog c → Follows c.form (blocks_for c.sets) c.log → Closes c → Judges c verdict.Whole
-is-whole c vars can form in_order none right accepted follows closes =
+some-none : {X : Type 0} (x : X) → Some x ≡ None → ⊥
+some-none x e = cc
+
+step-if : (c : Claim) (number : ℕ) → IsWholeListIf c (verdict.Step number)
+step-if c number same = cc
+
+open-if : (c : Claim) → IsWholeListIf c verdict.Open
+open-if c same = cc
+
+replay-if : (c : Claim) (set : ℕ) (miss : Miss) → IsWholeListIf c (verdict.Replay set miss)
+replay-if c set miss same = cc
+
+contains-if : (c : Claim) (set other : ℕ) → IsWholeListIf c (verdict.Contains set other)
+contains-if c set other same = cc
+
+pub step-of : (c : Claim) (o : Option BadStep) (bad : BadStep) → o ≡ Some bad → LogSays c o → AreInOrder c → NoneHolds c.sets → AreRight c
+    → Judges c (verdict.Step bad.n)
+step-of c None bad is says in_order none right = absurd (none-some bad is)
+step-of c (Some found) bad is says in_order none right = record {
+  verdict_is = (in_order, none, right, subst (λ (b : BadStep). IsFirstRefusedStep c b.n) (some-same found bad is) says);
+  list = step-if c bad.n;
+}
+
+pub open-of : (c : Claim) (o : Option BadStep) → o ≡ None → LogSays c o → AreInOrder c → NoneHolds c.sets → AreRight c → ¬ Closes c
+    → Judges c verdict.Open
+open-of c (Some found) is says in_order none right unclosed = absurd (some-none found is)
+open-of c None is says in_order none right unclosed =
+    record { verdict_is = (in_order, none, right, says.0, unclosed); list = open-if c }
+
+pub whole-of : (c : Claim) (vars : ℕ) (o : Option BadStep) → o ≡ None → LogSays c o → IsProblem c.problem → IsFormFor c.problem vars c.form
+    → AreInOrder c → NoneHolds c.sets → AreRight c → Closes c → Judges c verdict.Whole
+whole-of c vars (Some found) is says can form in_order none right closes = absurd (some-none found is)
+whole-of c vars None is says can form in_order none right closes =
     let whole : IsWhole c =
-    record { in_order = in_order; none_holds = none; right = right; accepted = accepted; closes = closes } in
-    record { verdict_is = whole; list = λ same. whole-list c vars can form follows whole }
+    record { in_order = in_order; none_holds = none; right = right; accepted = says.0; closes = closes } in
+    record { verdict_is = whole; list = λ same. whole-list c vars can form says.1 whole }
 
-pub is-replay : (c : Claim) (set : ℕ) (miss : Miss) → AreInOrder c → NoneHolds c.sets → IsFirstToMiss c set miss
-    → Judges c (verdict.Replay set miss)
-is-replay c set miss in_order none first = record { verdict_is = (in_order, none, first); list = λ same. cc }
+pub replay-of : (c : Claim) (o : Option (ℕ × Miss)) (place set : ℕ) (miss : Miss) → o ≡ Some (place, miss) → ValuesSay c o → set ≡ place + 1
+    → AreInOrder c → NoneHolds c.sets → Judges c (verdict.Replay set miss)
+replay-of c None place set miss is says next in_order none = absurd (none-some (place, miss) is)
+replay-of c (Some (p, m)) place set miss is says next in_order none =
+    let one : ℕ × Miss = (p, m) in
+    let other : ℕ × Miss = (place, miss) in
+    record {
+      verdict_is = (
+        in_order,
+        none,
+        subst (λ n. IsFirstToMiss c n miss) (sym next)
+            (subst (λ (x : ℕ × Miss). IsFirstToMiss c (x.0 + 1) x.1) (some-same one other is) says.1),
+      );
+      list = replay-if c set miss;
+    }
 
-pub is-contains : (c : Claim) (set other : ℕ) → AreInOrder c → IsFirstToHold c.sets set other → Judges c (verdict.Contains set other)
-is-contains c set other in_order first = record { verdict_is = (in_order, first); list = λ same. cc }
+pub right-of : (c : Claim) (o : Option (ℕ × Miss)) → o ≡ None → ValuesSay c o → AreRight c
+right-of c (Some found) is says = absurd (some-none found is)
+right-of c None is says = says
+
+pub place-of : (c : Claim) (o : Option (ℕ × Miss)) (place : ℕ) (miss : Miss) → o ≡ Some (place, miss) → ValuesSay c o → place < length c.sets
+place-of c None place miss is says = absurd (none-some (place, miss) is)
+place-of c (Some (p, m)) place miss is says =
+    let one : ℕ × Miss = (p, m) in
+    let other : ℕ × Miss = (place, miss) in
+    subst (λ (x : ℕ × Miss). x.0 < length c.sets) (some-same one other is) says.0
+
+pub contains-of : (c : Claim) (holding : Holding) → AreInOrder c → FirstToHold c.sets (Some holding)
+    → Judges c (verdict.Contains holding.set holding.other)
+contains-of c holding in_order first = record { verdict_is = (in_order, first); list = contains-if c holding.set holding.other }
 
 pub order-if : (c : Claim) (set : ℕ) → IsWholeListIf c (verdict.Order set)
 order-if c set same = cc
@@ -94,11 +151,39 @@ pub judged-list : (c : Claim) (r : Result Verdict NoMemory) → IfOk r (Judges c
 judged-list c (Ok v) is = is.list
 judged-list c (Err e) is = tt
 
-pub ruleset judge_rules = (judged-verdict, judged-list, order-if)
+-- what is known of the sets, by the answer
+in-out : (v : Vec SetWithValues Global) (set : ℕ) → order.In v ≡ order.OutOf set → ⊥
+in-out v set e = cc
 
-pub ruleset found_rules = (is-replay, is-contains)
+out-in : (v : Vec SetWithValues Global) (set : ℕ) → order.OutOf set ≡ order.In v → ⊥
+out-in v set e = cc
 
-pub ruleset log_rules = (is-step, is-open, is-whole)
+in-same : (v w : Vec SetWithValues Global) → order.In v ≡ order.In w → v ≡ w
+in-same v w e = cc
+
+out-same : (m n : ℕ) → order.OutOf m ≡ order.OutOf n → m ≡ n
+out-same m n e = cc
+
+pub in-order-of : (c : Claim) (o : Order) (found : Vec SetWithValues Global) → o ≡ order.In found → Orders c o → AreInOrder c
+in-order-of c (order.In v) found is says = says.0
+in-order-of c (order.OutOf set) found is says = absurd (out-in found set is)
+
+pub found-of : (c : Claim) (o : Order) (found : Vec SetWithValues Global) (given : List SetWithValues) → o ≡ order.In found → given ≡ found.items
+    → Orders c o → AreFound c (length c.sets) given
+found-of c (order.In v) found given is same says =
+    subst (AreFound c (length c.sets)) (sym same)
+    (subst (λ (x : Vec SetWithValues Global). AreFound c (length c.sets) x.items) (in-same v found is) says.1)
+found-of c (order.OutOf set) found given is same says = absurd (out-in found set is)
+
+pub out-of : (c : Claim) (o : Order) (set : ℕ) → o ≡ order.OutOf set → Orders c o → IsVerdict c (verdict.Order set)
+out-of c (order.In v) set is says = absurd (in-out v set is)
+out-of c (order.OutOf found) set is says = subst (IsFirstOutOfOrder c) (out-same found set is) says
+
+pub ruleset judge_rules = (judged-verdict, judged-list, order-if, in-order-of, found-of, out-of)
+
+pub ruleset values_rules = (replay-of, right-of, place-of)
+
+pub ruleset log_rules = (step-of, open-of, whole-of)
 
 -- ---- where all conditions hold, the answer is that they do
 -- where the values miss, not every trace is right

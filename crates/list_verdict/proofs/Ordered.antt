@@ -187,8 +187,7 @@ in-order c place found are number set few is =
 pub all-found : (c : Claim) (place : ℕ) (found : List SetWithValues) → length c.sets ≤ place → place ≤ length c.sets → AreFound c place found
     → AreInOrder c × AreFound c (length c.sets) found
 all-found c place found past most are =
-    let whole : place ≡ length c.sets = omega (arith, past, most) in
-    (
+    let whole : place ≡ length c.sets = omega (arith, past, most) in (
       λ number set is. in-order c place found are number set (omega (arith, got-within c.sets (number - 1) set is.is, past)) is,
       subst (λ n. AreFound c n found) whole are,
     )

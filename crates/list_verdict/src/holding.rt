@@ -21,9 +21,11 @@ fn first_held(sets: &[ReportSet], place: usize) -> Option<usize>
     requires order { AreAscending sets.now }
     ensures { FirstHeld sets.now place result }
 {
-    let outer = set_at(sets, place).members.as_slice();
+    let set = set_at(sets, place);
+    let outer = set.members.as_slice();
     for other in 0..place {
-        if is_within(set_at(sets, other).members.as_slice(), outer) {
+        let inner = set_at(sets, other);
+        if is_within(inner.members.as_slice(), outer) {
             return Some(other);
         }
     }
@@ -39,11 +41,14 @@ pub(crate) fn first_to_hold(sets: &[ReportSet]) -> Option<Holding>
     ensures { FirstToHold sets.now result }
 {
     for place in 0..sets.len() {
-        if let Some(other) = first_held(sets, place) {
-            return Some(Holding {
-                set: place as u32 + 1,
-                other: other as u32 + 1,
-            });
+        match first_held(sets, place) {
+            Some(other) => {
+                return Some(Holding {
+                    set: place as u32 + 1,
+                    other: other as u32 + 1,
+                });
+            }
+            None => {}
         }
     }
     None

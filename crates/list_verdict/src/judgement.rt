@@ -1,8 +1,8 @@
 //! The judgement on a list: the five conditions, one after another.
 
-ghost use Rattle.std.specs.Prelude.{◌<◌, ◌≤◌, IfOk, length};
+ghost use Rattle.std.specs.Prelude.{◌<◌, ◌≤◌, ◌↔◌, IfOk, IsTrue, length};
 ghost use Rattle.list_verdict.specs.Claims.{CanBeJudged, claim_of};
-ghost use Rattle.list_verdict.specs.Conditions.{AreInOrder, AreRight, NoneHolds};
+ghost use Rattle.list_verdict.specs.Conditions.{AreInOrder, AreRight, Closes, NoneHolds};
 ghost use Rattle.list_verdict.specs.Judging.{AreFound, Judges, LogSays, ValuesSay};
 ghost use Rattle.list_verdict.specs.Verdicts.{IsVerdict, IsWholeListIf};
 
@@ -68,7 +68,18 @@ fn first_missing<R: Threads + Sync, G: Gate + Sync>(
     )
 }
 
+/// Whether the log closes the list of what was asked.
+#[tactic(auto, using(crate::proofs::Asked::form_rules))]
+fn closes_list(listed: &Listed<'_>) -> bool
+    requires { CanBeJudged listed.now }
+    ensures { IsTrue result ↔ Closes (claim_of listed.now) }
+{
+    let suspects = listed.question.groups.len() as u32;
+    closes(listed.log, suspects, listed.question.k)
+}
+
 /// What the log says of sets that are in order, hold none of each other, and make the traces right.
+#[tactic(auto, using(crate::proofs::Judged::log_rules))]
 fn judge_log<R: Threads + Sync, G: Gate + Sync>(
     alloc: Global,
     workers: &Workers<'_, R, G>,
@@ -82,14 +93,41 @@ fn judge_log<R: Threads + Sync, G: Gate + Sync>(
     requires right { AreRight (claim_of listed.now) }
     ensures { IfOk result (Judges (claim_of listed.now)) }
 {
-    if let Some(bad) = first_refused(alloc, workers, listed)? {
-        return Ok(Verdict::Step { number: bad.n });
+    match first_refused(alloc, workers, listed)? {
+        Some(bad) => Ok(Verdict::Step { number: bad.n }),
+        None => {
+            if closes_list(listed) {
+                Ok(Verdict::Whole)
+            } else {
+                Ok(Verdict::Open)
+            }
+        }
     }
-    let suspects = listed.question.groups.len() as u32;
-    if closes(listed.log, suspects, listed.question.k) {
-        return Ok(Verdict::Whole);
+}
+
+/// What the values and the log say of sets that are in order, and hold none of each other.
+#[tactic(auto, using(crate::proofs::Judged::values_rules))]
+fn judge_values<R: Threads + Sync, G: Gate + Sync>(
+    alloc: Global,
+    workers: &Workers<'_, R, G>,
+    listed: &Listed<'_>,
+    found: &[SetWithValues],
+) -> Result<Verdict, NoMemory>
+    requires can { CanBeJudged listed.now }
+    requires some { 0 < workers.now.count }
+    requires most { workers.now.count ≤ 64 }
+    requires in_order { AreInOrder (claim_of listed.now) }
+    requires found { AreFound (claim_of listed.now) (length listed.now.sets.now) found.now }
+    requires none_holds { NoneHolds listed.now.sets.now }
+    ensures { IfOk result (Judges (claim_of listed.now)) }
+{
+    match first_missing(alloc, workers, listed, found)? {
+        Some((place, miss)) => Ok(Verdict::Replay {
+            set: place + 1,
+            miss,
+        }),
+        None => judge_log(alloc, workers, listed),
     }
-    Ok(Verdict::Open)
 }
 
 /// What the values and the log say of sets that are in order.
@@ -106,23 +144,18 @@ fn judge_found<R: Threads + Sync, G: Gate + Sync>(
     requires found { AreFound (claim_of listed.now) (length listed.now.sets.now) found.now }
     ensures { IfOk result (Judges (claim_of listed.now)) }
 {
-    if let Some(holding) = first_to_hold(listed.sets) {
-        return Ok(Verdict::Contains {
+    match first_to_hold(listed.sets) {
+        Some(holding) => Ok(Verdict::Contains {
             set: holding.set,
             other: holding.other,
-        });
+        }),
+        None => judge_values(alloc, workers, listed, found),
     }
-    if let Some((place, miss)) = first_missing(alloc, workers, listed, found)? {
-        return Ok(Verdict::Replay {
-            set: place + 1,
-            miss,
-        });
-    }
-    judge_log(alloc, workers, listed)
 }
 
 /// Whether the sets are the whole list of what was asked, by their values and their log: else the first condition that fails. The
 /// answer is the same for every number of workers and every gate.
+#[tactic(auto, using(crate::proofs::Judged::judge_rules))]
 pub fn judge<R: Threads + Sync, G: Gate + Sync>(
     alloc: Global,
     workers: &Workers<'_, R, G>,

@@ -71,5 +71,10 @@ fn has(numbers: &[u32], number: u32) -> bool
 pub(crate) fn is_within(inner: &[u32], outer: &[u32]) -> bool
     ensures { IsTrue result ↔ IsWithin inner.now outer.now }
 {
-    inner.iter().all(|member| has(outer, *member))
+    for member in inner {
+        if !has(outer, *member) {
+            return false;
+        }
+    }
+    true
 }

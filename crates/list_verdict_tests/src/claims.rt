@@ -79,7 +79,11 @@ pub(super) fn log_of(alloc: Global, question: &Question<'_>) -> Result<Log, Fail
 }
 
 /// A set of a report: its members, and for each trace and cycle the texts of its places.
-pub(super) fn set(alloc: Global, members: &[u32], values: &[&[&[&str]]]) -> Result<ReportSet, Fail> {
+pub(super) fn set(
+    alloc: Global,
+    members: &[u32],
+    values: &[&[&[&str]]],
+) -> Result<ReportSet, Fail> {
     let mut all = Items::new(alloc);
     for trace in values {
         let mut texts = CycleTexts::new(alloc);

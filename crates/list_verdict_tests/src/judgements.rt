@@ -18,7 +18,9 @@ const CYCLES: &[&str] = &["001", "011", "101", "110"];
 
 /// The values of the net, and those of the output, that make the trace right.
 const NET: &[&[&str]] = &[&["0"], &["0"], &["0"], &["1"]];
+
 const OUTPUT: &[&[&str]] = &[&["1"], &["1"], &["1"], &["0"]];
+
 const BOTH: &[&[&str]] = &[&["0", "1"], &["0", "1"], &["0", "1"], &["1", "0"]];
 
 /// The judgement on sets by a log that is changed.
@@ -53,7 +55,10 @@ fn the_list_is_whole_for_any_number_of_workers(rt: HostRuntime) -> Result<(), Fa
     sets.push(set(alloc, &[1], &[NET])?)?;
     sets.push(set(alloc, &[2], &[OUTPUT])?)?;
     for workers in [1u32, 2, 7, 64] {
-        assert_eq!(rt; judgement(&rt, alloc, &sets, Change::Nothing, workers)?, Verdict::Whole);
+        assert_eq!(rt;
+            judgement(&rt, alloc, &sets, Change::Nothing, workers)?,
+            Verdict::Whole
+        );
     }
     Ok(())
 }
@@ -64,7 +69,10 @@ fn a_set_that_comes_before_the_last_is_out_of_order(rt: HostRuntime) -> Result<(
     let mut sets = Vec::new(alloc);
     sets.push(set(alloc, &[2], &[OUTPUT])?)?;
     sets.push(set(alloc, &[1], &[NET])?)?;
-    assert_eq!(rt; judgement(&rt, alloc, &sets, Change::Nothing, 2)?, Verdict::Order { set: 2 });
+    assert_eq!(rt;
+        judgement(&rt, alloc, &sets, Change::Nothing, 2)?,
+        Verdict::Order { set: 2 }
+    );
     Ok(())
 }
 
@@ -84,7 +92,11 @@ fn a_set_that_contains_another_is_named_with_it(rt: HostRuntime) -> Result<(), F
 fn a_changed_value_misses(rt: HostRuntime) -> Result<(), Fail> {
     let alloc = rt.alloc();
     let found = with_texts(&rt, alloc, &[&[&["0"], &["1"], &["0"], &["1"]]])?;
-    let miss = Miss { trace: 0, cycle: 1, output: 0 };
+    let miss = Miss {
+        trace: 0,
+        cycle: 1,
+        output: 0,
+    };
     assert_eq!(rt; found, Verdict::Replay { set: 1, miss });
     Ok(())
 }
@@ -94,11 +106,26 @@ fn texts_of_another_shape_are_out_of_order(rt: HostRuntime) -> Result<(), Fail> 
     let alloc = rt.alloc();
     let first = Verdict::Order { set: 1 };
     // Two digits for one bit, a number of two bits, a letter, no text, a cycle that is lacking, and a trace too many.
-    assert_eq!(rt; with_texts(&rt, alloc, &[&[&["00"], &["0"], &["0"], &["1"]]])?, first);
-    assert_eq!(rt; with_texts(&rt, alloc, &[&[&["2"], &["0"], &["0"], &["1"]]])?, first);
-    assert_eq!(rt; with_texts(&rt, alloc, &[&[&["A"], &["0"], &["0"], &["1"]]])?, first);
-    assert_eq!(rt; with_texts(&rt, alloc, &[&[&[], &["0"], &["0"], &["1"]]])?, first);
-    assert_eq!(rt; with_texts(&rt, alloc, &[&[&["0"], &["0"], &["0"]]])?, first);
+    assert_eq!(rt;
+        with_texts(&rt, alloc, &[&[&["00"], &["0"], &["0"], &["1"]]])?,
+        first
+    );
+    assert_eq!(rt;
+        with_texts(&rt, alloc, &[&[&["2"], &["0"], &["0"], &["1"]]])?,
+        first
+    );
+    assert_eq!(rt;
+        with_texts(&rt, alloc, &[&[&["A"], &["0"], &["0"], &["1"]]])?,
+        first
+    );
+    assert_eq!(rt;
+        with_texts(&rt, alloc, &[&[&[], &["0"], &["0"], &["1"]]])?,
+        first
+    );
+    assert_eq!(rt;
+        with_texts(&rt, alloc, &[&[&["0"], &["0"], &["0"]]])?,
+        first
+    );
     assert_eq!(rt; with_texts(&rt, alloc, &[NET, NET])?, first);
     Ok(())
 }
@@ -109,7 +136,10 @@ fn members_that_are_no_set_are_out_of_order(rt: HostRuntime) -> Result<(), Fail>
     for members in [&[0u32][..], &[3][..], &[1, 1][..], &[2, 1][..]] {
         let mut sets = Vec::new(alloc);
         sets.push(set(alloc, members, &[BOTH])?)?;
-        assert_eq!(rt; judgement(&rt, alloc, &sets, Change::Nothing, 1)?, Verdict::Order { set: 1 });
+        assert_eq!(rt;
+            judgement(&rt, alloc, &sets, Change::Nothing, 1)?,
+            Verdict::Order { set: 1 }
+        );
     }
     Ok(())
 }
@@ -120,7 +150,10 @@ fn a_log_without_its_last_step_leaves_the_list_unclosed(rt: HostRuntime) -> Resu
     let mut sets = Vec::new(alloc);
     sets.push(set(alloc, &[1], &[NET])?)?;
     sets.push(set(alloc, &[2], &[OUTPUT])?)?;
-    assert_eq!(rt; judgement(&rt, alloc, &sets, Change::WithoutLast, 7)?, Verdict::Open);
+    assert_eq!(rt;
+        judgement(&rt, alloc, &sets, Change::WithoutLast, 7)?,
+        Verdict::Open
+    );
     Ok(())
 }
 

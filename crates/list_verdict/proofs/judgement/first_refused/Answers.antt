@@ -11,11 +11,11 @@ pub blocks_of-requires : goal.blocks_of-requires
 blocks_of-requires g c = (ascending (claim_of c.args.listed.now) c.requires.in_order).each
 
 pub check_log_parallel-requires-clause-form_within : goal.check_log_parallel-requires-clause-form_within
-check_log_parallel-requires-clause-form_within g c =
+check_log_parallel-requires-clause-form_within g c = λ _ _.
     let l = c.args.listed.now in form-within (problem_of l.question.now) l.form.now c.requires.can.problem c.requires.can.form
 
 pub check_log_parallel-requires-clause-blocks_within : goal.check_log_parallel-requires-clause-blocks_within
-check_log_parallel-requires-clause-blocks_within g c =
+check_log_parallel-requires-clause-blocks_within g c = λ _ _.
     let l = c.args.listed.now in
     subst (AreWithin l.form.now.vars) (sym (c.deref.ensures.value ∙ c.in_ok-blocks.ensures))
     (blocks-within (claim_of l) l.form.now.vars (few-suspects (problem_of l.question.now) l.form.now c.requires.can.problem c.requires.can.form)
