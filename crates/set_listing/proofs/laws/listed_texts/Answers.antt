@@ -3,7 +3,7 @@ use Rattle.set_listing.proofs.laws.listed_texts.Goals as goal
 
 pub returns : goal.returns
 returns g c = record {
-  log = log-stands g.of c.requires.asked;
-  report = report-stands g.of c.requires.asked;
-  waves = waves-stand g.of c.requires.asked c.requires.few_sets c.requires.few_traces;
+  log = log-stands g.of c.requires.0;
+  report = report-stands g.of c.requires.0;
+  waves = waves-stand g.of c.requires.0 c.requires.1.0 c.requires.1.1;
 }

@@ -3,6 +3,6 @@ use Rattle.set_waves.proofs.laws.same_name.Goals as goal
 
 pub returns : goal.returns
 returns g c =
-    let same = same-names g.of.prefix g.of.set g.of.trace g.of.other_set g.of.other_trace c.requires.set c.requires.trace
-    c.requires.other_set c.requires.other_trace c.requires.same in
+    let same = same-names g.of.prefix g.of.set g.of.trace g.of.other_set g.of.other_trace c.requires.0 c.requires.1.0
+    c.requires.1.1.0 c.requires.1.1.1.0 c.requires.1.1.1.1 in
     record { set = same.0; trace = same.1 }
