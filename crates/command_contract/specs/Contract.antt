@@ -46,14 +46,22 @@ NoneRose counts = (counts.now_shelf ≡ counts.shelf) × (counts.now_sink ≡ co
 abbrev pub OneRose : Counts → Type 0
 OneRose counts = Rose counts.shelf counts.now_shelf ⊎ Rose counts.sink counts.now_sink
 
+-- nothing was written
+abbrev pub NothingWritten : Run → Type 0
+NothingWritten run = run.now_written ≡ run.written
+
 -- ---- a command
 pub record Case : Type 1 where
   -- the statuses of its answers
   pub MayAnswer : ℕ → Type 0
+  -- the statuses of its refusals
+  pub MayRefuse : ℕ → Type 0
   -- what a run that answers leaves, by its status
   pub Answered : Run → ℕ → Type 0
   -- a run is refused, with a status and a line
   pub Refused : Run → ℕ → List ℕ → Type 0
+  -- what stands written of a run that is refused
+  pub Stands : Run → Type 0
   -- what a run leaves that a fault of writing ends, with the count that rose
   pub Stopped : Run → Type 0
   -- what a run leaves that want of memory ends
@@ -64,20 +72,24 @@ pub record Case : Type 1 where
   pub Ready : Run → Type 0
 
 -- ---- the promises
--- 2: the words ask for nothing; 3: a text is refused; 4: a limit is passed; 5: a text can't be read
+-- the inputs are refused, 3: a text is refused; 4: a limit is passed; 5: a text can't be read
+abbrev pub IsInputRefusal : ℕ → Type 0
+IsInputRefusal status = (status ≡ 3) ⊎ ((status ≡ 4) ⊎ (status ≡ 5))
+
+-- the words are refused, 2: they ask for nothing; or the inputs are
 abbrev pub IsRefusal : ℕ → Type 0
-IsRefusal status = (status ≡ 2) ⊎ ((status ≡ 3) ⊎ ((status ≡ 4) ⊎ (status ≡ 5)))
+IsRefusal status = (status ≡ 2) ⊎ IsInputRefusal status
 
 -- an answer, a refusal, a fault of writing, or want of memory
 abbrev pub IsStatus : Case → ℕ → Type 0
-IsStatus c status = c.MayAnswer status ⊎ (IsRefusal status ⊎ ((status ≡ 6) ⊎ (status ≡ 7)))
+IsStatus c status = c.MayAnswer status ⊎ (c.MayRefuse status ⊎ ((status ≡ 6) ⊎ (status ≡ 7)))
 
--- nothing was printed but a refusal's line, whose cause holds, and nothing was written
+-- nothing was printed but a refusal's line, whose cause holds, and what the case says stands written
 pub record EndsRefused (c : Case) (run : Run) (status : ℕ) : Type 0 where
   pub line : List ℕ
   pub refused : c.Refused run status line
   pub printed : run.now_printed ≡ run.printed ++ line
-  pub nothing_written : run.now_written ≡ run.written
+  pub stands : c.Stands run
 
 -- the counts of faults: none rose at an answer and at 2 to 4, the shelf's alone at 5, one at 6, and the sink's did not at 7
 pub record Causes (c : Case) (counts : Counts) (status : ℕ) : Type 0 where
@@ -89,10 +101,12 @@ pub record Causes (c : Case) (counts : Counts) (status : ℕ) : Type 0 where
 
 pub record Keeps (c : Case) (run : Run) (status : ℕ) : Type 0 where
   pub is_status : IsStatus c status
+  -- the command refuses with 2 to 5 alone
+  pub refusals : (refused : ℕ) → c.MayRefuse refused → IsRefusal refused
   -- an answer: what is due was done
   pub answered : run.told ≡ true → c.MayAnswer status → c.Answered run status
-  -- 2 to 5: for the cause that is printed
-  pub refused : run.told ≡ true → IsRefusal status → EndsRefused c run status
+  -- a refusal: for the cause that is printed
+  pub refused : run.told ≡ true → c.MayRefuse status → EndsRefused c run status
   -- 6: writing failed
   pub stopped : run.told ≡ true → status ≡ 6 → c.Stopped run
   -- 7: memory was wanted

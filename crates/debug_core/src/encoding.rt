@@ -2,7 +2,7 @@
 //! clauses.
 
 ghost use Rattle.std.specs.Prelude.{◌≡◌, ◌≤◌, ◌<◌, ◌^◌, All, IfErr, IfOk, length};
-ghost use Rattle.debug_core.specs.Problems.{IsProblem, IsRefused, problem_of, suspect_count};
+ghost use Rattle.debug_core.specs.Problems.{IsFormFor, IsProblem, IsRefused, problem_of, suspect_count};
 ghost use Rattle.debug_core.specs.Standing.{ExplainModels, IsEncoding, IsUnrollingFor, problem_in};
 
 use crate::error::DebugErr;
@@ -71,6 +71,19 @@ impl<'a> Encoding<'a> {
         })
     }
 
+    /// The form alone.
+    fn into_form(self) -> Form
+        requires { IsEncoding self }
+        ensures { IsFormFor (problem_in self) result.vars result.clauses }
+    {
+        let Encoding {
+            question: _,
+            form,
+            unrolled: _,
+        } = self;
+        form
+    }
+
     /// The values that a model of the form gives to the places of a set.
     pub(crate) fn values(
         &self,
@@ -84,4 +97,15 @@ impl<'a> Encoding<'a> {
     {
         values(alloc, model, &self.unrolled, self.question.groups, members)
     }
+}
+
+/// The form of what is asked, in which a debugger searches; no solver is made. It is refused where `Debugger::new` refuses: exactly
+/// where, in this order, the circuit of the design would have more than 4,000,000 AND and free nodes, the form more than 4,000,000
+/// variables, or its clauses more than 64,000,000 literals.
+pub fn form_of(alloc: Global, question: &Question<'_>) -> Result<Form, DebugErr>
+    requires { IsProblem (problem_of question.now) }
+    ensures form { IfOk result (λ form. IsFormFor (problem_of question.now) form.vars form.clauses) }
+    ensures err { IfErr result (IsRefused (problem_of question.now)) }
+{
+    Ok(Encoding::new(alloc, question)?.into_form())
 }

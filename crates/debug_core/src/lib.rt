@@ -13,6 +13,7 @@ mod found;
 mod question;
 
 pub use debugger::Debugger;
+pub use encoding::form_of;
 pub use error::DebugErr;
 pub use fits::have_few_cycles;
 pub use found::Found;

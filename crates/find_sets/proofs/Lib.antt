@@ -1,5 +1,2 @@
-pub mod Digests
-pub mod Problems
-pub mod Causes
-pub mod Keeping
 pub mod Listed
+pub mod Refused

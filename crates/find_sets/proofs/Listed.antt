@@ -1,7 +1,7 @@
 -- The promises of the command, from how a listing ends.
 use Rattle.std.proofs.Common.{ℕ, ◌≡◌, ◌≢◌, ◌≤◌, true, List, ap, refl, sym, subst, ◌∙◌, arith, ◌⊎◌, inl, inr}
-use Rattle.command_contract.specs.Contract.{Causes, IsRefusal, IsStatus, Keeps, NoneRose, OneRose, Run, Texts, counts_of}
-use Rattle.command_contract.proofs.Statuses.{refusal-range}
+use Rattle.command_contract.specs.Contract.{Causes, IsInputRefusal, IsStatus, Keeps, NoneRose, OneRose, Run, Texts, counts_of}
+use Rattle.command_contract.proofs.Statuses.{input-range, input-refusal}
 use Rattle.loc_base.specs.declared.digest.Digest.{Digest}
 use Rattle.front_end.specs.Means.{Meaning, Refusing}
 use Rattle.debug_core.specs.Problems.{Problem}
@@ -13,15 +13,15 @@ use Rattle.set_listing.specs.Lines.{ending_status}
 use Rattle.set_listing.specs.Asked.{Asked as Listing}
 use Rattle.set_listing.specs.Due.{IsCut, IsListed, IsStopped}
 use Rattle.set_listing.specs.Outcomes.{Leaves, OutcomeCause, status_of}
-use Rattle.find_sets.specs.Asked.{Asked}
+use Rattle.list_inputs.specs.Means.{IsDigestOf, Means, Suspecting}
+use Rattle.find_sets.specs.Asked.{Asked, wanted_of}
 use Rattle.find_sets.specs.Finding.{OfInputs, finding, listing_of, outputs_of}
-use Rattle.find_sets.specs.Means.{IsDigestOf, Means, Suspecting}
 
 -- what is known of a run that ends by a listing
 pub record IsListing (M : Meaning) (S : Suspecting) (asked : Asked) (run : Run)
     (problem : Problem) (inputs : Digest) (o : Outcome) : Type 0 where
-  pub means : run.told ≡ true → Means M S asked run.texts problem
-  pub digest : run.told ≡ true → IsDigestOf asked run.texts inputs
+  pub means : run.told ≡ true → Means M S (wanted_of asked) run.texts problem
+  pub digest : run.told ≡ true → IsDigestOf (wanted_of asked) run.texts inputs
   pub leaves : run.told ≡ true → Leaves (listing_of asked problem inputs) (outputs_of run) o
   pub others : run.told ≡ true → (name : List ℕ) → name ≢ asked.log → name ≢ asked.report
       → run.now_written name ≡ run.written name
@@ -48,10 +48,10 @@ module _ (M : Meaning) (R : Refusing) (S : Suspecting) (asked : Asked) (run : Ru
   list-status Memory = inr (inr (inr refl))
 
   -- no outcome is a refusal
-  no-refusal : (o : Outcome) → IsRefusal (status_of o) → ⊥
-  no-refusal (Ended ending) is = omega (arith, refusal-range _ is, at-most-one _ (ending-range ending))
-  no-refusal Failed is = omega (arith, refusal-range _ is)
-  no-refusal Memory is = omega (arith, refusal-range _ is)
+  no-refusal : (o : Outcome) → IsInputRefusal (status_of o) → ⊥
+  no-refusal (Ended ending) is = omega (arith, input-range _ is, at-most-one _ (ending-range ending))
+  no-refusal Failed is = omega (arith, input-range _ is)
+  no-refusal Memory is = omega (arith, input-range _ is)
 
   list-causes : (o : Outcome)
       → OutcomeCause run.counts o
@@ -82,25 +82,25 @@ module _ (M : Meaning) (R : Refusing) (S : Suspecting) (asked : Asked) (run : Ru
 
   -- ---- what it leaves
   -- the listing of the problem that the texts mean
-  of-inputs : (P : Listing → Type 0) → Means M S asked run.texts problem → IsDigestOf asked run.texts inputs
+  of-inputs : (P : Listing → Type 0) → Means M S (wanted_of asked) run.texts problem → IsDigestOf (wanted_of asked) run.texts inputs
       → P (listing_of asked problem inputs) → OfInputs M S asked run.texts P
   of-inputs P means digest is = record { problem = problem; means = means; inputs = inputs; digest = digest; is = is }
 
-  list-answered : (o : Outcome) → Means M S asked run.texts problem → IsDigestOf asked run.texts inputs
+  list-answered : (o : Outcome) → Means M S (wanted_of asked) run.texts problem → IsDigestOf (wanted_of asked) run.texts inputs
       → Leaves (listing_of asked problem inputs) (outputs_of run) o → (status_of o ≡ 0) ⊎ (status_of o ≡ 1)
       → OfInputs M S asked run.texts (λ listing. IsListed listing (outputs_of run) (status_of o))
   list-answered (Ended ending) means digest leaves is = of-inputs _ means digest leaves
   list-answered Failed means digest leaves is = absurd (omega (arith, at-most-one 6 is))
   list-answered Memory means digest leaves is = absurd (omega (arith, at-most-one 7 is))
 
-  list-stopped : (o : Outcome) → Means M S asked run.texts problem → IsDigestOf asked run.texts inputs
+  list-stopped : (o : Outcome) → Means M S (wanted_of asked) run.texts problem → IsDigestOf (wanted_of asked) run.texts inputs
       → Leaves (listing_of asked problem inputs) (outputs_of run) o → status_of o ≡ 6
       → OfInputs M S asked run.texts (λ listing. IsStopped listing (outputs_of run))
   list-stopped (Ended ending) means digest leaves e = absurd (omega (arith, e, at-most-one _ (ending-range ending)))
   list-stopped Failed means digest leaves e = of-inputs _ means digest leaves
   list-stopped Memory means digest leaves e = absurd (omega (arith, e))
 
-  list-cut : (o : Outcome) → Means M S asked run.texts problem → IsDigestOf asked run.texts inputs
+  list-cut : (o : Outcome) → Means M S (wanted_of asked) run.texts problem → IsDigestOf (wanted_of asked) run.texts inputs
       → Leaves (listing_of asked problem inputs) (outputs_of run) o → status_of o ≡ 7
       → OfInputs M S asked run.texts (λ listing. IsCut listing (outputs_of run))
   list-cut (Ended ending) means digest leaves e = absurd (omega (arith, e, at-most-one _ (ending-range ending)))
@@ -125,6 +125,7 @@ module _ (M : Meaning) (R : Refusing) (S : Suspecting) (asked : Asked) (run : Ru
   pub listed-keeps : (o : Outcome) → Is o → Keeps (finding M R S asked) run (status_of o)
   listed-keeps o is = record {
     is_status = list-status o;
+    refusals = input-refusal;
     answered = λ told. list-answered o (is.means told) (is.digest told) (is.leaves told);
     refused = λ told refusal. absurd (no-refusal o refusal);
     stopped = λ told six. (
@@ -144,7 +145,7 @@ module _ (M : Meaning) (R : Refusing) (S : Suspecting) (asked : Asked) (run : Ru
 pub listing-keeps : (M : Meaning) (R : Refusing) (S : Suspecting) (asked : Asked) (run : Run) (problem : Problem) (inputs : Digest)
     (listing : Listing) (written : Texts) (shelf : ℕ) (o : Outcome) (status : ℕ)
     → listing ≡ listing_of asked problem inputs → written ≡ run.written → shelf ≡ run.counts.shelf → status ≡ status_of o
-    → (run.told ≡ true → Means M S asked run.texts problem) → (run.told ≡ true → IsDigestOf asked run.texts inputs)
+    → (run.told ≡ true → Means M S (wanted_of asked) run.texts problem) → (run.told ≡ true → IsDigestOf (wanted_of asked) run.texts inputs)
     → (run.told ≡ true → Leaves listing (record {
       written = written;
       now_written = run.now_written;

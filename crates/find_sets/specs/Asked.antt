@@ -1,7 +1,7 @@
 -- What a list is asked of, as plain data.
 use Rattle.std.specs.Prelude.{ℕ, ◌≡◌, ◌≢◌, ◌≤◌, List, [], ◌∷◌, length, All, AllPairs, Option, None}
 use Rattle.suspect_map.specs.Choose.{unknown}
-use Rattle.run_inputs.specs.Asked.{Asked as Sources}
+use Rattle.list_inputs.specs.Asked.{Asked as Wanted}
 
 -- the names of the design's text, of the module that is the top, of the traces' texts and of the clock; the names of the kinds of
 -- suspects; the most members of a set, the most steps that may be learned, the most sets; how many workers check the log; the
@@ -19,9 +19,16 @@ pub record Asked : Type 0 where
   pub log : List ℕ
   pub report : List ℕ
 
--- the texts that are read, and what they are read by
-abbrev pub sources_of : Asked → Sources
-sources_of asked = record { design = asked.design; top = asked.top; traces = asked.traces; clock = asked.clock }
+-- what the list is asked of: the texts, what they are read by, the suspects, and the size of a set
+abbrev pub wanted_of : Asked → Wanted
+wanted_of asked = record {
+  design = asked.design;
+  top = asked.top;
+  traces = asked.traces;
+  clock = asked.clock;
+  suspects = asked.suspects;
+  size = asked.size;
+}
 
 -- a number from 1 to the most
 abbrev pub IsUpTo : ℕ → ℕ → Type 0

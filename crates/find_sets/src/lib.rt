@@ -1,12 +1,10 @@
 //! The command that lists sets of suspects: from the names of texts to the log, the report, the lines on the sink, and a status.
 #![tactic(auto)]
 
-mod inputs;
-mod refusal;
+mod job;
 mod request;
 mod run;
-mod tools;
 
+pub use list_inputs::Tools;
 pub use request::Request;
 pub use run::find;
-pub use tools::Tools;

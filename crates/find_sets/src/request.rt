@@ -1,10 +1,11 @@
-ghost use Rattle.std.specs.Prelude.{◌≡◌, length};
-ghost use Rattle.run_inputs.specs.Asked.{asked_of as sources_asked};
-ghost use Rattle.find_sets.specs.Asked.{sources_of};
+//! What a list is asked of.
+ghost use Rattle.std.specs.Prelude.{◌≡◌};
+ghost use Rattle.list_inputs.specs.Asked.{asked_of as wanted_asked};
+ghost use Rattle.find_sets.specs.Asked.{wanted_of};
 ghost use Rattle.find_sets.specs.Requests.{asked_of};
 
+use list_inputs::Wanted;
 use loc_base::Name;
-use run_inputs::Sources;
 
 /// What a list is asked of.
 #[derive(Drop)]
@@ -34,16 +35,17 @@ pub struct Request {
 }
 
 impl Request {
-    /// The texts that are read, and what they are read by.
-    pub(crate) fn sources(&self) -> Sources<'_>
-        ensures asked { sources_asked result ≡ sources_of (asked_of self.now) }
-        ensures traces { length result.traces.now ≡ length self.now.traces.items }
+    /// What the list is asked of: the texts, what they are read by, the suspects, and the size of a set.
+    pub(crate) fn wanted(&self) -> Wanted<'_>
+        ensures { wanted_asked result ≡ wanted_of (asked_of self.now) }
     {
-        Sources {
+        Wanted {
             design: self.design.as_str(),
             top: &self.top,
             traces: &self.traces,
             clock: self.clock.as_ref(),
+            suspects: &self.suspects,
+            size: self.size,
         }
     }
 }

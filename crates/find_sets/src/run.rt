@@ -6,13 +6,12 @@ ghost use Rattle.find_sets.specs.Asked.{AreKnown, IsAsked};
 ghost use Rattle.find_sets.specs.Finding.{finding};
 ghost use Rattle.find_sets.specs.Requests.{asked_of};
 
-use crate::inputs::read;
-use crate::refusal::Refusal;
+use crate::job::{job_of, listing_tools};
 use crate::request::Request;
-use crate::tools::Tools;
 use debug_core::Debugger;
 use front_end::FrontEnd;
 use io_ports::{Shelf, Sink};
+use list_inputs::{Refusal, Tools, read};
 use loc_base::Gate;
 use set_listing::{Task, list};
 use std::alloc::Global;
@@ -47,14 +46,14 @@ pub fn find<F: FrontEnd, R: Threads + Sync, G: Gate + Sync, S: Shelf, O: Sink>(
         (counts_of (S.faults shelf.old) (S.faults shelf.new) (O.faults out.old) (O.faults out.new)))
         result }
 {
-    let inputs = match read(alloc, tools, request, shelf) {
+    let inputs = match read(alloc, tools, &request.wanted(), shelf) {
         Ok(inputs) => inputs,
         Err(refusal) => return refusal.print(out),
     };
-    let job = inputs.job(request);
+    let job = job_of(&inputs, request);
     match Debugger::new(alloc, &job.question) {
         Ok(search) => {
-            let workers = tools.workers(alloc, request.workers);
+            let workers = listing_tools(alloc, tools, request.workers);
             list(&workers, Task { job, search }, shelf, out).status()
         }
         Err(fault) => Refusal::of_problem(alloc, fault).print(out),

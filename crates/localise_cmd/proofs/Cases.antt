@@ -3,6 +3,7 @@ use Rattle.std.proofs.Common.{ℕ, ◌≡◌, ◌≤◌, [], arith, sym, subst, 
 use Rattle.std.proofs.lemmas.List.{append-nil}
 use Rattle.refusal_lines.specs.Refusals.{memory_line}
 use Rattle.command_contract.specs.Contract.{Keeps, Run}
+use Rattle.command_contract.proofs.Statuses.{input-refusal}
 use Rattle.command_words.specs.declared.requests.Usage.{Usage}
 use Rattle.command_words.specs.Asked.{Asked, FindAsked, SimAsked, find, sim}
 use Rattle.find_sets.specs.Asked.{Asked as Finding}
@@ -37,6 +38,7 @@ pub allows-memory : (tools : Tools) (asked : Result Asked Usage) (run : Run)
     → run.now_written ≡ run.written → AllowsMemory (case_of tools asked) run
 allows-memory tools (Ok (find asked)) run written = record {
   answer = λ status may. elim may [ inl zero ↦ omega (arith, zero) | inr one ↦ omega (arith, one) ];
+  refusals = input-refusal;
   stopped = λ told rose front. (
     inr rose,
     inr (record {
@@ -51,6 +53,7 @@ allows-memory tools (Ok (find asked)) run written = record {
 }
 allows-memory tools (Ok (sim asked)) run written = record {
   answer = λ status is. omega (arith, is);
+  refusals = input-refusal;
   stopped = λ told rose front. record {
     due = memory_line;
     is_due = inr (inr (inr (inl refl)));
@@ -70,6 +73,7 @@ allows-memory tools (Ok (sim asked)) run written = record {
 }
 allows-memory tools (Err usage) run written = record {
   answer = λ status may. absurd may;
+  refusals = λ status is. inl is;
   stopped = λ told rose front. record { sink_failed = rose; printed = inr front; nothing_written = written };
   cut = λ told text. record { printed = text; nothing_written = written };
 }

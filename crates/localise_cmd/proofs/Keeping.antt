@@ -4,7 +4,7 @@ use Rattle.std.proofs.Common.{ℕ, ◌≡◌, ◌≤◌, ◌++◌, ◌⊎◌, tr
 use Rattle.io_ports.specs.Faults.{Rose}
 use Rattle.io_ports.specs.Shelf.{AppendsFront}
 use Rattle.refusal_lines.specs.Refusals.{memory_line}
-use Rattle.command_contract.specs.Contract.{Case, Keeps, Run}
+use Rattle.command_contract.specs.Contract.{Case, IsRefusal, Keeps, Run}
 use Rattle.command_contract.proofs.Statuses.{seven-no_refusal, six-no_refusal}
 use Rattle.command_words.specs.declared.requests.Usage.{Usage}
 use Rattle.localise_cmd.specs.declared.lines.Printed.{Printed}
@@ -19,13 +19,14 @@ pub usage-keeps : (usage : Usage) (run : Run) (printed : Printed)
     → run.now_written ≡ run.written → run.counts.now_shelf ≡ run.counts.shelf
     → Keeps (no_request usage) run (printed_status 2 printed)
 usage-keeps usage run Whole text cause written shelf = record {
-  is_status = inr (inl (inl refl));
+  is_status = inr (inl refl);
+  refusals = λ n is. inl is;
   answered = λ told may. absurd may;
   refused = λ told is. record {
     line = usage_line usage;
     refused = record { has_status = refl; has_line = refl };
     printed = text told;
-    nothing_written = written;
+    stands = written;
   };
   stopped = λ told e. absurd (omega (arith, e));
   cut = λ told e. absurd (omega (arith, e));
@@ -41,8 +42,9 @@ usage-keeps usage run Whole text cause written shelf = record {
 }
 usage-keeps usage run Failed text cause written shelf = record {
   is_status = inr (inr (inl refl));
+  refusals = λ n is. inl is;
   answered = λ told may. absurd may;
-  refused = λ told is. absurd (six-no_refusal is);
+  refused = λ told is. absurd (omega (arith, is));
   stopped = λ told e. record { sink_failed = cause; printed = inl (text told); nothing_written = written };
   cut = λ told e. absurd (omega (arith, e));
   others = λ told name no. ap (λ texts. texts name) written;
@@ -57,8 +59,9 @@ usage-keeps usage run Failed text cause written shelf = record {
 }
 usage-keeps usage run NoMemory text cause written shelf = record {
   is_status = inr (inr (inr refl));
+  refusals = λ n is. inl is;
   answered = λ told may. absurd may;
-  refused = λ told is. absurd (seven-no_refusal is);
+  refused = λ told is. absurd (omega (arith, is));
   stopped = λ told e. absurd (omega (arith, e));
   cut = λ told e. record { printed = inl (text told); nothing_written = written };
   others = λ told name no. ap (λ texts. texts name) written;
@@ -73,9 +76,10 @@ usage-keeps usage run NoMemory text cause written shelf = record {
 }
 
 -- ---- want of memory before anything is read
--- what a case says of such a run: its answers are 0 and 1, and it allows `memory`, a front of it, or nothing
+-- what a case says of such a run: its answers are 0 and 1, its refusals 2 to 5, and it allows `memory`, a front of it, or nothing
 pub record AllowsMemory (c : Case) (run : Run) : Type 0 where
   pub answer : (status : ℕ) → c.MayAnswer status → status ≤ 1
+  pub refusals : (status : ℕ) → c.MayRefuse status → IsRefusal status
   pub stopped : run.told ≡ true → Rose run.counts.sink run.counts.now_sink
       → AppendsFront memory_line run.printed run.now_printed → c.Stopped run
   pub cut : run.told ≡ true → (run.now_printed ≡ run.printed) ⊎ (run.now_printed ≡ run.printed ++ memory_line)
@@ -87,8 +91,9 @@ at-seven : (c : Case) (run : Run) → AllowsMemory c run → run.now_written ≡
     → Keeps c run 7
 at-seven c run allows written sink text = record {
   is_status = inr (inr (inr refl));
+  refusals = allows.refusals;
   answered = λ told may. absurd (let low = allows.answer 7 may in omega (arith, low));
-  refused = λ told is. absurd (seven-no_refusal is);
+  refused = λ told is. absurd (seven-no_refusal (allows.refusals 7 is));
   stopped = λ told e. absurd (omega (arith, e));
   cut = λ told e. allows.cut told (text told);
   others = λ told name no. ap (λ texts. texts name) written;
@@ -110,8 +115,9 @@ memory-keeps c run Whole allows text cause written = at-seven c run allows writt
 memory-keeps c run NoMemory allows text cause written = at-seven c run allows written cause (λ told. inl (text told))
 memory-keeps c run Failed allows text cause written = record {
   is_status = inr (inr (inl refl));
+  refusals = allows.refusals;
   answered = λ told may. absurd (let low = allows.answer 6 may in omega (arith, low));
-  refused = λ told is. absurd (six-no_refusal is);
+  refused = λ told is. absurd (six-no_refusal (allows.refusals 6 is));
   stopped = λ told e. allows.stopped told cause (text told);
   cut = λ told e. absurd (omega (arith, e));
   others = λ told name no. ap (λ texts. texts name) written;

@@ -7,7 +7,7 @@ use Rattle.command_words.specs.Asked.{Asked, FindAsked, SimAsked, find, sim}
 use Rattle.command_words.specs.Words.{asked as asked_by}
 use Rattle.find_sets.specs.Asked.{Asked as Finding}
 use Rattle.find_sets.specs.Finding.{finding}
-use Rattle.find_sets.specs.Means.{Suspecting}
+use Rattle.list_inputs.specs.Means.{Suspecting}
 use Rattle.front_end.specs.Means.{Meaning, Refusing}
 use Rattle.sim_cmd.specs.Requests.{Asked as Simulating}
 use Rattle.sim_cmd.specs.Simulation.{simulation}

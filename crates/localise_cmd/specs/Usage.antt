@@ -5,7 +5,7 @@ use Rattle.io_ports.specs.Faults.{Rose}
 use Rattle.io_ports.specs.Shelf.{AppendsFront}
 use Rattle.printed_text.specs.Numerals.{newline}
 use Rattle.refusal_lines.specs.Refusals.{memory_line}
-use Rattle.command_contract.specs.Contract.{Case, Run}
+use Rattle.command_contract.specs.Contract.{Case, NothingWritten, Run}
 use Rattle.command_words.specs.declared.requests.Usage.{Usage}
 use Rattle.command_words.specs.declared.requests.Usage.TheVariants.{Command, Words, Number, Name, Kind}
 
@@ -41,8 +41,10 @@ pub record UsageCut (run : Run) : Type 0 where
 abbrev pub no_request : Usage → Case
 no_request usage = record {
   MayAnswer = λ status. ⊥;
+  MayRefuse = λ status. status ≡ 2;
   Answered = λ run status. ⊥;
   Refused = SaysUsage usage;
+  Stands = NothingWritten;
   Stopped = UsageStopped usage;
   Cut = UsageCut;
   Writes = λ name. ⊥;

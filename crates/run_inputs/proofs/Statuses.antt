@@ -1,6 +1,6 @@
 -- A refusal has one of the statuses 3, 4 and 5, or 7 where memory is wanted; then `memory` is printed.
 use Rattle.std.proofs.Common.{ℕ, ◌≡◌, List, [], refl, arith, ◌⊎◌, inl, inr}
-use Rattle.command_contract.specs.Contract.{IsRefusal}
+use Rattle.command_contract.specs.Contract.{IsInputRefusal}
 use Rattle.design_core.specs.declared.signal.Signal.{Signal}
 use Rattle.refusal_lines.specs.Refusals.{memory_line}
 use Rattle.refusal_lines.proofs.Statuses.{Known, input, limit, memory, binding-known, dump-known, elaboration-known}
@@ -48,13 +48,13 @@ trace-ends signals name number (trace.Text why) =
 
 -- ---- its status
 abbrev pub IsOne : ℕ → Type 0
-IsOne status = IsRefusal status ⊎ (status ≡ 7)
+IsOne status = IsInputRefusal status ⊎ (status ≡ 7)
 
 pub is-one : (line : List ℕ) (status : ℕ) → Ends line status → IsOne status
-is-one line status (known s input) = inl (inr (inl refl))
-is-one line status (known s limit) = inl (inr (inr (inl refl)))
+is-one line status (known s input) = inl (inl refl)
+is-one line status (known s limit) = inl (inr (inl refl))
 is-one line status (known s (memory e)) = inr refl
-is-one line status read_fault = inl (inr (inr (inr refl)))
+is-one line status read_fault = inl (inr (inr refl))
 
 pub design-one : (why : DesignFault) → IsOne (design_fault_status why)
 design-one why = is-one (design_fault_line [] why) (design_fault_status why) (design-ends [] why)
@@ -66,15 +66,13 @@ trace-one why = is-one (trace_fault_line [] [] 0 why) (trace_fault_status why) (
 pub not-done : (status : ℕ) → IsOne status → status ≡ 0 → ⊥
 not-done status (inl (inl e)) is = omega (arith, e, is)
 not-done status (inl (inr (inl e))) is = omega (arith, e, is)
-not-done status (inl (inr (inr (inl e)))) is = omega (arith, e, is)
-not-done status (inl (inr (inr (inr e)))) is = omega (arith, e, is)
+not-done status (inl (inr (inr e))) is = omega (arith, e, is)
 not-done status (inr e) is = omega (arith, e, is)
 
 pub not-stopped : (status : ℕ) → IsOne status → status ≡ 6 → ⊥
 not-stopped status (inl (inl e)) is = omega (arith, e, is)
 not-stopped status (inl (inr (inl e))) is = omega (arith, e, is)
-not-stopped status (inl (inr (inr (inl e)))) is = omega (arith, e, is)
-not-stopped status (inl (inr (inr (inr e)))) is = omega (arith, e, is)
+not-stopped status (inl (inr (inr e))) is = omega (arith, e, is)
 not-stopped status (inr e) is = omega (arith, e, is)
 
 -- ---- what is printed at 7

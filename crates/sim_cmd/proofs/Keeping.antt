@@ -1,7 +1,7 @@
 -- The promises of the command, from how a run ends.
 use Rattle.std.proofs.Common.{ℕ, ◌≡◌, true, ap, refl, arith, ◌⊎◌, inl, inr}
-use Rattle.command_contract.specs.Contract.{Causes, Counts, EndsRefused, IsRefusal, IsStatus, Keeps, OneRose, Run}
-use Rattle.command_contract.proofs.Statuses.{refusal-range, seven-no_refusal, six-no_refusal}
+use Rattle.command_contract.specs.Contract.{Causes, Counts, EndsRefused, IsInputRefusal, IsStatus, Keeps, OneRose, Run}
+use Rattle.command_contract.proofs.Statuses.{input-range, input-refusal}
 use Rattle.front_end.specs.Means.{Meaning, Refusing}
 use Rattle.sim_cmd.specs.declared.outcome.Outcome.{Outcome}
 use Rattle.sim_cmd.specs.declared.outcome.Outcome.TheVariants.{Done, NoDesign, NoTrace, WriteFault, Memory}
@@ -38,15 +38,15 @@ module _ (M : Meaning) (R : Refusing) (asked : Asked) (run : Run) where
   done WriteFault left nothing e = absurd (omega (arith, e))
   done Memory left nothing e = absurd (omega (arith, e))
 
-  refused : (o : Outcome) → Left o → run.now_written ≡ run.written → IsRefusal (status_of o)
+  refused : (o : Outcome) → Left o → run.now_written ≡ run.written → IsInputRefusal (status_of o)
       → EndsRefused (simulation M R asked) run (status_of o)
-  refused Done left nothing is = absurd (omega (arith, refusal-range 0 is))
+  refused Done left nothing is = absurd (omega (arith, input-range 0 is))
   refused (NoDesign why) (line, cause, printed) nothing is =
-      record { line = line; refused = cause; printed = printed; nothing_written = nothing }
+      record { line = line; refused = cause; printed = printed; stands = nothing }
   refused (NoTrace why) (line, cause, printed) nothing is =
-      record { line = line; refused = cause; printed = printed; nothing_written = nothing }
-  refused WriteFault left nothing is = absurd (six-no_refusal is)
-  refused Memory left nothing is = absurd (seven-no_refusal is)
+      record { line = line; refused = cause; printed = printed; stands = nothing }
+  refused WriteFault left nothing is = absurd (omega (arith, input-range 6 is))
+  refused Memory left nothing is = absurd (omega (arith, input-range 7 is))
 
   stopped : (o : Outcome) → Left o → run.now_written ≡ run.written → RunCounts run.counts o → status_of o ≡ 6
       → IsStopped M R asked run
@@ -119,6 +119,7 @@ module _ (M : Meaning) (R : Refusing) (asked : Asked) (run : Run) where
       → Keeps (simulation M R asked) run (status_of o)
   keeps o leaves nothing counts complete = record {
     is_status = is-status o;
+    refusals = input-refusal;
     answered = λ told e. done o (leaves told) nothing e;
     refused = λ told is. refused o (leaves told) nothing is;
     stopped = λ told e. stopped o (leaves told) nothing counts e;

@@ -2,7 +2,7 @@
 use Rattle.std.specs.Prelude.{ℕ, ◌+◌, ◌≡◌, ◌⊎◌, List, [], ◌++◌, All, take}
 use Rattle.io_ports.specs.Faults.{Rose}
 use Rattle.io_ports.specs.Shelf.{AppendsFront}
-use Rattle.command_contract.specs.Contract.{Case, Run, Texts}
+use Rattle.command_contract.specs.Contract.{Case, IsInputRefusal, NothingWritten, Run, Texts}
 use Rattle.design_core.specs.declared.design.Design.{Design}
 use Rattle.design_core.specs.declared.trace.Trace.{Trace}
 use Rattle.refusal_lines.specs.Refusals.{memory_line}
@@ -82,8 +82,10 @@ pub record IsReady (M : Meaning) (asked : Asked) (texts : Texts) : Type 0 where
 abbrev pub simulation : Meaning → Refusing → Asked → Case
 simulation M R asked = record {
   MayAnswer = λ status. status ≡ 0;
+  MayRefuse = IsInputRefusal;
   Answered = λ run status. IsDone M asked run;
   Refused = λ run. Refused M R asked run.texts;
+  Stands = NothingWritten;
   Stopped = IsStopped M R asked;
   Cut = IsCut M asked;
   Writes = λ name. ⊥;

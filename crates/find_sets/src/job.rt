@@ -1,0 +1,45 @@
+//! The listing that is to be done.
+ghost use Rattle.std.specs.Prelude.{◌≡◌};
+ghost use Rattle.list_inputs.specs.Ends.{problem_in};
+ghost use Rattle.set_listing.specs.Jobs.{asked_of as job_asked};
+ghost use Rattle.find_sets.specs.Finding.{listing_of};
+ghost use Rattle.find_sets.specs.Requests.{asked_of};
+
+use crate::request::Request;
+use list_inputs::{Inputs, Tools};
+use set_listing::Job;
+use std::alloc::Global;
+
+/// The listing of what was read.
+pub(crate) fn job_of<'a>(inputs: &'a Inputs, request: &'a Request) -> Job<'a>
+    ensures { job_asked result ≡ listing_of (asked_of request.now)
+        (problem_in inputs.now request.now.size) inputs.now.digest }
+{
+    Job {
+        question: inputs.question(request.size),
+        budget: request.budget,
+        sets: request.sets,
+        log: request.log.as_str(),
+        report: request.report.as_str(),
+        inputs: inputs.digest,
+        top: &request.top,
+        clock: request.clock.as_ref(),
+        kinds: &request.suspects,
+    }
+}
+
+/// What a listing works with, by so many workers.
+pub(crate) fn listing_tools<'a, F, R, G>(
+    alloc: Global,
+    tools: &Tools<'a, F, R, G>,
+    workers: u32,
+) -> set_listing::Tools<'a, R, G>
+    ensures { result.workers ≡ workers }
+{
+    set_listing::Tools {
+        alloc,
+        runtime: tools.runtime,
+        gate: tools.gate,
+        workers,
+    }
+}

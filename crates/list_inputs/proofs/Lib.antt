@@ -1,0 +1,4 @@
+pub mod Digests
+pub mod Problems
+pub mod Causes
+pub mod Keeping

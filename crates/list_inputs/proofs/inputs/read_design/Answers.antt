@@ -1,0 +1,23 @@
+use Rattle.std.proofs.Common.{sym, subst}
+use Rattle.run_inputs.specs.Asked.{Asked as Sources}
+use Rattle.run_inputs.specs.Causes.{DesignCause}
+use Rattle.run_inputs.specs.Means.{MeansDesign}
+use Rattle.list_inputs.specs.Asked.{asked_of}
+use Rattle.list_inputs.proofs.Causes.{design-cause, design-spared}
+use Rattle.list_inputs.proofs.inputs.read_design.Goals as goal
+
+pub returns-in-Err-clause-refused : goal.returns-in-Err-clause-refused
+returns-in-Err-clause-refused g c = λ told kinds.
+    let asked = asked_of c.args.wanted.now in
+    let texts = g.S.Shelf.texts c.args.shelf.now in
+    design-cause g.F.FrontEnd.means g.F.FrontEnd.refuses kinds asked texts c.in-Err.fault c.of_design.result
+    (subst (λ (s : Sources). DesignCause g.F.FrontEnd.refuses s texts c.in-Err.fault) c.sources.ensures.asked
+    (c.in-Err.ensures.refused told))
+    c.of_design.ensures.says
+
+pub returns-in-Err-clause-only : goal.returns-in-Err-clause-only
+returns-in-Err-clause-only g c = λ told d means.
+    let texts = g.S.Shelf.texts c.args.shelf.now in
+    design-spared c.in-Err.fault c.of_design.result _ c.of_design.ensures.status c.of_design.ensures.says
+    (c.in-Err.ensures.only told d
+    (subst (λ (s : Sources). MeansDesign g.F.FrontEnd.means s texts d) (sym c.sources.ensures.asked) means))

@@ -1,0 +1,60 @@
+-- Private, for the functions inside this crate: what is known of a list between two conditions.
+use Rattle.std.specs.Prelude.{ℕ, ◌≡◌, ◌+◌, ◌<◌, ◌≤◌, ◌^◌, List, length, slice_get, All, Option, Some, None, true}
+use Rattle.std.specs.List.Sorted.{IsStrictlyIncreasing}
+use Rattle.design_core.specs.declared.values.SetWithValues.{SetWithValues}
+use Rattle.design_core.specs.Listing.{is_before}
+use Rattle.design_core.specs.Works.{IsSet, IsWithin}
+use Rattle.report_doc.specs.declared.types.ReportSet.{ReportSet}
+use Rattle.debug_core.specs.Problems.{Problem, suspects_of}
+use Rattle.list_verdict.specs.declared.holding.Holding.{Holding}
+use Rattle.list_verdict.specs.declared.order.Order.{Order}
+use Rattle.list_verdict.specs.declared.order.Order.TheVariants as order
+use Rattle.list_verdict.specs.Claims.{AreItsValues, Claim}
+use Rattle.list_verdict.specs.Conditions.{AreInOrder, Holds, IsFirstOutOfOrder, IsFirstToHold, IsInOrder, NoneHolds}
+
+-- ---- order
+-- members that may be a set's: numbers of suspects, ascending, at most k
+pub record AreMembers (p : Problem) (members : List ℕ) : Type 0 where
+  pub suspects : IsSet (suspects_of p) members
+  pub size : length members ≤ p.k
+
+-- the set of a place is in order, and these are its values
+pub record IsFound (c : Claim) (place : ℕ) (set : ReportSet) (found : SetWithValues) : Type 0 where
+  pub in_order : IsInOrder c (place + 1) set
+  pub values : AreItsValues c set found.values
+
+-- what is found of the set of a place: its values where it is in order, else nothing
+abbrev pub FoundAt : Claim → ℕ → Option SetWithValues → Type 0
+FoundAt c place None = (set : ReportSet) → slice_get c.sets place ≡ Some set → ¬ IsInOrder c (place + 1) set
+FoundAt c place (Some found) = (set : ReportSet) → slice_get c.sets place ≡ Some set → IsFound c place set found
+
+-- the values of so many sets, from the first on, were found
+pub record AreFound (c : Claim) (count : ℕ) (found : List SetWithValues) : Type 0 where
+  pub long : length found ≡ count
+  pub each : (place : ℕ) (set : ReportSet) (f : SetWithValues) → slice_get c.sets place ≡ Some set → slice_get found place ≡ Some f
+      → IsFound c place set f
+
+abbrev pub Orders : Claim → Order → Type 0
+Orders c (order.In found) = AreInOrder c × AreFound c (length c.sets) found.items
+Orders c (order.OutOf set) = IsFirstOutOfOrder c set
+
+-- ---- sets that hold others
+-- the sets are ascending lists of numbers, each of which comes before all behind it
+pub record AreAscending (sets : List ReportSet) : Type 0 where
+  pub each : All (λ set. IsStrictlyIncreasing set.members) sets
+  pub before : (i j : ℕ) (one other : ReportSet) → i < j → slice_get sets i ≡ Some one → slice_get sets j ≡ Some other
+      → is_before one.members other.members ≡ true
+
+-- the place of the first set that the set of a place holds, where there is one
+abbrev pub FirstHeld : List ReportSet → ℕ → Option ℕ → Type 0
+FirstHeld sets place None = (o : ℕ) → ¬ Holds sets (place + 1) o
+FirstHeld sets place (Some other) = Holds sets (place + 1) (other + 1) × ((o : ℕ) → o < other + 1 → ¬ Holds sets (place + 1) o)
+
+-- none of the sets up to a place is within a list
+abbrev pub NoneWithin : List ReportSet → List ℕ → ℕ → Type 0
+NoneWithin sets outer place = (i : ℕ) (inner : ReportSet) → i < place → slice_get sets i ≡ Some inner → ¬ IsWithin inner.members outer
+
+-- the first set that holds another, where there is one
+abbrev pub FirstToHold : List ReportSet → Option Holding → Type 0
+FirstToHold sets None = NoneHolds sets
+FirstToHold sets (Some holding) = IsFirstToHold sets holding.set holding.other

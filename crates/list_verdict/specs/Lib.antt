@@ -1,0 +1,4 @@
+pub mod Claims
+pub mod Conditions
+pub mod Verdicts
+pub mod Judging

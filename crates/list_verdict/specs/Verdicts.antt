@@ -1,0 +1,53 @@
+-- What is judged of a list.
+use Rattle.std.specs.Prelude.{ℕ, List, All, map}
+use Rattle.design_core.specs.declared.values.Values.{Values}
+use Rattle.design_core.specs.Explained.{Explains}
+use Rattle.report_doc.specs.declared.types.ReportSet.{ReportSet}
+use Rattle.debug_core.specs.Debugging.{IsListOf}
+use Rattle.debug_core.specs.Problems.{suspects_of}
+use Rattle.list_verdict.specs.declared.verdict.Verdict.{Verdict}
+use Rattle.list_verdict.specs.declared.verdict.Verdict.TheVariants as verdict
+use Rattle.list_verdict.specs.Claims.{AreItsValues, Claim}
+use Rattle.list_verdict.specs.Conditions.{AreInOrder, AreRight, Closes, IsAcceptedLog, IsFirstOutOfOrder, IsFirstRefusedStep, IsFirstToHold, IsFirstToMiss, NoneHolds}
+
+-- the list is whole by its log: all five conditions hold
+pub record IsWhole (c : Claim) : Type 0 where
+  pub in_order : AreInOrder c
+  pub none_holds : NoneHolds c.sets
+  pub right : AreRight c
+  pub accepted : IsAcceptedLog c
+  pub closes : Closes c
+
+-- the first condition that fails is named, with the first set or step by which it does
+abbrev pub IsVerdict : Claim → Verdict → Type 0
+IsVerdict c verdict.Whole = IsWhole c
+IsVerdict c (verdict.Order set) = IsFirstOutOfOrder c set
+IsVerdict c (verdict.Contains set other) = AreInOrder c × IsFirstToHold c.sets set other
+IsVerdict c (verdict.Replay set miss) = AreInOrder c × NoneHolds c.sets × IsFirstToMiss c set miss
+IsVerdict c (verdict.Step number) = AreInOrder c × NoneHolds c.sets × AreRight c × IsFirstRefusedStep c number
+IsVerdict c verdict.Open = AreInOrder c × NoneHolds c.sets × AreRight c × IsAcceptedLog c × ¬ Closes c
+
+-- the members of each set
+abbrev pub members_of : List ReportSet → List (List ℕ)
+members_of sets = map (λ set. set.members) sets
+
+-- a set's texts say values, and with them each trace is right
+pub record IsExplained (c : Claim) (set : ReportSet) : Type 0 where
+  pub values : Values
+  pub are_its : AreItsValues c set values
+  pub explains : Explains c.problem.design c.problem.traces (suspects_of c.problem) set.members values
+
+-- the sets are the list of the problem, and the values of each explain the traces
+pub record IsWholeList (c : Claim) : Type 0 where
+  pub list : IsListOf c.problem (members_of c.sets)
+  pub explained : All (IsExplained c) c.sets
+
+-- a list with its form's number of variables
+pub record Judged : Type 0 where
+  pub claim : Claim
+  pub vars : ℕ
+
+-- a list with an answer
+pub record Answered : Type 0 where
+  pub claim : Claim
+  pub verdict : Verdict

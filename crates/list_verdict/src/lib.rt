@@ -1,0 +1,16 @@
+//! A second party's judgement on a list of sets that can explain traces: whether it is the whole list, by the values of the sets and by
+//! a log. Five conditions are looked at in order, and the first that fails is named: the sets are in order, none holds another, each
+//! makes the traces right, the log is accepted, and it closes the list.
+#![tactic(auto)]
+
+mod holding;
+mod judge;
+mod laws;
+mod log;
+mod members;
+mod order;
+mod verdict;
+
+pub use judge::judge;
+pub use laws::{whole_is_judged, whole_is_list};
+pub use verdict::{Listed, Verdict, Workers};

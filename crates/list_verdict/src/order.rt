@@ -1,0 +1,86 @@
+//! Whether the sets are in order, with the values that their texts say.
+
+ghost use Rattle.std.specs.Prelude.{◌≡◌, ◌+◌, ◌<◌, ◌↔◌, IfOk, IsTrue, Some, length, slice_get};
+ghost use Rattle.report_doc.specs.declared.types.ReportSet.{ReportSet as SpecSet};
+ghost use Rattle.list_verdict.specs.Claims.{CanBeJudged, claim_of};
+ghost use Rattle.list_verdict.specs.Conditions.{ComesAfter};
+ghost use Rattle.list_verdict.specs.Judging.{FoundAt, Orders};
+
+use crate::members::{are_members, is_before};
+use crate::verdict::Listed;
+use design_core::SetWithValues;
+use loc_base::{Items, NoMemory};
+use report_doc::types::ReportSet;
+use report_values::{Scene, values_of};
+use std::alloc::Global;
+
+/// Whether the sets are in order: their values, or the first of them that isn't.
+#[derive(Drop)]
+pub(crate) enum Order {
+    In { found: Vec<SetWithValues> },
+    OutOf { set: u32 },
+}
+
+/// A set by its place, counted from 0.
+pub(crate) fn set_at(sets: &[ReportSet], place: usize) -> &ReportSet
+    requires { place < length sets.now }
+    ensures { slice_get sets.now place ≡ Some result.now }
+{
+    &sets[place]
+}
+
+/// Whether a set comes after the one before it, if there is one.
+fn comes_after(sets: &[ReportSet], place: usize) -> bool
+    requires { place < length sets.now }
+    ensures { (set : SpecSet) → slice_get sets.now place ≡ Some set → (IsTrue result ↔ ComesAfter sets.now (place + 1) set) }
+{
+    place == 0
+        || is_before(
+            set_at(sets, place - 1).members.as_slice(),
+            set_at(sets, place).members.as_slice(),
+        )
+}
+
+/// The set of a place, counted from 0, with the values that its texts say, where it is in order.
+fn found_at(
+    alloc: Global,
+    listed: &Listed<'_>,
+    place: usize,
+) -> Result<Option<SetWithValues>, NoMemory>
+    requires can { CanBeJudged listed.now }
+    requires place { place < length listed.now.sets.now }
+    ensures { IfOk result (FoundAt (claim_of listed.now) place) }
+{
+    let set = set_at(listed.sets, place);
+    let question = listed.question;
+    if !are_members(question, set.members.as_slice()) || !comes_after(listed.sets, place) {
+        return Ok(None);
+    }
+    let scene = Scene {
+        design: question.design,
+        traces: question.traces,
+        groups: question.groups,
+    };
+    let Some(values) = values_of(alloc, &scene, set)? else {
+        return Ok(None);
+    };
+    let members = Items::copy_of(alloc, set.members.as_slice())?;
+    Ok(Some(SetWithValues { members, values }))
+}
+
+/// The values of the sets, where they are in order, or the first set that isn't.
+pub(crate) fn ordered(alloc: Global, listed: &Listed<'_>) -> Result<Order, NoMemory>
+    requires { CanBeJudged listed.now }
+    ensures { IfOk result (Orders (claim_of listed.now)) }
+{
+    let mut found = Vec::new(alloc);
+    for place in 0..listed.sets.len() {
+        let Some(set) = found_at(alloc, listed, place)? else {
+            return Ok(Order::OutOf {
+                set: place as u32 + 1,
+            });
+        };
+        found.push(set)?;
+    }
+    Ok(Order::In { found })
+}

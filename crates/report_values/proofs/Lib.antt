@@ -1,0 +1,4 @@
+pub mod Spelling
+pub mod Pushing
+pub mod Writing
+pub mod Once
