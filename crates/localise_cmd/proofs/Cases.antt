@@ -4,15 +4,23 @@ use Rattle.std.proofs.lemmas.List.{append-nil}
 use Rattle.refusal_lines.specs.Refusals.{memory_line}
 use Rattle.command_contract.specs.Contract.{Keeps, Run}
 use Rattle.command_contract.proofs.Statuses.{input-refusal}
-use Rattle.command_words.specs.declared.requests.Usage.{Usage}
-use Rattle.command_words.specs.Asked.{Asked, FindAsked, SimAsked, find, sim}
+use Rattle.word_values.specs.declared.usage.Usage.{Usage}
+use Rattle.check_words.specs.Check.{CheckAsked}
+use Rattle.find_words.specs.Find.{FindAsked}
+use Rattle.find_words.specs.Sim.{SimAsked}
+use Rattle.make_words.specs.Make.{MakeAsked}
+use Rattle.command_words.specs.Asked.{Asked, find, sim, check, make}
+use Rattle.check_cmd.specs.Asked.{Asked as Checking}
+use Rattle.check_cmd.specs.Checking.{checking}
+use Rattle.make_cmd.specs.Asked.{Asked as Making}
+use Rattle.make_cmd.specs.Making.{making}
 use Rattle.find_sets.specs.Asked.{Asked as Finding}
 use Rattle.find_sets.specs.Finding.{finding}
 use Rattle.sim_cmd.specs.Requests.{Asked as Simulating}
 use Rattle.sim_cmd.specs.Simulation.{simulation}
 use Rattle.localise_cmd.specs.Usage.{no_request}
-use Rattle.localise_cmd.specs.Commands.{Tools, case_of, finding_of, simulating_of}
-use Rattle.localise_cmd.proofs.Keeping.{AllowsMemory}
+use Rattle.localise_cmd.specs.Commands.{Tools, case_of, checking_of, finding_of, making_of, simulating_of}
+use Rattle.localise_cmd.proofs.Keeping.{AllowsMemory, eight-no_stop, low-no_stop}
 
 -- ---- a command
 module _ (tools : Tools) (asked : Result Asked Usage) (run : Run) (status : ℕ) where
@@ -28,6 +36,18 @@ module _ (tools : Tools) (asked : Result Asked Usage) (run : Run) (status : ℕ)
       subst (λ (a : Result Asked Usage). Keeps (case_of tools a) run status) (sym is)
       (subst (λ (r : Simulating). Keeps (simulation tools.means tools.refuses r) run status) same keeps)
 
+  pub check-keeps : (words : CheckAsked) (request : Checking) → asked ≡ Ok (check words) → request ≡ checking_of words
+      → Keeps (checking tools.means tools.refuses tools.known tools.suspecting request) run status → Keeps (case_of tools asked) run status
+  check-keeps words request is same keeps =
+      subst (λ (a : Result Asked Usage). Keeps (case_of tools a) run status) (sym is)
+      (subst (λ (r : Checking). Keeps (checking tools.means tools.refuses tools.known tools.suspecting r) run status) same keeps)
+
+  pub make-keeps : (words : MakeAsked) (request : Making) → asked ≡ Ok (make words) → request ≡ making_of words
+      → Keeps (making tools.means tools.refuses tools.suspecting request) run status → Keeps (case_of tools asked) run status
+  make-keeps words request is same keeps =
+      subst (λ (a : Result Asked Usage). Keeps (case_of tools a) run status) (sym is)
+      (subst (λ (r : Making). Keeps (making tools.means tools.refuses tools.suspecting r) run status) same keeps)
+
   pub no_request-keeps : (usage : Usage) → asked ≡ Err usage → Keeps (no_request usage) run status
       → Keeps (case_of tools asked) run status
   no_request-keeps usage is keeps =
@@ -37,7 +57,7 @@ module _ (tools : Tools) (asked : Result Asked Usage) (run : Run) (status : ℕ)
 pub allows-memory : (tools : Tools) (asked : Result Asked Usage) (run : Run)
     → run.now_written ≡ run.written → AllowsMemory (case_of tools asked) run
 allows-memory tools (Ok (find asked)) run written = record {
-  answer = λ status may. elim may [ inl zero ↦ omega (arith, zero) | inr one ↦ omega (arith, one) ];
+  answer = λ status may. low-no_stop status (elim may [ inl zero ↦ omega (arith, zero) | inr one ↦ omega (arith, one) ]);
   refusals = input-refusal;
   stopped = λ told rose front. (
     inr rose,
@@ -52,7 +72,7 @@ allows-memory tools (Ok (find asked)) run written = record {
   cut = λ told text. inr (record { printed = text; nothing_written = written });
 }
 allows-memory tools (Ok (sim asked)) run written = record {
-  answer = λ status is. omega (arith, is);
+  answer = λ status is. low-no_stop status (omega (arith, is));
   refusals = input-refusal;
   stopped = λ told rose front. record {
     due = memory_line;
@@ -70,6 +90,21 @@ allows-memory tools (Ok (sim asked)) run written = record {
     }
     | inr put ↦ record { front = memory_line; may_stand = inr (inl refl); printed = put; nothing_written = written }
   ];
+}
+allows-memory tools (Ok (check asked)) run written = record {
+  answer = λ status may. elim may [ inl zero ↦ low-no_stop status (omega (arith, zero)) | inr eight ↦ eight-no_stop status eight ];
+  refusals = input-refusal;
+  stopped = λ told rose front. (
+    inr rose,
+    record {
+      line = memory_line;
+      is_due = inr refl;
+      printed = front;
+      sink_failed = rose;
+      nothing_written = written;
+    },
+  );
+  cut = λ told text. record { printed = text; nothing_written = written };
 }
 allows-memory tools (Err usage) run written = record {
   answer = λ status may. absurd may;
