@@ -18,7 +18,7 @@ use Rattle.localise_cmd.specs.Commands.{KeepsWords, case_of, tools_of}
 use Rattle.localise_cmd.specs.Prints.{printed_status}
 use Rattle.localise_cmd.proofs.Keeping.{memory-keeps, usage-keeps}
 use Rattle.localise_cmd.proofs.Cases.{allows-memory, check-keeps, find-keeps, make-keeps, no_request-keeps, sim-keeps}
-use Rattle.localise_cmd.proofs.KnownKinds.{asked-held, check-held, known-held}
+use Rattle.localise_cmd.proofs.KnownKinds.{asked-held, check-held, known-held, make-held, make_known-held}
 use Rattle.localise_cmd.proofs.run.run_words.Goals as goal
 
 pub find-requires-clause-asked : goal.find-requires-clause-asked
@@ -36,6 +36,17 @@ pub check-requires : goal.check-requires
 check-requires g c =
     let held = rw c.in-Ok-Check.field-0-is at c.in-Ok-Check.ensures.holds in
     λ κs within. check-held (check_asked_of c.in-Ok-Check.words) (asked_of_check c.check_request.result) c.check_request.ensures held
+
+pub make-requires-clause-asked : goal.make-requires-clause-asked
+make-requires-clause-asked g c =
+    let held = rw c.in-Ok-Make.field-0-is at c.in-Ok-Make.ensures.holds in
+    λ κs within. make-held _ (make_asked_of c.in-Ok-Make.words) (asked_of_make c.make_request.result) c.make_request.ensures held
+
+pub make-requires-clause-known : goal.make-requires-clause-known
+make-requires-clause-known g c =
+    let held = rw c.in-Ok-Make.field-0-is at c.in-Ok-Make.ensures.holds in
+    λ κs within. make_known-held (λ k. (goal.Granularity-dyn g (k.vtable, k.value)).called k.value) c.args.kinds.now
+    (make_asked_of c.in-Ok-Make.words) (asked_of_make c.make_request.result) c.make_request.ensures held
 
 pub returns-in-Ok-Find : goal.returns-in-Ok-Find
 unfolding KeepsWords
