@@ -1,9 +1,9 @@
 -- What words ask of `find` is what a list may be asked.
-use Rattle.std.proofs.Common.{ℕ, ◌≡◌, ◌≢◌, arith, ◌⊎◌, Bool, true, false, List, [], ◌∷◌, map, refl, sym, ap, subst, ◌∙◌, inl, inr, Some, None, Option}
+use Rattle.std.proofs.Common.{ℕ, ◌≡◌, ◌⊎◌, Bool, true, false, List, [], ◌∷◌, map, refl, sym, ap, subst, ◌∙◌, inl, inr, Some, None, Option}
 use Rattle.std.specs.Prelude.{All, Contains, if◌then◌else◌, nat_eq}
 use Rattle.std.specs.Cmp.Lexicographic.{pointwise}
 use Rattle.std.proofs.lemmas.Bool.{false≢true}
-use Rattle.std.proofs.lemmas.List.Elements.{All-cons, All-nil, All-head, All-tail}
+use Rattle.std.proofs.lemmas.List.Elements.{All-head, All-tail}
 use Rattle.loc_base.proofs.ShelfLists.{Contains-cons, Contains-empty}
 use Rattle.suspect_map.specs.Choose.{named, unknown, unknown_or}
 use Rattle.suspect_map.proofs.Steps.{same_name}
@@ -73,29 +73,16 @@ check-held words request same held =
 
 pub make-held : (known : List (List ℕ)) (words : MakeAsked) (request : Making) → request ≡ making_of words
     → IsMakeAsked known words → IsMakeable request
-make-held known words request same held =
-    let differ = held.names_once in
-    subst IsMakeable (sym same) (record {
-      number = held.number;
-      some_kinds = held.some_kinds;
-      kinds_once = held.kinds_once;
-      size = held.size;
-      budget = held.budget;
-      sets = held.sets;
-      workers = held.workers;
-      texts_apart = differ 2 3 [] (omega arith) (omega arith);
-      apart = differ 0 1 [] (omega arith) (omega arith);
-      own_log = both-other words.log words.design words.trace (differ 0 2 [] (omega arith) (omega arith))
-          (differ 0 3 [] (omega arith) (omega arith));
-      own_report = both-other words.report words.design words.trace (differ 1 2 [] (omega arith) (omega arith))
-          (differ 1 3 [] (omega arith) (omega arith));
-    })
-  where
-    -- each of two names differs from a name that differs from both
-    both-other : (name first second : List ℕ) → name ≢ first → name ≢ second → All (λ other. other ≢ name) (first ∷ second ∷ [])
-    both-other name first second not_first not_second =
-        All-cons (λ (other : List ℕ). other ≢ name) first (second ∷ []) (λ e. not_first (sym e))
-        (All-cons (λ (other : List ℕ). other ≢ name) second [] (λ e. not_second (sym e)) (All-nil (λ (other : List ℕ). other ≢ name)))
+make-held known words request same held = subst IsMakeable (sym same) (record {
+  number = held.number;
+  some_kinds = held.some_kinds;
+  kinds_once = held.kinds_once;
+  size = held.size;
+  budget = held.budget;
+  sets = held.sets;
+  workers = held.workers;
+  apart = held.names_once;
+})
 
 pub make_known-held : {G : Type 0} (called : G → List ℕ) (kinds : List G) (words : MakeAsked) (request : Making)
     → request ≡ making_of words → IsMakeAsked (map called kinds) words → AreKnown called kinds (list_of request)
