@@ -2,10 +2,12 @@
 //! is wrong. Each command's words are read by a crate of its own.
 #![tactic(auto)]
 
+mod requests;
 mod words;
 
 pub use check_words::CheckWords;
 pub use find_words::{FindWords, SimWords};
 pub use make_words::MakeWords;
+pub use requests::Request;
 pub use word_values::{Usage, WordsErr};
-pub use words::{Request, request};
+pub use words::request;

@@ -5,20 +5,12 @@ ghost use Rattle.command_words.specs.Asked.{IsAsked};
 ghost use Rattle.command_words.specs.Words.{asked};
 ghost use Rattle.command_words.specs.Requests.{asked_of};
 
-use check_words::{CheckWords, check_words};
-use find_words::{FindWords, SimWords, find_words, sim_words};
-use make_words::{MakeWords, make_words};
+use crate::requests::Request;
+use check_words::check_words;
+use find_words::{find_words, sim_words};
+use make_words::make_words;
 use std::alloc::Global;
 use word_values::{Usage, WordsErr};
-
-/// A command, with what it is asked for.
-#[derive(Debug, Drop)]
-pub enum Request {
-    Find(FindWords),
-    Sim(SimWords),
-    Check(CheckWords),
-    Make(MakeWords),
-}
 
 /// What the words behind the program's name ask for, where kinds of suspects of these names are known:
 ///

@@ -243,7 +243,10 @@ const REFUSED: [(&str, Usage); 103] = [
     ("check m.v m r l t.vcd --size 1", Usage::Words),
     ("check m.v m r l t.vcd --clock c", Usage::Words),
     ("check m.v m r l t.vcd --log l", Usage::Words),
-    ("check m.v m r l t.vcd --workers 1 --workers 1", Usage::Words),
+    (
+        "check m.v m r l t.vcd --workers 1 --workers 1",
+        Usage::Words,
+    ),
     ("make", Usage::Words),
     ("make 7 8", Usage::Words),
     ("make -1", Usage::Words),

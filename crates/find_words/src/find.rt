@@ -168,11 +168,7 @@ fn copied(alloc: Global, values: &FindValues, suspects: &[&str]) -> Result<FindW
 
 /// What the words of the command ask for, itself the first, where kinds of suspects of these names are known.
 #[tactic(auto, using(word_values::proofs::KindNames::kind_rules))]
-pub fn find_words(
-    alloc: Global,
-    words: &[String],
-    known: &[&str],
-) -> Result<FindWords, WordsErr>
+pub fn find_words(alloc: Global, words: &[String], known: &[&str]) -> Result<FindWords, WordsErr>
     ensures gives { Gives find_asked_of (find_asked (map (λ w. w.now) known.now) (map string_bytes words.now)) result }
     ensures holds { IfOk result (λ words. IsFindAsked (map (λ w. w.now) known.now) (find_asked_of words)) }
 {

@@ -127,11 +127,7 @@ fn copied(alloc: Global, values: &MakeValues, suspects: &[&str]) -> Result<MakeW
 /// number of 0 to 9999; the design's text is `made.v` and the trace's `made.vcd` where the options aren't given, and the others
 /// are as for `find`. The four names differ.
 #[tactic(auto, using(word_values::proofs::KindNames::kind_rules))]
-pub fn make_words(
-    alloc: Global,
-    words: &[String],
-    known: &[&str],
-) -> Result<MakeWords, WordsErr>
+pub fn make_words(alloc: Global, words: &[String], known: &[&str]) -> Result<MakeWords, WordsErr>
     ensures gives { Gives make_asked_of (make_asked (map (λ w. w.now) known.now) (map string_bytes words.now)) result }
     ensures holds { IfOk result (λ words. IsMakeAsked (map (λ w. w.now) known.now) (make_asked_of words)) }
 {

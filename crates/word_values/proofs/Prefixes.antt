@@ -21,20 +21,25 @@ same_test true b there back = sym (there refl)
 same_test false true there back = back refl
 same_test false false there back = refl
 
--- what stands behind the prefix
+-- what stands behind the prefix begins with `-`, and what begins so stands behind it
+dashed-begins : (prefix rest : List ℕ) → starts_with nat_eq rest (codes "-") ≡ true → begins_with prefix (prefix ++ rest) ≡ true
+dashed-begins prefix rest test =
+    let dashed = (starts-tells rest (codes "-")).0 test in
+    (starts-tells (prefix ++ rest) (prefix ++ codes "-")).1 (drop 1 rest)
+    (ap (λ l. prefix ++ l) dashed ∙ sym (append_assoc prefix (codes "-") (drop 1 rest)))
+
+begins-dashed : (prefix rest : List ℕ) → begins_with prefix (prefix ++ rest) ≡ true → starts_with nat_eq rest (codes "-") ≡ true
+begins-dashed prefix rest test =
+    let whole = prefix ++ codes "-" in
+    let more = drop (length whole) (prefix ++ rest) in
+    let split = (starts-tells (prefix ++ rest) whole).0 test in
+    (starts-tells rest (codes "-")).1 more
+    (append_cancel_left prefix rest (codes "-" ++ more) (split ∙ append_assoc prefix (codes "-") more))
+
 begins-behind : (prefix rest : List ℕ) → starts_with nat_eq rest (codes "-") ≡ begins_with prefix (prefix ++ rest)
 begins-behind prefix rest =
-    same_test (starts_with nat_eq rest (codes "-")) (begins_with prefix (prefix ++ rest))
-    (λ test.
-        let dashed = (starts-tells rest (codes "-")).0 test in
-        (starts-tells (prefix ++ rest) (prefix ++ codes "-")).1 (drop 1 rest)
-            (ap (λ l. prefix ++ l) dashed ∙ sym (append_assoc prefix (codes "-") (drop 1 rest))))
-    (λ test.
-        let whole = prefix ++ codes "-" in
-        let more = drop (length whole) (prefix ++ rest) in
-        let split = (starts-tells (prefix ++ rest) whole).0 test in
-        (starts-tells rest (codes "-")).1 more
-            (append_cancel_left prefix rest (codes "-" ++ more) (split ∙ append_assoc prefix (codes "-") more)))
+    same_test (starts_with nat_eq rest (codes "-")) (begins_with prefix (prefix ++ rest)) (dashed-begins prefix rest)
+    (begins-dashed prefix rest)
 
 -- what was stripped of a name
 pub begins-stripped : (prefix name rest : List ℕ) → name ≡ prefix ++ rest
