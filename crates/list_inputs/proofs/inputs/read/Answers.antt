@@ -1,4 +1,4 @@
-use Rattle.std.proofs.Common.{List, ◌≡◌, ◌≤◌, length, map, sym, subst, ◌∙◌, arith}
+use Rattle.std.proofs.Common.{List, ◌≡◌, ◌≤◌, length, map, refl, sym, subst, ◌∙◌, arith}
 use Rattle.std.specs.Prelude.{All}
 use Rattle.std.proofs.lemmas.List.{length-map}
 use Rattle.command_contract.specs.Contract.{Texts}
@@ -23,6 +23,11 @@ returns-in_err-read-clause-refused g c = λ told.
     passed_on (HasCause (Refused g.F.FrontEnd.means g.F.FrontEnd.refuses _ (asked_of c.args.wanted.now) (g.S.Shelf.texts c.args.shelf.now)))
     c.from_residual.result c.in_err-read.field-0.0 c.from_residual.ensures.1 (c.in_err-read.ensures.refused told _)
 
+pub returns-in_err-read-clause-only : goal.returns-in_err-read-clause-only
+returns-in_err-read-clause-only g c = λ told ready.
+    passed_on IsSpared c.from_residual.result c.in_err-read.field-0.0 c.from_residual.ensures.1
+    (c.in_err-read.ensures.only told ready.design ready.means)
+
 pub returns-in_err-groups-clause-refused : goal.returns-in_err-groups-clause-refused
 returns-in_err-groups-clause-refused g c = λ told.
     let asked = asked_of c.args.wanted.now in
@@ -30,7 +35,7 @@ returns-in_err-groups-clause-refused g c = λ told.
     passed_on (HasCause (Refused g.F.FrontEnd.means g.F.FrontEnd.refuses _ asked texts))
     c.from_residual-in_err-groups.result c.in_err-groups.field-0.0 c.from_residual-in_err-groups.ensures.1
     (many-cause g.F.FrontEnd.means g.F.FrontEnd.refuses _ asked texts c.in_ok-read.read.ordered.design c.in_err-groups.field-0.0
-    c.deref.result.now c.as_slice.result.now c.deref.ensures.value c.as_slice.ensures.value (c.in_ok-read.ensures.means told)
+    c.args.wanted.now.suspects.now c.as_slice.result.now refl c.as_slice.ensures.value (c.in_ok-read.ensures.means told)
     c.in_err-groups.ensures.refused)
 
 pub returns-in_err-groups-clause-only : goal.returns-in_err-groups-clause-only
@@ -40,7 +45,7 @@ returns-in_err-groups-clause-only g c = λ told ready.
     passed_on IsSpared
     c.from_residual-in_err-groups.result c.in_err-groups.field-0.0 c.from_residual-in_err-groups.ensures.1
     (many-spared g.F.FrontEnd.means _ asked texts c.in_ok-read.read.ordered.design c.in_err-groups.field-0.0
-    c.deref.result.now c.as_slice.result.now c.deref.ensures.value c.as_slice.ensures.value (c.in_ok-read.ensures.means told)
+    c.args.wanted.now.suspects.now c.as_slice.result.now refl c.as_slice.ensures.value (c.in_ok-read.ensures.means told)
     ready c.in_err-groups.ensures.refused)
 
 pub read_traces-requires-clause-ports : goal.read_traces-requires-clause-ports
@@ -55,7 +60,7 @@ returns-in_err-traces-clause-refused g c = λ told.
     passed_on (HasCause (Refused g.F.FrontEnd.means g.F.FrontEnd.refuses _ asked texts))
     c.from_residual-in_err-traces.result c.in_err-traces.field-0.0 c.from_residual-in_err-traces.ensures.1
     (trace-cause g.F.FrontEnd.means g.F.FrontEnd.refuses _ asked texts design c.in_err-traces.field-0.0
-    c.deref.result.now c.as_slice.result.now c.in_ok-groups.groups c.deref.ensures.value c.as_slice.ensures.value
+    c.args.wanted.now.suspects.now c.as_slice.result.now c.in_ok-groups.groups refl c.as_slice.ensures.value
     (c.in_ok-read.ensures.means told) c.in_ok-groups.ensures.groups c.in_ok-groups.ensures.count
     (subst (λ (ts : Texts). StopsTraces ts (sources_of asked) design c.in_err-traces.field-0.0) c.in_ok-read.ensures.texts
     (c.in_err-traces.ensures.refused (c.in_ok-read.ensures.tells ∙ told))))
@@ -74,9 +79,9 @@ pub returns-clause-digest : goal.returns-clause-digest
 returns-clause-digest g c = λ told.
     let asked = asked_of c.args.wanted.now in
     let texts = g.S.Shelf.texts c.args.shelf.now in
-    is-digest asked texts c.in_ok-read.read.imprint c.deref-2.result.now c.digest_of-digest.result
+    is-digest asked texts c.in_ok-read.read.imprint c.deref.result.now c.digest_of-digest.result
     (c.in_ok-read.ensures.kept told)
-    (subst (AreKeptOf IsSum texts asked.traces) (sym c.deref-2.ensures.value)
+    (subst (AreKeptOf IsSum texts asked.traces) (sym c.deref.ensures.value)
     (subst (λ (ts : Texts). AreKeptOf IsSum ts asked.traces c.in_ok-traces.traces.imprints.items) c.in_ok-read.ensures.texts
     (c.in_ok-traces.ensures.kept (c.in_ok-read.ensures.tells ∙ told))))
     c.digest_of-digest.ensures

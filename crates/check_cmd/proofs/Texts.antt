@@ -1,0 +1,123 @@
+-- A text that is loaded, and what it is.
+use Rattle.std.proofs.Common.{ℕ, suc, ◌+◌, ◌≡◌, ◌<◌, ◌≤◌, ◌^◌, ◌*◌, List, [], ◌∷◌, ◌++◌, length, map, Option, Some, None, Result, Ok, Err, refl, sym, ap, subst, ◌∙◌, arith, ◌⊎◌, inl, inr}
+use Rattle.std.specs.Prelude.{IsSomeAnd}
+use Rattle.std.specs.List.{flat_map}
+use Rattle.std.proofs.lemmas.List.{length-append, length-map}
+use Rattle.io_ports.specs.Faults.{Rose}
+use Rattle.command_contract.specs.Contract.{Texts}
+use Rattle.command_contract.proofs.Statuses.{input-range}
+use Rattle.run_inputs.specs.declared.faults.LoadFault.{LoadFault}
+use Rattle.run_inputs.specs.declared.faults.LoadFault.TheVariants as fault
+use Rattle.run_inputs.specs.Causes.{LoadCause}
+use Rattle.run_inputs.specs.Means.{IsReadAnd, most_bytes}
+use Rattle.run_inputs.specs.Refusals.{load_line, load_status}
+use Rattle.run_inputs.specs.Texts.{LoadCounts}
+use Rattle.report_doc.specs.declared.types.Report.{Report}
+use Rattle.report_reading.specs.Reading.{IsReportOf}
+use Rattle.proof_check.specs.declared.types.LogText.{LogText}
+use Rattle.proof_check.specs.Text.{lines_of, step_line, text_of}
+use Rattle.list_inputs.specs.declared.refusal.Refusal.{Refusal}
+use Rattle.list_inputs.specs.declared.refusal.Refusal.TheVariants.{Line, Memory}
+use Rattle.list_inputs.specs.Ends.{HasCause, HasStatus, IsSpared, RefusalCounts, Says}
+use Rattle.check_cmd.specs.Asked.{Asked}
+use Rattle.check_cmd.specs.Means.{IsLogOf, MeansLog, MeansReport}
+use Rattle.check_cmd.specs.Parts as parts
+use Rattle.check_cmd.specs.Parts.{IsShort, LoadRefused, LogTextRefused, ReportTextRefused}
+use Rattle.check_cmd.specs.Refusals as refused
+use Rattle.check_cmd.specs.Refusals.{LogRefused, ReportRefused}
+use Rattle.check_cmd.proofs.Causes.{cause-of}
+
+-- ---- a load
+-- the shelf's count of faults, from that of the load to that of its refusal
+pub load-counts : (old new : ℕ) (why : LoadFault) (r : Refusal) (line : List ℕ) → LoadCounts {X = List ℕ} old new (Err why)
+    → HasStatus r → Says r (load_status why) line → RefusalCounts old new r
+load-counts old new fault.Fault (Line s l) line rose has (e, f) = (λ _. rose, λ other. absurd (other e))
+load-counts old new fault.Size (Line s l) line same has (e, f) = (λ five. absurd (omega (arith, e, five)), λ _. same)
+load-counts old new fault.NoMemory (Line s l) line same has (e, f) = absurd (omega (arith, e, input-range s has))
+load-counts old new why Memory line counts has says = tt
+
+-- a text that is short enough is refused by a fault of the shelf, or for want of memory
+not-long : (text : Option (List ℕ)) → IsShort text → IsSomeAnd text (λ bytes. most_bytes < length bytes) → ⊥
+not-long (Some bytes) short long = omega (arith, short, long)
+not-long None short long = long
+
+pub load-spared : (text : Option (List ℕ)) (why : LoadFault) (r : Refusal) (line : List ℕ) → LoadCause text why → HasStatus r
+    → Says r (load_status why) line → IsShort text → IsSpared r
+load-spared text fault.Fault (Line s l) line cause has (e, f) short = e
+load-spared text fault.Size (Line s l) line cause has (e, f) short = absurd (not-long text short cause)
+load-spared text fault.NoMemory (Line s l) line cause has (e, f) short = absurd (omega (arith, e, input-range s has))
+load-spared text why Memory line cause has says short = tt
+
+-- ---- a text that is there
+pub at-text : (o : Option (List ℕ)) (text : List ℕ) (P : List ℕ → Type 0) → o ≡ Some text → length text ≤ most_bytes → P text
+    → IsReadAnd o P
+at-text o text P e short holds = subst (λ (x : Option (List ℕ)). IsReadAnd x P) (sym e) (short, holds)
+
+-- by another name of it
+pub at-name : (texts : Texts) (name other : List ℕ) (text : List ℕ) → name ≡ other → texts name ≡ Some text → texts other ≡ Some text
+at-name texts name other text e is = subst (λ (n : List ℕ). texts n ≡ Some text) e is
+
+pub of-text : (o : Option (List ℕ)) (text : List ℕ) (P : List ℕ → Type 0) → o ≡ Some text → IsReadAnd o P → P text
+of-text o text P e read = (subst (λ (x : Option (List ℕ)). IsReadAnd x P) e read).1
+
+is-short : (o : Option (List ℕ)) (P : List ℕ → Type 0) → IsReadAnd o P → IsShort o
+is-short (Some text) P read = read.0
+is-short None P read = read
+
+pub name-short : (texts : Texts) (name other : List ℕ) (P : List ℕ → Type 0) → name ≡ other → IsReadAnd (texts other) P
+    → IsShort (texts name)
+name-short texts name other P e read = is-short (texts name) P (subst (λ (n : List ℕ). IsReadAnd (texts n) P) (sym e) read)
+
+-- ---- a report
+pub report-cause_load : (asked : Asked) (texts : Texts) (name : List ℕ) (r : Refusal) → name ≡ asked.report
+    → HasCause (LoadRefused name (texts name)) r → HasCause (ReportRefused asked texts) r
+report-cause_load asked texts name r e cause =
+    cause-of (LoadRefused asked.report (texts asked.report)) (ReportRefused asked texts) r at
+    (subst (λ (n : List ℕ). HasCause (LoadRefused n (texts n)) r) e cause)
+  where
+    at : (s : ℕ) (l : List ℕ) → LoadRefused asked.report (texts asked.report) s l → ReportRefused asked texts s l
+    at s l (parts.text_load why cause) = refused.report_load why cause
+
+pub report-cause_text : (asked : Asked) (texts : Texts) (text : List ℕ) (r : Refusal) → texts asked.report ≡ Some text
+    → length text ≤ most_bytes → HasCause (ReportTextRefused text) r → HasCause (ReportRefused asked texts) r
+report-cause_text asked texts text r e short =
+    cause-of (ReportTextRefused text) (ReportRefused asked texts) r at
+  where
+    at : (s : ℕ) (l : List ℕ) → ReportTextRefused text s l → ReportRefused asked texts s l
+    at s l (parts.text_syntax not) = refused.report_syntax (at-text (texts asked.report) text _ e short not)
+    at s l (parts.text_shape json not) = refused.report_shape (at-text (texts asked.report) text _ e short (json, not))
+
+pub report-low : (text : List ℕ) (s : ℕ) (l : List ℕ) → ReportTextRefused text s l → (s ≡ 3) ⊎ (s ≡ 4)
+report-low text s l (parts.text_syntax not) = inl refl
+report-low text s l (parts.text_shape json not) = inl refl
+
+-- ---- a log
+pub log-cause_load : (asked : Asked) (texts : Texts) (name : List ℕ) (r : Refusal) → name ≡ asked.log
+    → HasCause (LoadRefused name (texts name)) r → HasCause (LogRefused asked texts) r
+log-cause_load asked texts name r e cause =
+    cause-of (LoadRefused asked.log (texts asked.log)) (LogRefused asked texts) r at
+    (subst (λ (n : List ℕ). HasCause (LoadRefused n (texts n)) r) e cause)
+  where
+    at : (s : ℕ) (l : List ℕ) → LoadRefused asked.log (texts asked.log) s l → LogRefused asked texts s l
+    at s l (parts.text_load why cause) = refused.log_load why cause
+
+pub log-cause_text : (asked : Asked) (texts : Texts) (text : List ℕ) (r : Refusal) → texts asked.log ≡ Some text
+    → length text ≤ most_bytes → HasCause (LogTextRefused text) r → HasCause (LogRefused asked texts) r
+log-cause_text asked texts text r e short =
+    cause-of (LogTextRefused text) (LogRefused asked texts) r at
+  where
+    at : (s : ℕ) (l : List ℕ) → LogTextRefused text s l → LogRefused asked texts s l
+    at s l (parts.text_line line bad) = refused.log_line line (at-text (texts asked.log) text _ e short bad)
+
+pub log-low : (text : List ℕ) (s : ℕ) (l : List ℕ) → LogTextRefused text s l → (s ≡ 3) ⊎ (s ≡ 4)
+log-low text s l (parts.text_line line bad) = inl refl
+
+-- a text of lines has a newline for each of them
+lines-length : (lines : List (List ℕ)) → length lines ≤ length (flat_map (λ line. line ++ 10 ∷ []) lines)
+lines-length [] = omega arith
+lines-length (line ∷ lines) =
+    omega (arith, length-append (line ++ 10 ∷ []) (flat_map (λ line. line ++ 10 ∷ []) lines), length-append line (10 ∷ []), lines-length lines)
+
+pub few-steps : (text : List ℕ) (log : LogText) → IsLogOf text log → length text ≤ most_bytes → length log.log + 1 < 2 ^ 32
+few-steps text log (is, e) short =
+    omega (arith, short, ap length e, lines-length (lines_of log), length-map log.log step_line)

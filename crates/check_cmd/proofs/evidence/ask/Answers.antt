@@ -1,0 +1,55 @@
+use Rattle.std.proofs.Common.{map, ◌∙◌, sym}
+use Rattle.list_inputs.specs.Ends.{HasCause, HasStatus, IsSpared}
+use Rattle.run_inputs.proofs.Loaded.{passed_on}
+use Rattle.check_cmd.specs.Asked.{asked_of}
+use Rattle.check_cmd.specs.Parts.{KindRefused}
+use Rattle.check_cmd.specs.Refusals.{Refused}
+use Rattle.check_cmd.proofs.Causes.{counts-passed, low-counts, low-status}
+use Rattle.check_cmd.proofs.Kinds.{unknown-names}
+use Rattle.check_cmd.proofs.Sessions.{kind-low, whole-kind, whole-report}
+use Rattle.check_cmd.proofs.evidence.ask.Goals as goal
+
+pub returns-in_err-report-clause-refused : goal.returns-in_err-report-clause-refused
+returns-in_err-report-clause-refused g c = λ told.
+    let asked = asked_of c.args.request.now in
+    let texts = g.S.Shelf.texts c.args.shelf.now in
+    passed_on (HasCause (Refused g.F.FrontEnd.means g.F.FrontEnd.refuses _ _ asked texts)) c.from_residual.result
+    c.in_err-report.field-0.0 c.from_residual.ensures.1
+    (whole-report g.F.FrontEnd.means g.F.FrontEnd.refuses _ _ asked texts c.in_err-report.field-0.0
+    (c.in_err-report.ensures.refused told))
+
+pub returns-in_err-report-clause-only : goal.returns-in_err-report-clause-only
+returns-in_err-report-clause-only g c = λ told ready.
+    passed_on IsSpared c.from_residual.result c.in_err-report.field-0.0 c.from_residual.ensures.1
+    (c.in_err-report.ensures.only told ready.report ready.means_report)
+
+pub returns-in_err-know-clause-counts : goal.returns-in_err-know-clause-counts
+returns-in_err-know-clause-counts g c =
+    counts-passed _ _ c.from_residual-in_err-know.result c.in_err-know.field-0.0 c.from_residual-in_err-know.ensures.1
+    (low-counts (KindRefused _) (kind-low _) _ _ c.in_err-know.field-0.0 c.in_err-know.ensures.refused c.in_ok-report.ensures.counts)
+
+pub returns-in_err-know-clause-status : goal.returns-in_err-know-clause-status
+returns-in_err-know-clause-status g c =
+    passed_on HasStatus c.from_residual-in_err-know.result c.in_err-know.field-0.0 c.from_residual-in_err-know.ensures.1
+    (low-status (KindRefused _) (kind-low _) c.in_err-know.field-0.0 c.in_err-know.ensures.refused)
+
+pub returns-in_err-know-clause-refused : goal.returns-in_err-know-clause-refused
+returns-in_err-know-clause-refused g c = λ told.
+    let asked = asked_of c.args.request.now in
+    let texts = g.S.Shelf.texts c.args.shelf.now in
+    passed_on (HasCause (Refused g.F.FrontEnd.means g.F.FrontEnd.refuses _ _ asked texts)) c.from_residual-in_err-know.result
+    c.in_err-know.field-0.0 c.from_residual-in_err-know.ensures.1
+    (whole-kind g.F.FrontEnd.means g.F.FrontEnd.refuses _ _ asked texts c.in_ok-report.report _ c.in_err-know.field-0.0
+    (c.in_ok-report.ensures.means told) (unknown-names _ _ _) c.in_err-know.ensures.refused)
+
+pub returns-in_err-know-clause-only : goal.returns-in_err-know-clause-only
+returns-in_err-know-clause-only g c = λ told ready.
+    absurd
+    (c.in_err-know.ensures.only
+    (sym (unknown-names _ _ _) ∙ ready.kinds c.in_ok-report.report (c.in_ok-report.ensures.means told)))
+
+pub returns-clause-asks : goal.returns-clause-asks
+returns-clause-asks g c = λ told. record {
+  means = c.in_ok-report.ensures.means told;
+  known_kinds = unknown-names _ _ _ ∙ c.in_ok-know.ensures.known;
+}

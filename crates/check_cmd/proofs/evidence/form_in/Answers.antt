@@ -1,0 +1,16 @@
+use Rattle.std.proofs.Common.{subst}
+use Rattle.debug_core.specs.Problems.{IsFormFor, IsProblem, IsRefused, Problem}
+use Rattle.list_inputs.specs.Ends.{problem_in}
+use Rattle.check_cmd.proofs.Sessions.{form-cause, form-memory}
+use Rattle.check_cmd.proofs.evidence.form_in.Goals as goal
+
+pub returns-in-Err-clause-refused : goal.returns-in-Err-clause-refused
+returns-in-Err-clause-refused c =
+    form-cause (problem_in c.args.inputs.now c.args.size) c.in-Err.fault c.of_problem.result
+    (subst (λ (p : Problem). IsRefused p c.in-Err.fault) c.question.ensures c.in-Err.ensures.err)
+    c.of_problem.ensures.status c.of_problem.ensures.says
+
+pub returns-in-Err-clause-only : goal.returns-in-Err-clause-only
+returns-in-Err-clause-only c = λ only.
+    form-memory c.in-Err.fault c.of_problem.result c.of_problem.ensures.status c.of_problem.ensures.says
+    (only c.in-Err.fault (subst (λ (p : Problem). IsRefused p c.in-Err.fault) c.question.ensures c.in-Err.ensures.err))

@@ -1,0 +1,107 @@
+use Rattle.std.proofs.Common.{ap, sym, subst, ◌∙◌}
+use Rattle.debug_core.specs.Problems.{IsProblem}
+use Rattle.list_inputs.specs.Asked.{AreKnown, Asked as Wanted, IsAsked}
+use Rattle.list_inputs.specs.Ends.{HasCause, HasStatus, IsSpared, problem_in}
+use Rattle.list_inputs.specs.Means.{IsDigestOf}
+use Rattle.list_inputs.specs.Refusals.{IsReady as IsReadyList, Refused as InputsRefused}
+use Rattle.run_inputs.proofs.Loaded.{passed_on}
+use Rattle.check_cmd.specs.Asked.{asked_of, wanted_by}
+use Rattle.check_cmd.specs.Parts.{FormRefused}
+use Rattle.check_cmd.specs.Refusals.{Refused}
+use Rattle.check_cmd.proofs.Causes.{counts-passed, low-counts, low-status, memory-spared}
+use Rattle.check_cmd.proofs.Posing.{moved, moved-back, moved-means}
+use Rattle.check_cmd.proofs.Sessions.{form-low, whole-form, whole-inputs}
+use Rattle.check_cmd.proofs.evidence.pose.Goals as goal
+
+pub read-requires-clause-asked : goal.read-requires-clause-asked
+read-requires-clause-asked g c =
+    subst IsAsked (sym c.wanted.ensures) (record { traces = c.requires.traces.1; size = c.in_ok-report.ensures.report.size })
+
+pub read-requires-clause-known : goal.read-requires-clause-known
+read-requires-clause-known g c = subst (AreKnown _ _) (sym c.wanted.ensures) c.in_ok-report.ensures.known
+
+pub returns-in_err-inputs-clause-refused : goal.returns-in_err-inputs-clause-refused
+returns-in_err-inputs-clause-refused g c = λ told.
+    let asked = asked_of c.args.request.now in
+    let texts = g.S.Shelf.texts c.args.shelf.now in
+    let why = c.in_err-inputs.field-0.0 in
+    passed_on (HasCause (Refused g.F.FrontEnd.means g.F.FrontEnd.refuses _ _ asked texts)) c.from_residual-in_err-inputs.result why
+    c.from_residual-in_err-inputs.ensures.1
+    (whole-inputs g.F.FrontEnd.means g.F.FrontEnd.refuses _ _ asked texts c.in_ok-report.report why (c.in_ok-report.ensures.asks told)
+    (moved (λ w ts. HasCause (InputsRefused g.F.FrontEnd.means g.F.FrontEnd.refuses _ w ts) why) _
+    (wanted_by asked c.in_ok-report.report) _ texts c.wanted.ensures c.in_ok-report.ensures.texts
+    (c.in_err-inputs.ensures.refused (c.in_ok-report.ensures.tells ∙ told))))
+
+pub returns-in_err-inputs-clause-only : goal.returns-in_err-inputs-clause-only
+returns-in_err-inputs-clause-only g c = λ told ready.
+    let asked = asked_of c.args.request.now in
+    let texts = g.S.Shelf.texts c.args.shelf.now in
+    passed_on IsSpared c.from_residual-in_err-inputs.result c.in_err-inputs.field-0.0 c.from_residual-in_err-inputs.ensures.1
+    (c.in_err-inputs.ensures.only (c.in_ok-report.ensures.tells ∙ told)
+    (moved-back (λ w ts. IsReadyList g.F.FrontEnd.means _ w ts) _ (wanted_by asked c.in_ok-report.report) _ texts
+    c.wanted.ensures c.in_ok-report.ensures.texts (ready.list c.in_ok-report.report (c.in_ok-report.ensures.asks told).means)))
+
+pub form_in-requires : goal.form_in-requires
+form_in-requires g c =
+    subst (λ n. IsProblem (problem_in c.in_ok-inputs.inputs n)) (ap (λ (w : Wanted). w.size) c.wanted.ensures) c.in_ok-inputs.ensures.problem
+
+pub returns-in_err-form-clause-counts : goal.returns-in_err-form-clause-counts
+returns-in_err-form-clause-counts g c =
+    counts-passed _ _ c.from_residual-in_err-form.result c.in_err-form.field-0.0 c.from_residual-in_err-form.ensures.1
+    (low-counts (FormRefused _) (form-low _) _ _ c.in_err-form.field-0.0 c.in_err-form.ensures.refused
+    (c.in_ok-inputs.ensures.counts ∙ c.in_ok-report.ensures.counts))
+
+pub returns-in_err-form-clause-status : goal.returns-in_err-form-clause-status
+returns-in_err-form-clause-status g c =
+    passed_on HasStatus c.from_residual-in_err-form.result c.in_err-form.field-0.0 c.from_residual-in_err-form.ensures.1
+    (low-status (FormRefused _) (form-low _) c.in_err-form.field-0.0 c.in_err-form.ensures.refused)
+
+pub returns-in_err-form-clause-refused : goal.returns-in_err-form-clause-refused
+returns-in_err-form-clause-refused g c = λ told.
+    let asked = asked_of c.args.request.now in
+    let texts = g.S.Shelf.texts c.args.shelf.now in
+    let report = c.in_ok-report.report in
+    let why = c.in_err-form.field-0.0 in
+    passed_on (HasCause (Refused g.F.FrontEnd.means g.F.FrontEnd.refuses _ _ asked texts)) c.from_residual-in_err-form.result why
+    c.from_residual-in_err-form.ensures.1
+    (whole-form g.F.FrontEnd.means g.F.FrontEnd.refuses _ _ asked texts report (problem_in c.in_ok-inputs.inputs report.size) why
+    (c.in_ok-report.ensures.asks told)
+    (moved-means g.F.FrontEnd.means _ _ (wanted_by asked report) _ texts c.in_ok-inputs.inputs c.wanted.ensures
+    c.in_ok-report.ensures.texts (c.in_ok-inputs.ensures.means (c.in_ok-report.ensures.tells ∙ told)))
+    c.in_err-form.ensures.refused)
+
+pub returns-in_err-form-clause-only : goal.returns-in_err-form-clause-only
+returns-in_err-form-clause-only g c = λ told ready.
+    let asked = asked_of c.args.request.now in
+    let texts = g.S.Shelf.texts c.args.shelf.now in
+    let report = c.in_ok-report.report in
+    passed_on IsSpared c.from_residual-in_err-form.result c.in_err-form.field-0.0 c.from_residual-in_err-form.ensures.1
+    (memory-spared c.in_err-form.field-0.0
+    (c.in_err-form.ensures.only
+    (λ fault refused.
+    (ready.list report (c.in_ok-report.ensures.asks told).means).no_limit (problem_in c.in_ok-inputs.inputs report.size) fault
+    (moved-means g.F.FrontEnd.means _ _ (wanted_by asked report) _ texts c.in_ok-inputs.inputs c.wanted.ensures
+    c.in_ok-report.ensures.texts (c.in_ok-inputs.ensures.means (c.in_ok-report.ensures.tells ∙ told)))
+    refused)))
+
+pub returns-clause-can : goal.returns-clause-can
+returns-clause-can g c = record {
+  problem = subst (λ n. IsProblem (problem_in c.in_ok-inputs.inputs n)) (ap (λ (w : Wanted). w.size) c.wanted.ensures)
+      c.in_ok-inputs.ensures.problem;
+  form = c.in_ok-form.ensures.form;
+  numbers = c.in_ok-inputs.ensures.numbers;
+}
+
+pub returns-clause-poses : goal.returns-clause-poses
+returns-clause-poses g c = λ told.
+    let asked = asked_of c.args.request.now in
+    let texts = g.S.Shelf.texts c.args.shelf.now in
+    let report = c.in_ok-report.report in
+    record {
+      report = c.in_ok-report.ensures.asks told;
+      problem = moved-means g.F.FrontEnd.means _ _ (wanted_by asked report) _ texts c.in_ok-inputs.inputs c.wanted.ensures
+          c.in_ok-report.ensures.texts (c.in_ok-inputs.ensures.means (c.in_ok-report.ensures.tells ∙ told));
+      inputs = moved (λ w ts. IsDigestOf w ts c.in_ok-inputs.inputs.digest) _ (wanted_by asked report) _ texts c.wanted.ensures
+          c.in_ok-report.ensures.texts (c.in_ok-inputs.ensures.digest (c.in_ok-report.ensures.tells ∙ told));
+      form = c.in_ok-form.ensures.form;
+    }

@@ -1,0 +1,57 @@
+use Rattle.std.proofs.Common.{ap, refl, sym, subst, ◌∙◌, Ok, Err}
+use Rattle.std.proofs.lemmas.Bool.{and_parts}
+use Rattle.list_inputs.specs.declared.refusal.Refusal.TheVariants.{Memory}
+use Rattle.list_inputs.proofs.Keeping.{refused-keeps}
+use Rattle.check_cmd.specs.Asked.{asked_of}
+use Rattle.check_cmd.specs.Parts.{given_of}
+use Rattle.check_cmd.proofs.Keeping.{answer-status, ends-by_lines, judged, judged-keeps}
+use Rattle.check_cmd.proofs.run.check.Goals as goal
+
+pub returns-in-Err : goal.returns-in-Err
+returns-in-Err g c =
+    let asked = asked_of c.args.request.now in
+    let both = and_parts (g.S.Shelf.tells c.args.shelf.now) (g.O.Sink.tells c.args.out.now) in
+    refused-keeps _ _ (ends-by_lines g.F.FrontEnd.means g.F.FrontEnd.refuses _ _ asked _) c.in-Err.refusal c.print.result
+    (record {
+      has_status = c.in-Err.ensures.status;
+      cause = λ told. c.in-Err.ensures.refused (both told).0;
+      nothing = c.in-Err.ensures.written;
+      prints = λ told. c.print.ensures.text (both told).1;
+      shelf = c.in-Err.ensures.counts;
+      sink = c.print.ensures.counts;
+      spared = λ told ready. c.in-Err.ensures.only (both told).0 ready;
+    })
+
+pub returns-in-Ok-new : goal.returns-in-Ok-new
+returns-in-Ok-new g c =
+    let asked = asked_of c.args.request.now in
+    let both = and_parts (g.S.Shelf.tells c.args.shelf.now) (g.O.Sink.tells c.args.out.now) in
+    let given = given_of c.in-Ok.evidence in
+    let can = c.in-Ok.ensures.can in
+    judged-keeps g.F.FrontEnd.means g.F.FrontEnd.refuses _ _ asked _ c.in-Ok-new.answer.status c.in-Ok-new.answer.line.items
+    c.print_line.result
+    (record {
+      answer = answer-status given c.in-Ok-new.answer c.in-Ok-new.ensures;
+      judged = λ told.
+          judged g.F.FrontEnd.means _ _ asked _ given c.in-Ok-new.answer (c.in-Ok.ensures.means (both told).0) c.in-Ok.ensures.same
+          can.posed.problem can.posed.form c.in-Ok-new.ensures;
+      nothing = c.in-Ok.ensures.written;
+      prints = λ told. c.print_line.ensures.text (both told).1;
+      shelf = c.in-Ok.ensures.counts;
+      sink = c.print_line.ensures.counts;
+    })
+
+pub returns : goal.returns
+returns g c =
+    let asked = asked_of c.args.request.now in
+    let both = and_parts (g.S.Shelf.tells c.args.shelf.now) (g.O.Sink.tells c.args.out.now) in
+    refused-keeps _ _ (ends-by_lines g.F.FrontEnd.means g.F.FrontEnd.refuses _ _ asked _) Memory c.print-2.result
+    (record {
+      has_status = tt;
+      cause = λ told. tt;
+      nothing = c.in-Ok.ensures.written;
+      prints = λ told. c.print-2.ensures.text (both told).1;
+      shelf = tt;
+      sink = c.print-2.ensures.counts;
+      spared = λ told ready. tt;
+    })

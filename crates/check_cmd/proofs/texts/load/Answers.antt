@@ -1,0 +1,22 @@
+use Rattle.run_inputs.specs.Refusals.{load_line, load_status}
+use Rattle.check_cmd.specs.Parts.{LoadRefused, text_load}
+use Rattle.check_cmd.proofs.Causes.{said}
+use Rattle.check_cmd.proofs.Texts.{load-counts, load-spared}
+use Rattle.check_cmd.proofs.texts.load.Goals as goal
+
+pub returns-in-Err-clause-counts : goal.returns-in-Err-clause-counts
+returns-in-Err-clause-counts g c =
+    load-counts _ _ c.in-Err.fault c.of_load.result (load_line c.args.name.now c.in-Err.fault) c.in-Err.ensures.counts
+    c.of_load.ensures.status c.of_load.ensures.says
+
+pub returns-in-Err-clause-refused : goal.returns-in-Err-clause-refused
+returns-in-Err-clause-refused g c = λ told.
+    let text = g.S.Shelf.texts c.args.shelf.now c.args.name.now in
+    said (LoadRefused c.args.name.now text) c.of_load.result (load_status c.in-Err.fault) (load_line c.args.name.now c.in-Err.fault)
+    (text_load c.in-Err.fault (c.in-Err.ensures.text told)) c.of_load.ensures.says
+
+pub returns-in-Err-clause-only : goal.returns-in-Err-clause-only
+returns-in-Err-clause-only g c = λ told short.
+    let text = g.S.Shelf.texts c.args.shelf.now c.args.name.now in
+    load-spared text c.in-Err.fault c.of_load.result (load_line c.args.name.now c.in-Err.fault)
+    (c.in-Err.ensures.text told) c.of_load.ensures.status c.of_load.ensures.says short

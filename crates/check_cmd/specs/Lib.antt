@@ -1,0 +1,6 @@
+pub mod Asked
+pub mod Means
+pub mod Refusals
+pub mod Lines
+pub mod Checking
+pub mod Parts

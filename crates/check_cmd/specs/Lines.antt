@@ -1,0 +1,30 @@
+-- What is printed of a judgement, and the status. Sets and steps are counted from 1, traces too, and cycles from 0; an output is given
+-- by its name.
+use Rattle.std.specs.Prelude.{ℕ, ◌+◌, List, ◌++◌, length, codes, decimal}
+use Rattle.printed_text.specs.Numerals.{newline}
+use Rattle.cycle_sim.specs.declared.miss.Miss.{Miss}
+use Rattle.design_core.specs.declared.design.Design.{Design}
+use Rattle.sim_lines.specs.Lines.{output_name}
+use Rattle.list_verdict.specs.declared.verdict.Verdict.{Verdict}
+use Rattle.list_verdict.specs.declared.verdict.Verdict.TheVariants as verdict
+
+-- a space and a number
+abbrev pub number_word : ℕ → List ℕ
+number_word n = codes " " ++ decimal n
+
+-- `TRACE CYCLE OUTPUT`, each after a space
+abbrev pub miss_words : Design → Miss → List ℕ
+miss_words d miss = number_word (miss.trace + 1) ++ number_word miss.cycle ++ codes " " ++ output_name d miss.output
+
+-- the line of a judgement on so many sets of a design
+abbrev pub verdict_line : Design → ℕ → Verdict → List ℕ
+verdict_line d sets verdict.Whole = codes "yes" ++ number_word sets ++ newline
+verdict_line d sets (verdict.Order set) = codes "no order" ++ number_word set ++ newline
+verdict_line d sets (verdict.Contains set other) = codes "no contains" ++ number_word set ++ number_word other ++ newline
+verdict_line d sets (verdict.Replay set miss) = codes "no replay" ++ number_word set ++ miss_words d miss ++ newline
+verdict_line d sets (verdict.Step number) = codes "no step" ++ number_word number ++ newline
+verdict_line d sets verdict.Open = codes "no closing" ++ newline
+
+abbrev pub verdict_status : Verdict → ℕ
+verdict_status verdict.Whole = 0
+verdict_status _ = 8

@@ -1,0 +1,101 @@
+-- Private, for the functions inside this crate: why one step of a check gives nothing, and what is judged of what was read.
+use Rattle.std.specs.Prelude.{ℕ, ◌≡◌, ◌<◌, ◌≤◌, ◌+◌, ◌^◌, List, length, Option, Some, IsSomeAnd, codes}
+use Rattle.loc_base.specs.declared.digest.Digest.{Digest}
+use Rattle.refusal_lines.specs.Refusals.{input_line}
+use Rattle.run_inputs.specs.declared.faults.LoadFault.{LoadFault}
+use Rattle.run_inputs.specs.Causes.{LoadCause}
+use Rattle.run_inputs.specs.Means.{most_bytes}
+use Rattle.run_inputs.specs.Refusals.{load_line, load_status}
+use Rattle.report_doc.specs.declared.types.Report.{Report}
+use Rattle.report_doc.specs.Json.{IsJson}
+use Rattle.report_reading.specs.Reading.{IsReportOf}
+use Rattle.proof_check.specs.Text.{IsFirstBadLine}
+use Rattle.debug_core.specs.declared.error.DebugErr.{DebugErr}
+use Rattle.debug_core.specs.Problems.{IsFormFor, IsProblem, IsRefused, Problem}
+use Rattle.list_inputs.specs.declared.refusal.Refusal.{Refusal}
+use Rattle.list_inputs.specs.declared.refusal.Refusal.TheVariants.{Line, Memory}
+use Rattle.list_inputs.specs.Ends.{HaveNumbers, problem_in}
+use Rattle.list_inputs.specs.Refusals.{problem_line, problem_status}
+use Rattle.list_verdict.specs.declared.verdict.Verdict.{Verdict}
+use Rattle.list_verdict.specs.Verdicts.{IsVerdict}
+use Rattle.check_cmd.specs.declared.evidence.Evidence.{Evidence}
+use Rattle.check_cmd.specs.declared.evidence.Posed.{Posed as PosedInCode}
+use Rattle.check_cmd.specs.declared.sessions.Digests.{Digests}
+use Rattle.check_cmd.specs.declared.run.Answer.{Answer}
+use Rattle.check_cmd.specs.Lines.{verdict_line, verdict_status}
+use Rattle.check_cmd.specs.Means.{Given, Posed, claim_of}
+use Rattle.check_cmd.specs.Refusals.{DiffersFirst, bad_line, kind_line, other_line}
+
+-- ---- a text
+-- it is there, and no longer than what is read
+abbrev pub IsShort : Option (List ℕ) → Type 0
+IsShort text = IsSomeAnd text (λ bytes. length bytes ≤ most_bytes)
+
+-- it isn't handed over
+pub data LoadRefused (name : List ℕ) (text : Option (List ℕ)) : ℕ → List ℕ → Type 0 where
+  text_load : (fault : LoadFault) → LoadCause text fault → LoadRefused name text (load_status fault) (load_line name fault)
+
+-- it is no report's
+pub data ReportTextRefused (text : List ℕ) : ℕ → List ℕ → Type 0 where
+  text_syntax : ¬ IsJson text → ReportTextRefused text 3 (input_line (codes "J1"))
+  text_shape : IsJson text → ((report : Report) → ¬ IsReportOf text report) → ReportTextRefused text 3 (input_line (codes "J2"))
+
+-- it is no log's
+pub data LogTextRefused (text : List ℕ) : ℕ → List ℕ → Type 0 where
+  text_line : (line : ℕ) → IsFirstBadLine text line → LogTextRefused text 3 (bad_line line)
+
+-- ---- what comes after the texts
+-- the first name of a kind that isn't there
+pub data KindRefused (first : Option (List ℕ)) : ℕ → List ℕ → Type 0 where
+  first_name : (name : List ℕ) → first ≡ Some name → KindRefused first 3 (kind_line name)
+
+-- a problem passes a limit
+pub data FormRefused (p : Problem) : ℕ → List ℕ → Type 0 where
+  form_fault : (fault : DebugErr) → IsRefused p fault → problem_status fault ≡ 4 → FormRefused p 4 (problem_line fault)
+
+-- report and log are of the inputs, or not
+abbrev pub AreSame : Digests → Type 0
+AreSame digests = (digests.report ≡ digests.inputs) × (digests.log ≡ digests.inputs)
+
+pub data OtherRefused (digests : Digests) : ℕ → List ℕ → Type 0 where
+  session_differs : (session : Digest) → DiffersFirst digests.report digests.log digests.inputs session
+      → OtherRefused digests 3 (other_line session digests.inputs)
+
+-- ---- a refusal
+-- memory was wanted
+abbrev pub IsMemory : Refusal → Type 0
+IsMemory (Line status line) = ⊥
+IsMemory Memory = Unit {0}
+
+-- ---- what was read
+abbrev pub posed_of : PosedInCode → Posed
+posed_of p = record {
+  report = p.report;
+  problem = problem_in p.inputs p.report.size;
+  inputs = p.inputs.digest;
+  vars = p.form.vars;
+  form = p.form.clauses;
+}
+
+abbrev pub given_of : Evidence → Given
+given_of e = record { posed = posed_of e.posed; log = e.log }
+
+abbrev pub digests_of : Given → Digests
+digests_of g = record { report = g.posed.report.inputs; log = g.log.inputs; inputs = g.posed.inputs }
+
+-- what was read can be judged
+pub record CanBePosed (p : PosedInCode) : Type 0 where
+  pub problem : IsProblem (posed_of p).problem
+  pub form : IsFormFor (posed_of p).problem (posed_of p).vars (posed_of p).form
+  pub numbers : HaveNumbers p.inputs
+
+pub record IsEvidence (e : Evidence) : Type 0 where
+  pub posed : CanBePosed e.posed
+  pub few_steps : length e.log.log + 1 < 2 ^ 32
+
+-- the answer is what is judged
+pub record Answers (g : Given) (answer : Answer) : Type 0 where
+  pub verdict : Verdict
+  pub is : IsVerdict (claim_of g) verdict
+  pub status : answer.status ≡ verdict_status verdict
+  pub line : answer.line.items ≡ verdict_line g.posed.problem.design (length g.posed.report.sets) verdict

@@ -1,0 +1,163 @@
+//! What is judged: a report, the inputs of its list, the form of their problem, and a log.
+ghost use Rattle.std.specs.Prelude.{◌≡◌, IfErr, IfOk, None, map, true};
+ghost use Rattle.suspect_map.specs.Choose.{joined, unknown};
+ghost use Rattle.report_doc.specs.Shape.{IsReport};
+ghost use Rattle.debug_core.specs.declared.error.DebugErr.{DebugErr as SomeErr};
+ghost use Rattle.debug_core.specs.declared.error.DebugErr.TheVariants.{NoMemory as WantOfMemory};
+ghost use Rattle.debug_core.specs.Problems.{IsFormFor, IsProblem, IsRefused};
+ghost use Rattle.list_inputs.specs.Ends.{CountsOf, HasCause, HasStatus, IsSpared, problem_in};
+ghost use Rattle.check_cmd.specs.Asked.{IsAsked, asked_of};
+ghost use Rattle.check_cmd.specs.Checking.{IsReady};
+ghost use Rattle.check_cmd.specs.Means.{AreOfInputs, Asks, Means, Poses};
+ghost use Rattle.check_cmd.specs.Parts.{CanBePosed, FormRefused, IsEvidence, IsMemory, given_of, posed_of};
+ghost use Rattle.check_cmd.specs.Refusals.{Refused};
+
+use crate::kinds::know;
+use crate::logs::load_log;
+use crate::reports::load_report;
+use crate::request::Request;
+use crate::sessions::{Digests, same_inputs};
+use clause_base::Form;
+use debug_core::form_of;
+use front_end::FrontEnd;
+use io_ports::Shelf;
+use list_inputs::{Inputs, Refusal, Tools, read};
+use loc_base::Gate;
+use proof_check::types::LogText;
+use report_doc::types::Report;
+use std::alloc::Global;
+use std::thread::Threads;
+use suspect_map::Granularity;
+
+/// A report, the inputs of its list, and the form of their problem.
+#[derive(Drop)]
+pub(crate) struct Posed {
+    pub(crate) report: Report,
+    pub(crate) inputs: Inputs,
+    pub(crate) form: Form,
+}
+
+/// The same with a log.
+#[derive(Drop)]
+pub(crate) struct Evidence {
+    pub(crate) posed: Posed,
+    pub(crate) log: LogText,
+}
+
+/// The form of the problem of inputs, by the greatest size of a set.
+fn form_in(alloc: Global, inputs: &Inputs, size: u32) -> Result<Form, Refusal>
+    requires { IsProblem (problem_in inputs.now size) }
+    ensures form { IfOk result (λ form. IsFormFor (problem_in inputs.now size) form.vars form.clauses) }
+    ensures refused { IfErr result (HasCause (FormRefused (problem_in inputs.now size))) }
+    ensures only { ((fault : SomeErr) → IsRefused (problem_in inputs.now size) fault → fault ≡ WantOfMemory)
+        → IfErr result IsMemory }
+{
+    match form_of(alloc, &inputs.question(size)) {
+        Ok(form) => Ok(form),
+        Err(fault) => Err(Refusal::of_problem(alloc, fault)),
+    }
+}
+
+/// The report by which the list is asked.
+fn ask<F: FrontEnd, R: Threads + Sync, G: Gate + Sync, S: Shelf>(
+    alloc: Global,
+    tools: &Tools<'_, F, R, G>,
+    request: &Request,
+    shelf: &mut S,
+) -> Result<Report, Refusal>
+    ensures tells { S.tells shelf.new ≡ S.tells shelf.old }
+    ensures texts { S.texts shelf.new ≡ S.texts shelf.old }
+    ensures written { S.written shelf.new ≡ S.written shelf.old }
+    ensures counts { CountsOf (S.faults shelf.old) (S.faults shelf.new) result }
+    ensures status { IfErr result HasStatus }
+    ensures report { IfOk result IsReport }
+    ensures known { IfOk result (λ report. unknown (λ kind. called kind) tools.now.kinds.now report.kinds ≡ None) }
+    ensures asks { S.tells shelf.old ≡ true → IfOk result
+        (Asks (map (λ kind. called kind) tools.now.kinds.now) (asked_of request.now) (S.texts shelf.old)) }
+    ensures refused { S.tells shelf.old ≡ true → IfErr result (HasCause
+        (Refused F.means F.refuses (map (λ kind. called kind) tools.now.kinds.now)
+        (joined (λ kind. called kind) (λ kind. lists kind) tools.now.kinds.now) (asked_of request.now) (S.texts shelf.old))) }
+    ensures only { S.tells shelf.old ≡ true
+        → IsReady F.means (map (λ kind. called kind) tools.now.kinds.now)
+        (joined (λ kind. called kind) (λ kind. lists kind) tools.now.kinds.now) (asked_of request.now) (S.texts shelf.old)
+        → IfErr result IsSpared }
+{
+    let report = load_report(alloc, request, shelf)?;
+    know(alloc, tools.kinds, &report)?;
+    Ok(report)
+}
+
+/// The report, with the problem that it is of.
+fn pose<F: FrontEnd, R: Threads + Sync, G: Gate + Sync, S: Shelf>(
+    alloc: Global,
+    tools: &Tools<'_, F, R, G>,
+    request: &Request,
+    shelf: &mut S,
+) -> Result<Posed, Refusal>
+    requires { IsAsked (asked_of request.now) }
+    ensures tells { S.tells shelf.new ≡ S.tells shelf.old }
+    ensures texts { S.texts shelf.new ≡ S.texts shelf.old }
+    ensures written { S.written shelf.new ≡ S.written shelf.old }
+    ensures counts { CountsOf (S.faults shelf.old) (S.faults shelf.new) result }
+    ensures status { IfErr result HasStatus }
+    ensures can { IfOk result CanBePosed }
+    ensures poses { S.tells shelf.old ≡ true → IfOk result (λ posed.
+        Poses F.means (map (λ kind. called kind) tools.now.kinds.now)
+        (joined (λ kind. called kind) (λ kind. lists kind) tools.now.kinds.now) (asked_of request.now) (S.texts shelf.old)
+        (posed_of posed)) }
+    ensures refused { S.tells shelf.old ≡ true → IfErr result (HasCause
+        (Refused F.means F.refuses (map (λ kind. called kind) tools.now.kinds.now)
+        (joined (λ kind. called kind) (λ kind. lists kind) tools.now.kinds.now) (asked_of request.now) (S.texts shelf.old))) }
+    ensures only { S.tells shelf.old ≡ true
+        → IsReady F.means (map (λ kind. called kind) tools.now.kinds.now)
+        (joined (λ kind. called kind) (λ kind. lists kind) tools.now.kinds.now) (asked_of request.now) (S.texts shelf.old)
+        → IfErr result IsSpared }
+{
+    let report = ask(alloc, tools, request, shelf)?;
+    let inputs = read(alloc, tools, &request.wanted(&report), shelf)?;
+    let form = form_in(alloc, &inputs, report.size)?;
+    Ok(Posed {
+        report,
+        inputs,
+        form,
+    })
+}
+
+/// All that is judged. The first that is refused ends the reading, in this order: the report's text and its kinds of suspects, what
+/// its list is asked of, the form of the problem, the log's text, the digests.
+pub(crate) fn gather<F: FrontEnd, R: Threads + Sync, G: Gate + Sync, S: Shelf>(
+    alloc: Global,
+    tools: &Tools<'_, F, R, G>,
+    request: &Request,
+    shelf: &mut S,
+) -> Result<Evidence, Refusal>
+    requires { IsAsked (asked_of request.now) }
+    ensures written { S.written shelf.new ≡ S.written shelf.old }
+    ensures counts { CountsOf (S.faults shelf.old) (S.faults shelf.new) result }
+    ensures status { IfErr result HasStatus }
+    ensures can { IfOk result IsEvidence }
+    ensures same { IfOk result (λ evidence. AreOfInputs (given_of evidence)) }
+    ensures means { S.tells shelf.old ≡ true → IfOk result (λ evidence.
+        Means F.means (map (λ kind. called kind) tools.now.kinds.now)
+        (joined (λ kind. called kind) (λ kind. lists kind) tools.now.kinds.now) (asked_of request.now) (S.texts shelf.old)
+        (given_of evidence)) }
+    ensures refused { S.tells shelf.old ≡ true → IfErr result (HasCause
+        (Refused F.means F.refuses (map (λ kind. called kind) tools.now.kinds.now)
+        (joined (λ kind. called kind) (λ kind. lists kind) tools.now.kinds.now) (asked_of request.now) (S.texts shelf.old))) }
+    ensures only { S.tells shelf.old ≡ true
+        → IsReady F.means (map (λ kind. called kind) tools.now.kinds.now)
+        (joined (λ kind. called kind) (λ kind. lists kind) tools.now.kinds.now) (asked_of request.now) (S.texts shelf.old)
+        → IfErr result IsSpared }
+{
+    let posed = pose(alloc, tools, request, shelf)?;
+    let log = load_log(alloc, request, shelf)?;
+    same_inputs(
+        alloc,
+        &Digests {
+            report: posed.report.inputs,
+            log: log.inputs,
+            inputs: posed.inputs.digest,
+        },
+    )?;
+    Ok(Evidence { posed, log })
+}

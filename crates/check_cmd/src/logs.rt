@@ -1,0 +1,67 @@
+//! The log of a text.
+ghost use Rattle.std.specs.Prelude.{◌≡◌, ◌+◌, ◌++◌, ◌<◌, ◌≤◌, ◌^◌, IfErr, IfOk, OnOk, length, true};
+ghost use Rattle.proof_check.specs.declared.types.LogText.{LogText as SomeLog};
+ghost use Rattle.run_inputs.specs.Means.{most_bytes};
+ghost use Rattle.list_inputs.specs.Ends.{CountsOf, HasCause, HasStatus, IsSpared};
+ghost use Rattle.check_cmd.specs.Asked.{asked_of};
+ghost use Rattle.check_cmd.specs.Means.{IsLogOf, MeansLog};
+ghost use Rattle.check_cmd.specs.Parts.{IsMemory, LogTextRefused};
+ghost use Rattle.check_cmd.specs.Refusals.{LogRefused, bad_line};
+
+use crate::request::Request;
+use crate::texts::load;
+use io_ports::Shelf;
+use list_inputs::Refusal;
+use loc_base::{Bytes, NoMemory};
+use printed_text::{push_bytes, push_number};
+use proof_check::read_log;
+use proof_check::types::{LogErr, LogText};
+use std::alloc::Global;
+
+/// The line that names a line of a log.
+fn bad_line_text(alloc: Global, line: u64) -> Result<Vec<u8>, NoMemory>
+    ensures { IfOk result (λ text. text.items ≡ bad_line line) }
+{
+    let mut text = Vec::new(alloc);
+    push_bytes(&mut text, b"input G1 ")?;
+    push_number(&mut text, line)?;
+    push_bytes(&mut text, b"\n")?;
+    Ok(text)
+}
+
+/// The log that a text is.
+fn log_in(alloc: Global, text: &Bytes) -> Result<LogText, Refusal>
+    requires short { length text.now ≤ most_bytes }
+    ensures means { IfOk result (IsLogOf text.now) }
+    ensures few { IfOk result (λ log. length log.log + 1 < 2 ^ 32) }
+    ensures refused { IfErr result (HasCause (LogTextRefused text.now)) }
+    ensures only { (log : SomeLog) → IsLogOf text.now log → IfErr result IsMemory }
+{
+    match read_log(alloc, text.as_slice()) {
+        Ok(log) => Ok(log),
+        Err(LogErr::LogSyntax { line }) => Err(Refusal::of_made(3, bad_line_text(alloc, line))),
+        Err(LogErr::NoMemory) => Err(Refusal::Memory),
+    }
+}
+
+/// The log of the text under its name.
+pub(crate) fn load_log<S: Shelf>(
+    alloc: Global,
+    request: &Request,
+    shelf: &mut S,
+) -> Result<LogText, Refusal>
+    ensures tells { S.tells shelf.new ≡ S.tells shelf.old }
+    ensures texts { S.texts shelf.new ≡ S.texts shelf.old }
+    ensures written { S.written shelf.new ≡ S.written shelf.old }
+    ensures counts { CountsOf (S.faults shelf.old) (S.faults shelf.new) result }
+    ensures status { IfErr result HasStatus }
+    ensures few { IfOk result (λ log. length log.log + 1 < 2 ^ 32) }
+    ensures means { S.tells shelf.old ≡ true → IfOk result (MeansLog (asked_of request.now) (S.texts shelf.old)) }
+    ensures refused { S.tells shelf.old ≡ true
+        → IfErr result (HasCause (LogRefused (asked_of request.now) (S.texts shelf.old))) }
+    ensures only { S.tells shelf.old ≡ true → (log : SomeLog)
+        → MeansLog (asked_of request.now) (S.texts shelf.old) log → IfErr result IsSpared }
+{
+    let text = load(alloc, request.log.as_str(), shelf)?;
+    log_in(alloc, &text)
+}

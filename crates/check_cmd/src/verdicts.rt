@@ -1,0 +1,111 @@
+//! The line of a judgement.
+ghost use Rattle.std.specs.Prelude.{◌≡◌, ◌+◌, ◌++◌, IfOk, OnOk, codes, decimal};
+ghost use Rattle.printed_text.specs.Numerals.{newline};
+ghost use Rattle.sim_lines.specs.Lines.{name_at, output_name};
+ghost use Rattle.check_cmd.specs.Lines.{miss_words, number_word, verdict_line, verdict_status};
+
+use cycle_sim::Miss;
+use design_core::Design;
+use list_verdict::Verdict;
+use loc_base::NoMemory;
+use printed_text::{push_bytes, push_number};
+use std::alloc::Global;
+
+/// The status of a judgement.
+pub(crate) fn status_of(verdict: Verdict) -> u8
+    ensures { result ≡ verdict_status verdict }
+{
+    match verdict {
+        Verdict::Whole => 0,
+        _ => 8,
+    }
+}
+
+/// Appends a space and a number.
+fn push_word(text: &mut Vec<u8>, number: u64) -> Result<(), NoMemory>
+    ensures { OnOk result (text.new.items ≡ text.old.items ++ number_word number) }
+{
+    push_bytes(text, b" ")?;
+    push_number(text, number)
+}
+
+/// Appends the name of the output of a number.
+fn push_output(text: &mut Vec<u8>, design: &Design, number: u32) -> Result<(), NoMemory>
+    ensures { OnOk result (text.new.items ≡ text.old.items ++ output_name design.now number) }
+{
+    match design.outputs.get(number as usize) {
+        Some(output) => push_signal(text, design, *output),
+        None => Ok(()),
+    }
+}
+
+/// Appends the name of a signal.
+fn push_signal(text: &mut Vec<u8>, design: &Design, number: u32) -> Result<(), NoMemory>
+    ensures { OnOk result (text.new.items ≡ text.old.items ++ name_at design.now.signals.items number) }
+{
+    match design.signals.get(number as usize) {
+        Some(signal) => push_bytes(text, signal.path.as_bytes()),
+        None => Ok(()),
+    }
+}
+
+/// Appends where an output isn't as expected: its trace from 1, its cycle from 0, its name.
+fn push_miss(text: &mut Vec<u8>, design: &Design, miss: Miss) -> Result<(), NoMemory>
+    ensures { OnOk result (text.new.items ≡ text.old.items ++ miss_words design.now miss) }
+{
+    push_word(text, u64::from(miss.trace) + 1)?;
+    push_word(text, u64::from(miss.cycle))?;
+    push_bytes(text, b" ")?;
+    push_output(text, design, miss.output)
+}
+
+/// Appends a judgement without the end of its line.
+fn push_verdict(
+    text: &mut Vec<u8>,
+    design: &Design,
+    sets: usize,
+    verdict: Verdict,
+) -> Result<(), NoMemory>
+    ensures { OnOk result (text.new.items ++ newline ≡ text.old.items ++ verdict_line design.now sets verdict) }
+{
+    match verdict {
+        Verdict::Whole => {
+            push_bytes(text, b"yes")?;
+            push_word(text, sets as u64)
+        }
+        Verdict::Order { set } => {
+            push_bytes(text, b"no order")?;
+            push_word(text, u64::from(set))
+        }
+        Verdict::Contains { set, other } => {
+            push_bytes(text, b"no contains")?;
+            push_word(text, u64::from(set))?;
+            push_word(text, u64::from(other))
+        }
+        Verdict::Replay { set, miss } => {
+            push_bytes(text, b"no replay")?;
+            push_word(text, u64::from(set))?;
+            push_miss(text, design, miss)
+        }
+        Verdict::Step { number } => {
+            push_bytes(text, b"no step")?;
+            push_word(text, u64::from(number))
+        }
+        Verdict::Open => push_bytes(text, b"no closing"),
+    }
+}
+
+/// The line of a judgement on so many sets of a design.
+pub(crate) fn verdict_text(
+    alloc: Global,
+    design: &Design,
+    sets: usize,
+    verdict: Verdict,
+) -> Result<Vec<u8>, NoMemory>
+    ensures { IfOk result (λ text. text.items ≡ verdict_line design.now sets verdict) }
+{
+    let mut text = Vec::new(alloc);
+    push_verdict(&mut text, design, sets, verdict)?;
+    push_bytes(&mut text, b"\n")?;
+    Ok(text)
+}
