@@ -9,24 +9,15 @@ use Rattle.list_inputs.specs.Ends.{PrintCounts, Prints}
 use Rattle.list_inputs.specs.Lines.{LineCut, LineStops}
 use Rattle.list_inputs.specs.Means.{Suspecting}
 use Rattle.list_inputs.proofs.Keeping.{EndsByLines}
-use Rattle.debug_core.specs.Problems.{IsFormFor, IsProblem}
 use Rattle.list_verdict.specs.declared.verdict.Verdict.{Verdict}
 use Rattle.list_verdict.specs.declared.verdict.Verdict.TheVariants as verdict
-use Rattle.list_verdict.specs.Claims.{Claim}
-use Rattle.list_verdict.specs.Verdicts.{IsVerdict, IsWhole, IsWholeList}
 use Rattle.check_cmd.specs.declared.run.Answer.{Answer}
 use Rattle.check_cmd.specs.Asked.{Asked}
 use Rattle.check_cmd.specs.Checking.{IsAnswered, IsDue, Judged, checking}
 use Rattle.check_cmd.specs.Lines.{verdict_status}
-use Rattle.check_cmd.specs.Means.{AreOfInputs, Given, Means, claim_of}
+use Rattle.check_cmd.specs.Means.{AreOfInputs, Given, Means}
 use Rattle.check_cmd.specs.Parts.{Answers}
 use Rattle.check_cmd.specs.Refusals.{Refused}
-
-whole-list : (c : Claim) (vars : ℕ) → IsProblem c.problem → IsFormFor c.problem vars c.form → IsWhole c → IsWholeList c
-whole-list = ?
-
-whole-judged : (c : Claim) (v : Verdict) → IsWhole c → IsVerdict c v → v ≡ verdict.Whole
-whole-judged = ?
 
 -- ---- by the line of a refusal
 no-answer : (s : ℕ) → (s ≡ 0) ⊎ (s ≡ 8) → 2 ≤ s → s ≤ 7 → ⊥
@@ -84,18 +75,16 @@ pub answer-status : (g : Given) (answer : Answer) → Answers g answer → (answ
 answer-status g answer is = subst (λ n. (n ≡ 0) ⊎ (n ≡ 8)) (sym is.status) (verdict-answer is.verdict)
 
 pub judged : (M : Meaning) (known : List (List ℕ)) (S : Suspecting) (asked : Asked) (texts : Texts) (g : Given) (answer : Answer)
-    → Means M known S asked texts g → AreOfInputs g → IsProblem g.posed.problem
-    → IsFormFor g.posed.problem g.posed.vars g.posed.form → Answers g answer
+    → Means M known S asked texts g → AreOfInputs g → Answers g answer
     → (v : Verdict) × Judged M known S asked texts v answer.status answer.line.items
-judged M known S asked texts g answer means same problem form is = (is.verdict, record {
+judged M known S asked texts g answer means same is = (is.verdict, record {
   given = g;
   means = means;
   same = same;
   is = is.is;
   has_status = is.status;
   has_line = is.line;
-  exactly = λ whole. whole-judged (claim_of g) is.verdict whole is.is;
-  list = λ e. whole-list (claim_of g) g.posed.vars problem form (subst (IsVerdict (claim_of g)) e is.is);
+  list = is.list;
 })
 
 -- no answer is a refusal, 6, or 7

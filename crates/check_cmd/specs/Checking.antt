@@ -11,7 +11,7 @@ use Rattle.list_inputs.specs.Means.{IsDigestOf, Suspecting}
 use Rattle.list_inputs.specs.Refusals.{IsReady as IsReadyList}
 use Rattle.list_verdict.specs.declared.verdict.Verdict.{Verdict}
 use Rattle.list_verdict.specs.declared.verdict.Verdict.TheVariants as verdict
-use Rattle.list_verdict.specs.Verdicts.{IsVerdict, IsWhole, IsWholeList}
+use Rattle.list_verdict.specs.Verdicts.{IsVerdict, IsWholeList}
 use Rattle.check_cmd.specs.Asked.{Asked, wanted_by}
 use Rattle.check_cmd.specs.Lines.{verdict_line, verdict_status}
 use Rattle.check_cmd.specs.Means.{AreOfInputs, Given, Means, MeansLog, MeansReport, claim_of, unknown_kind}
@@ -27,9 +27,7 @@ pub record Judged (M : Meaning) (known : List (List ℕ)) (S : Suspecting) (aske
   pub is : IsVerdict (claim_of given) v
   pub has_status : status ≡ verdict_status v
   pub has_line : line ≡ verdict_line given.posed.problem.design (length given.posed.report.sets) v
-  -- it is yes exactly where the five conditions hold, and then the report's sets are the whole list of the problem, each with values
-  -- that explain the traces
-  pub exactly : IsWhole (claim_of given) → v ≡ verdict.Whole
+  -- with a yes the report's sets are the whole list of the problem, each with values that explain the traces
   pub list : v ≡ verdict.Whole → IsWholeList (claim_of given)
 
 -- a line that is due, with its status: of a judgement, or of a refusal

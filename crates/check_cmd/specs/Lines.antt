@@ -1,12 +1,17 @@
 -- What is printed of a judgement, and the status. Sets and steps are counted from 1, traces too, and cycles from 0; an output is given
 -- by its name.
-use Rattle.std.specs.Prelude.{ℕ, ◌+◌, List, ◌++◌, length, codes, decimal}
+use Rattle.std.specs.Prelude.{ℕ, ◌+◌, List, [], ◌++◌, slice_get, codes, decimal}
+use Rattle.std.specs.Option.{option_map_or}
 use Rattle.printed_text.specs.Numerals.{newline}
 use Rattle.cycle_sim.specs.declared.miss.Miss.{Miss}
 use Rattle.design_core.specs.declared.design.Design.{Design}
-use Rattle.sim_lines.specs.Lines.{output_name}
+use Rattle.refusal_lines.specs.Refusals.{port_name}
 use Rattle.list_verdict.specs.declared.verdict.Verdict.{Verdict}
 use Rattle.list_verdict.specs.declared.verdict.Verdict.TheVariants as verdict
+
+-- the name of the output of a number, from 0
+abbrev pub output_name : Design → ℕ → List ℕ
+output_name d number = option_map_or (port_name d.signals.items) (slice_get d.outputs.items number) []
 
 -- a space and a number
 abbrev pub number_word : ℕ → List ℕ

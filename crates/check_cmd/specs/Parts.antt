@@ -17,7 +17,7 @@ use Rattle.list_inputs.specs.declared.refusal.Refusal.TheVariants.{Line, Memory}
 use Rattle.list_inputs.specs.Ends.{HaveNumbers, problem_in}
 use Rattle.list_inputs.specs.Refusals.{problem_line, problem_status}
 use Rattle.list_verdict.specs.declared.verdict.Verdict.{Verdict}
-use Rattle.list_verdict.specs.Verdicts.{IsVerdict}
+use Rattle.list_verdict.specs.Verdicts.{IsVerdict, IsWholeListIf}
 use Rattle.check_cmd.specs.declared.evidence.Evidence.{Evidence}
 use Rattle.check_cmd.specs.declared.evidence.Posed.{Posed as PosedInCode}
 use Rattle.check_cmd.specs.declared.sessions.Digests.{Digests}
@@ -97,5 +97,6 @@ pub record IsEvidence (e : Evidence) : Type 0 where
 pub record Answers (g : Given) (answer : Answer) : Type 0 where
   pub verdict : Verdict
   pub is : IsVerdict (claim_of g) verdict
+  pub list : IsWholeListIf (claim_of g) verdict
   pub status : answer.status ≡ verdict_status verdict
   pub line : answer.line.items ≡ verdict_line g.posed.problem.design (length g.posed.report.sets) verdict

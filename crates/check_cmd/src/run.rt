@@ -3,7 +3,7 @@ ghost use Rattle.std.specs.Prelude.{◌<◌, ◌≤◌, ◌&&◌, IfOk, map};
 ghost use Rattle.suspect_map.specs.Choose.{joined};
 ghost use Rattle.command_contract.specs.Contract.{Keeps, counts_of, run_of};
 ghost use Rattle.check_cmd.specs.Asked.{IsAsked, asked_of};
-ghost use Rattle.list_verdict.specs.Verdicts.{IsVerdict};
+ghost use Rattle.list_verdict.specs.Verdicts.{IsVerdict, IsWholeListIf};
 ghost use Rattle.check_cmd.specs.Checking.{checking};
 ghost use Rattle.check_cmd.specs.Means.{claim_of};
 ghost use Rattle.check_cmd.specs.Parts.{Answers, IsEvidence, given_of};
@@ -36,7 +36,8 @@ fn judgement<R: Threads + Sync, G: Gate + Sync>(
     requires can { IsEvidence evidence.now }
     requires some { 0 < workers.now.count }
     requires most { workers.now.count ≤ 64 }
-    ensures { IfOk result (IsVerdict (claim_of (given_of evidence.now))) }
+    ensures verdict { IfOk result (IsVerdict (claim_of (given_of evidence.now))) }
+    ensures list { IfOk result (IsWholeListIf (claim_of (given_of evidence.now))) }
 {
     let posed = &evidence.posed;
     let sets = posed.report.sets.as_slice();

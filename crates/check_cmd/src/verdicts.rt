@@ -1,8 +1,8 @@
 //! The line of a judgement.
 ghost use Rattle.std.specs.Prelude.{◌≡◌, ◌+◌, ◌++◌, IfOk, OnOk, codes, decimal};
 ghost use Rattle.printed_text.specs.Numerals.{newline};
-ghost use Rattle.sim_lines.specs.Lines.{name_at, output_name};
-ghost use Rattle.check_cmd.specs.Lines.{miss_words, number_word, verdict_line, verdict_status};
+ghost use Rattle.refusal_lines.specs.Refusals.{port_name};
+ghost use Rattle.check_cmd.specs.Lines.{miss_words, number_word, output_name, verdict_line, verdict_status};
 
 use cycle_sim::Miss;
 use design_core::Design;
@@ -41,7 +41,7 @@ fn push_output(text: &mut Vec<u8>, design: &Design, number: u32) -> Result<(), N
 
 /// Appends the name of a signal.
 fn push_signal(text: &mut Vec<u8>, design: &Design, number: u32) -> Result<(), NoMemory>
-    ensures { OnOk result (text.new.items ≡ text.old.items ++ name_at design.now.signals.items number) }
+    ensures { OnOk result (text.new.items ≡ text.old.items ++ port_name design.now.signals.items number) }
 {
     match design.signals.get(number as usize) {
         Some(signal) => push_bytes(text, signal.path.as_bytes()),

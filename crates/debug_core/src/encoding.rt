@@ -74,7 +74,7 @@ impl<'a> Encoding<'a> {
     /// The form alone.
     fn into_form(self) -> Form
         requires { IsEncoding self }
-        ensures { IsFormFor (problem_in self) result.vars result.clauses }
+        ensures { IsFormFor (problem_in self.entry) result.vars result.clauses }
     {
         let Encoding {
             question: _,

@@ -1,5 +1,5 @@
 -- What is judged of a list.
-use Rattle.std.specs.Prelude.{ℕ, List, All, map}
+use Rattle.std.specs.Prelude.{ℕ, ◌≡◌, List, All, map}
 use Rattle.design_core.specs.declared.values.Values.{Values}
 use Rattle.design_core.specs.Explained.{Explains}
 use Rattle.report_doc.specs.declared.types.ReportSet.{ReportSet}
@@ -41,6 +41,10 @@ pub record IsExplained (c : Claim) (set : ReportSet) : Type 0 where
 pub record IsWholeList (c : Claim) : Type 0 where
   pub list : IsListOf c.problem (members_of c.sets)
   pub explained : All (IsExplained c) c.sets
+
+-- where the answer is that the list is whole, its sets are the problem's list
+abbrev pub IsWholeListIf : Claim → Verdict → Type 0
+IsWholeListIf c v = v ≡ verdict.Whole → IsWholeList c
 
 -- a list with its form's number of variables
 pub record Judged : Type 0 where

@@ -15,6 +15,7 @@ pub(crate) struct Holding {
 }
 
 /// The place, counted from 0, of the first set before another that is within it.
+#[tactic(auto, using(crate::proofs::Held::held_rules))]
 fn first_held(sets: &[ReportSet], place: usize) -> Option<usize>
     requires place { place < length sets.now }
     requires order { AreAscending sets.now }
@@ -31,6 +32,7 @@ fn first_held(sets: &[ReportSet], place: usize) -> Option<usize>
 
 /// The first set that holds another, and the first that it holds. A set that is within another of the list stands before it, so
 /// that no later one is looked at; it takes the square of the number of sets.
+#[tactic(auto, using(crate::proofs::Held::hold_rules))]
 pub(crate) fn first_to_hold(sets: &[ReportSet]) -> Option<Holding>
     requires few { length sets.now < 2 ^ 32 }
     requires order { AreAscending sets.now }

@@ -4,13 +4,13 @@
 #![tactic(auto)]
 
 mod holding;
-mod judge;
+mod judgement;
 mod laws;
 mod log;
 mod members;
 mod order;
 mod verdict;
 
-pub use judge::judge;
+pub use judgement::judge;
 pub use laws::{whole_is_judged, whole_is_list};
 pub use verdict::{Listed, Verdict, Workers};

@@ -15,6 +15,7 @@ use report_doc::types::ReportSet;
 use std::alloc::Global;
 
 /// The block of a set: the negations of its members.
+#[tactic(auto, using(crate::proofs::Logs::block_rules))]
 fn block_of(alloc: Global, members: &[u32]) -> Result<Clause, NoMemory>
     requires { IsStrictlyIncreasing members.now }
     ensures { IfOk result (λ block. block ≡ block_of members.now) }

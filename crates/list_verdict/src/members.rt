@@ -31,6 +31,7 @@ fn are_numbers(numbers: &[u32], suspects: usize) -> bool
 }
 
 /// Whether members are numbers of suspects, ascending, and at most as many as may be in a set.
+#[tactic(auto, using(crate::proofs::Ordered::members_rules))]
 pub(crate) fn are_members(question: &Question<'_>, members: &[u32]) -> bool
     ensures { IsTrue result ↔ AreMembers (problem_of question.now) members.now }
 {

@@ -30,6 +30,7 @@ pub(crate) fn set_at(sets: &[ReportSet], place: usize) -> &ReportSet
 }
 
 /// Whether a set comes after the one before it, if there is one.
+#[tactic(auto, using(crate::proofs::Ordered::comes_rules))]
 fn comes_after(sets: &[ReportSet], place: usize) -> bool
     requires { place < length sets.now }
     ensures { (set : SpecSet) → slice_get sets.now place ≡ Some set → (IsTrue result ↔ ComesAfter sets.now (place + 1) set) }
@@ -42,6 +43,7 @@ fn comes_after(sets: &[ReportSet], place: usize) -> bool
 }
 
 /// The set of a place, counted from 0, with the values that its texts say, where it is in order.
+#[tactic(auto, using(crate::proofs::Ordered::found_rules))]
 fn found_at(
     alloc: Global,
     listed: &Listed<'_>,
@@ -69,6 +71,7 @@ fn found_at(
 }
 
 /// The values of the sets, where they are in order, or the first set that isn't.
+#[tactic(auto, using(crate::proofs::Ordered::ordered_rules))]
 pub(crate) fn ordered(alloc: Global, listed: &Listed<'_>) -> Result<Order, NoMemory>
     requires { CanBeJudged listed.now }
     ensures { IfOk result (Orders (claim_of listed.now)) }

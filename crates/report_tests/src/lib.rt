@@ -11,6 +11,8 @@ mod made;
 #[cfg(test)]
 mod portions;
 #[cfg(test)]
+mod reading;
+#[cfg(test)]
 mod report;
 #[cfg(test)]
 mod writes;

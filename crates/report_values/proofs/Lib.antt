@@ -2,3 +2,4 @@ pub mod Spelling
 pub mod Pushing
 pub mod Writing
 pub mod Once
+pub mod Saying

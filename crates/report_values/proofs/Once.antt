@@ -1,13 +1,17 @@
 -- Places of members, one group behind the other; and the numbers of a sorted list, each once.
 use Rattle.std.proofs.Common.{◌≡◌, ◌≢◌, ◌⊎◌, inl, inr, ℕ, zero, suc, ◌+◌, ◌-◌, ◌<◌, ◌≤◌, ◌==◌, ◌||◌, ◌&&◌, Bool, true, false, List, [], ◌∷◌, ◌++◌, length, get_or, map, take, refl, sym, ap, ap₂, ◌∙◌, subst, arith, length-append}
-use Rattle.std.specs.Prelude.{Contains, Some, slice_get}
+use Rattle.std.specs.Prelude.{Contains, Err, IfOk, IsPermutation, Ok, Result, Some, Vec, slice_get}
+use Rattle.std.specs.declared.alloc.Global.{Global}
 use Rattle.std.specs.List.{list_any}
 use Rattle.std.specs.List.Sorted.{IsNonDecreasing, IsSorted, IsStrictlyIncreasing}
 use Rattle.std.specs.Ordering.{nat_cmp}
 use Rattle.std.specs.Option.{option_map_or}
 use Rattle.std.proofs.lemmas.Bool.{cases_lt, eq-eqb, le-leb}
 use Rattle.std.proofs.lemmas.List.{get_or-take, get_or_append_left, get_or_at, get_or_default, length-take-le, take_all, take_more}
+use Rattle.std.proofs.lemmas.List.Elements.{Contains-get_or}
 use Rattle.std.proofs.lemmas.List.Folds.{list_any-append, list_any_more}
+use Rattle.std.proofs.lemmas.List.Sorted.{list_any-IsPermutation}
+use Rattle.loc_base.specs.declared.memory.NoMemory.{NoMemory}
 use Rattle.loc_base.proofs.ShelfBools.{equal-true}
 use Rattle.loc_base.proofs.ShelfLists.{list_any-found, list_any-member, slice_get-at}
 use Rattle.design_core.specs.Explained.{is_one_of}
@@ -55,7 +59,7 @@ is-one : (xs : List ℕ) (p : ℕ) → Contains xs p → is_one_of xs p ≡ true
 is-one xs p member = list_any-member (λ x. x == p) xs p member (eq-eqb p p refl)
 
 one-of : (xs : List ℕ) (p : ℕ) → is_one_of xs p ≡ true → Contains xs p
-one-of xs p yes = let (x, member, same) = list_any-found (λ x. x == p) xs yes in subst (Contains xs) (equal-true x p same) member
+one-of xs p holds = let (x, member, same) = list_any-found (λ x. x == p) xs holds in subst (Contains xs) (equal-true x p same) member
 
 rises-pushed : (xs : List ℕ) (y : ℕ) → IsStrictlyIncreasing xs → ((k : ℕ) → k < length xs → get_or xs k 0 < y) → IsStrictlyIncreasing (xs ++ y ∷ [])
 rises-pushed xs y up below k within = at (cases_lt (k + 1) (length xs))
@@ -83,24 +87,28 @@ taken-most sorted place p up some few has =
     let (k, low, is) = one-of (take place sorted) p has in
     let long : length (take place sorted) ≡ place = length-take-le place sorted few in
     let below : k < place = omega (arith, low, long) in
-    omega (arith, up k (place - 1) 0 (omega (arith, below)) (omega (arith, some, few)), get_or-take place sorted k 0 below,
-    get_or_default (take place sorted) k p 0 low, is)
+    omega (
+      arith,
+      up k (place - 1) 0 (omega (arith, below)) (omega (arith, some, few)),
+      get_or-take place sorted k 0 below,
+      get_or_default (take place sorted) k p 0 low,
+      is,
+    )
 
 pub once-pushed : (sorted once new : List ℕ) (place x : ℕ) → IsNonDecreasing sorted → place < length sorted → x ≡ get_or sorted place x
     → (0 < place → get_or sorted (place - 1) 0 ≢ x) → IsStrictlyIncreasing once
     → ((p : ℕ) → is_one_of once p ≡ is_one_of (take place sorted) p) → new ≡ once ++ x ∷ []
     → IsStrictlyIncreasing new × ((p : ℕ) → is_one_of new p ≡ is_one_of (take (place + 1) sorted) p)
-once-pushed sorted once new place x up within is other rises same grown =
-    (
-      subst IsStrictlyIncreasing (sym grown) (rises-pushed once x rises (λ k low. below k low (cases_lt 0 place))),
-      λ p. ap (λ xs. is_one_of xs p) grown ∙ list_any-append (λ y. y == p) once (x ∷ [])
-          ∙ ap (λ b. b || is_one_of (x ∷ []) p) (same p) ∙ sym (list_any-append (λ y. y == p) (take place sorted) (x ∷ []))
-          ∙ ap (λ xs. is_one_of xs p) (ap (λ y. take place sorted ++ y ∷ []) is ∙ sym (take_more sorted place x within)),
-    )
+once-pushed sorted once new place x up within is other rises same grown = (
+  subst IsStrictlyIncreasing (sym grown) (rises-pushed once x rises (λ k low. below k low (cases_lt 0 place))),
+  λ p. ap (λ xs. is_one_of xs p) grown ∙ list_any-append (λ y. y == p) once (x ∷ [])
+      ∙ ap (λ b. b || is_one_of (x ∷ []) p) (same p) ∙ sym (list_any-append (λ y. y == p) (take place sorted) (x ∷ []))
+      ∙ ap (λ xs. is_one_of xs p) (ap (λ y. take place sorted ++ y ∷ []) is ∙ sym (take_more sorted place x within)),
+)
   where
     below : (k : ℕ) → k < length once → (0 < place) ⊎ (place ≤ 0) → get_or once k 0 < x
     below k low (inl some) =
-        let has : is_one_of (take place sorted) (get_or once k 0) ≡ true = sym (same (get_or once k 0)) ∙ is-one once (get_or once k 0) (k, low, refl) in
+        let has : is_one_of (take place sorted) (get_or once k 0) ≡ true = sym (same (get_or once k 0)) ∙ is-one once (get_or once k 0) (Contains-get_or once k 0 low) in
         let most : get_or once k 0 ≤ get_or sorted (place - 1) 0 =
         taken-most sorted place (get_or once k 0) up some (omega (arith, within)) has in
         let next : get_or sorted (place - 1) 0 ≤ get_or sorted place 0 = up (place - 1) place 0 (omega arith) within in
@@ -109,7 +117,7 @@ once-pushed sorted once new place x up within is other rises same grown =
         omega (arith, most, next, here, apart)
     below k low (inr none) =
         let empty : place ≡ 0 = omega (arith, none) in
-        let has : is_one_of once (get_or once k 0) ≡ true = is-one once (get_or once k 0) (k, low, refl) in
+        let has : is_one_of once (get_or once k 0) ≡ true = is-one once (get_or once k 0) (Contains-get_or once k 0 low) in
         let not : is_one_of once (get_or once k 0) ≡ false = same (get_or once k 0) ∙ ap (λ n. is_one_of (take n sorted) (get_or once k 0)) empty in
         let wrong : true ≡ false = sym has ∙ not in cc
 
@@ -117,7 +125,7 @@ pub once-met : (sorted once : List ℕ) (place x : ℕ) → place < length sorte
     → get_or sorted (place - 1) 0 ≡ x → ((p : ℕ) → is_one_of once p ≡ is_one_of (take place sorted) p)
     → (p : ℕ) → is_one_of once p ≡ is_one_of (take (place + 1) sorted) p
 once-met sorted once place x within some is last same p =
-    same p ∙ kept (is_one_of (take place sorted) p) (x == p) (λ yes. there (equal-true x p yes))
+    same p ∙ kept (is_one_of (take place sorted) p) (x == p) (λ holds. there (equal-true x p holds))
     ∙ sym (list_any_more (λ y. y == p) sorted place x within ∙ ap (λ y. is_one_of (take place sorted) p || (y == p)) (sym is))
   where
     kept : (a b : Bool) → (b ≡ true → a ≡ true) → a ≡ (a || b)
@@ -130,9 +138,20 @@ once-met sorted once place x within some is last same p =
 
     there : x ≡ p → is_one_of (take place sorted) p ≡ true
     there same_one =
-        is-one (take place sorted) p
-        (place - 1, omega (arith, long, some),
-        get_or_default (take place sorted) (place - 1) p 0 (omega (arith, long, some))
-        ∙ (get_or-take place sorted (place - 1) 0 (omega (arith, some)) ∙ (last ∙ same_one)))
+        is-one (take place sorted) p (
+          place - 1,
+          omega (arith, long, some),
+          get_or_default (take place sorted) (place - 1) p 0 (omega (arith, long, some))
+              ∙ (get_or-take place sorted (place - 1) 0 (omega (arith, some)) ∙ (last ∙ same_one)),
+        )
 
 pub ruleset once_rules = (once-pushed, once-met)
+
+-- the places once more, sorted and each once
+pub sorted-places : (groups : List Group) (members places sorted given : List ℕ) (r : Result (Vec ℕ Global) NoMemory)
+    → ((p : ℕ) → is_one_of places p ≡ places_of (groups_of groups) members p) → IsPermutation places sorted → given ≡ sorted
+    → IfOk r (λ once. (p : ℕ) → is_one_of once.items p ≡ is_one_of given p)
+    → IfOk r (λ once. (p : ℕ) → is_one_of once.items p ≡ places_of (groups_of groups) members p)
+sorted-places groups members places sorted given (Ok once) are same is holds = λ p.
+    holds p ∙ ap (λ xs. is_one_of xs p) is ∙ sym (list_any-IsPermutation (λ x. x == p) places sorted same) ∙ are p
+sorted-places groups members places sorted given (Err e) are same is holds = tt

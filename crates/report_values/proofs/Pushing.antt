@@ -1,6 +1,6 @@
 -- Words that are appended, row by row.
 use Rattle.std.proofs.Common.{◌≡◌, ◌≢◌, ℕ, zero, suc, ◌+◌, ◌<◌, ◌≤◌, List, [], ◌∷◌, ◌++◌, length, get_or, map, take, Some, refl, sym, ap, ap₂, ◌∙◌, subst, arith, append_assoc, append-nil, length-append}
-use Rattle.std.specs.Prelude.{All, slice_get}
+use Rattle.std.specs.Prelude.{All, Bool, MatchBool, false, slice_get, true}
 use Rattle.std.specs.List.{flat_map}
 use Rattle.std.proofs.lemmas.List.{length-map, map_push, take_all, take_more}
 use Rattle.std.proofs.lemmas.List.Concat.{flat_map-append}
@@ -16,7 +16,7 @@ use Rattle.report_values.specs.Reading.{AllHaveWords, AppendsRow, AppendsRows, H
 pushed : {X : Type 0} (f : Bits → X) (old before after : List Bits) (row : List X) (place : ℕ) (word : Bits) (d : X) → place < length row
     → f word ≡ get_or row place d → map f before ≡ map f old ++ take place row → after ≡ before ++ word ∷ []
     → map f after ≡ map f old ++ take (place + 1) row
-pushed f old before after row place word d within is begun grown =
+pushed {X = X} f old before after row place word d within is begun grown =
     ap (map f) grown ∙ map_push f before word
     ∙ ap₂ (λ front (last : X). front ++ last ∷ []) begun is
     ∙ append_assoc (map f old) (take place row) (get_or row place d ∷ [])
@@ -155,3 +155,12 @@ pub ruleset rows_rules = (rows-begun, rows-more, rows-whole, rows-none)
 pub ruleset all_rules = (all-begun, all-more, all-whole, all-none)
 
 pub ruleset row_rules = (row-begun, row-more, row-whole, row-none, row-uneven)
+
+-- ---- what a test tells
+pub read-true : (b : Bool) (P Q : Type 0) → b ≡ true → MatchBool b P Q → P
+read-true true P Q is m = m
+read-true false P Q is m = cc
+
+pub read-false : (b : Bool) (P Q : Type 0) → b ≡ false → MatchBool b P Q → Q
+read-false false P Q is m = m
+read-false true P Q is m = cc

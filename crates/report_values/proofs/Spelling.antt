@@ -1,6 +1,7 @@
 -- Hex digits and the numbers that they spell.
 use Rattle.std.proofs.Common.{◌≡◌, ◌≢◌, ◌⊎◌, inl, inr, ℕ, zero, suc, ◌+◌, ◌*◌, ◌/◌, ◌%◌, ◌^◌, ◌<◌, ◌≤◌, cond, List, [], ◌∷◌, ◌++◌, length, get_or, take, ◌-◌}
 use Rattle.std.proofs.Common.{refl, sym, ap, ap₂, ◌∙◌, subst, arith, add-one, length-append}
+use Rattle.std.specs.Prelude.{IfNone, None, Option, Some}
 use Rattle.std.proofs.lemmas.Bool.{cases_lt, lt-ltb, le-ltb}
 use Rattle.std.proofs.lemmas.List.{get_or_append_left, get_or_at, get_or_default, same_from_push, take_all, take_more}
 use Rattle.std.proofs.lemmas.Nat.{div-mul-add, mod-mul-add, pow-add}
@@ -75,9 +76,11 @@ hex-digits (suc count) number place within = at (cases_lt place count) (hex-digi
     at (inl before) rest =
         let (digit, small, is) = rest before in
         (digit, small, get_or_append_left (hex count (number / 16)) (hex_digit (number % 16) ∷ []) 0 place (omega (arith, before, long)) ∙ is)
-    at (inr last) rest =
-        (number % 16, omega arith,
-        get_or_at (hex count (number / 16)) (hex_digit (number % 16)) [] 0 place (omega (arith, last, within, long)))
+    at (inr last) rest = (
+      number % 16,
+      omega arith,
+      get_or_at (hex count (number / 16)) (hex_digit (number % 16)) [] 0 place (omega (arith, last, within, long)),
+    )
 
 -- two numbers of so many digits, which are the same, are one
 pub hex-same : (count one other : ℕ) → one < 16 ^ count → other < 16 ^ count → hex count one ≡ hex count other → one ≡ other
@@ -109,7 +112,8 @@ sixteens (suc count) =
 -- a word has digits for its value
 pub word-below : (word : Bits) → value_of word < 16 ^ ((width_of word + 3) / 4)
 word-below word =
-    let most : 2 ^ width_of word ≤ 2 ^ (4 * ((width_of word + 3) / 4)) = pow_mono (omega arith) in
+    let most : 2 ^ width_of word ≤ 2 ^ (4 * ((width_of word + 3) / 4)) =
+    pow_mono {i = width_of word} {j = 4 * ((width_of word + 3) / 4)} (omega arith) in
     omega (arith, most, sixteens ((width_of word + 3) / 4), value_of-range word)
 
 pub length-word_text : (word : Bits) → length (word_text word) ≡ (width_of word + 3) / 4
@@ -157,11 +161,10 @@ none-spelled text = (omega arith, hex-none 0)
 pub more-spelled : (text : List ℕ) (place number digit byte : ℕ) → place < length text → byte ≡ get_or text place byte → digit < 16
     → hex_digit digit ≡ byte → (number < 16 ^ place) × (hex place number ≡ take place text)
     → (number * 16 + digit < 16 ^ (place + 1)) × (hex (place + 1) (number * 16 + digit) ≡ take (place + 1) text)
-more-spelled text place number digit byte within is small spells (below, front) =
-    (
-      below-more place number digit below small,
-      hex-more place number digit small ∙ ap₂ (λ xs (x : ℕ). xs ++ x ∷ []) front (spells ∙ is) ∙ sym (take_more text place byte within),
-    )
+more-spelled text place number digit byte within is small spells (below, front) = (
+  below-more place number digit below small,
+  hex-more place number digit small ∙ ap₂ (λ xs (x : ℕ). xs ++ x ∷ []) front (spells ∙ is) ∙ sym (take_more text place byte within),
+)
 
 -- a byte that is no digit
 pub none-digit : (text : List ℕ) (place byte : ℕ) → place < length text → byte ≡ get_or text place byte
@@ -182,9 +185,14 @@ pub spelled-fits : (text : List ℕ) (place number digit : ℕ) → length text 
     → number * 16 + digit < 2 ^ 128
 spelled-fits text place number digit few within small below =
     let more : number * 16 + digit < 16 ^ (place + 1) = below-more place number digit below small in
-    let most : 2 ^ (4 * (place + 1)) ≤ 2 ^ 128 = pow_mono (omega (arith, few, within)) in
+    let most : 2 ^ (4 * (place + 1)) ≤ 2 ^ 128 = pow_mono {i = 4 * (place + 1)} {j = 128} (omega (arith, few, within)) in
     omega (arith, more, most, sixteens (place + 1))
 
 pub ruleset number_rules = (none-spelled, more-spelled, none-digit, all-spelled, spelled-fits)
 
 pub ruleset word_rules = (no-word_long, no-word_number, no-word_great)
+
+-- a fact that holds anyhow
+pub if-none : (r : Option ℕ) (P : Type 0) → P → IfNone r P
+if-none None P holds = holds
+if-none (Some n) P holds = tt

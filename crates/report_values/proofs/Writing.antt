@@ -8,7 +8,7 @@ use Rattle.std.specs.Option.{option_map_or}
 use Rattle.std.proofs.Math.Seq.{drop-cons}
 use Rattle.std.proofs.lemmas.Bool.{and_parts, eq-eqb, leb-true}
 use Rattle.std.proofs.lemmas.List.{drop-drop, drop-map, drop_at, length-map, take-map, take_at}
-use Rattle.std.proofs.lemmas.List.Elements.{All-cons, All-head, All-map, All-nil, All-tail}
+use Rattle.std.proofs.lemmas.List.Elements.{All-cons, All-head, All-map, All-nil, All-tail, Contains-get_or}
 use Rattle.loc_base.proofs.ShelfBools.{equal-true}
 use Rattle.loc_base.proofs.ShelfLists.{All-member, Contains-at, slice_get-some, list_all-member, list_any-found, list_any-member}
 use Rattle.loc_base.specs.declared.bits.Bits.{Bits}
@@ -31,7 +31,7 @@ use Rattle.report_values.specs.Written.{HasValues, IsWritten}
 
 -- ---- lists of lists of one length, one behind the other
 pub length-even : {X A : Type 0} (f : X → List A) (w : ℕ) (xs : List X) → All (λ x. length (f x) ≡ w) xs → length (flat_map f xs) ≡ length xs * w
-length-even f w [] even = refl
+length-even f w [] even = omega arith
 length-even f w (x ∷ xs) even =
     let rest = length-even f w xs (All-tail (λ y. length (f y) ≡ w) x xs even) in
     omega (arith, length-append (f x) (flat_map f xs), All-head (λ y. length (f y) ≡ w) x xs even, rest)
@@ -39,7 +39,10 @@ length-even f w (x ∷ xs) even =
 pub row-even : {X A : Type 0} (f : X → List A) (w : ℕ) (xs : List X) → All (λ x. length (f x) ≡ w) xs → (r : ℕ) (d : X) → r < length xs
     → take w (drop (r * w) (flat_map f xs)) ≡ f (get_or xs r d)
 row-even f w [] even r d within = absurd (omega (arith, within))
-row-even f w (x ∷ xs) even zero d within = take_at (f x) (flat_map f xs) w (All-head (λ y. length (f y) ≡ w) x xs even)
+row-even f w (x ∷ xs) even zero d within =
+    let none : 0 * w ≡ 0 = omega arith in
+    ap (λ n. take w (drop n (f x ++ flat_map f xs))) none
+    ∙ take_at (f x) (flat_map f xs) w (All-head (λ y. length (f y) ≡ w) x xs even)
 row-even f w (x ∷ xs) even (suc r) d within =
     let wide : length (f x) ≡ w = All-head (λ y. length (f y) ≡ w) x xs even in
     let far : suc r * w ≡ w + r * w = omega arith in
@@ -213,7 +216,7 @@ places-same xs ys one other same =
     is zs p member = list_any-member (λ z. z == p) zs p member (eq-eqb p p refl)
 
     has : (zs : List ℕ) (p : ℕ) → is_one_of zs p ≡ true → Contains zs p
-    has zs p yes = let (z, member, same) = list_any-found (λ z. z == p) zs yes in subst (Contains zs) (equal-true z p same) member
+    has zs p holds = let (z, member, same) = list_any-found (λ z. z == p) zs holds in subst (Contains zs) (equal-true z p same) member
 
 -- a set whose rows are of other numbers has no values
 pub none-long : (d : Design) (traces : List Trace) (groups : List Group) (set : ReportSet) → ¬ HasItsRows traces set.values
@@ -263,7 +266,7 @@ pub places-within : (d : Design) (groups : List Group) (members places : List �
     → ((p : ℕ) → is_one_of places p ≡ places_of (groups_of groups) members p) → All (λ p. p < length d.places.items) places
 places-within d groups members places within its k e low =
     let p = get_or places k e in
-    let here : is_one_of places p ≡ true = list_any-member (λ z. z == p) places p (k, low, refl) (eq-eqb p p refl) in
+    let here : is_one_of places p ≡ true = list_any-member (λ z. z == p) places p (Contains-get_or places k e low) (eq-eqb p p refl) in
     let (m, member, has) = list_any-found (suspect_has (groups_of groups) p) members (sym (its p) ∙ here) in
     suspect-within groups (length d.places.items) p m within has
 

@@ -67,11 +67,7 @@ fn place_width(design: &Design, place: usize) -> u8
 }
 
 /// The widths of places.
-pub(crate) fn widths_of(
-    alloc: Global,
-    design: &Design,
-    places: &[u32],
-) -> Result<Vec<u8>, NoMemory>
+pub(crate) fn widths_of(alloc: Global, design: &Design, places: &[u32]) -> Result<Vec<u8>, NoMemory>
     ensures { IfOk result (λ widths. widths.items ≡ map (place_width design.now) places.now) }
 {
     let mut widths = Vec::new(alloc);

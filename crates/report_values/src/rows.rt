@@ -40,21 +40,17 @@ fn push_row(
         return Ok(false);
     }
     for place in 0..widths.len() {
-        let Some(word) = word_of(widths[place], texts.text(cycle, place)) else {
-            return Ok(false);
-        };
-        words.push(word)?;
+        match word_of(widths[place], texts.text(cycle, place)) {
+            Some(word) => words.push(word)?,
+            None => return Ok(false),
+        }
     }
     Ok(true)
 }
 
 /// Appends the words of the texts of all cycles of a trace. False where those of a cycle aren't the texts of words of these widths.
 #[tactic(auto, using(crate::proofs::Pushing::rows_rules))]
-fn push_rows(
-    words: &mut Vec<Bits>,
-    widths: &[u8],
-    texts: &CycleTexts,
-) -> Result<bool, NoMemory>
+fn push_rows(words: &mut Vec<Bits>, widths: &[u8], texts: &CycleTexts) -> Result<bool, NoMemory>
     requires { AreWidths widths.now }
     ensures { IfOk result (λ read. MatchBool read (AppendsRows widths.now texts.now words.old.items words.new.items)
         (¬ All (HasWords widths.now) texts.now)) }

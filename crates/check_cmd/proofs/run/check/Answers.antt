@@ -27,14 +27,13 @@ returns-in-Ok-new g c =
     let asked = asked_of c.args.request.now in
     let both = and_parts (g.S.Shelf.tells c.args.shelf.now) (g.O.Sink.tells c.args.out.now) in
     let given = given_of c.in-Ok.evidence in
-    let can = c.in-Ok.ensures.can in
     judged-keeps g.F.FrontEnd.means g.F.FrontEnd.refuses _ _ asked _ c.in-Ok-new.answer.status c.in-Ok-new.answer.line.items
     c.print_line.result
     (record {
       answer = answer-status given c.in-Ok-new.answer c.in-Ok-new.ensures;
       judged = λ told.
           judged g.F.FrontEnd.means _ _ asked _ given c.in-Ok-new.answer (c.in-Ok.ensures.means (both told).0) c.in-Ok.ensures.same
-          can.posed.problem can.posed.form c.in-Ok-new.ensures;
+          c.in-Ok-new.ensures;
       nothing = c.in-Ok.ensures.written;
       prints = λ told. c.print_line.ensures.text (both told).1;
       shelf = c.in-Ok.ensures.counts;

@@ -1,10 +1,10 @@
 //! The judgement on a list: the five conditions, one after another.
 
-ghost use Rattle.std.specs.Prelude.{◌<◌, ◌≤◌, IfOk};
+ghost use Rattle.std.specs.Prelude.{◌<◌, ◌≤◌, IfOk, length};
 ghost use Rattle.list_verdict.specs.Claims.{CanBeJudged, claim_of};
 ghost use Rattle.list_verdict.specs.Conditions.{AreInOrder, AreRight, NoneHolds};
 ghost use Rattle.list_verdict.specs.Judging.{AreFound};
-ghost use Rattle.list_verdict.specs.Verdicts.{IsVerdict};
+ghost use Rattle.list_verdict.specs.Verdicts.{IsVerdict, IsWholeListIf};
 
 use crate::holding::first_to_hold;
 use crate::log::{blocks_of, closes};
@@ -29,7 +29,8 @@ fn judge_log<R: Threads + Sync, G: Gate + Sync>(
     requires in_order { AreInOrder (claim_of listed.now) }
     requires none_holds { NoneHolds listed.now.sets.now }
     requires right { AreRight (claim_of listed.now) }
-    ensures { IfOk result (IsVerdict (claim_of listed.now)) }
+    ensures verdict { IfOk result (IsVerdict (claim_of listed.now)) }
+    ensures list { IfOk result (IsWholeListIf (claim_of listed.now)) }
 {
     let blocks = blocks_of(alloc, listed.sets)?;
     let Workers {
@@ -68,7 +69,8 @@ fn judge_found<R: Threads + Sync, G: Gate + Sync>(
     requires most { workers.now.count ≤ 64 }
     requires in_order { AreInOrder (claim_of listed.now) }
     requires found { AreFound (claim_of listed.now) (length listed.now.sets.now) found.now }
-    ensures { IfOk result (IsVerdict (claim_of listed.now)) }
+    ensures verdict { IfOk result (IsVerdict (claim_of listed.now)) }
+    ensures list { IfOk result (IsWholeListIf (claim_of listed.now)) }
 {
     if let Some(holding) = first_to_hold(listed.sets) {
         return Ok(Verdict::Contains {
@@ -111,7 +113,8 @@ pub fn judge<R: Threads + Sync, G: Gate + Sync>(
     requires can { CanBeJudged listed.now }
     requires some { 0 < workers.now.count }
     requires most { workers.now.count ≤ 64 }
-    ensures { IfOk result (IsVerdict (claim_of listed.now)) }
+    ensures verdict { IfOk result (IsVerdict (claim_of listed.now)) }
+    ensures list { IfOk result (IsWholeListIf (claim_of listed.now)) }
 {
     match ordered(alloc, listed)? {
         Order::In { found } => judge_found(alloc, workers, listed, &found),

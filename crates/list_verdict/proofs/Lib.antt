@@ -1,0 +1,9 @@
+pub mod Comparing
+pub mod Ordered
+pub mod Held
+pub mod Logs
+pub mod Asked
+pub mod Replayed
+pub mod Closing
+pub mod Whole
+pub mod Judged

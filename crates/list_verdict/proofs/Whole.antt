@@ -1,0 +1,243 @@
+-- A list for which all five conditions hold is the whole list.
+use Rattle.std.proofs.Common.{◌≡◌, ◌≢◌, ◌⊎◌, inl, inr, ℕ, zero, suc, ◌+◌, ◌-◌, ◌<◌, ◌≤◌, Bool, true, List, [], ◌∷◌, ◌++◌, length, get_or, map, Some, refl, sym, ap, ◌∙◌, subst, arith}
+use Rattle.std.specs.Prelude.{All, AllPairs, Contains, IsTrue, slice_get}
+use Rattle.std.specs.List.Sorted.{IsStrictlyIncreasing}
+use Rattle.std.proofs.lemmas.Bool.{cases_eq, cases_lt}
+use Rattle.std.proofs.lemmas.List.{get_or-map, length-map}
+use Rattle.std.proofs.lemmas.List.Elements.{All-map, Contains-get_or}
+use Rattle.loc_base.proofs.ShelfLists.{All-member, Contains-place, slice_get-some}
+use Rattle.clause_base.specs.declared.form.Form.{Form}
+use Rattle.clause_base.specs.declared.literal.Lit.{Lit}
+use Rattle.clause_base.specs.declared.log.Step.{Step}
+use Rattle.clause_base.specs.Literal.{AllDistinct}
+use Rattle.clause_base.specs.Satisfaction.{Satisfies}
+use Rattle.clause_base.specs.Acceptance.{Follows}
+use Rattle.clause_base.proofs.Accepted.{log_holds}
+use Rattle.card_counter.proofs.Said.{satisfies-both}
+use Rattle.design_core.specs.declared.trace.Trace.{Trace}
+use Rattle.design_core.specs.declared.values.Values.{Values}
+use Rattle.design_core.specs.Explained.{Explains, choices_in}
+use Rattle.design_core.specs.Listing.{IsEntry, IsList, is_before}
+use Rattle.design_core.specs.Works.{IsMinimal, IsSet, IsWithin, Works}
+use Rattle.set_enum.specs.Sets.{IsSetOf, NoneBelow, block_of, selected}
+use Rattle.list_laws.specs.Listed.{Encodes, IsSelected}
+use Rattle.list_laws.proofs.Blocked.{Unmet, met-or-unmet, unmet-within}
+use Rattle.list_laws.proofs.Selected.{within-few, within-fewer, within-same}
+use Rattle.report_doc.specs.declared.types.ReportSet.{ReportSet}
+use Rattle.report_values.proofs.Saying.{written-explains}
+use Rattle.debug_core.specs.Problems.{IsFormFor, IsProblem, Problem, suspect_count, suspects_of}
+use Rattle.list_verdict.specs.Claims.{AreItsValues, Claim, IsSetAt}
+use Rattle.list_verdict.specs.Conditions.{AreInOrder, AreRight, Holds, IsInOrder, NoneHolds, blocks_for}
+use Rattle.list_verdict.specs.Judging.{AreAscending}
+use Rattle.list_verdict.specs.Verdicts.{IsExplained, IsWhole, IsWholeList, members_of}
+use Rattle.list_verdict.proofs.Asked.{form-counter, form-encodes, suspects-long}
+use Rattle.list_verdict.proofs.Closing.{none-below}
+use Rattle.list_verdict.proofs.Ordered.{ascending, got-itself, set-at}
+
+-- the blocks by the members
+blocks-members : (sets : List ReportSet) → blocks_for sets ≡ map block_of (members_of sets)
+blocks-members [] = refl
+blocks-members (set ∷ sets) = ap (λ (rest : List (List Lit)). block_of set.members ∷ rest) (blocks-members sets)
+
+module _ (c : Claim) (vars : ℕ) (can : IsProblem c.problem) (form : IsFormFor c.problem vars c.form)
+    (follows : Follows c.form (blocks_for c.sets) c.log) (whole : IsWhole c) where
+  abbrev p : Problem
+  p = c.problem
+
+  abbrev groups : List (List ℕ)
+  groups = suspects_of p
+
+  abbrev n : ℕ
+  n = suspect_count p
+
+  abbrev sets : List (List ℕ)
+  sets = members_of c.sets
+
+  abbrev Work : List ℕ → Type 0
+  Work set = Works p.design p.traces groups set
+
+  abbrev Entry : List ℕ → Type 0
+  Entry set = IsEntry p.design p.traces groups p.k set
+
+  encodes : Encodes n p.k c.form Work
+  encodes = form-encodes p (record { vars = vars; clauses = c.form }) can form
+
+  -- a set of the list, by its members
+  pub record Listed (members : List ℕ) : Type 0 where
+    pub place : ℕ
+    pub set : ReportSet
+    pub there : slice_get c.sets place ≡ Some set
+    pub is : set.members ≡ members
+
+  listed-of : (members : List ℕ) → Contains sets members → Listed members
+  listed-of members member =
+      let (k, at) = Contains-place sets members member in
+      let (place, set, there, is) = found c.sets k members at in
+      record { place = place; set = set; there = there; is = is }
+    where
+      found : (list : List ReportSet) (k : ℕ) (ms : List ℕ) → slice_get (members_of list) k ≡ Some ms
+          → (place : ℕ) × (set : ReportSet) × (slice_get list place ≡ Some set) × (set.members ≡ ms)
+      found [] k ms at = cc
+      found (set ∷ list) zero ms at = (zero, set, refl, inner at)
+        where
+          inner : Some set.members ≡ Some ms → set.members ≡ ms
+          inner e = cc
+      found (set ∷ list) (suc k) ms at =
+          let (place, other, there, is) = found list k ms at in (suc place, other, there, is)
+
+  in-order : (place : ℕ) (set : ReportSet) → slice_get c.sets place ≡ Some set → IsInOrder c (place + 1) set
+  in-order place set there = whole.in_order (place + 1) set (set-at c.sets place set there)
+
+  -- the values of a set explain the traces
+  explained : (place : ℕ) (set : ReportSet) → slice_get c.sets place ≡ Some set → IsExplained c set
+  explained place set there =
+      let (values, written) = (in-order place set there).values in
+      record {
+        values = values;
+        are_its = written;
+        explains = written-explains p.design p.traces groups set values written
+            (whole.right (place + 1) set (set-at c.sets place set there) values written);
+      }
+
+  works : (place : ℕ) (set : ReportSet) → slice_get c.sets place ≡ Some set → Work set.members
+  works place set there trace member =
+      let e = explained place set there in
+      let (j, at) = Contains-place p.traces trace member in
+      (choices_in p.traces e.values j, e.explains.widths j trace at, e.explains.meets j trace at)
+
+  set-of : (set : List ℕ) → IsSet groups set → IsSetOf n set
+  set-of set is = record {
+    ascending = is.ascending;
+    members = subst (λ m. All (λ s. (1 ≤ s) × (s ≤ m)) set) (suspects-long p) is.numbers;
+  }
+
+  few : All (λ set. All (λ m. m ≤ n) set) sets
+  few = All-map (λ set. All (λ m. m ≤ n) set) (λ (set : ReportSet). set.members) c.sets (λ k d low.
+      let there : slice_get c.sets k ≡ Some (get_or c.sets k d) = got-itself c.sets k d low in
+      λ i e within. ((set-of (get_or c.sets k d).members (in-order k (get_or c.sets k d) there).suspects).members i e within).1)
+
+  none-left : NoneBelow n (p.k + 1) (c.form ++ map block_of sets)
+  none-left =
+      none-below n p.k vars c.form sets c.log (form-counter p (record { vars = vars; clauses = c.form }) can form)
+      (subst (λ blocks. Follows c.form blocks c.log) (blocks-members c.sets) follows) few whole.closes
+
+  -- within each set that works and is of at most k suspects there is one of the list
+  pub record Inner (set : List ℕ) : Type 0 where
+    pub members : List ℕ
+    pub listed : Contains sets members
+    pub within : IsWithin members set
+
+  inner-of : (set : List ℕ) → IsSet groups set → length set ≤ p.k → Work set → Inner set
+  inner-of set is small working = at (met-or-unmet chosen.assignment sets)
+    where
+      chosen : IsSelected n c.form set
+      chosen = encodes.some set (set-of set is) small working
+
+      at : Satisfies chosen.assignment (map block_of sets) ⊎ Unmet chosen.assignment sets → Inner set
+      at (inl all) =
+          let many = none-left chosen.assignment (satisfies-both chosen.assignment c.form (map block_of sets) chosen.satisfies all) in
+          absurd (omega (arith, many, ap length chosen.selects, small))
+      at (inr u) =
+          let l : Listed u.set = listed-of u.set u.listed_there in
+          record {
+            members = u.set;
+            listed = u.listed_there;
+            within = subst (IsWithin u.set) chosen.selects
+                (unmet-within chosen.assignment n u.set
+                (subst (IsSetOf n) l.is (set-of l.set.members (in-order l.place l.set l.there).suspects)) u.is_unmet);
+          }
+
+  least : (place : ℕ) (set : ReportSet) → slice_get c.sets place ≡ Some set → (inner : List ℕ) → IsSet groups inner
+      → IsWithin inner set.members → ¬ IsWithin set.members inner → ¬ Work inner
+  least place set there inner is within proper working = at (cases_eq l.place place)
+    where
+      o : IsInOrder c (place + 1) set
+      o = in-order place set there
+
+      fewer : length inner < length set.members
+      fewer = within-fewer inner set.members is.ascending o.suspects.ascending within proper
+
+      i : Inner inner
+      i = inner-of inner is (omega (arith, fewer, o.size)) working
+
+      l : Listed i.members
+      l = listed-of i.members i.listed
+
+      deep : IsWithin l.set.members inner
+      deep = subst (λ ms. IsWithin ms inner) (sym l.is) i.within
+
+      at : (l.place ≡ place) ⊎ (l.place ≢ place) → ⊥
+      at (inl same) =
+          proper (subst (λ (s : ReportSet). IsWithin s.members inner) (one (sym l.there ∙ ap (slice_get c.sets) same ∙ there)) deep)
+        where
+          one : Some l.set ≡ Some set → l.set ≡ set
+          one e = cc
+      at (inr other) =
+          whole.none_holds (place + 1) (l.place + 1) (record {
+            set = set;
+            is_set = set-at c.sets place set there;
+            inner = l.set;
+            is_inner = set-at c.sets l.place l.set l.there;
+            apart = λ same. other (omega (arith, same));
+            within = λ k d low. All-member (Contains set.members) inner (get_or l.set.members k d) within (deep k d low);
+          })
+
+  entry : (place : ℕ) (set : ReportSet) → slice_get c.sets place ≡ Some set → Entry set.members
+  entry place set there = record {
+    suspects = (in-order place set there).suspects;
+    size = (in-order place set there).size;
+    minimal = record { works = works place set there; least = least place set there };
+  }
+
+  entries : All Entry sets
+  entries = All-map Entry (λ (set : ReportSet). set.members) c.sets (λ k d low. entry k (get_or c.sets k d) (got-itself c.sets k d low))
+
+  ordered : AllPairs (λ one other. IsTrue (is_before one other)) sets
+  ordered i j d less low =
+      let long : length sets ≡ length c.sets = length-map c.sets (λ (set : ReportSet). set.members) in
+      let (one, here) = slice_get-some c.sets i (omega (arith, less, low, long)) in
+      let (other, there) = slice_get-some c.sets j (omega (arith, low, long)) in
+      subst (λ ms. IsTrue (is_before ms (get_or sets j d))) (sym (member c.sets i one here))
+      (subst (λ ms. IsTrue (is_before one.members ms)) (sym (member c.sets j other there))
+      ((ascending c whole.in_order).before i j one other less here there))
+    where
+      member : (list : List ReportSet) (k : ℕ) (set : ReportSet) → slice_get list k ≡ Some set → get_or (members_of list) k d ≡ set.members
+      member [] k set at = cc
+      member (x ∷ list) zero set at = ap (λ (s : ReportSet). s.members) (inner at)
+        where
+          inner : Some x ≡ Some set → x ≡ set
+          inner e = cc
+      member (x ∷ list) (suc k) set at = member list k set at
+
+  complete : (set : List ℕ) → Entry set → Contains sets set
+  complete set e = at (cases_lt (length i.members) (length set))
+    where
+      i : Inner set
+      i = inner-of set e.suspects e.size e.minimal.works
+
+      l : Listed i.members
+      l = listed-of i.members i.listed
+
+      suspects : IsSet groups i.members
+      suspects = subst (IsSet groups) l.is (in-order l.place l.set l.there).suspects
+
+      at : (length i.members < length set) ⊎ (length set ≤ length i.members) → Contains sets set
+      at (inl fewer) =
+          absurd (e.minimal.least i.members suspects i.within
+          (λ back.
+          let most = within-few set i.members e.suspects.ascending suspects.ascending back in omega (arith, fewer, most))
+          (subst Work l.is (works l.place l.set l.there)))
+      at (inr as_many) =
+          subst (Contains sets) (within-same i.members set suspects.ascending e.suspects.ascending i.within as_many) i.listed
+
+  pub whole-list : IsWholeList c
+  whole-list = record {
+    list = record { entries = entries; ordered = ordered; complete = complete };
+    explained = λ k d low. explained k (get_or c.sets k d) (got-itself c.sets k d low);
+  }
+
+-- the log of a list that is whole follows from its form and its blocks, where each clause is of distinct variables
+pub log-follows : (c : Claim) → AllDistinct c.form → AllDistinct (map (λ (s : Step). s.clause) c.log) → IsWhole c
+    → Follows c.form (blocks_for c.sets) c.log
+log-follows c of_form of_log whole a in_form in_blocks =
+    log_holds a c.form (blocks_for c.sets) c.log of_form of_log whole.accepted.each_step in_form in_blocks

@@ -1,0 +1,7 @@
+use Rattle.serde_json.specs.Data.{string}
+use Rattle.report_doc.specs.Shape.{IsHexText}
+use Rattle.report_reading.proofs.Lists.{AreRead}
+use Rattle.report_reading.proofs.values.RowsU8FromJson.read.Given as goal
+
+abbrev pub invariant-loop-element : goal.invariant-loop-element
+invariant-loop-element l = AreRead IsHexText string l.found l.elements l.element-index
