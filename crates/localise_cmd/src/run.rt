@@ -10,7 +10,7 @@ use crate::lines::{print_memory, print_usage};
 use crate::requests::{check_request, find_request, make_request, request_by, sim_request};
 use check_cmd::check;
 use command_words::{Request, WordsErr};
-use find_sets::{Tools, find};
+use find_sets::find;
 use io_ports::{Shelf, Sink};
 use loc_base::Gate;
 use make_cmd::make;
@@ -59,17 +59,35 @@ pub fn run_words<R: Threads + Sync, S: Shelf, O: Sink, G: Gate + Sync>(
         (counts_of (S.faults shelf.old) (S.faults shelf.new) (O.faults out.old) (O.faults out.new)))
         result }
 {
-    let tools = Tools {
-        front: &Verilog,
-        kinds,
-        runtime: rt,
-        gate,
-    };
     match request_by(alloc, words, kinds) {
-        Ok(Request::Find(words)) => find(alloc, &tools, &find_request(words), shelf, out),
+        Ok(Request::Find(words)) => {
+            let tools = find_sets::Tools {
+                front: &Verilog,
+                kinds,
+                runtime: rt,
+                gate,
+            };
+            find(alloc, &tools, &find_request(words), shelf, out)
+        }
         Ok(Request::Sim(words)) => simulate(alloc, &Verilog, &sim_request(words), shelf, out),
-        Ok(Request::Check(words)) => check(alloc, &tools, &check_request(words), shelf, out),
-        Ok(Request::Make(words)) => make(alloc, &tools, &make_request(words), shelf, out),
+        Ok(Request::Check(words)) => {
+            let tools = check_cmd::Tools {
+                front: &Verilog,
+                kinds,
+                runtime: rt,
+                gate,
+            };
+            check(alloc, &tools, &check_request(words), shelf, out)
+        }
+        Ok(Request::Make(words)) => {
+            let tools = make_cmd::Tools {
+                front: &Verilog,
+                kinds,
+                runtime: rt,
+                gate,
+            };
+            make(alloc, &tools, &make_request(words), shelf, out)
+        }
         Err(WordsErr::Usage(usage)) => print_usage(usage, out).status(2),
         Err(WordsErr::NoMemory) => print_memory(out).status(7),
     }
