@@ -1,5 +1,5 @@
 -- What holds of a simulation whose names pass.
-use Rattle.std.proofs.Common.{◌≡◌, ◌&&◌, true}
+use Rattle.std.proofs.Common.{◌≡◌, true}
 use Rattle.std.proofs.lemmas.Bool.{and_parts}
 use Rattle.word_values.specs.Sources.{are_source_names}
 use Rattle.word_values.specs.Values.{is_name, option_all}

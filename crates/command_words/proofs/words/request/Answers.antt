@@ -1,4 +1,4 @@
-use Rattle.std.proofs.Common.{subst, ◌≢◌, codes, map}
+use Rattle.std.proofs.Common.{subst, map}
 use Rattle.std.specs.Prelude.{string_bytes}
 use Rattle.command_words.proofs.Commands.{IsOther, asked-other}
 use Rattle.command_words.proofs.words.request.Goals as goal
