@@ -2,6 +2,7 @@
 use Rattle.std.proofs.Common.{ℕ, ◌≡◌, ◌≢◌, List, Result, Ok, Err, refl, sym, subst, ◌∙◌, arith, ◌⊎◌, inl, inr}
 use Rattle.std.specs.Prelude.{IfErr, IfOk, IsErrAnd}
 use Rattle.command_contract.specs.Contract.{IsInputRefusal}
+use Rattle.command_contract.proofs.Statuses.{input-range}
 use Rattle.list_inputs.specs.declared.refusal.Refusal.{Refusal}
 use Rattle.list_inputs.specs.declared.refusal.Refusal.TheVariants.{Line, Memory}
 use Rattle.list_inputs.specs.Ends.{CountsOf, HasCause, HasStatus, IsSpared, RefusalCounts, Says}
@@ -39,6 +40,14 @@ low-counts P low old new (Line s l) holds same = (λ five. absurd (low-no_five s
 low-counts P low old new Memory holds same = tt
 
 -- ---- want of memory
+pub no-memory : (r : Refusal) (line : List ℕ) → HasStatus r → Says r 7 line → IsMemory r
+no-memory (Line s l) line has (e, f) = absurd (omega (arith, e, input-range s has))
+no-memory Memory line has says = tt
+
+pub memory-cause : (P : ℕ → List ℕ → Type 0) (r : Refusal) → IsMemory r → HasCause P r
+memory-cause P (Line s l) is = absurd is
+memory-cause P Memory is = tt
+
 pub memory-spared : (r : Refusal) → IsMemory r → IsSpared r
 memory-spared (Line s l) is = absurd is
 memory-spared Memory is = tt

@@ -77,15 +77,18 @@ answer-status g answer is = subst (λ n. (n ≡ 0) ⊎ (n ≡ 8)) (sym is.status
 pub judged : (M : Meaning) (known : List (List ℕ)) (S : Suspecting) (asked : Asked) (texts : Texts) (g : Given) (answer : Answer)
     → Means M known S asked texts g → AreOfInputs g → Answers g answer
     → (v : Verdict) × Judged M known S asked texts v answer.status answer.line.items
-judged M known S asked texts g answer means same is = (is.verdict, record {
-  given = g;
-  means = means;
-  same = same;
-  is = is.is;
-  has_status = is.status;
-  has_line = is.line;
-  list = is.list;
-})
+judged M known S asked texts g answer means same is = (
+  is.verdict,
+  record {
+    given = g;
+    means = means;
+    same = same;
+    is = is.is;
+    has_status = is.status;
+    has_line = is.line;
+    list = is.list;
+  },
+)
 
 -- no answer is a refusal, 6, or 7
 no-refusal : (s : ℕ) → (s ≡ 0) ⊎ (s ≡ 8) → IsInputRefusal s → ⊥

@@ -1,6 +1,6 @@
 pub mod Causes
-pub mod Texts
-pub mod Kinds
-pub mod Sessions
+pub mod LoadedTexts
+pub mod KindNames
+pub mod WholeCauses
 pub mod Posing
 pub mod Keeping

@@ -6,6 +6,11 @@ use Rattle.list_inputs.specs.declared.inputs.Inputs.{Inputs}
 use Rattle.list_inputs.specs.Asked.{Asked as Wanted}
 use Rattle.list_inputs.specs.Ends.{problem_in}
 use Rattle.list_inputs.specs.Means.{Means, Suspecting}
+use Rattle.clause_base.specs.declared.literal.Lit.{Lit}
+use Rattle.clause_base.specs.declared.log.Step.{Step}
+use Rattle.report_doc.specs.declared.types.ReportSet.{ReportSet}
+use Rattle.debug_core.specs.Problems.{Problem}
+use Rattle.list_verdict.specs.Claims.{Claim}
 
 -- what is said of what is wanted and of the texts, of others that are the same
 pub moved : (P : Wanted → Texts → Type 0) (w v : Wanted) (ts us : Texts) → w ≡ v → ts ≡ us → P w ts → P v us
@@ -19,3 +24,11 @@ pub moved-means : (M : Meaning) (S : Suspecting) (w v : Wanted) (ts us : Texts) 
     → Means M S w ts (problem_in inputs w.size) → Means M S v us (problem_in inputs v.size)
 moved-means M S w v ts us inputs e f means =
     moved (λ x xs. Means M S x xs (problem_in inputs x.size)) w v ts us e f means
+
+abbrev pub claim : Problem → List (List Lit) → List ReportSet → List Step → Claim
+claim p form sets log = record { problem = p; form = form; sets = sets; log = log }
+
+-- a claim of the same problem and the same sets
+pub same-claim : (p q : Problem) (form : List (List Lit)) (s t : List ReportSet) (log : List Step) → p ≡ q → s ≡ t
+    → claim p form s log ≡ claim q form t log
+same-claim p q form s t log e f = ap (λ (x : Problem). claim x form s log) e ∙ ap (λ (xs : List ReportSet). claim q form xs log) f

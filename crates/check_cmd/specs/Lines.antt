@@ -17,6 +17,10 @@ output_name d number = option_map_or (port_name d.signals.items) (slice_get d.ou
 abbrev pub number_word : ℕ → List ℕ
 number_word n = codes " " ++ decimal n
 
+-- two of them
+abbrev pub pair_words : ℕ → ℕ → List ℕ
+pair_words one other = number_word one ++ number_word other
+
 -- `TRACE CYCLE OUTPUT`, each after a space
 abbrev pub miss_words : Design → Miss → List ℕ
 miss_words d miss = number_word (miss.trace + 1) ++ number_word miss.cycle ++ codes " " ++ output_name d miss.output
@@ -25,7 +29,7 @@ miss_words d miss = number_word (miss.trace + 1) ++ number_word miss.cycle ++ co
 abbrev pub verdict_line : Design → ℕ → Verdict → List ℕ
 verdict_line d sets verdict.Whole = codes "yes" ++ number_word sets ++ newline
 verdict_line d sets (verdict.Order set) = codes "no order" ++ number_word set ++ newline
-verdict_line d sets (verdict.Contains set other) = codes "no contains" ++ number_word set ++ number_word other ++ newline
+verdict_line d sets (verdict.Contains set other) = codes "no contains" ++ pair_words set other ++ newline
 verdict_line d sets (verdict.Replay set miss) = codes "no replay" ++ number_word set ++ miss_words d miss ++ newline
 verdict_line d sets (verdict.Step number) = codes "no step" ++ number_word number ++ newline
 verdict_line d sets verdict.Open = codes "no closing" ++ newline

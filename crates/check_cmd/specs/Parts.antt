@@ -1,14 +1,20 @@
 -- Private, for the functions inside this crate: why one step of a check gives nothing, and what is judged of what was read.
 use Rattle.std.specs.Prelude.{ℕ, ◌≡◌, ◌<◌, ◌≤◌, ◌+◌, ◌^◌, List, length, Option, Some, IsSomeAnd, codes}
 use Rattle.loc_base.specs.declared.digest.Digest.{Digest}
-use Rattle.refusal_lines.specs.Refusals.{input_line}
+use Rattle.refusal_lines.specs.Refusals.{input_line, memory_line}
 use Rattle.run_inputs.specs.declared.faults.LoadFault.{LoadFault}
 use Rattle.run_inputs.specs.Causes.{LoadCause}
 use Rattle.run_inputs.specs.Means.{most_bytes}
 use Rattle.run_inputs.specs.Refusals.{load_line, load_status}
 use Rattle.report_doc.specs.declared.types.Report.{Report}
+use Rattle.report_doc.specs.declared.types.ReportErr.{ReportErr}
+use Rattle.report_doc.specs.declared.types.ReportErr.TheVariants as fault
+use Rattle.report_doc.specs.declared.types.ReportErr.TheVariants.{Syntax, Shape}
 use Rattle.report_doc.specs.Json.{IsJson}
 use Rattle.report_reading.specs.Reading.{IsReportOf}
+use Rattle.proof_check.specs.declared.types.LogErr.{LogErr}
+use Rattle.proof_check.specs.declared.types.LogErr.TheVariants as log
+use Rattle.proof_check.specs.declared.types.LogErr.TheVariants.{LogSyntax}
 use Rattle.proof_check.specs.Text.{IsFirstBadLine}
 use Rattle.debug_core.specs.declared.error.DebugErr.{DebugErr}
 use Rattle.debug_core.specs.Problems.{IsFormFor, IsProblem, IsRefused, Problem}
@@ -40,9 +46,28 @@ pub data ReportTextRefused (text : List ℕ) : ℕ → List ℕ → Type 0 where
   text_syntax : ¬ IsJson text → ReportTextRefused text 3 (input_line (codes "J1"))
   text_shape : IsJson text → ((report : Report) → ¬ IsReportOf text report) → ReportTextRefused text 3 (input_line (codes "J2"))
 
+-- the line and the status of that
+abbrev pub report_fault_line : ReportErr → List ℕ
+report_fault_line Syntax = input_line (codes "J1")
+report_fault_line Shape = input_line (codes "J2")
+report_fault_line fault.NoMemory = memory_line
+
+abbrev pub report_fault_status : ReportErr → ℕ
+report_fault_status Syntax = 3
+report_fault_status Shape = 3
+report_fault_status fault.NoMemory = 7
+
 -- it is no log's
 pub data LogTextRefused (text : List ℕ) : ℕ → List ℕ → Type 0 where
   text_line : (line : ℕ) → IsFirstBadLine text line → LogTextRefused text 3 (bad_line line)
+
+abbrev pub log_fault_line : LogErr → List ℕ
+log_fault_line (LogSyntax line) = bad_line line
+log_fault_line log.NoMemory = memory_line
+
+abbrev pub log_fault_status : LogErr → ℕ
+log_fault_status (LogSyntax line) = 3
+log_fault_status log.NoMemory = 7
 
 -- ---- what comes after the texts
 -- the first name of a kind that isn't there

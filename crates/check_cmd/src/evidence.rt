@@ -17,11 +17,12 @@ use crate::logs::load_log;
 use crate::reports::load_report;
 use crate::request::Request;
 use crate::sessions::{Digests, same_inputs};
+use crate::tools::Tools;
 use clause_base::Form;
 use debug_core::form_of;
 use front_end::FrontEnd;
 use io_ports::Shelf;
-use list_inputs::{Inputs, Refusal, Tools, read};
+use list_inputs::{Inputs, Refusal, read};
 use loc_base::Gate;
 use proof_check::types::LogText;
 use report_doc::types::Report;
@@ -114,7 +115,13 @@ fn pose<F: FrontEnd, R: Threads + Sync, G: Gate + Sync, S: Shelf>(
         → IfErr result IsSpared }
 {
     let report = ask(alloc, tools, request, shelf)?;
-    let inputs = read(alloc, tools, &request.wanted(&report), shelf)?;
+    let reading = list_inputs::Tools {
+        front: tools.front,
+        kinds: tools.kinds,
+        runtime: tools.runtime,
+        gate: tools.gate,
+    };
+    let inputs = read(alloc, &reading, &request.wanted(&report), shelf)?;
     let form = form_in(alloc, &inputs, report.size)?;
     Ok(Posed {
         report,

@@ -10,7 +10,9 @@ mod request;
 mod run;
 mod sessions;
 mod texts;
+mod tools;
 mod verdicts;
 
 pub use request::Request;
 pub use run::check;
+pub use tools::Tools;

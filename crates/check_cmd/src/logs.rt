@@ -2,10 +2,10 @@
 ghost use Rattle.std.specs.Prelude.{◌≡◌, ◌+◌, ◌++◌, ◌<◌, ◌≤◌, ◌^◌, IfErr, IfOk, OnOk, length, true};
 ghost use Rattle.proof_check.specs.declared.types.LogText.{LogText as SomeLog};
 ghost use Rattle.run_inputs.specs.Means.{most_bytes};
-ghost use Rattle.list_inputs.specs.Ends.{CountsOf, HasCause, HasStatus, IsSpared};
+ghost use Rattle.list_inputs.specs.Ends.{CountsOf, HasCause, HasStatus, IsSpared, Says};
 ghost use Rattle.check_cmd.specs.Asked.{asked_of};
 ghost use Rattle.check_cmd.specs.Means.{IsLogOf, MeansLog};
-ghost use Rattle.check_cmd.specs.Parts.{IsMemory, LogTextRefused};
+ghost use Rattle.check_cmd.specs.Parts.{IsMemory, LogTextRefused, log_fault_line, log_fault_status};
 ghost use Rattle.check_cmd.specs.Refusals.{LogRefused, bad_line};
 
 use crate::request::Request;
@@ -29,6 +29,17 @@ fn bad_line_text(alloc: Global, line: u64) -> Result<Vec<u8>, NoMemory>
     Ok(text)
 }
 
+/// Why a text is no log's.
+fn refusal_of(alloc: Global, fault: LogErr) -> Refusal
+    ensures says { Says result (log_fault_status fault) (log_fault_line fault) }
+    ensures status { HasStatus result }
+{
+    match fault {
+        LogErr::LogSyntax { line } => Refusal::of_made(3, bad_line_text(alloc, line)),
+        LogErr::NoMemory => Refusal::Memory,
+    }
+}
+
 /// The log that a text is.
 fn log_in(alloc: Global, text: &Bytes) -> Result<LogText, Refusal>
     requires short { length text.now ≤ most_bytes }
@@ -39,8 +50,7 @@ fn log_in(alloc: Global, text: &Bytes) -> Result<LogText, Refusal>
 {
     match read_log(alloc, text.as_slice()) {
         Ok(log) => Ok(log),
-        Err(LogErr::LogSyntax { line }) => Err(Refusal::of_made(3, bad_line_text(alloc, line))),
-        Err(LogErr::NoMemory) => Err(Refusal::Memory),
+        Err(fault) => Err(refusal_of(alloc, fault)),
     }
 }
 

@@ -3,10 +3,10 @@ ghost use Rattle.std.specs.Prelude.{◌≡◌, IfErr, IfOk, true};
 ghost use Rattle.report_doc.specs.declared.types.Report.{Report as SomeReport};
 ghost use Rattle.report_doc.specs.Shape.{IsReport};
 ghost use Rattle.report_reading.specs.Reading.{IsReportOf};
-ghost use Rattle.list_inputs.specs.Ends.{CountsOf, HasCause, HasStatus, IsSpared};
+ghost use Rattle.list_inputs.specs.Ends.{CountsOf, HasCause, HasStatus, IsSpared, Says};
 ghost use Rattle.check_cmd.specs.Asked.{asked_of};
 ghost use Rattle.check_cmd.specs.Means.{MeansReport};
-ghost use Rattle.check_cmd.specs.Parts.{IsMemory, ReportTextRefused};
+ghost use Rattle.check_cmd.specs.Parts.{IsMemory, ReportTextRefused, report_fault_line, report_fault_status};
 ghost use Rattle.check_cmd.specs.Refusals.{ReportRefused};
 
 use crate::request::Request;
@@ -19,6 +19,18 @@ use report_doc::types::{Report, ReportErr};
 use report_reading::read_report;
 use std::alloc::Global;
 
+/// Why a text is no report's.
+fn refusal_of(alloc: Global, fault: ReportErr) -> Refusal
+    ensures says { Says result (report_fault_status fault) (report_fault_line fault) }
+    ensures status { HasStatus result }
+{
+    match fault {
+        ReportErr::Syntax => Refusal::of_code(alloc, Code::Bare("J1")),
+        ReportErr::Shape => Refusal::of_code(alloc, Code::Bare("J2")),
+        ReportErr::NoMemory => Refusal::Memory,
+    }
+}
+
 /// The report that a text is.
 fn report_in(alloc: Global, text: &Bytes) -> Result<Report, Refusal>
     ensures means { IfOk result (IsReportOf text.now) }
@@ -27,9 +39,7 @@ fn report_in(alloc: Global, text: &Bytes) -> Result<Report, Refusal>
 {
     match read_report(alloc, text.as_slice()) {
         Ok(report) => Ok(report),
-        Err(ReportErr::Syntax) => Err(Refusal::of_code(alloc, Code::Bare("J1"))),
-        Err(ReportErr::Shape) => Err(Refusal::of_code(alloc, Code::Bare("J2"))),
-        Err(ReportErr::NoMemory) => Err(Refusal::Memory),
+        Err(fault) => Err(refusal_of(alloc, fault)),
     }
 }
 

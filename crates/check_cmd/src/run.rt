@@ -10,10 +10,11 @@ ghost use Rattle.check_cmd.specs.Parts.{Answers, IsEvidence, given_of};
 
 use crate::evidence::{Evidence, gather};
 use crate::request::Request;
+use crate::tools::Tools;
 use crate::verdicts::{status_of, verdict_text};
 use front_end::FrontEnd;
 use io_ports::{Shelf, Sink};
-use list_inputs::{Refusal, Tools, print_line};
+use list_inputs::{Refusal, print_line};
 use list_verdict::{Listed, Verdict, Workers, judge};
 use loc_base::{Gate, NoMemory};
 use std::alloc::Global;

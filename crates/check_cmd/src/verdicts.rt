@@ -2,7 +2,7 @@
 ghost use Rattle.std.specs.Prelude.{◌≡◌, ◌+◌, ◌++◌, IfOk, OnOk, codes, decimal};
 ghost use Rattle.printed_text.specs.Numerals.{newline};
 ghost use Rattle.refusal_lines.specs.Refusals.{port_name};
-ghost use Rattle.check_cmd.specs.Lines.{miss_words, number_word, output_name, verdict_line, verdict_status};
+ghost use Rattle.check_cmd.specs.Lines.{miss_words, number_word, output_name, pair_words, verdict_line, verdict_status};
 
 use cycle_sim::Miss;
 use design_core::Design;
@@ -27,6 +27,14 @@ fn push_word(text: &mut Vec<u8>, number: u64) -> Result<(), NoMemory>
 {
     push_bytes(text, b" ")?;
     push_number(text, number)
+}
+
+/// Appends two numbers, each after a space.
+fn push_pair(text: &mut Vec<u8>, one: u32, other: u32) -> Result<(), NoMemory>
+    ensures { OnOk result (text.new.items ≡ text.old.items ++ pair_words one other) }
+{
+    push_word(text, u64::from(one))?;
+    push_word(text, u64::from(other))
 }
 
 /// Appends the name of the output of a number.
@@ -79,8 +87,7 @@ fn push_verdict(
         }
         Verdict::Contains { set, other } => {
             push_bytes(text, b"no contains")?;
-            push_word(text, u64::from(set))?;
-            push_word(text, u64::from(other))
+            push_pair(text, set, other)
         }
         Verdict::Replay { set, miss } => {
             push_bytes(text, b"no replay")?;

@@ -5,8 +5,8 @@ use Rattle.check_cmd.specs.Asked.{asked_of}
 use Rattle.check_cmd.specs.Parts.{KindRefused}
 use Rattle.check_cmd.specs.Refusals.{Refused}
 use Rattle.check_cmd.proofs.Causes.{counts-passed, low-counts, low-status}
-use Rattle.check_cmd.proofs.Kinds.{unknown-names}
-use Rattle.check_cmd.proofs.Sessions.{kind-low, whole-kind, whole-report}
+use Rattle.check_cmd.proofs.KindNames.{unknown-names}
+use Rattle.check_cmd.proofs.WholeCauses.{kind-low, whole-kind, whole-report}
 use Rattle.check_cmd.proofs.evidence.ask.Goals as goal
 
 pub returns-in_err-report-clause-refused : goal.returns-in_err-report-clause-refused

@@ -7,7 +7,7 @@ use Rattle.check_cmd.specs.Means.{Given, MeansLog}
 use Rattle.check_cmd.specs.Parts.{OtherRefused, digests_of, posed_of}
 use Rattle.check_cmd.specs.Refusals.{LogRefused, Refused}
 use Rattle.check_cmd.proofs.Causes.{counts-passed, low-counts, low-status}
-use Rattle.check_cmd.proofs.Sessions.{other-low, whole-log, whole-other}
+use Rattle.check_cmd.proofs.WholeCauses.{other-low, whole-log, whole-other}
 use Rattle.check_cmd.proofs.evidence.gather.Goals as goal
 
 pub returns-in_err-log-clause-refused : goal.returns-in_err-log-clause-refused

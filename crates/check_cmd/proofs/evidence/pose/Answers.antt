@@ -1,6 +1,6 @@
 use Rattle.std.proofs.Common.{ap, sym, subst, ◌∙◌}
 use Rattle.debug_core.specs.Problems.{IsProblem}
-use Rattle.list_inputs.specs.Asked.{AreKnown, Asked as Wanted, IsAsked}
+use Rattle.list_inputs.specs.Asked.{AreKnown, Asked as Wanted, IsAsked, asked_of as wanted_asked}
 use Rattle.list_inputs.specs.Ends.{HasCause, HasStatus, IsSpared, problem_in}
 use Rattle.list_inputs.specs.Means.{IsDigestOf}
 use Rattle.list_inputs.specs.Refusals.{IsReady as IsReadyList, Refused as InputsRefused}
@@ -10,15 +10,21 @@ use Rattle.check_cmd.specs.Parts.{FormRefused}
 use Rattle.check_cmd.specs.Refusals.{Refused}
 use Rattle.check_cmd.proofs.Causes.{counts-passed, low-counts, low-status, memory-spared}
 use Rattle.check_cmd.proofs.Posing.{moved, moved-back, moved-means}
-use Rattle.check_cmd.proofs.Sessions.{form-low, whole-form, whole-inputs}
+use Rattle.check_cmd.proofs.WholeCauses.{form-low, whole-form, whole-inputs}
 use Rattle.check_cmd.proofs.evidence.pose.Goals as goal
 
-pub read-requires-clause-asked : goal.read-requires-clause-asked
-read-requires-clause-asked g c =
-    subst IsAsked (sym c.wanted.ensures) (record { traces = c.requires.traces.1; size = c.in_ok-report.ensures.report.size })
+pub read-inputs-requires-clause-asked : goal.read-inputs-requires-clause-asked
+read-inputs-requires-clause-asked g c =
+    let asked : IsAsked (wanted_asked c.wanted.result) = subst IsAsked (sym c.wanted.ensures)
+    (record { traces = c.requires.traces.1; size = c.in_ok-report.ensures.report.size }) in
+    λ κs within. asked
 
-pub read-requires-clause-known : goal.read-requires-clause-known
-read-requires-clause-known g c = subst (AreKnown _ _) (sym c.wanted.ensures) c.in_ok-report.ensures.known
+pub read-inputs-requires-clause-known : goal.read-inputs-requires-clause-known
+read-inputs-requires-clause-known g c =
+    λ κs within.
+    subst
+    (λ (w : Wanted). AreKnown (λ k. (goal.Granularity-dyn g (k.vtable, k.value)).called k.value) c.args.tools.now.kinds.now w)
+    (sym c.wanted.ensures) c.in_ok-report.ensures.known
 
 pub returns-in_err-inputs-clause-refused : goal.returns-in_err-inputs-clause-refused
 returns-in_err-inputs-clause-refused g c = λ told.

@@ -1,4 +1,4 @@
-use Rattle.check_cmd.proofs.Kinds.{known-here}
+use Rattle.check_cmd.proofs.KindNames.{known-here}
 use Rattle.check_cmd.proofs.kinds.is_known.Goals as goal
 
 pub returns-then-is_called : goal.returns-then-is_called

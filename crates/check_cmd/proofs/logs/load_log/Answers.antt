@@ -5,7 +5,7 @@ use Rattle.check_cmd.specs.Refusals.{LogRefused}
 use Rattle.list_inputs.specs.Ends.{HasCause, HasStatus, IsSpared}
 use Rattle.run_inputs.proofs.Loaded.{passed_on}
 use Rattle.check_cmd.proofs.Causes.{err-of, low-counts_of, low-status, memory-spared, ok-of}
-use Rattle.check_cmd.proofs.Texts.{at-name, at-text, name-short, of-text, log-cause_load, log-cause_text, log-low}
+use Rattle.check_cmd.proofs.LoadedTexts.{at-name, at-text, name-short, of-text, log-cause_load, log-cause_text, log-low}
 use Rattle.check_cmd.proofs.logs.load_log.Goals as goal
 
 pub returns-in_err-text-clause-refused : goal.returns-in_err-text-clause-refused

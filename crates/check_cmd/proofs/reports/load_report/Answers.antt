@@ -7,7 +7,7 @@ use Rattle.report_doc.specs.Shape.{IsReport}
 use Rattle.report_reading.specs.Reading.{IsReportOf}
 use Rattle.run_inputs.proofs.Loaded.{passed_on}
 use Rattle.check_cmd.proofs.Causes.{err-of, low-counts_of, low-status, memory-spared, ok-of}
-use Rattle.check_cmd.proofs.Texts.{at-name, at-text, name-short, of-text, report-cause_load, report-cause_text, report-low}
+use Rattle.check_cmd.proofs.LoadedTexts.{at-name, at-text, name-short, of-text, report-cause_load, report-cause_text, report-low}
 use Rattle.check_cmd.proofs.reports.load_report.Goals as goal
 
 pub returns-in_err-text-clause-refused : goal.returns-in_err-text-clause-refused

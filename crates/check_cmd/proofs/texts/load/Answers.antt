@@ -1,7 +1,7 @@
 use Rattle.run_inputs.specs.Refusals.{load_line, load_status}
 use Rattle.check_cmd.specs.Parts.{LoadRefused, text_load}
 use Rattle.check_cmd.proofs.Causes.{said}
-use Rattle.check_cmd.proofs.Texts.{load-counts, load-spared}
+use Rattle.check_cmd.proofs.LoadedTexts.{load-counts, load-spared}
 use Rattle.check_cmd.proofs.texts.load.Goals as goal
 
 pub returns-in-Err-clause-counts : goal.returns-in-Err-clause-counts

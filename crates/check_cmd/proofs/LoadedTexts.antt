@@ -1,5 +1,5 @@
 -- A text that is loaded, and what it is.
-use Rattle.std.proofs.Common.{ℕ, suc, ◌+◌, ◌≡◌, ◌<◌, ◌≤◌, ◌^◌, ◌*◌, List, [], ◌∷◌, ◌++◌, length, map, Option, Some, None, Result, Ok, Err, refl, sym, ap, subst, ◌∙◌, arith, ◌⊎◌, inl, inr}
+use Rattle.std.proofs.Common.{ℕ, suc, ◌+◌, ◌≡◌, ◌≢◌, ◌<◌, ◌≤◌, ◌^◌, ◌*◌, List, [], ◌∷◌, ◌++◌, length, map, Option, Some, None, Result, Ok, Err, codes, refl, sym, ap, subst, ◌∙◌, arith, ◌⊎◌, inl, inr}
 use Rattle.std.specs.Prelude.{IsSomeAnd}
 use Rattle.std.specs.List.{flat_map}
 use Rattle.std.proofs.lemmas.List.{length-append, length-map}
@@ -12,20 +12,29 @@ use Rattle.run_inputs.specs.Causes.{LoadCause}
 use Rattle.run_inputs.specs.Means.{IsReadAnd, most_bytes}
 use Rattle.run_inputs.specs.Refusals.{load_line, load_status}
 use Rattle.run_inputs.specs.Texts.{LoadCounts}
+use Rattle.refusal_lines.specs.Refusals.{input_line, memory_line}
 use Rattle.report_doc.specs.declared.types.Report.{Report}
+use Rattle.report_doc.specs.declared.types.ReportErr.{ReportErr}
+use Rattle.report_doc.specs.declared.types.ReportErr.TheVariants as json
+use Rattle.report_doc.specs.Document.{report_data}
+use Rattle.report_doc.specs.Errors.{OnShape, OnSyntax}
+use Rattle.report_doc.specs.Json.{IsJson}
 use Rattle.report_reading.specs.Reading.{IsReportOf}
 use Rattle.proof_check.specs.declared.types.LogText.{LogText}
-use Rattle.proof_check.specs.Text.{lines_of, step_line, text_of}
+use Rattle.proof_check.specs.declared.types.LogErr.{LogErr}
+use Rattle.proof_check.specs.declared.types.LogErr.TheVariants as log
+use Rattle.proof_check.specs.Errors.{OnSyntax as OnBadLine}
+use Rattle.proof_check.specs.Text.{IsFirstBadLine, IsLogText, lines_of, step_line, text_of}
 use Rattle.list_inputs.specs.declared.refusal.Refusal.{Refusal}
 use Rattle.list_inputs.specs.declared.refusal.Refusal.TheVariants.{Line, Memory}
 use Rattle.list_inputs.specs.Ends.{HasCause, HasStatus, IsSpared, RefusalCounts, Says}
 use Rattle.check_cmd.specs.Asked.{Asked}
 use Rattle.check_cmd.specs.Means.{IsLogOf, MeansLog, MeansReport}
 use Rattle.check_cmd.specs.Parts as parts
-use Rattle.check_cmd.specs.Parts.{IsShort, LoadRefused, LogTextRefused, ReportTextRefused}
+use Rattle.check_cmd.specs.Parts.{IsMemory, IsShort, LoadRefused, LogTextRefused, ReportTextRefused}
 use Rattle.check_cmd.specs.Refusals as refused
-use Rattle.check_cmd.specs.Refusals.{LogRefused, ReportRefused}
-use Rattle.check_cmd.proofs.Causes.{cause-of}
+use Rattle.check_cmd.specs.Refusals.{LogRefused, ReportRefused, bad_line}
+use Rattle.check_cmd.proofs.Causes.{cause-of, memory-cause, no-memory, said}
 
 -- ---- a load
 -- the shelf's count of faults, from that of the load to that of its refusal
@@ -87,6 +96,24 @@ report-cause_text asked texts text r e short =
     at s l (parts.text_syntax not) = refused.report_syntax (at-text (texts asked.report) text _ e short not)
     at s l (parts.text_shape json not) = refused.report_shape (at-text (texts asked.report) text _ e short (json, not))
 
+-- why a text is no report's
+pub report-cause : (text : List ℕ) (why : ReportErr) (r : Refusal) → OnSyntax {T = Report} (Err why) (¬ IsJson text)
+    → OnShape {T = Report} (Err why) (IsJson text) → OnShape {T = Report} (Err why) ((report : Report) → ¬ IsReportOf text report)
+    → HasStatus r → Says r (parts.report_fault_status why) (parts.report_fault_line why) → HasCause (ReportTextRefused text) r
+report-cause text json.Syntax r syntax is shape has says =
+    said (ReportTextRefused text) r 3 (input_line (codes "J1")) (parts.text_syntax syntax) says
+report-cause text json.Shape r syntax is shape has says =
+    said (ReportTextRefused text) r 3 (input_line (codes "J2")) (parts.text_shape is shape) says
+report-cause text json.NoMemory r syntax is shape has says =
+    memory-cause (ReportTextRefused text) r (no-memory r memory_line has says)
+
+pub report-memory : (text : List ℕ) (why : ReportErr) (r : Refusal) (report : Report) → OnSyntax {T = Report} (Err why) (¬ IsJson text)
+    → OnShape {T = Report} (Err why) ((x : Report) → ¬ IsReportOf text x) → HasStatus r
+    → Says r (parts.report_fault_status why) (parts.report_fault_line why) → IsReportOf text report → IsMemory r
+report-memory text json.Syntax r report syntax shape has says is = absurd (syntax (report_data report, is.json))
+report-memory text json.Shape r report syntax shape has says is = absurd (shape report is)
+report-memory text json.NoMemory r report syntax shape has says is = no-memory r memory_line has says
+
 pub report-low : (text : List ℕ) (s : ℕ) (l : List ℕ) → ReportTextRefused text s l → (s ≡ 3) ⊎ (s ≡ 4)
 report-low text s l (parts.text_syntax not) = inl refl
 report-low text s l (parts.text_shape json not) = inl refl
@@ -108,6 +135,18 @@ log-cause_text asked texts text r e short =
   where
     at : (s : ℕ) (l : List ℕ) → LogTextRefused text s l → LogRefused asked texts s l
     at s l (parts.text_line line bad) = refused.log_line line (at-text (texts asked.log) text _ e short bad)
+
+-- why a text is no log's
+pub log-cause : (text : List ℕ) (why : LogErr) (r : Refusal) → OnBadLine {T = LogText} (Err why) (λ line. IsFirstBadLine text line)
+    → HasStatus r → Says r (parts.log_fault_status why) (parts.log_fault_line why) → HasCause (LogTextRefused text) r
+log-cause text (log.LogSyntax line) r bad has says = said (LogTextRefused text) r 3 (bad_line line) (parts.text_line line bad) says
+log-cause text log.NoMemory r bad has says = memory-cause (LogTextRefused text) r (no-memory r memory_line has says)
+
+pub log-memory : (text : List ℕ) (why : LogErr) (r : Refusal) (value : LogText)
+    → OnBadLine {T = LogText} (Err why) (λ _. (other : LogText) → IsLogText other → text ≢ text_of other) → HasStatus r
+    → Says r (parts.log_fault_status why) (parts.log_fault_line why) → IsLogOf text value → IsMemory r
+log-memory text (log.LogSyntax line) r value none has says is = absurd (none value is.0 is.1)
+log-memory text log.NoMemory r value none has says is = no-memory r memory_line has says
 
 pub log-low : (text : List ℕ) (s : ℕ) (l : List ℕ) → LogTextRefused text s l → (s ≡ 3) ⊎ (s ≡ 4)
 log-low text s l (parts.text_line line bad) = inl refl

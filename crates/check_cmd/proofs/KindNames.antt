@@ -45,12 +45,13 @@ known-next called kinds names i name known within is tested passes rest =
 named-names : {G : Type 0} (called : G → List ℕ) (kinds : List G) (name : List ℕ)
     → is_some (named (λ n. n) (map called kinds) name) ≡ is_some (named called kinds name)
 named-names called [] name = refl
-named-names called (kind ∷ kinds) name = at (pointwise nat_eq (called kind) name) refl
+named-names called (kind ∷ kinds) name = at (pointwise nat_eq (called kind) name) (named-names called kinds name)
   where
-    at : (test : Bool) → pointwise nat_eq (called kind) name ≡ test
-        → is_some (named (λ n. n) (map called (kind ∷ kinds)) name) ≡ is_some (named called (kind ∷ kinds) name)
-    at true is = rw (is, is) refl
-    at false is = rw (is, is) (named-names called kinds name)
+    at : (test : Bool) → is_some (named (λ n. n) (map called kinds) name) ≡ is_some (named called kinds name)
+        → is_some (if test then Some (called kind) else named (λ n. n) (map called kinds) name)
+        ≡ is_some (if test then Some kind else named called kinds name)
+    at true later = refl
+    at false later = later
 
 or-same : {G H : Type 0} (name : List ℕ) (one : Option G) (other : Option H) (later : Option (List ℕ)) → is_some one ≡ is_some other
     → unknown_or name one later ≡ unknown_or name other later
