@@ -6,7 +6,8 @@ ghost use Rattle.find_sets.specs.Finding.{listing_of};
 ghost use Rattle.find_sets.specs.Requests.{asked_of};
 
 use crate::request::Request;
-use list_inputs::{Inputs, Tools};
+use crate::tools::Tools;
+use list_inputs::Inputs;
 use set_listing::Job;
 use std::alloc::Global;
 

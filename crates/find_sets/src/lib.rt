@@ -4,7 +4,8 @@
 mod job;
 mod request;
 mod run;
+mod tools;
 
-pub use list_inputs::Tools;
 pub use request::Request;
-pub use run::find;
+pub use run::{find, list_read};
+pub use tools::Tools;

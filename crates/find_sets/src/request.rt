@@ -36,7 +36,7 @@ pub struct Request {
 
 impl Request {
     /// What the list is asked of: the texts, what they are read by, the suspects, and the size of a set.
-    pub(crate) fn wanted(&self) -> Wanted<'_>
+    pub fn wanted(&self) -> Wanted<'_>
         ensures { wanted_asked result ≡ wanted_of (asked_of self.now) }
     {
         Wanted {

@@ -1,22 +1,65 @@
 //! A run of the command.
-ghost use Rattle.std.specs.Prelude.{◌&&◌};
+ghost use Rattle.std.specs.Prelude.{ℕ, ◌≡◌, ◌&&◌, Bool, true, IfErr, IfOk};
 ghost use Rattle.suspect_map.specs.Choose.{joined};
-ghost use Rattle.command_contract.specs.Contract.{Keeps, counts_of, run_of};
+ghost use Rattle.command_contract.specs.Contract.{Keeps, Texts, counts_of, run_of};
+ghost use Rattle.debug_core.specs.Problems.{IsProblem};
+ghost use Rattle.list_inputs.specs.Ends.{HasStatus, problem_in};
 ghost use Rattle.find_sets.specs.Asked.{AreKnown, IsAsked};
 ghost use Rattle.find_sets.specs.Finding.{finding};
+ghost use Rattle.find_sets.specs.Reading.{IsRead};
 ghost use Rattle.find_sets.specs.Requests.{asked_of};
 
 use crate::job::{job_of, listing_tools};
 use crate::request::Request;
+use crate::tools::Tools;
 use debug_core::Debugger;
 use front_end::FrontEnd;
 use io_ports::{Shelf, Sink};
-use list_inputs::{Refusal, Tools, read};
+use list_inputs::{Inputs, Refusal, read};
 use loc_base::Gate;
 use set_listing::{Task, list};
 use std::alloc::Global;
 use std::thread::Threads;
 use suspect_map::Granularity;
+
+/// Lists the sets of suspects of what was read: writes the log and the report, prints the lines of each set and a last line, and
+/// answers the status of the program. Where nothing was read it prints why.
+pub fn list_read<F: FrontEnd, R: Threads + Sync, G: Gate + Sync, S: Shelf, O: Sink>(
+    alloc: Global,
+    tools: &Tools<'_, F, R, G>,
+    request: &Request,
+    read: Result<Inputs, Refusal>,
+    shelf: &mut S,
+    out: &mut O,
+) -> u8
+    requires asked { IsAsked (asked_of request.now) }
+    requires problem { IfOk read (λ inputs. IsProblem (problem_in inputs request.now.size)) }
+    requires status { IfErr read HasStatus }
+
+    // Of texts that stood anywhere: those that were read.
+    ensures { (told : Bool) (texts : Texts) (faults : ℕ)
+        → (told ≡ true → S.tells shelf.old ≡ true) → (told ≡ true → O.tells out.old ≡ true)
+        → IsRead F.means F.refuses (joined (λ kind. called kind) (λ kind. lists kind) tools.now.kinds.now)
+        (asked_of request.now) told texts faults (S.faults shelf.old) read
+        → Keeps (finding F.means F.refuses
+        (joined (λ kind. called kind) (λ kind. lists kind) tools.now.kinds.now) (asked_of request.now))
+        (run_of told texts (S.written shelf.old) (S.written shelf.new) (O.written out.old) (O.written out.new)
+        (counts_of faults (S.faults shelf.new) (O.faults out.old) (O.faults out.new)))
+        result }
+{
+    let inputs = match read {
+        Ok(inputs) => inputs,
+        Err(refusal) => return refusal.print(out),
+    };
+    let job = job_of(&inputs, request);
+    match Debugger::new(alloc, &job.question) {
+        Ok(search) => {
+            let workers = listing_tools(alloc, tools, request.workers);
+            list(&workers, Task { job, search }, shelf, out).status()
+        }
+        Err(fault) => Refusal::of_problem(alloc, fault).print(out),
+    }
+}
 
 /// Lists the sets of suspects that can make every trace right: writes the log and the report, prints the lines of each set and a
 /// last line, and answers the status of the program.
@@ -46,16 +89,12 @@ pub fn find<F: FrontEnd, R: Threads + Sync, G: Gate + Sync, S: Shelf, O: Sink>(
         (counts_of (S.faults shelf.old) (S.faults shelf.new) (O.faults out.old) (O.faults out.new)))
         result }
 {
-    let inputs = match read(alloc, tools, &request.wanted(), shelf) {
-        Ok(inputs) => inputs,
-        Err(refusal) => return refusal.print(out),
+    let reading = list_inputs::Tools {
+        front: tools.front,
+        kinds: tools.kinds,
+        runtime: tools.runtime,
+        gate: tools.gate,
     };
-    let job = job_of(&inputs, request);
-    match Debugger::new(alloc, &job.question) {
-        Ok(search) => {
-            let workers = listing_tools(alloc, tools, request.workers);
-            list(&workers, Task { job, search }, shelf, out).status()
-        }
-        Err(fault) => Refusal::of_problem(alloc, fault).print(out),
-    }
+    let found = read(alloc, &reading, &request.wanted(), shelf);
+    list_read(alloc, tools, request, found, shelf, out)
 }

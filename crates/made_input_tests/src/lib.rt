@@ -1,0 +1,5 @@
+//! Tests of `made_input`.
+#![tactic(auto)]
+
+#[cfg(test)]
+mod texts;
