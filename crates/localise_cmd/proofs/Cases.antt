@@ -1,18 +1,28 @@
 -- What the words ask for, as a case.
-use Rattle.std.proofs.Common.{ℕ, ◌≡◌, ◌≤◌, [], arith, sym, subst, refl, ◌∙◌, inl, inr, Result, Ok, Err}
+use Rattle.std.proofs.Common.{ℕ, ◌≡◌, ◌≤◌, List, [], ◌∷◌, arith, ap, sym, subst, refl, ◌∙◌, inl, inr, Result, Ok, Err}
 use Rattle.std.proofs.lemmas.List.{append-nil}
 use Rattle.refusal_lines.specs.Refusals.{memory_line}
-use Rattle.command_contract.specs.Contract.{Keeps, Run}
+use Rattle.command_contract.specs.Contract.{Keeps, Run, Texts}
 use Rattle.command_contract.proofs.Statuses.{input-refusal}
-use Rattle.command_words.specs.declared.requests.Usage.{Usage}
-use Rattle.command_words.specs.Asked.{Asked, FindAsked, SimAsked, find, sim}
+use Rattle.word_values.specs.declared.usage.Usage.{Usage}
+use Rattle.check_words.specs.Check.{CheckAsked}
+use Rattle.find_words.specs.Find.{FindAsked}
+use Rattle.find_words.specs.Sim.{SimAsked}
+use Rattle.make_words.specs.Make.{MakeAsked}
+use Rattle.command_words.specs.Asked.{Asked, find, sim, check, make}
+use Rattle.check_cmd.specs.Asked.{Asked as Checking}
+use Rattle.check_cmd.specs.Checking.{checking}
+use Rattle.make_cmd.specs.Asked.{Asked as Making}
+use Rattle.make_cmd.specs.Making.{for_texts, in_memory_line, making}
+use Rattle.write_order.specs.Writes.{AreDone, print_piece}
+use Rattle.write_order.proofs.Carried.{done-then, print-done, print-stops, stops-then}
 use Rattle.find_sets.specs.Asked.{Asked as Finding}
 use Rattle.find_sets.specs.Finding.{finding}
 use Rattle.sim_cmd.specs.Requests.{Asked as Simulating}
 use Rattle.sim_cmd.specs.Simulation.{simulation}
 use Rattle.localise_cmd.specs.Usage.{no_request}
-use Rattle.localise_cmd.specs.Commands.{Tools, case_of, finding_of, simulating_of}
-use Rattle.localise_cmd.proofs.Keeping.{AllowsMemory}
+use Rattle.localise_cmd.specs.Commands.{Tools, case_of, checking_of, finding_of, making_of, simulating_of}
+use Rattle.localise_cmd.proofs.Keeping.{AllowsMemory, eight-no_stop, low-no_stop}
 
 -- ---- a command
 module _ (tools : Tools) (asked : Result Asked Usage) (run : Run) (status : ℕ) where
@@ -28,16 +38,36 @@ module _ (tools : Tools) (asked : Result Asked Usage) (run : Run) (status : ℕ)
       subst (λ (a : Result Asked Usage). Keeps (case_of tools a) run status) (sym is)
       (subst (λ (r : Simulating). Keeps (simulation tools.means tools.refuses r) run status) same keeps)
 
+  pub check-keeps : (words : CheckAsked) (request : Checking) → asked ≡ Ok (check words) → request ≡ checking_of words
+      → Keeps (checking tools.means tools.refuses tools.known tools.suspecting request) run status → Keeps (case_of tools asked) run status
+  check-keeps words request is same keeps =
+      subst (λ (a : Result Asked Usage). Keeps (case_of tools a) run status) (sym is)
+      (subst (λ (r : Checking). Keeps (checking tools.means tools.refuses tools.known tools.suspecting r) run status) same keeps)
+
+  pub make-keeps : (words : MakeAsked) (request : Making) → asked ≡ Ok (make words) → request ≡ making_of words
+      → Keeps (making tools.means tools.refuses tools.suspecting request) run status → Keeps (case_of tools asked) run status
+  make-keeps words request is same keeps =
+      subst (λ (a : Result Asked Usage). Keeps (case_of tools a) run status) (sym is)
+      (subst (λ (r : Making). Keeps (making tools.means tools.refuses tools.suspecting r) run status) same keeps)
+
   pub no_request-keeps : (usage : Usage) → asked ≡ Err usage → Keeps (no_request usage) run status
       → Keeps (case_of tools asked) run status
   no_request-keeps usage is keeps =
       subst (λ (a : Result Asked Usage). Keeps (case_of tools a) run status) (sym is) keeps
 
 -- ---- want of memory before anything is read
+-- no text was written, and nothing was printed
+none-done : (run : Run) (printed : List ℕ) → run.now_written ≡ run.written → printed ≡ run.printed
+    → AreDone [] (record { written = run.written; now_written = run.now_written; printed = run.printed; now_printed = printed })
+none-done run printed written same = record {
+  texts = λ name. ap (λ (texts : Texts). texts name) written;
+  printed = same ∙ sym (append-nil run.printed);
+}
+
 pub allows-memory : (tools : Tools) (asked : Result Asked Usage) (run : Run)
     → run.now_written ≡ run.written → AllowsMemory (case_of tools asked) run
 allows-memory tools (Ok (find asked)) run written = record {
-  answer = λ status may. elim may [ inl zero ↦ omega (arith, zero) | inr one ↦ omega (arith, one) ];
+  answer = λ status may. low-no_stop status (elim may [ inl zero ↦ omega (arith, zero) | inr one ↦ omega (arith, one) ]);
   refusals = input-refusal;
   stopped = λ told rose front. (
     inr rose,
@@ -52,7 +82,7 @@ allows-memory tools (Ok (find asked)) run written = record {
   cut = λ told text. inr (record { printed = text; nothing_written = written });
 }
 allows-memory tools (Ok (sim asked)) run written = record {
-  answer = λ status is. omega (arith, is);
+  answer = λ status is. low-no_stop status (omega (arith, is));
   refusals = input-refusal;
   stopped = λ told rose front. record {
     due = memory_line;
@@ -70,6 +100,34 @@ allows-memory tools (Ok (sim asked)) run written = record {
     }
     | inr put ↦ record { front = memory_line; may_stand = inr (inl refl); printed = put; nothing_written = written }
   ];
+}
+allows-memory tools (Ok (check asked)) run written = record {
+  answer = λ status may. elim may [ inl zero ↦ low-no_stop status (omega (arith, zero)) | inr eight ↦ eight-no_stop status eight ];
+  refusals = input-refusal;
+  stopped = λ told rose front. (
+    inr rose,
+    record {
+      line = memory_line;
+      is_due = inr refl;
+      printed = front;
+      sink_failed = rose;
+      nothing_written = written;
+    },
+  );
+  cut = λ told text. record { printed = text; nothing_written = written };
+}
+allows-memory tools (Ok (make asked)) run written = record {
+  answer = λ status may. low-no_stop status (elim may [ inl zero ↦ omega (arith, zero) | inr one ↦ omega (arith, one) ]);
+  refusals = input-refusal;
+  stopped = λ told rose front. (inr rose, in_memory_line 0 (
+    stops-then [] (print_piece memory_line ∷ []) run.written run.now_written run.now_written run.printed run.printed run.now_printed
+        (none-done run run.printed written refl) (print-stops memory_line run.now_written run.printed run.now_printed front)));
+  cut = λ told text. for_texts 0 (elim text [
+    | inl same ↦ inr (none-done run run.now_printed written same)
+    | inr put ↦ inl (
+      done-then [] (print_piece memory_line ∷ []) run.written run.now_written run.now_written run.printed run.printed run.now_printed
+          (none-done run run.printed written refl) (print-done memory_line run.now_written run.printed run.now_printed put))
+  ]);
 }
 allows-memory tools (Err usage) run written = record {
   answer = λ status may. absurd may;

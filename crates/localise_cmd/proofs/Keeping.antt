@@ -1,12 +1,12 @@
 -- The promises of a run that prints one line: what is wrong with the words, or that memory was wanted before anything
 -- was read.
-use Rattle.std.proofs.Common.{ℕ, ◌≡◌, ◌≤◌, ◌++◌, ◌⊎◌, true, ap, refl, arith, inl, inr}
+use Rattle.std.proofs.Common.{ℕ, ◌≡◌, ◌≢◌, ◌≤◌, ◌++◌, ◌⊎◌, true, ap, refl, arith, inl, inr}
 use Rattle.io_ports.specs.Faults.{Rose}
 use Rattle.io_ports.specs.Shelf.{AppendsFront}
 use Rattle.refusal_lines.specs.Refusals.{memory_line}
 use Rattle.command_contract.specs.Contract.{Case, IsRefusal, Keeps, Run}
 use Rattle.command_contract.proofs.Statuses.{seven-no_refusal, six-no_refusal}
-use Rattle.command_words.specs.declared.requests.Usage.{Usage}
+use Rattle.word_values.specs.declared.usage.Usage.{Usage}
 use Rattle.localise_cmd.specs.declared.lines.Printed.{Printed}
 use Rattle.localise_cmd.specs.declared.lines.Printed.TheVariants.{Whole, Failed, NoMemory}
 use Rattle.localise_cmd.specs.Usage.{no_request, usage_line}
@@ -76,9 +76,20 @@ usage-keeps usage run NoMemory text cause written shelf = record {
 }
 
 -- ---- want of memory before anything is read
--- what a case says of such a run: its answers are 0 and 1, its refusals 2 to 5, and it allows `memory`, a front of it, or nothing
+-- a status that says neither that writing failed nor that memory was wanted
+pub record IsNoStop (status : ℕ) : Type 0 where
+  pub no_fault : status ≢ 6
+  pub no_want : status ≢ 7
+
+pub low-no_stop : (status : ℕ) → status ≤ 1 → IsNoStop status
+low-no_stop status low = record { no_fault = λ e. omega (arith, low, e); no_want = λ e. omega (arith, low, e) }
+
+pub eight-no_stop : (status : ℕ) → status ≡ 8 → IsNoStop status
+eight-no_stop status is = record { no_fault = λ e. omega (arith, is, e); no_want = λ e. omega (arith, is, e) }
+
+-- what a case says of such a run: no answer of it is 6 or 7, its refusals are 2 to 5, and it allows `memory`, a front of it, or nothing
 pub record AllowsMemory (c : Case) (run : Run) : Type 0 where
-  pub answer : (status : ℕ) → c.MayAnswer status → status ≤ 1
+  pub answer : (status : ℕ) → c.MayAnswer status → IsNoStop status
   pub refusals : (status : ℕ) → c.MayRefuse status → IsRefusal status
   pub stopped : run.told ≡ true → Rose run.counts.sink run.counts.now_sink
       → AppendsFront memory_line run.printed run.now_printed → c.Stopped run
@@ -92,13 +103,13 @@ at-seven : (c : Case) (run : Run) → AllowsMemory c run → run.now_written ≡
 at-seven c run allows written sink text = record {
   is_status = inr (inr (inr refl));
   refusals = allows.refusals;
-  answered = λ told may. absurd (let low = allows.answer 7 may in omega (arith, low));
+  answered = λ told may. absurd ((allows.answer 7 may).no_want refl);
   refused = λ told is. absurd (seven-no_refusal (allows.refusals 7 is));
   stopped = λ told e. absurd (omega (arith, e));
   cut = λ told e. allows.cut told (text told);
   others = λ told name no. ap (λ texts. texts name) written;
   causes = record {
-    answer = λ may. absurd (let low = allows.answer 7 may in omega (arith, low));
+    answer = λ may. absurd ((allows.answer 7 may).no_want refl);
     none = λ low. absurd (omega (arith, low));
     read = λ e. absurd (omega (arith, e));
     write = λ e. absurd (omega (arith, e));
@@ -116,13 +127,13 @@ memory-keeps c run NoMemory allows text cause written = at-seven c run allows wr
 memory-keeps c run Failed allows text cause written = record {
   is_status = inr (inr (inl refl));
   refusals = allows.refusals;
-  answered = λ told may. absurd (let low = allows.answer 6 may in omega (arith, low));
+  answered = λ told may. absurd ((allows.answer 6 may).no_fault refl);
   refused = λ told is. absurd (six-no_refusal (allows.refusals 6 is));
   stopped = λ told e. allows.stopped told cause (text told);
   cut = λ told e. absurd (omega (arith, e));
   others = λ told name no. ap (λ texts. texts name) written;
   causes = record {
-    answer = λ may. absurd (let low = allows.answer 6 may in omega (arith, low));
+    answer = λ may. absurd ((allows.answer 6 may).no_fault refl);
     none = λ low. absurd (omega (arith, low));
     read = λ e. absurd (omega (arith, e));
     write = λ e. inr cause;

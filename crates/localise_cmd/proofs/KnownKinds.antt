@@ -7,9 +7,13 @@ use Rattle.std.proofs.lemmas.List.Elements.{All-head, All-tail}
 use Rattle.loc_base.proofs.ShelfLists.{Contains-cons, Contains-empty}
 use Rattle.suspect_map.specs.Choose.{named, unknown, unknown_or}
 use Rattle.suspect_map.proofs.Steps.{same_name}
-use Rattle.command_words.specs.Asked.{FindAsked, IsFindAsked}
+use Rattle.check_words.specs.Check.{CheckAsked, IsCheckAsked}
+use Rattle.find_words.specs.Find.{FindAsked, IsFindAsked}
+use Rattle.make_words.specs.Make.{IsMakeAsked, MakeAsked}
+use Rattle.check_cmd.specs.Asked.{Asked as Checking, IsAsked as IsCheckable}
 use Rattle.find_sets.specs.Asked.{AreKnown, Asked as Finding, IsAsked}
-use Rattle.localise_cmd.specs.Commands.{finding_of}
+use Rattle.make_cmd.specs.Asked.{Asked as Making, IsAsked as IsMakeable, finding_of as list_of}
+use Rattle.localise_cmd.specs.Commands.{checking_of, finding_of, making_of}
 
 -- ---- kinds that are known
 same-pointwise : (name : List ℕ) → pointwise nat_eq name name ≡ true
@@ -62,3 +66,26 @@ pub known-held : {G : Type 0} (called : G → List ℕ) (kinds : List G) (words 
     → request ≡ finding_of words → IsFindAsked (map called kinds) words → AreKnown called kinds request
 known-held called kinds words request same held =
     subst (λ (asked : Finding). AreKnown called kinds asked) (sym same) (unknown-none called kinds words.suspects held.known_kinds)
+
+pub check-held : (words : CheckAsked) (request : Checking) → request ≡ checking_of words → IsCheckAsked words → IsCheckable request
+check-held words request same held =
+    subst IsCheckable (sym same) (record { traces = (held.some, held.most); workers = held.workers })
+
+pub make-held : (known : List (List ℕ)) (words : MakeAsked) (request : Making) → request ≡ making_of words
+    → IsMakeAsked known words → IsMakeable request
+make-held known words request same held = subst IsMakeable (sym same) (record {
+  number = held.number;
+  some_kinds = held.some_kinds;
+  kinds_once = held.kinds_once;
+  size = held.size;
+  budget = held.budget;
+  sets = held.sets;
+  workers = held.workers;
+  apart = held.names_once;
+})
+
+pub make_known-held : {G : Type 0} (called : G → List ℕ) (kinds : List G) (words : MakeAsked) (request : Making)
+    → request ≡ making_of words → IsMakeAsked (map called kinds) words → AreKnown called kinds (list_of request)
+make_known-held called kinds words request same held =
+    subst (λ (asked : Making). AreKnown called kinds (list_of asked)) (sym same)
+    (unknown-none called kinds words.suspects held.known_kinds)

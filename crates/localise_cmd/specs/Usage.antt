@@ -6,8 +6,8 @@ use Rattle.io_ports.specs.Shelf.{AppendsFront}
 use Rattle.printed_text.specs.Numerals.{newline}
 use Rattle.refusal_lines.specs.Refusals.{memory_line}
 use Rattle.command_contract.specs.Contract.{Case, NothingWritten, Run}
-use Rattle.command_words.specs.declared.requests.Usage.{Usage}
-use Rattle.command_words.specs.declared.requests.Usage.TheVariants.{Command, Words, Number, Name, Kind}
+use Rattle.word_values.specs.declared.usage.Usage.{Usage}
+use Rattle.word_values.specs.declared.usage.Usage.TheVariants.{Command, Words, Number, Name, Kind}
 
 abbrev pub usage_word : Usage → List ℕ
 usage_word Command = codes "command"

@@ -1,14 +1,20 @@
 //! What words ask for, and the commands' own requests.
 ghost use Rattle.std.specs.Prelude.{◌≡◌, IfOk, map, string_bytes};
+ghost use Rattle.word_values.specs.Answers.{Gives};
+ghost use Rattle.check_words.specs.Requests.{check_asked_of};
+ghost use Rattle.make_words.specs.Requests.{make_asked_of};
 ghost use Rattle.command_words.specs.Asked.{IsAsked};
-ghost use Rattle.command_words.specs.Requests.{Gives, asked_of, find_asked_of, sim_asked_of};
+ghost use Rattle.command_words.specs.Requests.{asked_of};
+ghost use Rattle.find_words.specs.Requests.{find_asked_of, sim_asked_of};
 ghost use Rattle.command_words.specs.Words.{asked};
+ghost use Rattle.check_cmd.specs.Asked.{asked_of as asked_of_check};
 ghost use Rattle.find_sets.specs.Requests.{asked_of as asked_of_find};
+ghost use Rattle.make_cmd.specs.Requests.{asked_of as asked_of_make};
 ghost use Rattle.sim_cmd.specs.Requests.{asked_of as asked_of_sim};
-ghost use Rattle.localise_cmd.specs.Commands.{finding_of, simulating_of};
+ghost use Rattle.localise_cmd.specs.Commands.{checking_of, finding_of, making_of, simulating_of};
 
 use crate::kinds::names_of;
-use command_words::{FindWords, Request, SimWords, WordsErr, request};
+use command_words::{CheckWords, FindWords, MakeWords, Request, SimWords, WordsErr, request};
 use std::alloc::Global;
 use suspect_map::Granularity;
 
@@ -40,6 +46,7 @@ pub(crate) fn find_request(words: FindWords) -> find_sets::Request
         workers,
         log,
         report,
+        waves,
     } = words;
     find_sets::Request {
         design,
@@ -53,6 +60,7 @@ pub(crate) fn find_request(words: FindWords) -> find_sets::Request
         workers,
         log,
         report,
+        waves,
     }
 }
 
@@ -70,5 +78,55 @@ pub(crate) fn sim_request(words: SimWords) -> sim_cmd::Request
         top,
         traces,
         clock,
+    }
+}
+
+pub(crate) fn check_request(words: CheckWords) -> check_cmd::Request
+    ensures { asked_of_check result ≡ checking_of (check_asked_of words) }
+{
+    let CheckWords {
+        design,
+        top,
+        report,
+        log,
+        traces,
+        workers,
+    } = words;
+    check_cmd::Request {
+        design,
+        top,
+        report,
+        log,
+        traces,
+        workers,
+    }
+}
+
+pub(crate) fn make_request(words: MakeWords) -> make_cmd::Request
+    ensures { asked_of_make result ≡ making_of (make_asked_of words) }
+{
+    let MakeWords {
+        number,
+        design,
+        trace,
+        suspects,
+        size,
+        budget,
+        sets,
+        workers,
+        log,
+        report,
+    } = words;
+    make_cmd::Request {
+        number,
+        design,
+        trace,
+        suspects,
+        size,
+        budget,
+        sets,
+        workers,
+        log,
+        report,
     }
 }

@@ -7,11 +7,13 @@ ghost use Rattle.verilog_front_end.specs.Meaning.{Means};
 ghost use Rattle.verilog_front_end.specs.Refusals.{IsRefusal};
 
 use crate::lines::{print_memory, print_usage};
-use crate::requests::{find_request, request_by, sim_request};
+use crate::requests::{check_request, find_request, make_request, request_by, sim_request};
+use check_cmd::check;
 use command_words::{Request, WordsErr};
-use find_sets::{Tools, find};
+use find_sets::find;
 use io_ports::{Shelf, Sink};
 use loc_base::Gate;
+use make_cmd::make;
 use sim_cmd::simulate;
 use std::alloc::Global;
 use std::thread::Threads;
@@ -22,19 +24,22 @@ use verilog_front_end::Verilog;
 ///
 /// | words | what is done |
 /// |---|---|
-/// | `find DESIGN TOP TRACE.. [--clock NAME] [--size K] [--budget B] [--sets M] [--suspects A,B] [--workers N] [--log NAME] [--report NAME]` | lists each minimal set of suspects, with a log and a report (`find_sets`) |
+/// | `find DESIGN TOP TRACE.. [--clock NAME] [--size K] [--budget B] [--sets M] [--suspects A,B] [--workers N] [--log NAME] [--report NAME] [--waves PREFIX]` | lists each minimal set of suspects, with a log and a report, and with waves of each set where they are wanted (`find_sets`) |
 /// | `sim DESIGN TOP TRACE.. [--clock NAME]` | simulates the traces (`sim_cmd`) |
+/// | `check DESIGN TOP REPORT LOG TRACE.. [--workers N]` | judges a list by its report and its log (`check_cmd`) |
+/// | `make NUMBER [--size K] [--budget B] [--sets M] [--suspects A,B] [--workers N] [--log NAME] [--report NAME] [--design NAME] [--trace NAME]` | writes an input that it makes, and lists its sets (`make_cmd`) |
 ///
 /// | status | meaning | last line |
 /// |---|---|---|
-/// | 0 | done | `complete N` of `find`, `trace T ok` or `trace T miss C NAME` of `sim` |
-/// | 1 | a front of the list is found | `front N budget`, `front N sets` |
+/// | 0 | done | `complete N` of `find`, `trace T ok` or `trace T miss C NAME` of `sim`, `yes N` of `check`, `made N stages S width W cycles C` of `make` |
+/// | 1 | a front of the list is found | `front N budget`, `front N sets`; of `make` its own line stands behind it |
 /// | 2 | the words ask for nothing | `usage W` |
 /// | 3 | a text isn't what is read | `input CODE` and where |
 /// | 4 | a limit is passed | `limit CODE`, `limit size` |
 /// | 5 | a text wasn't handed over | `read fault NAME` |
 /// | 6 | writing failed | none |
 /// | 7 | memory was wanted | `memory`, `front N memory`, or none |
+/// | 8 | `check`: it isn't shown that the report's sets are the whole list | `no` and the first condition that fails |
 ///
 /// The kinds of suspects that `--suspects` may name are those that are given. Texts of designs are in Verilog.
 pub fn run_words<R: Threads + Sync, S: Shelf, O: Sink, G: Gate + Sync>(
@@ -54,15 +59,35 @@ pub fn run_words<R: Threads + Sync, S: Shelf, O: Sink, G: Gate + Sync>(
         (counts_of (S.faults shelf.old) (S.faults shelf.new) (O.faults out.old) (O.faults out.new)))
         result }
 {
-    let tools = Tools {
-        front: &Verilog,
-        kinds,
-        runtime: rt,
-        gate,
-    };
     match request_by(alloc, words, kinds) {
-        Ok(Request::Find(words)) => find(alloc, &tools, &find_request(words), shelf, out),
+        Ok(Request::Find(words)) => {
+            let tools = find_sets::Tools {
+                front: &Verilog,
+                kinds,
+                runtime: rt,
+                gate,
+            };
+            find(alloc, &tools, &find_request(words), shelf, out)
+        }
         Ok(Request::Sim(words)) => simulate(alloc, &Verilog, &sim_request(words), shelf, out),
+        Ok(Request::Check(words)) => {
+            let tools = check_cmd::Tools {
+                front: &Verilog,
+                kinds,
+                runtime: rt,
+                gate,
+            };
+            check(alloc, &tools, &check_request(words), shelf, out)
+        }
+        Ok(Request::Make(words)) => {
+            let tools = make_cmd::Tools {
+                front: &Verilog,
+                kinds,
+                runtime: rt,
+                gate,
+            };
+            make(alloc, &tools, &make_request(words), shelf, out)
+        }
         Err(WordsErr::Usage(usage)) => print_usage(usage, out).status(2),
         Err(WordsErr::NoMemory) => print_memory(out).status(7),
     }

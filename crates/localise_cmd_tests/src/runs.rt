@@ -70,6 +70,17 @@ fn texts_of(alloc: Global) -> Result<Texts, Fail> {
 
 /// Runs words that stand between spaces.
 fn run<R: Threads + Sync>(rt: &R, alloc: Global, line: &str, fails: Fails) -> Result<Ran, Fail> {
+    run_over(rt, alloc, line, texts_of(alloc)?, fails)
+}
+
+/// The same, over other texts.
+fn run_over<R: Threads + Sync>(
+    rt: &R,
+    alloc: Global,
+    line: &str,
+    texts: Texts,
+    fails: Fails,
+) -> Result<Ran, Fail> {
     let mut words = Vec::new(alloc);
     for word in line.split_whitespace() {
         words.push(String::from_str(alloc, word)?)?;
@@ -78,7 +89,7 @@ fn run<R: Threads + Sync>(rt: &R, alloc: Global, line: &str, fails: Fails) -> Re
     kinds.push(Box::new(alloc, Statements)?)?;
     kinds.push(Box::new(alloc, Blocks)?)?;
     let shelf_fails = Numbers::copy_of(alloc, fails.shelf)?;
-    let mut shelf = MemShelf::new(alloc, texts_of(alloc)?, shelf_fails);
+    let mut shelf = MemShelf::new(alloc, texts, shelf_fails);
     let mut out = MemSink::new(alloc, Numbers::copy_of(alloc, fails.sink)?);
     let status = run_words(
         rt,
@@ -93,7 +104,7 @@ fn run<R: Threads + Sync>(rt: &R, alloc: Global, line: &str, fails: Fails) -> Re
 }
 
 /// Words with what is printed, and the status.
-const RUNS: [(&str, &str, u8); 27] = [
+const RUNS: [(&str, &str, u8); 30] = [
     ("find m.v m t.vcd", FOUND, 0),
     ("find --size=1 --workers 2 -- m.v m t.vcd", FOUND, 0),
     ("find m.v m t.vcd t.vcd --budget 1594323", FOUND, 0),
@@ -127,7 +138,14 @@ const RUNS: [(&str, &str, u8); 27] = [
     ),
     ("", "usage command\n", 2),
     ("look m.v m t.vcd", "usage command\n", 2),
-    ("check m.v m r l t.vcd", "usage command\n", 2),
+    ("check m.v m r l t.vcd", "read fault r\n", 5),
+    ("check m.v m r l", "usage words\n", 2),
+    ("make 10000", "usage number\n", 2),
+    (
+        "make 7 --budget 1",
+        "front 0 budget\nmade 7 stages 10 width 15 cycles 14\n",
+        1,
+    ),
     ("find", "usage words\n", 2),
     ("sim --help", "usage words\n", 2),
     ("sim m.v m", "usage words\n", 2),
@@ -166,6 +184,21 @@ fn only_a_list_writes_and_only_its_log_and_its_report(rt: HostRuntime) -> Result
     let ran = run(&rt, rt.alloc(), "sim m.v m t.vcd", NONE)?;
     assert!(rt; ran.shelf.text("localise.json").is_none());
     assert!(rt; ran.shelf.text("localise.log").is_none());
+    Ok(())
+}
+
+#[test]
+fn a_list_that_was_found_is_judged_whole(rt: HostRuntime) -> Result<(), Fail> {
+    let found = run(&rt, rt.alloc(), "find m.v m t.vcd", NONE)?;
+    let Some(log) = found.shelf.text("localise.log") else {
+        return Err(Fail::new("no log"));
+    };
+    let mut texts = texts_of(rt.alloc())?;
+    texts.add("r", Bytes::copy_of(rt.alloc(), REPORT)?)?;
+    texts.add("l", Bytes::copy_of(rt.alloc(), log.as_slice())?)?;
+    let ran = run_over(&rt, rt.alloc(), "check m.v m r l t.vcd", texts, NONE)?;
+    assert_eq!(rt; ran.out.text().as_slice(), b"yes 2\n".as_slice());
+    assert_eq!(rt; ran.status, 0);
     Ok(())
 }
 

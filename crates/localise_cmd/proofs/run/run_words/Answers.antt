@@ -4,8 +4,12 @@ use Rattle.std.proofs.lemmas.Bool.{and_parts}
 use Rattle.command_contract.specs.Contract.{Keeps, Run, counts_of, run_of}
 use Rattle.suspect_map.specs.Choose.{joined}
 use Rattle.command_words.specs.Words.{asked}
-use Rattle.command_words.specs.Requests.{find_asked_of, sim_asked_of}
+use Rattle.check_words.specs.Requests.{check_asked_of}
+use Rattle.find_words.specs.Requests.{find_asked_of, sim_asked_of}
+use Rattle.make_words.specs.Requests.{make_asked_of}
+use Rattle.check_cmd.specs.Asked.{asked_of as asked_of_check}
 use Rattle.find_sets.specs.Requests.{asked_of as asked_of_find}
+use Rattle.make_cmd.specs.Requests.{asked_of as asked_of_make}
 use Rattle.sim_cmd.specs.Requests.{asked_of as asked_of_sim}
 use Rattle.verilog_front_end.specs.Meaning.{Means}
 use Rattle.verilog_front_end.specs.Refusals.{IsRefusal}
@@ -13,8 +17,8 @@ use Rattle.localise_cmd.specs.Usage.{no_request}
 use Rattle.localise_cmd.specs.Commands.{KeepsWords, case_of, tools_of}
 use Rattle.localise_cmd.specs.Prints.{printed_status}
 use Rattle.localise_cmd.proofs.Keeping.{memory-keeps, usage-keeps}
-use Rattle.localise_cmd.proofs.Cases.{allows-memory, find-keeps, no_request-keeps, sim-keeps}
-use Rattle.localise_cmd.proofs.KnownKinds.{asked-held, known-held}
+use Rattle.localise_cmd.proofs.Cases.{allows-memory, check-keeps, find-keeps, make-keeps, no_request-keeps, sim-keeps}
+use Rattle.localise_cmd.proofs.KnownKinds.{asked-held, check-held, known-held, make-held, make_known-held}
 use Rattle.localise_cmd.proofs.run.run_words.Goals as goal
 
 pub find-requires-clause-asked : goal.find-requires-clause-asked
@@ -27,6 +31,22 @@ find-requires-clause-known g c =
     let held = rw c.in-Ok-Find.field-0-is at c.in-Ok-Find.ensures.holds in
     λ κs within. known-held (λ k. (goal.Granularity-dyn g (k.vtable, k.value)).called k.value) c.args.kinds.now
     (find_asked_of c.in-Ok-Find.words) (asked_of_find c.find_request.result) c.find_request.ensures held
+
+pub check-requires : goal.check-requires
+check-requires g c =
+    let held = rw c.in-Ok-Check.field-0-is at c.in-Ok-Check.ensures.holds in
+    λ κs within. check-held (check_asked_of c.in-Ok-Check.words) (asked_of_check c.check_request.result) c.check_request.ensures held
+
+pub make-requires-clause-asked : goal.make-requires-clause-asked
+make-requires-clause-asked g c =
+    let held = rw c.in-Ok-Make.field-0-is at c.in-Ok-Make.ensures.holds in
+    λ κs within. make-held _ (make_asked_of c.in-Ok-Make.words) (asked_of_make c.make_request.result) c.make_request.ensures held
+
+pub make-requires-clause-known : goal.make-requires-clause-known
+make-requires-clause-known g c =
+    let held = rw c.in-Ok-Make.field-0-is at c.in-Ok-Make.ensures.holds in
+    λ κs within. make_known-held (λ k. (goal.Granularity-dyn g (k.vtable, k.value)).called k.value) c.args.kinds.now
+    (make_asked_of c.in-Ok-Make.words) (asked_of_make c.make_request.result) c.make_request.ensures held
 
 pub returns-in-Ok-Find : goal.returns-in-Ok-Find
 unfolding KeepsWords
@@ -53,6 +73,32 @@ returns-in-Ok-Sim g c =
     sim-keeps tools (asked tools.known (map string_bytes c.args.words.now)) _ c.simulate.result
     (sim_asked_of c.in-Ok-Sim.words) (asked_of_sim c.sim_request.result) gives
     c.sim_request.ensures c.simulate.ensures
+
+pub returns-in-Ok-Check : goal.returns-in-Ok-Check
+unfolding KeepsWords
+returns-in-Ok-Check g c =
+    let kinds = c.args.kinds.now in
+    let tools = tools_of Means IsRefusal
+    (map (λ k. (goal.Granularity-dyn g (k.vtable, k.value)).called k.value) kinds)
+    (joined (λ k. (goal.Granularity-dyn g (k.vtable, k.value)).called k.value)
+    (λ k. (goal.Granularity-dyn g (k.vtable, k.value)).lists k.value) kinds) in
+    let gives = rw c.in-Ok-Check.field-0-is at c.in-Ok-Check.ensures.gives in
+    check-keeps tools (asked tools.known (map string_bytes c.args.words.now)) _ c.check.result
+    (check_asked_of c.in-Ok-Check.words) (asked_of_check c.check_request.result) gives
+    c.check_request.ensures c.check.ensures
+
+pub returns-in-Ok-Make : goal.returns-in-Ok-Make
+unfolding KeepsWords
+returns-in-Ok-Make g c =
+    let kinds = c.args.kinds.now in
+    let tools = tools_of Means IsRefusal
+    (map (λ k. (goal.Granularity-dyn g (k.vtable, k.value)).called k.value) kinds)
+    (joined (λ k. (goal.Granularity-dyn g (k.vtable, k.value)).called k.value)
+    (λ k. (goal.Granularity-dyn g (k.vtable, k.value)).lists k.value) kinds) in
+    let gives = rw c.in-Ok-Make.field-0-is at c.in-Ok-Make.ensures.gives in
+    make-keeps tools (asked tools.known (map string_bytes c.args.words.now)) _ c.make.result
+    (make_asked_of c.in-Ok-Make.words) (asked_of_make c.make_request.result) gives
+    c.make_request.ensures c.make.ensures
 
 pub returns-in-Err-Usage : goal.returns-in-Err-Usage
 unfolding KeepsWords
