@@ -50,7 +50,8 @@ finding M R S asked = record {
   Refused = λ run. Refused M R S (wanted_of asked) run.texts;
   Stands = NothingWritten;
   Stopped = λ run. OneRose run.counts
-      × (OfInputs M S asked run.texts (λ listing. IsStopped listing (outputs_of run)) ⊎ LineStops (Refused M R S (wanted_of asked) run.texts) run);
+      × (OfInputs M S asked run.texts (λ listing. IsStopped listing (outputs_of run))
+      ⊎ LineStops (Refused M R S (wanted_of asked) run.texts) run);
   Cut = λ run. (NoneRose run.counts × OfInputs M S asked run.texts (λ listing. IsCut listing (outputs_of run))) ⊎ LineCut run;
   Writes = λ name. (name ≡ asked.log) ⊎ (name ≡ asked.report);
   Ready = λ run. IsReady M S (wanted_of asked) run.texts;

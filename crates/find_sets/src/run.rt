@@ -36,8 +36,10 @@ pub fn list_read<F: FrontEnd, R: Threads + Sync, G: Gate + Sync, S: Shelf, O: Si
     requires problem { IfOk read (λ inputs. IsProblem (problem_in inputs request.now.size)) }
     requires status { IfErr read HasStatus }
 
+    ensures tells { O.tells out.new ≡ O.tells out.old }
+
     // Of texts that stood anywhere: those that were read.
-    ensures { (told : Bool) (texts : Texts) (faults : ℕ)
+    ensures keeps { (told : Bool) (texts : Texts) (faults : ℕ)
         → (told ≡ true → S.tells shelf.old ≡ true) → (told ≡ true → O.tells out.old ≡ true)
         → IsRead F.means F.refuses (joined (λ kind. called kind) (λ kind. lists kind) tools.now.kinds.now)
         (asked_of request.now) told texts faults (S.faults shelf.old) read

@@ -122,6 +122,7 @@ impl Refusal {
 
     /// Prints the line, and answers the status of the program.
     pub fn print<O: Sink>(&self, out: &mut O) -> u8
+        ensures tells { O.tells out.new ≡ O.tells out.old }
         ensures text { O.tells out.old ≡ true
             → Prints (line_of self.now) (status_of self.now) (O.written out.old) (O.written out.new) result }
         ensures counts { PrintCounts (status_of self.now) (O.faults out.old) (O.faults out.new) result }
@@ -135,6 +136,7 @@ impl Refusal {
 
 /// Prints a line. The status is that of the whole line; where the sink fails it is 6, where memory is wanted 7.
 pub fn print_line<O: Sink>(line: &[u8], status: u8, out: &mut O) -> u8
+    ensures tells { O.tells out.new ≡ O.tells out.old }
     ensures text { O.tells out.old ≡ true → Prints line.now status (O.written out.old) (O.written out.new) result }
     ensures counts { PrintCounts status (O.faults out.old) (O.faults out.new) result }
 {

@@ -1,6 +1,7 @@
 //! The text of the made design.
 ghost use Rattle.std.specs.Prelude.{◌≡◌, ◌≤◌, ◌<◌, ◌^◌, ◌++◌, IfOk, OnOk};
-ghost use Rattle.made_input.specs.Made.{block_text, constant_text, design_text, outputs_text, more_registers, ports_text, range_text, register, registers_text};
+ghost use Rattle.made_input.specs.Made.{block_text, constant_text, design_text, more_registers, outputs_text, ports_text};
+ghost use Rattle.made_input.specs.Made.{range_text, register, registers_text};
 ghost use Rattle.made_input.specs.Made.{sign, stage_line, stage_lines};
 
 use crate::numbers::{constant, stages, width, write_number, wrong_stage};

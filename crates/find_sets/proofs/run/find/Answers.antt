@@ -32,7 +32,8 @@ returns g c =
     (λ k. (goal.Granularity-dyn g (k.vtable, k.value)).lists k.value) kinds in
     let both = and_parts (g.S.Shelf.tells shelf) (g.O.Sink.tells c.args.out.now) in
     let told = g.S.Shelf.tells shelf && g.O.Sink.tells c.args.out.now in
-    let reads = read-wanted g.F.FrontEnd.means g.F.FrontEnd.refuses S asked (wanted_asked c.wanted.result) told (g.S.Shelf.texts shelf) (g.S.Shelf.faults shelf)
+    let reads = read-wanted g.F.FrontEnd.means g.F.FrontEnd.refuses S asked (wanted_asked c.wanted.result) told
+    (g.S.Shelf.texts shelf) (g.S.Shelf.faults shelf)
     (g.S.Shelf.faults c.read-found.new.shelf) c.read-found.result c.wanted.ensures c.read-found.ensures.counts
     (λ t. c.read-found.ensures.means (both t).0) (λ t. c.read-found.ensures.digest (both t).0)
     (λ t. c.read-found.ensures.refused (both t).0) (λ t. c.read-found.ensures.only (both t).0) in
@@ -44,5 +45,5 @@ returns g c =
     (g.O.Sink.faults c.list_read.new.out)))
     c.list_read.result)
     c.read-found.ensures.written
-    (c.list_read.ensures told (g.S.Shelf.texts shelf) (g.S.Shelf.faults shelf)
+    (c.list_read.ensures.keeps told (g.S.Shelf.texts shelf) (g.S.Shelf.faults shelf)
     (λ t. c.read-found.ensures.tells ∙ (both t).0) (λ t. (both t).1) reads)

@@ -10,13 +10,13 @@ use Rattle.find_sets.proofs.Listed.{listing-keeps}
 use Rattle.find_sets.proofs.Reading.{at-ok, counts-ok, unformed-keeps, unread-keeps}
 use Rattle.find_sets.proofs.run.list_read.Goals as goal
 
-pub returns-in-Err : goal.returns-in-Err
-returns-in-Err g c told texts faults on_shelf on_sink reads =
+pub returns-in-Err-clause-keeps : goal.returns-in-Err-clause-keeps
+returns-in-Err-clause-keeps g c told texts faults on_shelf on_sink reads =
     unread-keeps g.F.FrontEnd.means g.F.FrontEnd.refuses _ (asked_of c.args.request.now) _ _ c.args.read c.in-Err.refusal
     c.print.result c.in-Err.is reads c.requires.status refl refl (λ t. c.print.ensures.text (on_sink t)) c.print.ensures.counts
 
-pub returns-in-Ok-new : goal.returns-in-Ok-new
-returns-in-Ok-new g c told texts faults on_shelf on_sink reads =
+pub returns-in-Ok-new-clause-keeps : goal.returns-in-Ok-new-clause-keeps
+returns-in-Ok-new-clause-keeps g c told texts faults on_shelf on_sink reads =
     let asked = asked_of c.args.request.now in
     let inputs = c.in-Ok.inputs in
     listing-keeps g.F.FrontEnd.means g.F.FrontEnd.refuses _ asked _ (problem_in inputs asked.size)
@@ -29,12 +29,13 @@ returns-in-Ok-new g c told texts faults on_shelf on_sink reads =
     (λ t. c.list.ensures.others (on_shelf t) (on_sink t))
     c.list.ensures.causes
 
-pub returns : goal.returns
-returns g c told texts faults on_shelf on_sink reads =
+pub returns-clause-keeps : goal.returns-clause-keeps
+returns-clause-keeps g c told texts faults on_shelf on_sink reads =
     let asked = asked_of c.args.request.now in
     let inputs = c.in-Ok.inputs in
     let fault = c.in-Err-new.fault in
-    let refused = subst (λ (p : Problem). IsRefused p fault) (ap (λ (l : Listing). l.problem) c.job_of-job.ensures) c.in-Err-new.ensures.err in
+    let refused = subst (λ (p : Problem). IsRefused p fault) (ap (λ (l : Listing). l.problem) c.job_of-job.ensures)
+    c.in-Err-new.ensures.err in
     unformed-keeps g.F.FrontEnd.means g.F.FrontEnd.refuses _ asked _ _ c.args.read inputs fault c.of_problem.result
     c.print-in-Err-new.result c.in-Ok.is reads refused c.of_problem.ensures.status c.of_problem.ensures.says refl refl
     (λ t. c.print-in-Err-new.ensures.text (on_sink t)) c.print-in-Err-new.ensures.counts

@@ -9,7 +9,8 @@ use Rattle.made_input.proofs.trace.write_header.Goals as goal
 pub returns : goal.returns
 returns c =
     let n = c.args.number in
-    let wide = λ (code : ℕ) (name : List ℕ) (old : List ℕ). ap (λ w. old ++ line_text (variable_line code w name)) c.width-width.ensures.is in
+    let wide = λ (code : ℕ) (name : List ℕ) (old : List ℕ).
+    ap (λ w. old ++ line_text (variable_line code w name)) c.width-width.ensures.is in
     appended7 _ _ _ _ _ _ _ _ (codes "$timescale 1ns $end\n$scope module made $end\n")
     (line_text (variable_line 0 1 (codes "clk"))) (line_text (variable_line 1 (width n) (codes "a")))
     (line_text (variable_line 2 (width n) (codes "b"))) (line_text (variable_line 3 (width n) (codes "y")))

@@ -1,0 +1,16 @@
+-- What was read of the made texts: no count of faults rose.
+use Rattle.std.proofs.Common.{ℕ, ◌≡◌, ◌≤◌, ◌<◌, refl, arith, lit<, Result, Ok, Err}
+use Rattle.io_ports.specs.Faults.{Rose, last_count}
+use Rattle.list_inputs.specs.declared.inputs.Inputs.{Inputs}
+use Rattle.list_inputs.specs.declared.refusal.Refusal.{Refusal}
+use Rattle.list_inputs.specs.declared.refusal.Refusal.TheVariants.{Line, Memory}
+use Rattle.list_inputs.specs.Ends.{CountsOf}
+
+-- a shelf on which no count can rise
+none-rose : Rose 0 0 → ⊥
+none-rose rose = let low : 0 < 0 = rose.1 (lit< tt) in omega (arith, low)
+
+pub counts-anywhere : (n : ℕ) (read : Result Inputs Refusal) → CountsOf 0 0 read → CountsOf n n read
+counts-anywhere n (Ok inputs) counts = refl
+counts-anywhere n (Err (Line status line)) counts = (λ five. absurd (none-rose (counts.0 five)), λ other. refl)
+counts-anywhere n (Err Memory) counts = tt

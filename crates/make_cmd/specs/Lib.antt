@@ -1,0 +1,4 @@
+pub mod Asked
+pub mod Requests
+pub mod Making
+pub mod Shelves

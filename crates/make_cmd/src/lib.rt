@@ -1,0 +1,12 @@
+//! The command that makes an input: it writes a design and a trace, lists sets of suspects of them, and prints their numbers.
+#![tactic(auto)]
+
+mod made;
+mod made_shelf;
+mod request;
+mod run;
+mod tools;
+
+pub use request::Request;
+pub use run::make;
+pub use tools::Tools;
