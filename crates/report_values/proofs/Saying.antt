@@ -1,12 +1,12 @@
 -- What the texts of a set say: any two values of theirs are the same numbers, and where traces are right with them they explain the
 -- traces.
-use Rattle.std.proofs.Common.{◌≡◌, ◌⊎◌, inl, inr, ℕ, zero, suc, ◌+◌, ◌*◌, ◌^◌, ◌<◌, ◌≤◌, ◌==◌, Bool, true, false, if◌then◌else◌, List, [], ◌∷◌, ◌++◌, length, get_or, map, take, drop, Some, refl, sym, ap, ap₂, ◌∙◌, subst, arith, append-nil}
+use Rattle.std.proofs.Common.{◌≡◌, ◌⊎◌, inl, inr, ℕ, zero, suc, ◌+◌, ◌*◌, ◌^◌, ◌<◌, ◌≤◌, ◌==◌, Bool, true, false, if◌then◌else◌, List, [], ◌∷◌, ◌++◌, length, get_or, map, take, Some, refl, sym, ap, ap₂, ◌∙◌, subst, arith}
 use Rattle.std.specs.Prelude.{slice_get}
 use Rattle.std.specs.Option.{option_map_or}
 use Rattle.std.proofs.Math.Nat.{mul-le-mul_right, one-le-pow}
 use Rattle.std.proofs.Math.Path.{fun_ext}
 use Rattle.std.proofs.lemmas.Bool.{cases_Bool, cases_lt}
-use Rattle.std.proofs.lemmas.List.{drop_all, get_or-append_right, get_or_append_left}
+use Rattle.std.proofs.lemmas.List.{drop_all}
 use Rattle.loc_base.proofs.ShelfBools.{equal-true}
 use Rattle.loc_base.specs.declared.bits.Bits.{Bits}
 use Rattle.loc_base.specs.Bits.{value_of, value_of-range, width_of}
@@ -23,7 +23,7 @@ use Rattle.found_report.specs.Found.{row_texts, rows_texts, traces_texts, word_t
 use Rattle.report_values.specs.Reading.{all_rows}
 use Rattle.report_values.specs.Written.{IsWritten}
 use Rattle.report_values.proofs.Spelling.{word_text-same}
-use Rattle.report_values.proofs.Writing.{length-rows_texts, places-same}
+use Rattle.report_values.proofs.Writing.{places-same}
 
 -- ---- words of the same widths and texts
 pub numbers-same : (one other : List Bits) → map width_of one ≡ map width_of other → map word_text one ≡ map word_text other

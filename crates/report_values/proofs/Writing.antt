@@ -1,8 +1,8 @@
 -- Values and the texts that a set has of them: where words of the places' widths were read of all rows they are its values, and
 -- where a set has values such words are there.
-use Rattle.std.proofs.Common.{◌≡◌, ℕ, zero, suc, ◌+◌, ◌*◌, ◌<◌, ◌≤◌, List, [], ◌∷◌, ◌++◌, length, get_or, map, take, drop, refl, sym, ap, ap₂, ◌∙◌, subst, arith, append-nil, length-append}
+use Rattle.std.proofs.Common.{◌≡◌, ℕ, zero, suc, ◌+◌, ◌*◌, ◌<◌, ◌≤◌, List, [], ◌∷◌, ◌++◌, length, get_or, map, take, drop, refl, sym, ap, ap₂, ◌∙◌, subst, arith, length-append}
 use Rattle.std.specs.Prelude.{All, Contains, nat_le, ◌==◌, ◌-◌, Option, Some, None, slice_get, true, false}
-use Rattle.std.specs.List.{flat_map, list_all, list_any}
+use Rattle.std.specs.List.{flat_map, list_any}
 use Rattle.std.specs.List.Sorted.{IsStrictlyIncreasing}
 use Rattle.std.specs.Option.{option_map_or}
 use Rattle.std.proofs.Math.Seq.{drop-cons}
@@ -11,16 +11,15 @@ use Rattle.std.proofs.lemmas.List.{drop-drop, drop-map, drop_at, length-map, tak
 use Rattle.std.proofs.lemmas.List.Elements.{All-cons, All-head, All-map, All-nil, All-tail, Contains-get_or}
 use Rattle.loc_base.proofs.ShelfBools.{equal-true}
 use Rattle.loc_base.proofs.ShelfLists.{All-member, Contains-at, slice_get-some, list_all-member, list_any-found, list_any-member}
-use Rattle.loc_base.specs.declared.bits.Bits.{Bits}
 use Rattle.loc_base.specs.Bits.{width_of}
 use Rattle.design_core.specs.declared.design.Design.{Design}
 use Rattle.design_core.specs.declared.place.Place.{Place}
 use Rattle.design_core.specs.declared.trace.Trace.{Trace}
 use Rattle.design_core.specs.declared.values.Values.{Values}
-use Rattle.design_core.specs.Explained.{AreRows, AreValuesOf, IsRow, cycles_before, is_one_of, place_width, row_of}
+use Rattle.design_core.specs.Explained.{AreRows, IsRow, cycles_before, is_one_of, place_width, row_of}
 use Rattle.design_core.specs.WellFormed.{IsWellFormed, is_width}
 use Rattle.design_core.specs.Works.{places_of, suspect_has}
-use Rattle.design_core.proofs.CyclesBefore.{cycles_before-none, cycles_before-suc}
+use Rattle.design_core.proofs.CyclesBefore.{cycles_before-suc}
 use Rattle.suspect_map.specs.declared.group.Group.{Group}
 use Rattle.suspect_map.specs.Groups.{AreWithin}
 use Rattle.suspect_map.proofs.SuspectLaws.{numbers-equal}

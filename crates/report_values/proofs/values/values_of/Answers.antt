@@ -1,8 +1,7 @@
-use Rattle.std.proofs.Common.{ℕ, ◌≡◌, ◌∙◌, true, ap, ap₂, map, rules, subst, sym, List, []}
+use Rattle.std.proofs.Common.{◌≡◌, ◌∙◌, true, ap, ap₂, map, rules, subst, sym, List}
 use Rattle.std.specs.Prelude.{IsTrue}
-use Rattle.design_core.specs.Explained.{is_one_of, place_width}
+use Rattle.design_core.specs.Explained.{place_width}
 use Rattle.design_core.specs.Works.{places_of}
-use Rattle.suspect_map.specs.declared.group.Group.{Group}
 use Rattle.loc_base.specs.declared.bits.Bits.{Bits}
 use Rattle.report_values.specs.Reading.{AllHaveWords, AppendsRows, HasItsRows, all_rows, groups_of}
 use Rattle.report_values.proofs.Pushing.{read-false, read-true}
