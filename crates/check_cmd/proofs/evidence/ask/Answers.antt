@@ -1,4 +1,5 @@
 use Rattle.std.proofs.Common.{map, ◌∙◌, sym}
+use Rattle.std.proofs.lemmas.Bool.{false≢true}
 use Rattle.list_inputs.specs.Ends.{HasCause, HasStatus, IsSpared}
 use Rattle.run_inputs.proofs.Loaded.{passed_on}
 use Rattle.check_cmd.specs.Asked.{asked_of}
@@ -40,16 +41,20 @@ returns-in_err-know-clause-refused g c = λ told.
     passed_on (HasCause (Refused g.F.FrontEnd.means g.F.FrontEnd.refuses _ _ asked texts)) c.from_residual-in_err-know.result
     c.in_err-know.field-0.0 c.from_residual-in_err-know.ensures.1
     (whole-kind g.F.FrontEnd.means g.F.FrontEnd.refuses _ _ asked texts c.in_ok-report.report _ c.in_err-know.field-0.0
-    (c.in_ok-report.ensures.means told) (unknown-names _ _ _) c.in_err-know.ensures.refused)
+    (c.in_ok-report.ensures.means told) (unknown-names (λ k. (goal.Granularity-dyn g (k.vtable, k.value)).called k.value)
+    c.args.tools.now.kinds.now c.in_ok-report.report.kinds) c.in_err-know.ensures.refused)
 
 pub returns-in_err-know-clause-only : goal.returns-in_err-know-clause-only
 returns-in_err-know-clause-only g c = λ told ready.
     absurd
+    (false≢true
     (c.in_err-know.ensures.only
-    (sym (unknown-names _ _ _) ∙ ready.kinds c.in_ok-report.report (c.in_ok-report.ensures.means told)))
+    (sym (unknown-names (λ k. (goal.Granularity-dyn g (k.vtable, k.value)).called k.value)
+    c.args.tools.now.kinds.now c.in_ok-report.report.kinds) ∙ ready.kinds c.in_ok-report.report (c.in_ok-report.ensures.means told))))
 
 pub returns-clause-asks : goal.returns-clause-asks
 returns-clause-asks g c = λ told. record {
   means = c.in_ok-report.ensures.means told;
-  known_kinds = unknown-names _ _ _ ∙ c.in_ok-know.ensures.known;
+  known_kinds = unknown-names (λ k. (goal.Granularity-dyn g (k.vtable, k.value)).called k.value)
+      c.args.tools.now.kinds.now c.in_ok-report.report.kinds ∙ c.in_ok-know.ensures.known;
 }

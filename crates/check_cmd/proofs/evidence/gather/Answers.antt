@@ -1,4 +1,5 @@
 use Rattle.std.proofs.Common.{subst, sym, ◌∙◌}
+use Rattle.std.proofs.lemmas.Bool.{false≢true}
 use Rattle.command_contract.specs.Contract.{Texts}
 use Rattle.list_inputs.specs.Ends.{HasCause, HasStatus, IsSpared}
 use Rattle.run_inputs.proofs.Loaded.{passed_on}
@@ -64,11 +65,12 @@ returns-in_err-same_inputs-clause-only g c = λ told ready.
     let texts = g.S.Shelf.texts c.args.shelf.now in
     let poses = c.in_ok-posed.ensures.poses told in
     absurd
+    (false≢true
     (c.in_err-same_inputs.ensures.only
     (ready.same (posed_of c.in_ok-posed.posed).report c.in_ok-log.log (posed_of c.in_ok-posed.posed).inputs poses.report.means
     (subst (λ (ts : Texts). MeansLog asked ts c.in_ok-log.log) c.in_ok-posed.ensures.texts
     (c.in_ok-log.ensures.means (c.in_ok-posed.ensures.tells ∙ told)))
-    poses.inputs))
+    poses.inputs)))
 
 pub returns-clause-can : goal.returns-clause-can
 returns-clause-can g c = record { posed = c.in_ok-posed.ensures.can; few_steps = c.in_ok-log.ensures.few }

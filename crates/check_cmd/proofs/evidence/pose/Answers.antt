@@ -1,8 +1,9 @@
 use Rattle.std.proofs.Common.{ap, sym, subst, ◌∙◌}
+use Rattle.suspect_map.specs.Choose.{joined}
 use Rattle.debug_core.specs.Problems.{IsProblem}
 use Rattle.list_inputs.specs.Asked.{AreKnown, Asked as Wanted, IsAsked, asked_of as wanted_asked}
 use Rattle.list_inputs.specs.Ends.{HasCause, HasStatus, IsSpared, problem_in}
-use Rattle.list_inputs.specs.Means.{IsDigestOf}
+use Rattle.list_inputs.specs.Means.{IsDigestOf, Suspecting}
 use Rattle.list_inputs.specs.Refusals.{IsReady as IsReadyList, Refused as InputsRefused}
 use Rattle.run_inputs.proofs.Loaded.{passed_on}
 use Rattle.check_cmd.specs.Asked.{asked_of, wanted_by}
@@ -13,14 +14,14 @@ use Rattle.check_cmd.proofs.Posing.{moved, moved-back, moved-means}
 use Rattle.check_cmd.proofs.WholeCauses.{form-low, whole-form, whole-inputs}
 use Rattle.check_cmd.proofs.evidence.pose.Goals as goal
 
-pub read-inputs-requires-clause-asked : goal.read-inputs-requires-clause-asked
-read-inputs-requires-clause-asked g c =
+pub read-requires-clause-asked : goal.read-requires-clause-asked
+read-requires-clause-asked g c =
     let asked : IsAsked (wanted_asked c.wanted.result) = subst IsAsked (sym c.wanted.ensures)
     (record { traces = c.requires.traces.1; size = c.in_ok-report.ensures.report.size }) in
     λ κs within. asked
 
-pub read-inputs-requires-clause-known : goal.read-inputs-requires-clause-known
-read-inputs-requires-clause-known g c =
+pub read-requires-clause-known : goal.read-requires-clause-known
+read-requires-clause-known g c =
     λ κs within.
     subst
     (λ (w : Wanted). AreKnown (λ k. (goal.Granularity-dyn g (k.vtable, k.value)).called k.value) c.args.tools.now.kinds.now w)
@@ -29,22 +30,26 @@ read-inputs-requires-clause-known g c =
 pub returns-in_err-inputs-clause-refused : goal.returns-in_err-inputs-clause-refused
 returns-in_err-inputs-clause-refused g c = λ told.
     let asked = asked_of c.args.request.now in
+    let S : Suspecting = joined (λ k. (goal.Granularity-dyn g (k.vtable, k.value)).called k.value)
+    (λ k. (goal.Granularity-dyn g (k.vtable, k.value)).lists k.value) c.args.tools.now.kinds.now in
     let texts = g.S.Shelf.texts c.args.shelf.now in
     let why = c.in_err-inputs.field-0.0 in
     passed_on (HasCause (Refused g.F.FrontEnd.means g.F.FrontEnd.refuses _ _ asked texts)) c.from_residual-in_err-inputs.result why
     c.from_residual-in_err-inputs.ensures.1
     (whole-inputs g.F.FrontEnd.means g.F.FrontEnd.refuses _ _ asked texts c.in_ok-report.report why (c.in_ok-report.ensures.asks told)
-    (moved (λ w ts. HasCause (InputsRefused g.F.FrontEnd.means g.F.FrontEnd.refuses _ w ts) why) _
+    (moved (λ w ts. HasCause (InputsRefused g.F.FrontEnd.means g.F.FrontEnd.refuses S w ts) why) _
     (wanted_by asked c.in_ok-report.report) _ texts c.wanted.ensures c.in_ok-report.ensures.texts
     (c.in_err-inputs.ensures.refused (c.in_ok-report.ensures.tells ∙ told))))
 
 pub returns-in_err-inputs-clause-only : goal.returns-in_err-inputs-clause-only
 returns-in_err-inputs-clause-only g c = λ told ready.
     let asked = asked_of c.args.request.now in
+    let S : Suspecting = joined (λ k. (goal.Granularity-dyn g (k.vtable, k.value)).called k.value)
+    (λ k. (goal.Granularity-dyn g (k.vtable, k.value)).lists k.value) c.args.tools.now.kinds.now in
     let texts = g.S.Shelf.texts c.args.shelf.now in
     passed_on IsSpared c.from_residual-in_err-inputs.result c.in_err-inputs.field-0.0 c.from_residual-in_err-inputs.ensures.1
     (c.in_err-inputs.ensures.only (c.in_ok-report.ensures.tells ∙ told)
-    (moved-back (λ w ts. IsReadyList g.F.FrontEnd.means _ w ts) _ (wanted_by asked c.in_ok-report.report) _ texts
+    (moved-back (λ w ts. IsReadyList g.F.FrontEnd.means S w ts) _ (wanted_by asked c.in_ok-report.report) _ texts
     c.wanted.ensures c.in_ok-report.ensures.texts (ready.list c.in_ok-report.report (c.in_ok-report.ensures.asks told).means)))
 
 pub form_in-requires : goal.form_in-requires
@@ -65,6 +70,8 @@ returns-in_err-form-clause-status g c =
 pub returns-in_err-form-clause-refused : goal.returns-in_err-form-clause-refused
 returns-in_err-form-clause-refused g c = λ told.
     let asked = asked_of c.args.request.now in
+    let S : Suspecting = joined (λ k. (goal.Granularity-dyn g (k.vtable, k.value)).called k.value)
+    (λ k. (goal.Granularity-dyn g (k.vtable, k.value)).lists k.value) c.args.tools.now.kinds.now in
     let texts = g.S.Shelf.texts c.args.shelf.now in
     let report = c.in_ok-report.report in
     let why = c.in_err-form.field-0.0 in
@@ -72,13 +79,15 @@ returns-in_err-form-clause-refused g c = λ told.
     c.from_residual-in_err-form.ensures.1
     (whole-form g.F.FrontEnd.means g.F.FrontEnd.refuses _ _ asked texts report (problem_in c.in_ok-inputs.inputs report.size) why
     (c.in_ok-report.ensures.asks told)
-    (moved-means g.F.FrontEnd.means _ _ (wanted_by asked report) _ texts c.in_ok-inputs.inputs c.wanted.ensures
+    (moved-means g.F.FrontEnd.means S _ (wanted_by asked report) _ texts c.in_ok-inputs.inputs c.wanted.ensures
     c.in_ok-report.ensures.texts (c.in_ok-inputs.ensures.means (c.in_ok-report.ensures.tells ∙ told)))
     c.in_err-form.ensures.refused)
 
 pub returns-in_err-form-clause-only : goal.returns-in_err-form-clause-only
 returns-in_err-form-clause-only g c = λ told ready.
     let asked = asked_of c.args.request.now in
+    let S : Suspecting = joined (λ k. (goal.Granularity-dyn g (k.vtable, k.value)).called k.value)
+    (λ k. (goal.Granularity-dyn g (k.vtable, k.value)).lists k.value) c.args.tools.now.kinds.now in
     let texts = g.S.Shelf.texts c.args.shelf.now in
     let report = c.in_ok-report.report in
     passed_on IsSpared c.from_residual-in_err-form.result c.in_err-form.field-0.0 c.from_residual-in_err-form.ensures.1
@@ -86,7 +95,7 @@ returns-in_err-form-clause-only g c = λ told ready.
     (c.in_err-form.ensures.only
     (λ fault refused.
     (ready.list report (c.in_ok-report.ensures.asks told).means).no_limit (problem_in c.in_ok-inputs.inputs report.size) fault
-    (moved-means g.F.FrontEnd.means _ _ (wanted_by asked report) _ texts c.in_ok-inputs.inputs c.wanted.ensures
+    (moved-means g.F.FrontEnd.means S _ (wanted_by asked report) _ texts c.in_ok-inputs.inputs c.wanted.ensures
     c.in_ok-report.ensures.texts (c.in_ok-inputs.ensures.means (c.in_ok-report.ensures.tells ∙ told)))
     refused)))
 
@@ -101,11 +110,13 @@ returns-clause-can g c = record {
 pub returns-clause-poses : goal.returns-clause-poses
 returns-clause-poses g c = λ told.
     let asked = asked_of c.args.request.now in
+    let S : Suspecting = joined (λ k. (goal.Granularity-dyn g (k.vtable, k.value)).called k.value)
+    (λ k. (goal.Granularity-dyn g (k.vtable, k.value)).lists k.value) c.args.tools.now.kinds.now in
     let texts = g.S.Shelf.texts c.args.shelf.now in
     let report = c.in_ok-report.report in
     record {
       report = c.in_ok-report.ensures.asks told;
-      problem = moved-means g.F.FrontEnd.means _ _ (wanted_by asked report) _ texts c.in_ok-inputs.inputs c.wanted.ensures
+      problem = moved-means g.F.FrontEnd.means S _ (wanted_by asked report) _ texts c.in_ok-inputs.inputs c.wanted.ensures
           c.in_ok-report.ensures.texts (c.in_ok-inputs.ensures.means (c.in_ok-report.ensures.tells ∙ told));
       inputs = moved (λ w ts. IsDigestOf w ts c.in_ok-inputs.inputs.digest) _ (wanted_by asked report) _ texts c.wanted.ensures
           c.in_ok-report.ensures.texts (c.in_ok-inputs.ensures.digest (c.in_ok-report.ensures.tells ∙ told));

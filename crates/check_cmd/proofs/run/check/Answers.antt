@@ -22,18 +22,18 @@ returns-in-Err g c =
       spared = λ told ready. c.in-Err.ensures.only (both told).0 ready;
     })
 
-pub returns-in-Ok-new : goal.returns-in-Ok-new
-returns-in-Ok-new g c =
+pub returns-in-Ok-answer_of : goal.returns-in-Ok-answer_of
+returns-in-Ok-answer_of g c =
     let asked = asked_of c.args.request.now in
     let both = and_parts (g.S.Shelf.tells c.args.shelf.now) (g.O.Sink.tells c.args.out.now) in
     let given = given_of c.in-Ok.evidence in
-    judged-keeps g.F.FrontEnd.means g.F.FrontEnd.refuses _ _ asked _ c.in-Ok-new.answer.status c.in-Ok-new.answer.line.items
+    judged-keeps g.F.FrontEnd.means g.F.FrontEnd.refuses _ _ asked _ c.in-Ok-answer_of.answer.status c.in-Ok-answer_of.answer.line.items
     c.print_line.result
     (record {
-      answer = answer-status given c.in-Ok-new.answer c.in-Ok-new.ensures;
+      answer = answer-status given c.in-Ok-answer_of.answer c.in-Ok-answer_of.ensures;
       judged = λ told.
-          judged g.F.FrontEnd.means _ _ asked _ given c.in-Ok-new.answer (c.in-Ok.ensures.means (both told).0) c.in-Ok.ensures.same
-          c.in-Ok-new.ensures;
+          judged g.F.FrontEnd.means _ _ asked _ given c.in-Ok-answer_of.answer (c.in-Ok.ensures.means (both told).0) c.in-Ok.ensures.same
+          c.in-Ok-answer_of.ensures;
       nothing = c.in-Ok.ensures.written;
       prints = λ told. c.print_line.ensures.text (both told).1;
       shelf = c.in-Ok.ensures.counts;
@@ -44,13 +44,13 @@ pub returns : goal.returns
 returns g c =
     let asked = asked_of c.args.request.now in
     let both = and_parts (g.S.Shelf.tells c.args.shelf.now) (g.O.Sink.tells c.args.out.now) in
-    refused-keeps _ _ (ends-by_lines g.F.FrontEnd.means g.F.FrontEnd.refuses _ _ asked _) Memory c.print-2.result
+    refused-keeps _ _ (ends-by_lines g.F.FrontEnd.means g.F.FrontEnd.refuses _ _ asked _) Memory c.print-in-Err-answer_of.result
     (record {
       has_status = tt;
       cause = λ told. tt;
       nothing = c.in-Ok.ensures.written;
-      prints = λ told. c.print-2.ensures.text (both told).1;
+      prints = λ told. c.print-in-Err-answer_of.ensures.text (both told).1;
       shelf = tt;
-      sink = c.print-2.ensures.counts;
+      sink = c.print-in-Err-answer_of.ensures.counts;
       spared = λ told ready. tt;
     })
