@@ -1,5 +1,5 @@
 -- What is known of a list that can be judged: its design can be simulated, its form encodes the sets that work, and has its counter.
-use Rattle.std.proofs.Common.{◌≡◌, ℕ, suc, ◌+◌, ◌^◌, ◌<◌, ◌≤◌, List, [], ◌∷◌, length, map, refl, sym, ap, ◌∙◌, subst, arith}
+use Rattle.std.proofs.Common.{◌≡◌, ℕ, suc, ◌+◌, ◌^◌, ◌<◌, ◌≤◌, List, [], ◌∷◌, length, refl, ap, ◌∙◌, subst, arith}
 use Rattle.std.specs.Prelude.{All, true, ◌&&◌, nat_lt}
 use Rattle.std.specs.List.{list_all}
 use Rattle.std.proofs.lemmas.Bool.{lt-ltb}
@@ -8,7 +8,6 @@ use Rattle.gate_base.specs.Nodes.{counted}
 use Rattle.plain_sim.proofs.EvaluateRun.{can-run}
 use Rattle.suspect_map.specs.declared.group.Group.{Group}
 use Rattle.clause_base.specs.declared.form.Form.{Form}
-use Rattle.clause_base.specs.declared.literal.Lit.{Lit}
 use Rattle.clause_base.specs.Literal.{AreWithin}
 use Rattle.card_counter.specs.InForm.{HasCounter}
 use Rattle.card_counter.specs.Places.{starts}
@@ -17,7 +16,7 @@ use Rattle.unroller.specs.Unrolls.{variables_of}
 use Rattle.unroller.proofs.Whole.{base-unrolled}
 use Rattle.bit_circuit.specs.Circuits.{BitNet, circuit_of}
 use Rattle.debug_core.specs.Problems.{IsFormFor, IsProblem, Problem, clauses_for, suspect_count, suspects_of, unrolling_for}
-use Rattle.debug_core.specs.Standing.{IsEncodingOf, IsUnrollingFor}
+use Rattle.debug_core.specs.Standing.{IsEncodingOf}
 use Rattle.debug_core.proofs.Encoded.{counter, encodes, within}
 use Rattle.list_laws.specs.Listed.{Encodes}
 use Rattle.design_core.specs.Works.{Works}

@@ -1,5 +1,5 @@
 -- An accepted log that closes the list leaves no set of at most k suspects.
-use Rattle.std.proofs.Common.{◌≡◌, ◌⊎◌, inl, inr, ℕ, ◌+◌, ◌-◌, ◌<◌, ◌≤◌, Bool, true, false, List, [], ◌∷◌, ◌++◌, length, get_or, map, Some, refl, sym, ap, ap₂, ◌∙◌, subst, arith}
+use Rattle.std.proofs.Common.{◌≡◌, ◌⊎◌, inl, inr, ℕ, ◌+◌, ◌-◌, ◌<◌, ◌≤◌, Bool, true, List, [], ◌∷◌, ◌++◌, length, map, Some, refl, sym, ap, ap₂, ◌∙◌, subst, arith}
 use Rattle.std.specs.Prelude.{All, IsSomeAnd, None, Option, if◌then◌else◌, not, ◌||◌}
 use Rattle.std.proofs.lemmas.Bool.{cases_lt, false≢true, le-ltb}
 use Rattle.std.proofs.lemmas.List.{get_or-map, length-map}

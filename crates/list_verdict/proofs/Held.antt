@@ -1,16 +1,15 @@
 -- Sets that hold others: in an ascending list such a set stands behind those that it holds.
-use Rattle.std.proofs.Common.{◌≡◌, ◌≢◌, ◌⊎◌, inl, inr, ℕ, ◌+◌, ◌-◌, ◌<◌, ◌≤◌, List, length, Some, refl, sym, ap, ◌∙◌, subst, arith, true}
-use Rattle.std.specs.Prelude.{All, None, slice_get}
+use Rattle.std.proofs.Common.{◌≡◌, ◌⊎◌, inl, inr, ℕ, ◌+◌, ◌-◌, ◌<◌, ◌≤◌, List, length, Some, sym, ap, ◌∙◌, subst, arith, true}
+use Rattle.std.specs.Prelude.{None, slice_get}
 use Rattle.std.specs.List.Sorted.{IsStrictlyIncreasing}
 use Rattle.std.proofs.lemmas.Bool.{cases_lt}
 use Rattle.loc_base.proofs.ShelfLists.{All-member, Contains-at}
 use Rattle.design_core.specs.Listing.{is_before}
 use Rattle.design_core.specs.Works.{IsWithin}
 use Rattle.report_doc.specs.declared.types.ReportSet.{ReportSet}
-use Rattle.list_laws.proofs.Selected.{within-few, within-same}
+use Rattle.list_laws.proofs.Selected.{within-same}
 use Rattle.list_verdict.specs.declared.holding.Holding.{Holding}
-use Rattle.list_verdict.specs.Claims.{IsSetAt}
-use Rattle.list_verdict.specs.Conditions.{Holds, IsFirstToHold, NoneHolds}
+use Rattle.list_verdict.specs.Conditions.{Holds, IsFirstToHold}
 use Rattle.list_verdict.specs.Judging.{AreAscending, FirstHeld, FirstToHold, NoneWithin}
 use Rattle.list_verdict.proofs.Comparing.{before-few, before-self}
 use Rattle.list_verdict.proofs.Ordered.{got-same, got-within, set-at}

@@ -1,5 +1,5 @@
 -- From the conditions to the answers.
-use Rattle.std.proofs.Common.{◌≡◌, ◌⊎◌, inl, inr, ℕ, ◌+◌, ◌-◌, ◌<◌, ◌≤◌, List, length, get_or, map, Some, refl, sym, ap, ◌∙◌, subst, arith}
+use Rattle.std.proofs.Common.{◌≡◌, ◌⊎◌, inl, inr, ℕ, ◌+◌, ◌-◌, ◌<◌, ◌≤◌, List, length, get_or, Some, refl, sym, ap, ◌∙◌, subst, arith}
 use Rattle.std.specs.Prelude.{All, Err, IfOk, IfSome, IsNone, None, Ok, Option, Vec, Result, slice_get, ◌↔◌}
 use Rattle.std.specs.declared.alloc.Global.{Global}
 use Rattle.loc_base.specs.declared.memory.NoMemory.{NoMemory}

@@ -1,20 +1,19 @@
 -- Sets that are in order: their numbers, one set more, and each comes before all behind it.
-use Rattle.std.proofs.Common.{◌≡◌, ◌⊎◌, inl, inr, ℕ, zero, suc, ◌+◌, ◌-◌, ◌<◌, ◌≤◌, true, List, [], ◌∷◌, ◌++◌, length, get_or, map, Some, refl, sym, ap, ◌∙◌, subst, arith, length-append}
+use Rattle.std.proofs.Common.{◌≡◌, ◌⊎◌, inl, inr, ℕ, zero, suc, ◌+◌, ◌-◌, ◌<◌, ◌≤◌, true, List, [], ◌∷◌, ◌++◌, length, get_or, Some, refl, sym, ap, ◌∙◌, subst, arith, length-append}
 use Rattle.std.specs.Prelude.{All, Err, IfNone, IfOk, IfSome, IsTrue, Ok, Option, None, Result, slice_get}
 use Rattle.loc_base.specs.declared.memory.NoMemory.{NoMemory}
 use Rattle.std.specs.List.Sorted.{IsStrictlyIncreasing}
 use Rattle.std.proofs.lemmas.Bool.{cases_lt}
 use Rattle.std.proofs.lemmas.List.{length-map}
-use Rattle.loc_base.proofs.ShelfLists.{slice_get-at, slice_get-some}
+use Rattle.loc_base.proofs.ShelfLists.{slice_get-some}
 use Rattle.design_core.specs.declared.values.SetWithValues.{SetWithValues}
 use Rattle.design_core.specs.declared.values.Values.{Values}
 use Rattle.design_core.specs.Listing.{is_before}
-use Rattle.design_core.specs.Works.{IsSet}
 use Rattle.suspect_map.specs.declared.group.Group.{Group}
 use Rattle.report_doc.specs.declared.types.ReportSet.{ReportSet}
 use Rattle.report_values.specs.Written.{HasValues, IsWritten}
 use Rattle.debug_core.specs.Problems.{Problem, suspect_count, suspects_of}
-use Rattle.list_verdict.specs.Claims.{AreItsValues, Claim, IsSetAt}
+use Rattle.list_verdict.specs.Claims.{Claim, IsSetAt}
 use Rattle.list_verdict.specs.Conditions.{AreInOrder, ComesAfter, IsFirstOutOfOrder, IsInOrder}
 use Rattle.list_verdict.specs.Judging.{AreAscending, AreFound, AreMembers, FoundAt, IsFound, SaysValues}
 use Rattle.list_verdict.proofs.Comparing.{before-trans}

@@ -1,21 +1,20 @@
 -- The values that were found, replayed.
-use Rattle.std.proofs.Common.{◌≡◌, ℕ, ◌+◌, ◌-◌, ◌<◌, ◌≤◌, List, length, get_or, Some, refl, sym, ap, ◌∙◌, subst, arith}
-use Rattle.std.specs.Prelude.{All, None, Option, slice_get}
+use Rattle.std.proofs.Common.{◌≡◌, ℕ, ◌+◌, ◌-◌, ◌<◌, ◌≤◌, List, length, get_or, Some, sym, subst, arith}
+use Rattle.std.specs.Prelude.{All, None, slice_get}
 use Rattle.std.proofs.lemmas.List.{get_or_default}
 use Rattle.loc_base.proofs.ShelfLists.{slice_get-at, slice_get-some}
 use Rattle.design_core.specs.declared.values.SetWithValues.{SetWithValues}
 use Rattle.design_core.specs.declared.values.Values.{Values}
 use Rattle.cycle_sim.specs.declared.miss.Miss.{Miss}
-use Rattle.cycle_sim.specs.Misses.{AllMeet, AreValuesFor, FirstToMiss, IsFirstToMiss as IsFirstSetToMiss, MeetAll}
+use Rattle.cycle_sim.specs.Misses.{AllMeet, AreValuesFor, FirstToMiss, MeetAll}
 use Rattle.report_doc.specs.declared.types.ReportSet.{ReportSet}
-use Rattle.report_values.specs.Written.{IsWritten}
 use Rattle.report_values.proofs.Saying.{meets-same}
 use Rattle.report_values.proofs.Writing.{places-within}
 use Rattle.debug_core.specs.Problems.{IsProblem, suspects_of}
 use Rattle.list_verdict.specs.Claims.{AreItsValues, Claim, IsSetAt}
 use Rattle.list_verdict.specs.Conditions.{AreRight, IsFirstToMiss, IsRightSet}
 use Rattle.list_verdict.specs.Judging.{AreFound, IsFound}
-use Rattle.list_verdict.proofs.Ordered.{got-same, got-within, set-at}
+use Rattle.list_verdict.proofs.Ordered.{got-within, set-at}
 
 module _ (c : Claim) (can : IsProblem c.problem) (found : List SetWithValues) (are : AreFound c (length c.sets) found) where
   found-is : (place : ℕ) (f : SetWithValues) → slice_get found place ≡ Some f

@@ -1,12 +1,10 @@
 -- A list for which all five conditions hold is the whole list.
-use Rattle.std.proofs.Common.{◌≡◌, ◌≢◌, ◌⊎◌, inl, inr, ℕ, zero, suc, ◌+◌, ◌-◌, ◌<◌, ◌≤◌, Bool, true, List, [], ◌∷◌, ◌++◌, length, get_or, map, Some, refl, sym, ap, ◌∙◌, subst, arith}
+use Rattle.std.proofs.Common.{◌≡◌, ◌≢◌, ◌⊎◌, inl, inr, ℕ, zero, suc, ◌+◌, ◌<◌, ◌≤◌, List, [], ◌∷◌, ◌++◌, length, get_or, map, Some, refl, sym, ap, ◌∙◌, subst, arith}
 use Rattle.std.specs.Prelude.{All, AllPairs, Contains, IsTrue, slice_get}
-use Rattle.std.specs.List.Sorted.{IsStrictlyIncreasing}
 use Rattle.std.proofs.lemmas.Bool.{cases_eq, cases_lt}
-use Rattle.std.proofs.lemmas.List.{get_or-map, length-map}
-use Rattle.std.proofs.lemmas.List.Elements.{All-map, Contains-get_or}
+use Rattle.std.proofs.lemmas.List.{length-map}
+use Rattle.std.proofs.lemmas.List.Elements.{All-map}
 use Rattle.loc_base.proofs.ShelfLists.{All-member, Contains-place, slice_get-some}
-use Rattle.clause_base.specs.declared.form.Form.{Form}
 use Rattle.clause_base.specs.declared.literal.Lit.{Lit}
 use Rattle.clause_base.specs.declared.log.Step.{Step}
 use Rattle.clause_base.specs.Literal.{AllDistinct}
@@ -14,21 +12,18 @@ use Rattle.clause_base.specs.Satisfaction.{Satisfies}
 use Rattle.clause_base.specs.Acceptance.{Follows}
 use Rattle.clause_base.proofs.Accepted.{log_holds}
 use Rattle.card_counter.proofs.Said.{satisfies-both}
-use Rattle.design_core.specs.declared.trace.Trace.{Trace}
-use Rattle.design_core.specs.declared.values.Values.{Values}
-use Rattle.design_core.specs.Explained.{Explains, choices_in}
-use Rattle.design_core.specs.Listing.{IsEntry, IsList, is_before}
-use Rattle.design_core.specs.Works.{IsMinimal, IsSet, IsWithin, Works}
-use Rattle.set_enum.specs.Sets.{IsSetOf, NoneBelow, block_of, selected}
+use Rattle.design_core.specs.Explained.{choices_in}
+use Rattle.design_core.specs.Listing.{IsEntry, is_before}
+use Rattle.design_core.specs.Works.{IsSet, IsWithin, Works}
+use Rattle.set_enum.specs.Sets.{IsSetOf, NoneBelow, block_of}
 use Rattle.list_laws.specs.Listed.{Encodes, IsSelected}
 use Rattle.list_laws.proofs.Blocked.{Unmet, met-or-unmet, unmet-within}
 use Rattle.list_laws.proofs.Selected.{within-few, within-fewer, within-same}
 use Rattle.report_doc.specs.declared.types.ReportSet.{ReportSet}
 use Rattle.report_values.proofs.Saying.{written-explains}
 use Rattle.debug_core.specs.Problems.{IsFormFor, IsProblem, Problem, suspect_count, suspects_of}
-use Rattle.list_verdict.specs.Claims.{AreItsValues, Claim, IsSetAt}
-use Rattle.list_verdict.specs.Conditions.{AreInOrder, AreRight, Holds, IsInOrder, NoneHolds, blocks_for}
-use Rattle.list_verdict.specs.Judging.{AreAscending}
+use Rattle.list_verdict.specs.Claims.{Claim}
+use Rattle.list_verdict.specs.Conditions.{IsInOrder, blocks_for}
 use Rattle.list_verdict.specs.Verdicts.{IsExplained, IsWhole, IsWholeList, members_of}
 use Rattle.list_verdict.proofs.Asked.{form-counter, form-encodes, suspects-long}
 use Rattle.list_verdict.proofs.Closing.{none-below}

@@ -1,6 +1,6 @@
 -- The five conditions on a list: the sets are in order, none holds another, each makes the traces right, the log is accepted, and
 -- it closes the list. For each, what it is to hold, and which set or step is named where it doesn't: the first.
-use Rattle.std.specs.Prelude.{ℕ, ◌≡◌, ◌≢◌, ◌-◌, ◌<◌, ◌≤◌, IsTrue, List, length, map}
+use Rattle.std.specs.Prelude.{ℕ, ◌≢◌, ◌-◌, ◌<◌, ◌≤◌, IsTrue, List, length, map}
 use Rattle.design_core.specs.declared.values.Values.{Values}
 use Rattle.design_core.specs.Listing.{is_before}
 use Rattle.design_core.specs.Works.{IsSet, IsWithin}

@@ -1,4 +1,4 @@
-use Rattle.std.proofs.Common.{ℕ, List, ◌≡◌, true, arith, rules, subst, sym}
+use Rattle.std.proofs.Common.{◌≡◌, true, arith, rules, subst, sym}
 use Rattle.design_core.specs.Works.{IsWithin}
 use Rattle.list_verdict.specs.Judging.{NoneWithin}
 use Rattle.list_verdict.proofs.Held.{held-first, held-none, within-more}
