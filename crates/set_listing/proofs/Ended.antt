@@ -3,7 +3,9 @@ use Rattle.std.proofs.Common.{◌≡◌, ℕ, suc, ◌+◌, ◌-◌, ◌<◌, �
 use Rattle.std.proofs.Common.{◌++◌, length, map, drop, refl, ap, sym, ◌∙◌, subst, arith}
 use Rattle.std.specs.Prelude.{All, IsTrue, count_by, if◌then◌else◌}
 use Rattle.std.proofs.lemmas.Bool.{ne_eqb}
+use Rattle.std.proofs.Common.{get_or}
 use Rattle.std.proofs.lemmas.List.{get_or-map, length-map, take_all}
+use Rattle.std.proofs.lemmas.List.Elements.{All-cons, All-head, All-nil, All-tail}
 use Rattle.clause_base.specs.declared.literal.Lit.{Lit}
 use Rattle.clause_base.specs.declared.log.Step.{Step}
 use Rattle.clause_base.specs.Acceptance.{IsAccepted}
@@ -20,10 +22,15 @@ use Rattle.found_report.specs.Found.{HasRows}
 use Rattle.report_doc.specs.Lines.{AreWithin}
 use Rattle.report_doc.specs.Shape.{AreKinds}
 use Rattle.debug_core.specs.Debugging.{DebugState}
-use Rattle.debug_core.specs.Problems.{Problem}
+use Rattle.debug_core.specs.Problems.{Problem, suspects_of}
+use Rattle.suspect_map.specs.declared.group.Group.{Group}
+use Rattle.suspect_map.specs.Groups.{AreWithin as GroupsWithin}
+use Rattle.set_waves.specs.Waved.{AreRuns, CanBeWaved, HaveValues, Runs}
+use Rattle.set_waves.proofs.Given.{places-within, some-runs}
+use Rattle.set_listing.specs.Texts.{waved_for}
 use Rattle.debug_core.proofs.Rooms.{few-numbers, few-steps, plain-blocks}
 use Rattle.set_listing.specs.Asked.{Asked}
-use Rattle.set_listing.specs.Found.{EndsAs, IsCountedFor, IsEnded, IsShown, Portion, log_of, sets_of}
+use Rattle.set_listing.specs.Found.{EndsAs, IsCountedFor, IsEnded, IsShown, Portion, found_of, log_of, sets_of}
 use Rattle.set_listing.specs.Going.{HasEnded}
 use Rattle.design_core.specs.declared.trace.Trace.{Trace}
 use Rattle.design_core.specs.Explained.{cycles_before}
@@ -40,6 +47,14 @@ cycles-all (trace ∷ traces) =
     ap (λ t. if t then 0 else trace.cycles + cycles_before traces (suc (length traces) - 1))
     (ne_eqb (suc (length traces)) 0 (λ same. omega (arith, same)))
     ∙ ap (λ n. trace.cycles + cycles_before traces n) one ∙ ap (λ n. trace.cycles + n) (cycles-all traces)
+
+-- at its end a listing has at most as many sets as were asked for
+pub few-sets-of : (asked : Asked) (portions : List Portion) (log : List Step) (how : Ending) → EndsAs asked (sets_of portions) log how
+    → length (sets_of portions) ≤ asked.sets
+few-sets-of asked portions log Complete ends = omega (arith, ends.2)
+few-sets-of asked portions log Budget ends = omega (arith, ends.1)
+few-sets-of asked portions log Sets ends = omega (arith, ends)
+few-sets-of asked portions log Earlier ends = absurd ends
 
 module _ (asked : Asked) (s : DebugState) (found : List SetWithValues) (steps : ℕ) (ending : Ending) (portions : List Portion)
     (is : HasEnded asked s found steps ending portions) where
@@ -78,14 +93,8 @@ module _ (asked : Asked) (s : DebugState) (found : List SetWithValues) (steps : 
   few-listed = ap length is.listed ∙ length-map portions (λ portion. portion.set.members)
       ∙ sym (ap length is.found_are ∙ length-map portions (λ portion. portion.set))
 
-  few-sets : (how : Ending) → EndsAs asked (sets_of portions) s.log how → length (sets_of portions) ≤ asked.sets
-  few-sets Complete ends = omega (arith, ends.2)
-  few-sets Budget ends = omega (arith, ends.1)
-  few-sets Sets ends = omega (arith, ends)
-  few-sets Earlier ends = absurd ends
-
   few_found : length found ≤ asked.sets
-  few_found = omega (arith, few-sets ending is.ends, few-listed, ap length is.listed)
+  few_found = omega (arith, few-sets-of asked portions s.log ending is.ends, few-listed, ap length is.listed)
 
   module _ (few : asked.budget + asked.sets ≤ 4000000000) where
     few-here : count_by is_learned s.log + length s.listed ≤ 4000000000
@@ -155,3 +164,42 @@ module _ (asked : Asked) (s : DebugState) (found : List SetWithValues) (steps : 
 
       reportable : (sets : List SetWithValues) → All (IsShown asked.problem) sets → AreReportable asked.problem.traces sets
       reportable sets shown i d within = has-rows (shown i d within)
+
+  -- its waves can be written
+  pub can-be-waved : CanBeWaved (waved_for asked) asked.problem.order
+  can-be-waved = subst (λ (p : Problem). CanBeWaved (record { top = asked.top; clock = asked.clock; design = p.design; traces = p.traces })
+      p.order) is.problem (record {
+        simulable = record {
+          well_formed = is.holds.problem.well_formed;
+          once = is.holds.problem.once;
+          ordered = is.holds.problem.ordered;
+        };
+        traces = is.holds.problem.traces;
+        few = subst (λ (n : ℕ). n < 2 ^ 32) (sym (cycles-all s.problem.traces)) is.holds.problem.few_cycles;
+      })
+
+  pub have-values : HaveValues (waved_for asked) found
+  have-values i set within =
+      let shown : IsShown asked.problem (get_or found i set) = is.shown i set within in
+      record {
+        places = places-within (length asked.problem.design.places.items) (suspects_of asked.problem) (get_or found i set).members
+            (get_or found i set).values.places.items suspects-are shown.rows.places;
+        rows = shown.rows.rows;
+      }
+    where
+      suspects-are : All (All (λ p. p < length asked.problem.design.places.items)) (suspects_of asked.problem)
+      suspects-are = mapped asked.problem.groups
+          (subst (λ (p : Problem). GroupsWithin (length p.design.places.items) p.groups) is.problem is.holds.problem.groups)
+        where
+          mapped : (groups : List Group) → GroupsWithin (length asked.problem.design.places.items) groups
+              → All (All (λ p. p < length asked.problem.design.places.items)) (map (λ (group : Group). group.places) groups)
+          mapped [] all = All-nil (All (λ p. p < length asked.problem.design.places.items))
+          mapped (group ∷ groups) all =
+              All-cons (All (λ p. p < length asked.problem.design.places.items)) group.places
+              (map (λ (other : Group). other.places) groups)
+              (All-head (λ (other : Group). All (λ p. p < length asked.problem.design.places.items) other.places) group groups all)
+              (mapped groups (All-tail (λ (other : Group). All (λ p. p < length asked.problem.design.places.items) other.places)
+              group groups all))
+
+  pub runs-of : (runs : Runs) × AreRuns (waved_for asked) (found_of portions) runs
+  runs-of = some-runs (waved_for asked) asked.problem.order (found_of portions) can-be-waved

@@ -15,6 +15,7 @@ use Rattle.set_listing.specs.Found.{Portion, found_of}
 use Rattle.set_listing.specs.Lines.{ending_line, ending_status}
 use Rattle.set_listing.specs.Texts.{lines_of, report_of}
 use Rattle.set_listing.specs.Due.{opening, short, texts}
+use Rattle.set_waves.specs.Waved.{Runs}
 
 -- ---- last lines
 a_whole_list_of_two_sets : ending_line Complete 2 ≡ codes "complete 2\n"
@@ -30,7 +31,7 @@ unfolding digits
 a_budget_that_is_spent_before_a_set_is_found = refl
 
 -- ---- a listing under two names
-module _ (p : Problem) (inputs : Digest) (one two : Portion) (rest : List Step) where
+module _ (p : Problem) (inputs : Digest) (one two : Portion) (rest : List Step) (runs : Runs) where
   abbrev asked : Asked
   asked = record {
     problem = p;
@@ -38,6 +39,7 @@ module _ (p : Problem) (inputs : Digest) (one two : Portion) (rest : List Step) 
     sets = 1000;
     log = codes "l";
     report = codes "r";
+    waves = None;
     inputs = inputs;
     top = codes "m";
     clock = None;
@@ -55,12 +57,12 @@ module _ (p : Problem) (inputs : Digest) (one two : Portion) (rest : List Step) 
   memory_behind_the_head = refl
 
   -- the log of two sets and the rest of it
-  the_log_of_two_sets : text_behind (codes "l") (opening asked (one ∷ two ∷ []) ++ texts asked (one ∷ two ∷ []) rest Complete) None
+  the_log_of_two_sets : text_behind (codes "l") (opening asked (one ∷ two ∷ []) ++ texts asked (one ∷ two ∷ []) rest Complete runs) None
       ≡ Some (((head_text inputs ++ steps_text one.steps) ++ steps_text two.steps) ++ steps_text rest)
   the_log_of_two_sets = refl
 
   -- the report stands alone under its name
-  the_report_of_two_sets : text_behind (codes "r") (opening asked (one ∷ two ∷ []) ++ texts asked (one ∷ two ∷ []) rest Complete) None
+  the_report_of_two_sets : text_behind (codes "r") (opening asked (one ∷ two ∷ []) ++ texts asked (one ∷ two ∷ []) rest Complete runs) None
       ≡ Some (report_of asked (one.set ∷ two.set ∷ []) Complete)
   the_report_of_two_sets = refl
 

@@ -4,5 +4,8 @@ pub mod Pairs
 pub mod Steps
 pub mod Turning
 pub mod Ended
+pub mod Silent
 pub mod Runs
 pub mod Others
+pub mod Standing
+pub mod Whole

@@ -1,6 +1,16 @@
--- A listing writes under two names alone.
-use Rattle.std.proofs.Common.{◌≡◌, ◌≢◌, ◌⊎◌, inl, inr, ℕ, zero, suc, Bool, true, false, List, [], ◌∷◌, ◌++◌, length, take}
-use Rattle.std.proofs.Common.{Option, Some, refl, sym, ◌∙◌, subst, cond}
+-- A listing writes under the names of the log, the report and its waves alone.
+use Rattle.std.proofs.Common.{◌≡◌, ◌≢◌, ◌⊎◌, inl, inr, ℕ, zero, suc, ◌+◌, ◌<◌, ◌≤◌, Bool, true, false, List, [], ◌∷◌, ◌++◌, length, take}
+use Rattle.std.proofs.Common.{Option, Some, None, refl, sym, ◌∙◌, subst, cond, arith}
+use Rattle.std.proofs.lemmas.List.{length-map}
+use Rattle.clause_base.specs.declared.log.Step.{Step}
+use Rattle.design_core.specs.declared.trace.Trace.{Trace}
+use Rattle.design_core.specs.declared.values.SetWithValues.{SetWithValues}
+use Rattle.design_core.specs.declared.values.Values.{Values}
+use Rattle.design_core.specs.Valuation.{Valuation}
+use Rattle.report_doc.specs.declared.types.Ending.{Ending}
+use Rattle.set_waves.specs.Names.{IsWave, IsWaveName, wave_name}
+use Rattle.set_waves.specs.Waved.{Runs}
+use Rattle.set_waves.specs.Writes.{set_writes, waves_of, waves_writes}
 use Rattle.std.specs.Prelude.{slice_get}
 use Rattle.std.specs.Str.{bytes_eq}
 use Rattle.std.specs.Cmp.Lexicographic.{bytes_decides}
@@ -10,18 +20,29 @@ use Rattle.write_order.specs.Writes.{begin_text, print_piece, put_piece, text_af
 use Rattle.set_listing.specs.declared.outcome.Outcome.{Outcome}
 use Rattle.set_listing.specs.declared.outcome.Outcome.TheVariants as outcome
 use Rattle.set_listing.specs.Asked.{Asked}
-use Rattle.set_listing.specs.Found.{Portion}
+use Rattle.set_listing.specs.Found.{IsEnded, Portion, found_of, log_of, sets_of}
+use Rattle.set_listing.specs.Texts.{waved_for}
+use Rattle.set_listing.proofs.Ended.{few-sets-of}
 use Rattle.set_listing.specs.Lines.{ending_line, memory_line}
 use Rattle.set_listing.specs.Due.{IsBody, IsDue, ended, going_on}
 use Rattle.set_listing.specs.Due.{opening, sets_in, short, so_far, texts, wanting, whole}
 use Rattle.set_listing.specs.Going.{sets_writes}
 use Rattle.set_listing.specs.Outcomes.{Leaves}
 
--- a write that names nothing but the log and the report
+-- a write that names nothing but the log, the report and waves
+abbrev IsOwnName : Asked → List ℕ → Type 0
+IsOwnName asked name =
+    (name ≡ asked.log) ⊎ ((name ≡ asked.report) ⊎ IsWave asked.waves asked.sets (length asked.problem.traces) name)
+
 abbrev IsOwn : Asked → Write → Type 0
-IsOwn asked (begin_text name) = (name ≡ asked.log) ⊎ (name ≡ asked.report)
-IsOwn asked (put_piece name piece) = (name ≡ asked.log) ⊎ (name ≡ asked.report)
+IsOwn asked (begin_text name) = IsOwnName asked name
+IsOwn asked (put_piece name piece) = IsOwnName asked name
 IsOwn asked (print_piece piece) = Unit {0}
+
+-- the waves of the sets from one on
+abbrev waves_from : Asked → Option (List ℕ) → Runs → ℕ → List SetWithValues → List Write
+waves_from asked None runs s sets = []
+waves_from asked (Some prefix) runs s sets = waves_writes (waved_for asked) prefix runs s sets
 
 abbrev AreOwn : Asked → List Write → Type 0
 AreOwn asked [] = Unit {0}
@@ -55,30 +76,74 @@ module _ (asked : Asked) where
   own-opening : (portions : List Portion) → AreOwn asked (opening asked portions)
   own-opening portions = (inl refl, (inl refl, own-sets portions))
 
+  -- the waves
+  own-set : (prefix : List ℕ) → asked.waves ≡ Some prefix → (s : ℕ) → s < asked.sets → (values : Values) (runs : ℕ → List Valuation)
+      (j : ℕ) (traces : List Trace) → j + length traces ≤ length asked.problem.traces
+      → AreOwn asked (set_writes (waved_for asked) prefix (s + 1) values runs j traces)
+  own-set prefix is s few values runs j [] within = tt
+  own-set prefix is s few values runs j (trace ∷ traces) within =
+      let own : IsOwnName asked (wave_name prefix (s + 1) (j + 1)) =
+      inr (inr (subst (λ (p : Option (List ℕ)). IsWave p asked.sets (length asked.problem.traces) (wave_name prefix (s + 1) (j + 1)))
+      (sym is) (named s j few (omega (arith, within))))) in
+      (own, (own, own-set prefix is s few values runs (j + 1) traces (omega (arith, within))))
+    where
+      named : (s j : ℕ) → s < asked.sets → j < length asked.problem.traces
+          → IsWaveName prefix asked.sets (length asked.problem.traces) (wave_name prefix (s + 1) (j + 1))
+      named s j few low = record {
+        set = s + 1;
+        trace = j + 1;
+        from_set = omega arith;
+        to_set = omega (arith, few);
+        from_trace = omega arith;
+        to_trace = omega (arith, low);
+        is = refl;
+      }
+
+  own-waves : (prefix : Option (List ℕ)) → asked.waves ≡ prefix → (runs : Runs) (s : ℕ) (sets : List SetWithValues)
+      → s + length sets ≤ asked.sets → AreOwn asked (waves_from asked prefix runs s sets)
+  own-waves None is runs s sets few = tt
+  own-waves (Some prefix) is runs s [] few = tt
+  own-waves (Some prefix) is runs s (set ∷ sets) few =
+      own-append (set_writes (waved_for asked) prefix (s + 1) set.values (runs s) 0 asked.problem.traces)
+      (waves_writes (waved_for asked) prefix runs (s + 1) sets)
+      (own-set prefix is s (omega (arith, few)) set.values (runs s) 0 asked.problem.traces (omega arith))
+      (own-waves (Some prefix) is runs (s + 1) sets (omega (arith, few)))
+
+  own-texts : (form : List (List Lit)) (portions : List Portion) (rest : List Step) (ending : Ending) (runs : Runs)
+      → IsEnded asked form portions rest ending → AreOwn asked (texts asked portions rest ending runs)
+  own-texts form portions rest ending runs is =
+      let few : length (sets_of portions) ≤ asked.sets = few-sets-of asked portions (log_of portions ++ rest) ending is.ends in
+      (inl refl, (inr (inl refl), (inr (inl refl), waves-own asked.waves refl (own-waves asked.waves refl runs 0 (found_of portions)
+      (omega (arith, few, length-map portions (λ (p : Portion). p.set.members), length-map portions (λ (p : Portion). p.set)))))))
+    where
+      waves-own : (prefix : Option (List ℕ)) → asked.waves ≡ prefix → AreOwn asked (waves_from asked prefix runs 0 (found_of portions))
+          → AreOwn asked (waves_of prefix (waved_for asked) runs (found_of portions))
+      waves-own None is own = own
+      waves-own (Some prefix) is own = own
+
   own-body : (form : List (List Lit)) (body : List Write) → IsBody asked form body → AreOwn asked body
   own-body form body (going_on portions found) = own-opening portions
-  own-body form body (ended portions rest ending is) = own-append (opening asked portions) (texts asked portions rest ending)
-      (own-opening portions) (inl refl, (inr refl, (inr refl, tt)))
+  own-body form body (ended portions rest ending runs is are) =
+      own-append (opening asked portions) (texts asked portions rest ending runs) (own-opening portions)
+      (own-texts form portions rest ending runs is)
 
   own-due : (form : List (List Lit)) (due : List Write) → IsDue asked form due → AreOwn asked due
   own-due form due (so_far portions found) = own-opening portions
-  own-due form due (whole portions rest ending is) =
-      own-append (opening asked portions ++ texts asked portions rest ending) (print_piece (ending_line ending (length portions)) ∷ [])
-      (own-append (opening asked portions) (texts asked portions rest ending) (own-opening portions) (
-        inl refl,
-        (
-          inr refl,
-          (inr refl, tt),
-        ),
-      )) (tt, tt)
+  own-due form due (whole portions rest ending runs is are) =
+      own-append (opening asked portions ++ texts asked portions rest ending runs) (print_piece (ending_line ending (length portions)) ∷ [])
+      (own-append (opening asked portions) (texts asked portions rest ending runs) (own-opening portions)
+      (own-texts form portions rest ending runs is)) (tt, tt)
   own-due form due (wanting body count is few) =
       own-append (take count body) (print_piece (memory_line (sets_in (take count body))) ∷ []) (own-take count body
       (own-body form body is)) (tt, tt)
 
-  module _ (name : List ℕ) (no_log : name ≢ asked.log) (no_report : name ≢ asked.report) where
-    another : (other : List ℕ) → (other ≡ asked.log) ⊎ (other ≡ asked.report) → name ≢ other
+  module _ (name : List ℕ) (no_log : name ≢ asked.log) (no_report : name ≢ asked.report)
+      (no_wave : ¬ IsWave asked.waves asked.sets (length asked.problem.traces) name) where
+    another : (other : List ℕ) → IsOwnName asked other → name ≢ other
     another other (inl log) same = no_log (same ∙ log)
-    another other (inr report) same = no_report (same ∙ report)
+    another other (inr (inl report)) same = no_report (same ∙ report)
+    another other (inr (inr wave)) same =
+        no_wave (subst (IsWave asked.waves asked.sets (length asked.problem.traces)) (sym same) wave)
 
     differs : (other : List ℕ) → name ≢ other → bytes_eq name other ≡ false
     differs other apart = at (bytes_eq name other) refl
@@ -106,9 +171,9 @@ module _ (asked : Asked) where
     -- the texts under other names stay
     pub others-stay : (o : Outputs) (r : Outcome) → Leaves asked o r → o.now_written name ≡ o.written name
     others-stay o (outcome.Ended ending) is =
-        done-stays (opening asked is.portions ++ texts asked is.portions is.rest is.ending ++ print_piece (ending_line is.ending
+        done-stays (opening asked is.portions ++ texts asked is.portions is.rest is.ending is.runs ++ print_piece (ending_line is.ending
         (length is.portions)) ∷ [])
-        o (own-due is.form _ (whole is.portions is.rest is.ending is.is_ended)) is.done
+        o (own-due is.form _ (whole is.portions is.rest is.ending is.runs is.is_ended is.are_runs)) is.done
     others-stay o outcome.Failed is =
         done-stays (take is.stops.count is.due ++ is.stops.part) o
         (own-append (take is.stops.count is.due) is.stops.part (own-take is.stops.count is.due (own-due is.form is.due is.is_due))

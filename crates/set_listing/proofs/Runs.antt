@@ -1,5 +1,5 @@
 -- A listing as a whole: what stands where one of its writes fails, where memory is wanted, and at its end.
-use Rattle.std.proofs.Common.{◌≡◌, ◌⊎◌, inl, inr, ℕ, zero, suc, ◌+◌, ◌<◌, ◌≤◌}
+use Rattle.std.proofs.Common.{◌≡◌, ◌⊎◌, inl, inr, ℕ, zero, suc, ◌+◌, ◌<◌, ◌≤◌, ◌^◌}
 use Rattle.std.proofs.Common.{Bool, true, List, [], ◌∷◌, ◌++◌, length, map, take, drop}
 use Rattle.std.proofs.Common.{Option, Some, None, Result, Ok, Err, refl, ap, sym, ◌∙◌, subst, arith, append_assoc}
 use Rattle.std.specs.Prelude.{OnOk, cond, count_by}
@@ -12,6 +12,7 @@ use Rattle.clause_base.specs.Acceptance.{IsAccepted}
 use Rattle.design_core.specs.declared.values.SetWithValues.{SetWithValues}
 use Rattle.log_portions.specs.Portions.{head_text}
 use Rattle.report_doc.specs.declared.types.Ending.{Ending}
+use Rattle.report_doc.specs.declared.types.Ending.TheVariants.{Budget}
 use Rattle.set_enum.specs.Sets.{block_of}
 use Rattle.write_order.specs.declared.write.WriteErr.{WriteErr}
 use Rattle.write_order.specs.declared.write.WriteErr.TheVariants as write
@@ -24,7 +25,7 @@ use Rattle.set_listing.specs.declared.outcome.Outcome.TheVariants as outcome
 use Rattle.set_listing.specs.declared.stop.Stop.{Stop}
 use Rattle.set_listing.specs.declared.stop.Stop.TheVariants.{Failed, Memory}
 use Rattle.set_listing.specs.Asked.{Asked}
-use Rattle.set_listing.specs.Found.{AreFound, HasItsBlock, IsEnded, IsShown, Portion}
+use Rattle.set_listing.specs.Found.{AreFound, EndsAs, HasItsBlock, IsEnded, IsShown, Portion, found_of, sets_of}
 use Rattle.set_listing.specs.Lines.{ending_line, ending_status, memory_line}
 use Rattle.set_listing.specs.Due.{IsCut, IsListed, IsStopped, ended, going_on}
 use Rattle.set_listing.specs.Due.{opening, prints, sets_in, so_far, texts, wanting, whole}
@@ -33,7 +34,10 @@ use Rattle.set_listing.specs.Going.{SearchFails, Searched, StopsShort, TellsMemo
 use Rattle.set_listing.specs.Going.{closing_writes, outputs, searched_of, sets_writes}
 use Rattle.set_listing.specs.Outcomes.{Leaves as Ends}
 use Rattle.set_listing.specs.Stops.{stopped}
+use Rattle.set_listing.specs.Texts.{waved_for}
+use Rattle.set_listing.proofs.Silent.{AreSilent, silent-print, waves-silent}
 use Rattle.set_listing.proofs.Turning.{prints-sets}
+use Rattle.set_waves.specs.Waved.{AreRuns, Runs}
 
 abbrev Texts : Type 0
 Texts = List ℕ → Option (List ℕ)
@@ -202,17 +206,18 @@ module _ (asked : Asked) (s : DebugState) (found : List SetWithValues) (steps : 
         (omega arith))) done;
   }
 
-  module _ (is-ended : IsEnded asked s.form portions (drop steps s.log) ending) where
+  module _ (is-ended : IsEnded asked s.form portions (drop steps s.log) ending) (runs : Runs)
+      (are : AreRuns (waved_for asked) (found_of portions) runs) where
     abbrev rest : List Step
     rest = drop steps s.log
 
     abbrev last : List Write
     last = print_piece (ending_line ending (length portions)) ∷ []
 
-    closing-is : closing_writes asked found rest ending ≡ texts asked portions rest ending ++ last
+    closing-is : closing_writes asked found rest ending runs ≡ texts asked portions rest ending runs ++ last
     closing-is =
-        ap (λ (f : List SetWithValues). closing_writes asked f rest ending) has.found_are
-        ∙ ap (λ (n : ℕ). texts asked portions rest ending ++ print_piece (ending_line ending n) ∷ []) (length-map portions
+        ap (λ (f : List SetWithValues). closing_writes asked f rest ending runs) has.found_are
+        ∙ ap (λ (n : ℕ). texts asked portions rest ending runs ++ print_piece (ending_line ending n) ∷ []) (length-map portions
         (λ portion. portion.set))
 
     module _ (was mid is : Texts) (printed mid_printed now_printed : List ℕ)
@@ -220,13 +225,19 @@ module _ (asked : Asked) (s : DebugState) (found : List SetWithValues) (steps : 
       abbrev o : Outputs
       o = outputs was is printed now_printed
 
-      all-written : opening asked portions ++ closing_writes asked found rest ending ≡
-          (opening asked portions ++ texts asked portions rest ending) ++ last
+      all-written : opening asked portions ++ closing_writes asked found rest ending runs ≡
+          (opening asked portions ++ texts asked portions rest ending runs) ++ last
       all-written =
           ap (λ (ws : List Write). opening asked portions ++ ws) closing-is
-          ∙ sym (append_assoc (opening asked portions) (texts asked portions rest ending) last)
+          ∙ sym (append_assoc (opening asked portions) (texts asked portions rest ending runs) last)
 
-      pub close-done : AreDone (closing_writes asked found rest ending) (outputs mid is mid_printed now_printed) → IsListed asked o
+      is-spent : ending ≡ Budget → asked.budget < 3 ^ s.vars
+      is-spent same =
+          let spent : EndsAs asked (sets_of portions) s.log Budget =
+          subst (EndsAs asked (sets_of portions) s.log) same has.ends in
+          subst (λ (n : ℕ). n < 3 ^ s.vars) spent.0 has.holds.few_learned
+
+      pub close-done : AreDone (closing_writes asked found rest ending runs) (outputs mid is mid_printed now_printed) → IsListed asked o
           (ending_status ending)
       close-done done = record {
         vars = s.vars;
@@ -237,57 +248,60 @@ module _ (asked : Asked) (s : DebugState) (found : List SetWithValues) (steps : 
         ending = ending;
         is_ended = is-ended;
         has_status = refl;
+        is_spent = is-spent;
+        runs = runs;
+        are_runs = are;
         done = subst (λ (ws : List Write). AreDone ws o) all-written
             (done-then (opening asked portions)
-            (closing_writes asked found rest ending) was mid is printed mid_printed now_printed before done);
+            (closing_writes asked found rest ending runs) was mid is printed mid_printed now_printed before done);
       }
 
-      pub close-stops : StopsIn (closing_writes asked found rest ending) (outputs mid is mid_printed now_printed) → IsStopped asked o
+      pub close-stops : StopsIn (closing_writes asked found rest ending runs) (outputs mid is mid_printed now_printed) → IsStopped asked o
       close-stops stop = record {
         vars = s.vars;
         form = s.form;
         is_form = is-form-there;
-        due = (opening asked portions ++ texts asked portions rest ending) ++ last;
-        is_due = whole portions rest ending is-ended;
+        due = (opening asked portions ++ texts asked portions rest ending runs) ++ last;
+        is_due = whole portions rest ending runs is-ended are;
         stops = subst (λ (ws : List Write). StopsIn ws o) all-written
             (stops-then (opening asked portions)
-            (closing_writes asked found rest ending) was mid is printed mid_printed now_printed before stop);
+            (closing_writes asked found rest ending runs) was mid is printed mid_printed now_printed before stop);
       }
 
       -- the writes behind the search that stand before the last line print nothing
-      texts-print : (log report steps_piece report_piece : List ℕ) (c : ℕ) → c ≤ 3
-          → count_by prints (take c (put_piece log steps_piece ∷ begin_text report ∷ put_piece report report_piece ∷ [])) ≡ 0
-      texts-print log report steps_piece report_piece zero few = refl
-      texts-print log report steps_piece report_piece (suc zero) few = refl
-      texts-print log report steps_piece report_piece (suc (suc zero)) few = refl
-      texts-print log report steps_piece report_piece (suc (suc (suc zero))) few = refl
-      texts-print log report steps_piece report_piece (suc (suc (suc (suc c)))) few = absurd (omega (arith, few))
+      texts-silent : AreSilent (texts asked portions rest ending runs)
+      texts-silent = (refl, (refl, (refl, waves-silent asked (found_of portions) runs)))
 
-      pub close-short : AreBegun (closing_writes asked found rest ending) (outputs mid is mid_printed now_printed)
+      pub close-short : AreBegun (closing_writes asked found rest ending runs) (outputs mid is mid_printed now_printed)
           → StopsShort asked (Some (length found)) o
-      close-short begun = at begun.count (omega (arith, begun.within)) begun.done
+      close-short begun = at begun.count (omega (arith, begun.within, few-writes)) begun.done
         where
-          at : (c : ℕ) → c ≤ 3 → AreDone (take c (closing_writes asked found rest ending)) (outputs mid is mid_printed now_printed)
+          few-writes : length (closing_writes asked found rest ending runs) ≡ length (texts asked portions rest ending runs) + 1
+          few-writes = ap length closing-is ∙ length-append (texts asked portions rest ending runs) last
+
+          at : (c : ℕ) → c ≤ length (texts asked portions rest ending runs)
+              → AreDone (take c (closing_writes asked found rest ending runs)) (outputs mid is mid_printed now_printed)
               → StopsShort asked (Some (length found)) o
           at c few done = record {
             vars = s.vars;
             form = s.form;
             is_form = is-form-there;
-            body = opening asked portions ++ texts asked portions rest ending;
-            is_body = ended portions rest ending is-ended;
+            body = opening asked portions ++ texts asked portions rest ending runs;
+            is_body = ended portions rest ending runs is-ended are;
             count = length (opening asked portions) + c;
-            within = omega (arith, length-append (opening asked portions) (texts asked portions rest ending), few);
+            within = omega (arith, length-append (opening asked portions) (texts asked portions rest ending runs), few);
             sets_are = ap Some (sym (
-                sum_by-append (λ w. cond (prints w) 1 0) (opening asked portions) (take c (texts asked portions rest ending))
-                ∙ ap (λ (n : ℕ). count_by prints (opening asked portions) + n) (texts-print asked.log asked.report _ _ c few)
+                sum_by-append (λ w. cond (prints w) 1 0) (opening asked portions) (take c (texts asked portions rest ending runs))
+                ∙ ap (λ (n : ℕ). count_by prints (opening asked portions) + n)
+                (silent-print (texts asked portions rest ending runs) texts-silent c)
                 ∙ plus-nothing (count_by prints (opening asked portions)) ∙ opening-prints))
-                ∙ ap sets_in (sym (take-append-add (opening asked portions) (texts asked portions rest ending) c));
+                ∙ ap sets_in (sym (take-append-add (opening asked portions) (texts asked portions rest ending runs) c));
             done = subst (λ (ws : List Write). AreDone ws o) (sym (take-append-add (opening asked portions)
-                (texts asked portions rest ending) c))
+                (texts asked portions rest ending runs) c))
                 (done-then (opening asked portions) (take c
-                (texts asked portions rest ending)) was mid is printed mid_printed now_printed before
+                (texts asked portions rest ending runs)) was mid is printed mid_printed now_printed before
                 (subst (λ (ws : List Write). AreDone ws (outputs mid is mid_printed now_printed))
-                (ap (take c) closing-is ∙ take-append-le c (texts asked portions rest ending) last few) done));
+                (ap (take c) closing-is ∙ take-append-le c (texts asked portions rest ending runs) last few) done));
           }
             where
               plus-nothing : (n : ℕ) → n + 0 ≡ n
@@ -396,15 +410,16 @@ search-stopped asked s found steps was mid is printed mid_printed now_printed to
 -- what stands behind the search was written, or not
 module _ (asked : Asked) (s : DebugState) (found : List SetWithValues) (steps : ℕ) (ending : Ending) (portions : List Portion)
     (has : HasEnded asked s found steps ending portions) (is-ended : IsEnded asked s.form portions (drop steps s.log) ending)
+    (runs : Runs) (are : AreRuns (waved_for asked) (found_of portions) runs)
     (was mid is : Texts) (printed mid_printed now_printed : List ℕ) (before : AreDone (opening asked portions)
     (outputs was mid printed mid_printed)) where
   pub close-stopped : (r : Result (Unit {0}) WriteErr) (why : Stop) → stopped r (Some (length found)) ≡ Err why
-      → Leaves (closing_writes asked found (drop steps s.log) ending) (outputs mid is mid_printed now_printed) r
+      → Leaves (closing_writes asked found (drop steps s.log) ending runs) (outputs mid is mid_printed now_printed) r
       → RunLeaves asked (outputs was is printed now_printed) (Err why)
   close-stopped (Ok x) why same left = absurd (cc)
   close-stopped (Err write.Failed) why same left =
       stopped-failed asked (outputs was is printed now_printed) why same
-      (close-stops asked s found steps ending portions has is-ended was mid is printed mid_printed now_printed before left)
+      (close-stops asked s found steps ending portions has is-ended runs are was mid is printed mid_printed now_printed before left)
   close-stopped (Err write.NoMemory) why same left =
       stopped-short asked (outputs was is printed now_printed) (Some (length found)) why same
-      (close-short asked s found steps ending portions has is-ended was mid is printed mid_printed now_printed before left)
+      (close-short asked s found steps ending portions has is-ended runs are was mid is printed mid_printed now_printed before left)

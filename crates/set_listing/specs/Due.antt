@@ -1,17 +1,19 @@
 -- What a listing writes, in order: the head of the log; for each set its portion of the log and its lines; the rest of the log;
--- the report; the last line. And what stands where that is cut short.
-use Rattle.std.specs.Prelude.{ℕ, ◌≡◌, ◌≤◌, ◌⊎◌, Bool, true, false, List, [], ◌∷◌, ◌++◌, length, take, count_by, Option, Some, None}
+-- the report; the waves; the last line. And what stands where that is cut short.
+use Rattle.std.specs.Prelude.{ℕ, ◌≡◌, ◌≤◌, ◌<◌, ◌^◌, ◌⊎◌, Bool, true, false, List, [], ◌∷◌, ◌++◌, length, take, count_by, Option, Some, None}
 use Rattle.std.specs.List.{flat_map}
 use Rattle.clause_base.specs.declared.literal.Lit.{Lit}
 use Rattle.clause_base.specs.declared.log.Step.{Step}
 use Rattle.log_portions.specs.Portions.{head_text, steps_text}
 use Rattle.write_order.specs.Writes.{AreDone, Outputs, StopsIn, Write, begin_text, print_piece, put_piece}
 use Rattle.report_doc.specs.declared.types.Ending.{Ending}
+use Rattle.report_doc.specs.declared.types.Ending.TheVariants.{Budget}
 use Rattle.debug_core.specs.Problems.{IsFormFor}
 use Rattle.set_listing.specs.Asked.{Asked}
 use Rattle.set_listing.specs.Found.{AreFound, IsEnded, Portion, found_of}
 use Rattle.set_listing.specs.Lines.{ending_line, ending_status, memory_line}
-use Rattle.set_listing.specs.Texts.{lines_of, report_of}
+use Rattle.set_listing.specs.Texts.{lines_of, report_of, waved_for, waves}
+use Rattle.set_waves.specs.Waved.{AreRuns, Runs}
 
 -- ---- the writes
 -- those of a set
@@ -24,17 +26,18 @@ opening asked portions =
     begin_text asked.log ∷ put_piece asked.log (head_text asked.inputs) ∷ flat_map (set_writes asked) portions
 
 -- the texts behind the search
-abbrev pub texts : Asked → List Portion → List Step → Ending → List Write
-texts asked portions rest ending =
+abbrev pub texts : Asked → List Portion → List Step → Ending → Runs → List Write
+texts asked portions rest ending runs =
     put_piece asked.log (steps_text rest) ∷ begin_text asked.report
-    ∷ put_piece asked.report (report_of asked (found_of portions) ending) ∷ []
+    ∷ put_piece asked.report (report_of asked (found_of portions) ending) ∷ waves asked (found_of portions) runs
 
 -- ---- what is written before the last line
 -- the writes of a listing that goes on, or of one that ended, but its last line
 pub data IsBody (asked : Asked) (form : List (List Lit)) : List Write → Type 0 where
   going_on : (portions : List Portion) → AreFound asked.problem form portions → IsBody asked form (opening asked portions)
-  ended : (portions : List Portion) (rest : List Step) (ending : Ending) → IsEnded asked form portions rest ending
-      → IsBody asked form (opening asked portions ++ texts asked portions rest ending)
+  ended : (portions : List Portion) (rest : List Step) (ending : Ending) (runs : Runs) → IsEnded asked form portions rest ending
+      → AreRuns (waved_for asked) (found_of portions) runs
+      → IsBody asked form (opening asked portions ++ texts asked portions rest ending runs)
 
 -- whether a write prints: before the last line one write prints for each set
 abbrev pub prints : Write → Bool
@@ -55,8 +58,10 @@ short count body = take count body ++ print_piece (memory_line (sets_in (take co
 -- all that a listing writes: it goes on; it ends, with its last line; or memory is wanted behind some of its writes
 pub data IsDue (asked : Asked) (form : List (List Lit)) : List Write → Type 0 where
   so_far : (portions : List Portion) → AreFound asked.problem form portions → IsDue asked form (opening asked portions)
-  whole : (portions : List Portion) (rest : List Step) (ending : Ending) → IsEnded asked form portions rest ending
-      → IsDue asked form (opening asked portions ++ texts asked portions rest ending ++ print_piece (ending_line ending (length portions)) ∷ [])
+  whole : (portions : List Portion) (rest : List Step) (ending : Ending) (runs : Runs) → IsEnded asked form portions rest ending
+      → AreRuns (waved_for asked) (found_of portions) runs
+      → IsDue asked form (opening asked portions ++ texts asked portions rest ending runs
+      ++ print_piece (ending_line ending (length portions)) ∷ [])
   wanting : (body : List Write) (count : ℕ) → IsBody asked form body → count ≤ length body → IsDue asked form (short count body)
 
 -- ---- how a listing ends
@@ -70,7 +75,13 @@ pub record IsListed (asked : Asked) (o : Outputs) (status : ℕ) : Type 0 where
   pub ending : Ending
   pub is_ended : IsEnded asked form portions rest ending
   pub has_status : status ≡ ending_status ending
-  pub done : AreDone (opening asked portions ++ texts asked portions rest ending ++ print_piece (ending_line ending (length portions)) ∷ []) o
+  -- a budget of 3 ^ V, for the V variables of the form, is never spent
+  pub is_spent : ending ≡ Budget → asked.budget < 3 ^ vars
+  -- the runs that the waves show: of each trace, with the values of each set
+  pub runs : Runs
+  pub are_runs : AreRuns (waved_for asked) (found_of portions) runs
+  pub done : AreDone (opening asked portions ++ texts asked portions rest ending runs
+      ++ print_piece (ending_line ending (length portions)) ∷ []) o
 
 -- 6: one of the writes that were due failed, and nothing was written behind it
 pub record IsStopped (asked : Asked) (o : Outputs) : Type 0 where

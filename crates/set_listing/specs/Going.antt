@@ -24,7 +24,8 @@ use Rattle.set_listing.specs.declared.outcome.Outcome.TheVariants as outcome
 use Rattle.set_listing.specs.Asked.{Asked}
 use Rattle.set_listing.specs.Found.{AreFound, EndsAs, HasItsBlock, IsShown, Portion, found_of, log_of, sets_of}
 use Rattle.set_listing.specs.Lines.{ending_line, ending_status, memory_line}
-use Rattle.set_listing.specs.Texts.{report_of}
+use Rattle.set_listing.specs.Texts.{report_of, waves}
+use Rattle.set_waves.specs.Waved.{Runs}
 use Rattle.set_listing.specs.Due.{IsBody, IsListed, IsStopped, prints, set_writes, sets_in}
 
 -- ---- the outputs
@@ -52,10 +53,10 @@ abbrev pub report_writes : Asked → List SetWithValues → Ending → List Writ
 report_writes asked found ending = begin_text asked.report ∷ put_piece asked.report (report_of asked found ending) ∷ []
 
 -- those behind the search
-abbrev pub closing_writes : Asked → List SetWithValues → List Step → Ending → List Write
-closing_writes asked found rest ending =
+abbrev pub closing_writes : Asked → List SetWithValues → List Step → Ending → Runs → List Write
+closing_writes asked found rest ending runs =
     put_piece asked.log (steps_text rest) ∷ begin_text asked.report ∷ put_piece asked.report (report_of asked found ending)
-    ∷ print_piece (ending_line ending (length found)) ∷ []
+    ∷ (waves asked found runs ++ print_piece (ending_line ending (length found)) ∷ [])
 
 -- ---- between two sets
 -- all that the search put into its log is written, and so are the lines of all sets that were found

@@ -13,6 +13,7 @@ asked_of job = record {
   sets = job.sets;
   log = job.log.now;
   report = job.report.now;
+  waves = option_copied job.waves;
   inputs = job.inputs;
   top = job.top.now;
   clock = option_copied job.clock;

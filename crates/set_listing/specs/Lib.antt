@@ -9,3 +9,4 @@ pub mod Stops
 pub mod Going
 pub mod Reporting
 pub mod Checks
+pub mod Laws

@@ -1,4 +1,4 @@
--- What a listing writes of its sets: the lines of a set, and the report.
+-- What a listing writes of its sets: the lines of a set, the report, and the waves.
 use Rattle.std.specs.Prelude.{ℕ, List, map}
 use Rattle.design_core.specs.declared.values.SetWithValues.{SetWithValues}
 use Rattle.report_doc.specs.declared.types.Ending.{Ending}
@@ -6,6 +6,9 @@ use Rattle.report_doc.specs.declared.types.Report.{Report}
 use Rattle.report_doc.specs.Document.{text_of}
 use Rattle.report_doc.specs.Lines.{set_lines}
 use Rattle.found_report.specs.Found.{set_of, suspect_of}
+use Rattle.write_order.specs.Writes.{Write}
+use Rattle.set_waves.specs.Waved.{Runs, Waved}
+use Rattle.set_waves.specs.Writes.{waves_of}
 use Rattle.set_listing.specs.Asked.{Asked}
 
 -- the lines of a set: its own, and of each member its number, its kind, its line and its label
@@ -28,3 +31,12 @@ report_for asked found ending = record {
 
 abbrev pub report_of : Asked → List SetWithValues → Ending → List ℕ
 report_of asked found ending = text_of (report_for asked found ending)
+
+-- ---- the waves
+-- what they are of
+abbrev pub waved_for : Asked → Waved
+waved_for asked = record { top = asked.top; clock = asked.clock; design = asked.problem.design; traces = asked.problem.traces }
+
+-- a wave for each set that was found and each trace, where waves are asked for; `runs` has their runs
+abbrev pub waves : Asked → List SetWithValues → Runs → List Write
+waves asked found runs = waves_of asked.waves (waved_for asked) runs found

@@ -14,6 +14,8 @@ pub struct Job<'a> {
     pub log: &'a str,
     /// The name of the report.
     pub report: &'a str,
+    /// The prefix of the waves' names, where waves are asked for: set S and trace T have `P-S-T.vcd`.
+    pub waves: Option<&'a str>,
     /// The digest of the inputs.
     pub inputs: Digest,
     /// The module that is the top, the clock, and the kinds of suspects, as the report repeats them.

@@ -1,18 +1,21 @@
 //! Lists the sets of a problem, and writes what is found as it is found: the log in portions, the lines of each set, the report,
-//! and a last line. What searches for the sets is a trait, so that the listing is proved for every search that keeps its contract.
+//! the waves, and a last line. What searches for the sets is a trait, so that the listing is proved for every search that keeps its contract.
 #![tactic(auto)]
 
 mod checking;
 mod job;
+mod laws;
 mod lines;
 mod listing;
 mod outcome;
 mod report;
 mod search;
 mod stop;
+mod waving;
 mod writes;
 
 pub use job::{Job, Task, Tools};
+pub use laws::{enough_is_whole, listed_texts};
 pub use listing::list;
 pub use outcome::Outcome;
 pub use search::Search;

@@ -11,6 +11,9 @@ ghost use Rattle.set_listing.specs.Jobs.{IsJob, IsUpTo, asked_of};
 ghost use Rattle.set_listing.specs.Outcomes.{Leaves as Ends, OutcomeCause};
 ghost use Rattle.set_listing.specs.Checks.{CanBeChecked};
 ghost use Rattle.set_listing.specs.Reporting.{CanBeReported};
+ghost use Rattle.set_listing.specs.Texts.{waved_for, waves};
+ghost use Rattle.set_waves.specs.Names.{IsWave};
+ghost use Rattle.set_waves.specs.Waved.{AreRuns, CanBeWaved, HaveValues, Runs};
 
 use crate::checking::check_log;
 use crate::job::{Job, Task, Tools};
@@ -18,6 +21,7 @@ use crate::outcome::Outcome;
 use crate::report::text_of_report;
 use crate::search::Search;
 use crate::stop::{Stop, stopped};
+use crate::waving::waves_under;
 use crate::writes::{
     Written, begin_log, print_ending, print_memory, print_set, put_head, put_steps,
 };
@@ -27,6 +31,7 @@ use io_ports::{Shelf, Sink};
 use loc_base::{Gate, NoMemory};
 use report_doc::types::Ending;
 use sat_core::Budget;
+use set_waves::put_waves;
 use std::alloc::Global;
 use std::thread::Threads;
 use write_order::{WriteErr, begin_text, put_piece};
@@ -181,7 +186,25 @@ impl<'a, D: Search + Drop> Listing<'a, D> {
         }
     }
 
-    /// Writes what stands behind the search: the rest of the log, the report, and the last line.
+    /// Writes the waves, where they are asked for.
+    fn put_waves<S: Shelf>(&self, shelf: &mut S) -> Result<(), WriteErr>
+        requires waved { CanBeWaved (waved_for (asked_of self.now.job)) (asked_of self.now.job).problem.order }
+        requires values { HaveValues (waved_for (asked_of self.now.job)) self.now.found.items }
+        ensures tells { S.tells shelf.new ≡ S.tells shelf.old }
+        ensures texts { S.texts shelf.new ≡ S.texts shelf.old }
+        ensures left { S.tells shelf.old ≡ true → (runs : Runs) (printed : List ℕ)
+            → AreRuns (waved_for (asked_of self.now.job)) self.now.found.items runs
+            → Leaves (waves (asked_of self.now.job) self.now.found.items runs)
+            (on_shelf (S.written shelf.old) (S.written shelf.new) printed) result }
+        ensures cause { WriteCause (S.faults shelf.old) (S.faults shelf.new) result }
+    {
+        match self.job.waves {
+            None => Ok(()),
+            Some(prefix) => put_waves(self.alloc, &waves_under(&self.job, prefix), &self.found, shelf),
+        }
+    }
+
+    /// Writes what stands behind the search: the rest of the log, the report, the waves, and the last line.
     fn close<S: Shelf, O: Sink>(
         &self,
         ending: Ending,
@@ -190,12 +213,15 @@ impl<'a, D: Search + Drop> Listing<'a, D> {
     ) -> Result<(), WriteErr>
         requires begun { S.tells shelf.old ≡ true → IsSome (S.written shelf.old self.now.job.log.now) }
         requires report { CanBeReported (asked_of self.now.job) self.now.found.items }
+        requires waved { CanBeWaved (waved_for (asked_of self.now.job)) (asked_of self.now.job).problem.order }
+        requires values { HaveValues (waved_for (asked_of self.now.job)) self.now.found.items }
         ensures tells_shelf { S.tells shelf.new ≡ S.tells shelf.old }
         ensures tells_sink { O.tells out.new ≡ O.tells out.old }
         ensures texts { S.texts shelf.new ≡ S.texts shelf.old }
         ensures left { S.tells shelf.old ≡ true → O.tells out.old ≡ true
+            → (runs : Runs) → AreRuns (waved_for (asked_of self.now.job)) self.now.found.items runs
             → Leaves (closing_writes (asked_of self.now.job) self.now.found.items
-            (drop self.now.steps (D.state self.now.search).log) ending)
+            (drop self.now.steps (D.state self.now.search).log) ending runs)
             (outputs (S.written shelf.old) (S.written shelf.new) (O.written out.old) (O.written out.new)) result }
         ensures causes { WriteCauses (counts_of (S.faults shelf.old) (S.faults shelf.new) (O.faults out.old) (O.faults out.new)) result }
     {
@@ -205,6 +231,7 @@ impl<'a, D: Search + Drop> Listing<'a, D> {
         };
         put_steps(self.alloc, &self.job, &rest, shelf)?;
         self.put_report(ending, shelf)?;
+        self.put_waves(shelf)?;
         print_ending(self.alloc, ending, self.found.len(), out)
     }
 
@@ -256,8 +283,8 @@ fn tell_memory<O: Sink>(alloc: Global, sets: Option<usize>, out: &mut O) -> Outc
     }
 }
 
-/// Lists the sets of a problem and writes them as they are found: the log in portions, the lines of each set, the report, and the last
-/// line. A list is said to be complete only where it is whole and its log was checked.
+/// Lists the sets of a problem and writes them as they are found: the log in portions, the lines of each set, the report, the waves,
+/// and the last line. A list is said to be complete only where it is whole and its log was checked.
 pub fn list<R: Threads + Sync, G: Gate + Sync, D: Search + Drop, S: Shelf, O: Sink>(
     tools: &Tools<R, G>,
     task: Task<D>,
@@ -278,6 +305,7 @@ pub fn list<R: Threads + Sync, G: Gate + Sync, D: Search + Drop, S: Shelf, O: Si
         (outputs (S.written shelf.old) (S.written shelf.new) (O.written out.old) (O.written out.new)) result }
     ensures others { S.tells shelf.old ≡ true → O.tells out.old ≡ true
         → (name : List ℕ) → name ≢ task.entry.job.log.now → name ≢ task.entry.job.report.now
+        → ¬ IsWave (asked_of task.entry.job).waves (asked_of task.entry.job).sets (length (asked_of task.entry.job).problem.traces) name
         → S.written shelf.new name ≡ S.written shelf.old name }
     ensures causes { OutcomeCause (counts_of (S.faults shelf.old) (S.faults shelf.new) (O.faults out.old) (O.faults out.new)) result }
 {

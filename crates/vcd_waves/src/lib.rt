@@ -10,4 +10,5 @@ mod variable;
 mod wave;
 
 pub use text::wave_text;
+pub use variable::{Kind, Variable};
 pub use wave::{Wave, has_rows};

@@ -10,7 +10,7 @@ use std::alloc::Global;
 
 /// Which list of a wave a variable is of.
 #[derive(Clone, Copy)]
-pub(crate) enum Kind {
+pub enum Kind {
     Clock,
     Input,
     Output,
@@ -19,7 +19,7 @@ pub(crate) enum Kind {
 
 /// A variable of a wave.
 #[derive(Clone, Copy)]
-pub(crate) struct Variable {
+pub struct Variable {
     pub kind: Kind,
     /// Its place in the list of its kind.
     pub place: usize,

@@ -7,8 +7,8 @@ use Rattle.set_listing.proofs.Runs.{memory-ends}
 use Rattle.set_listing.proofs.listing.list.Goals as goal
 
 pub returns-in-Ok-clause-others : goal.returns-in-Ok-clause-others
-returns-in-Ok-clause-others g c = λ told_shelf told_sink name no_log no_report.
-    others-stay (asked_of c.args.task.job) name no_log no_report
+returns-in-Ok-clause-others g c = λ told_shelf told_sink name no_log no_report no_wave.
+    others-stay (asked_of c.args.task.job) name no_log no_report no_wave
     (outputs (g.S.Shelf.written c.args.shelf.now) (g.S.Shelf.written c.run.new.shelf) (g.O.Sink.written c.args.out.now)
     (g.O.Sink.written c.run.new.out))
     (outcome.Ended c.in-Ok.ending) (c.in-Ok.ensures.left told_shelf told_sink)
@@ -16,8 +16,8 @@ returns-in-Ok-clause-others g c = λ told_shelf told_sink name no_log no_report.
 pub returns-in-Err-Failed-clause-others : goal.returns-in-Err-Failed-clause-others
 returns-in-Err-Failed-clause-others g c =
     let left = rw c.in-Err-Failed.field-0-is at c.in-Err-Failed.ensures.left in
-    λ told_shelf told_sink name no_log no_report.
-    others-stay (asked_of c.args.task.job) name no_log no_report
+    λ told_shelf told_sink name no_log no_report no_wave.
+    others-stay (asked_of c.args.task.job) name no_log no_report no_wave
     (outputs (g.S.Shelf.written c.args.shelf.now) (g.S.Shelf.written c.run.new.shelf) (g.O.Sink.written c.args.out.now)
     (g.O.Sink.written c.run.new.out))
     outcome.Failed (left told_shelf told_sink)
@@ -33,8 +33,8 @@ returns-clause-left g c =
     (c.tell_memory.ensures.left (c.in-Err-Memory.ensures.tells_sink ∙ told_sink) (g.S.Shelf.written c.run.new.shelf))
 
 pub returns-clause-others : goal.returns-clause-others
-returns-clause-others g c = λ told_shelf told_sink name no_log no_report.
-    others-stay (asked_of c.args.task.job) name no_log no_report
+returns-clause-others g c = λ told_shelf told_sink name no_log no_report no_wave.
+    others-stay (asked_of c.args.task.job) name no_log no_report no_wave
     (outputs (g.S.Shelf.written c.args.shelf.now) (g.S.Shelf.written c.run.new.shelf) (g.O.Sink.written c.args.out.now)
     (g.O.Sink.written c.tell_memory.new.out))
     c.tell_memory.result (returns-clause-left g c told_shelf told_sink)

@@ -1,4 +1,4 @@
-use Rattle.std.proofs.Common.{◌≡◌, ℕ, [], ◌∷◌, Some, None, true, ◌&&◌, ◌∙◌, sym, ap, ap₂, subst, length, drop, arith}
+use Rattle.std.proofs.Common.{◌≡◌, ℕ, List, [], ◌∷◌, Some, None, true, ◌&&◌, ◌∙◌, sym, ap, ap₂, subst, length, drop, arith}
 use Rattle.std.proofs.lemmas.Result.{err_from_is_err_and}
 use Rattle.log_portions.specs.Portions.{head_text}
 use Rattle.proof_check.specs.Text.{IsDigest}
@@ -10,7 +10,11 @@ use Rattle.set_listing.specs.Going.{StopsShort, closing_writes, outputs}
 use Rattle.set_listing.specs.Jobs.{asked_of}
 use Rattle.set_listing.specs.Reporting.{CanBeReported}
 use Rattle.set_listing.specs.Stops.{stopped}
-use Rattle.set_listing.proofs.Ended.{can-be-checked, can-be-reported, is-ended}
+use Rattle.set_listing.proofs.Ended.{can-be-checked, can-be-reported, can-be-waved, have-values, is-ended, runs-of}
+use Rattle.design_core.specs.declared.values.SetWithValues.{SetWithValues}
+use Rattle.set_listing.specs.Found.{found_of}
+use Rattle.set_listing.specs.Texts.{waved_for}
+use Rattle.set_waves.specs.Waved.{AreRuns, CanBeWaved, HaveValues, Runs}
 use Rattle.set_listing.proofs.Runs.{begin-stopped, check-short, close-done, close-stopped, front}
 use Rattle.set_listing.proofs.Runs.{head-stopped, search-done, search-stopped, stopped-ok, stopped-on_ok}
 use Rattle.set_listing.proofs.listing.Listing.run.Goals as goal
@@ -133,6 +137,22 @@ close-requires-clause-report g c =
     (can-be-reported (asked_of c.args.self.now.job) s found c.search_on.new.self.steps c.in_ok-ending.ending ends.portions ends.ended
     c.requires.job.kinds)
 
+pub close-requires-clause-waved : goal.close-requires-clause-waved
+close-requires-clause-waved g c =
+    let s = g.D.Search.state c.search_on.new.self.search in
+    let found = c.search_on.new.self.found.items in
+    let ends = c.in_ok-ending.ensures.left.answer in
+    subst (λ (j : Job). CanBeWaved (waved_for (asked_of j)) (asked_of j).problem.order) (sym c.in_ok-ending.ensures.job)
+    (can-be-waved (asked_of c.args.self.now.job) s found c.search_on.new.self.steps c.in_ok-ending.ending ends.portions ends.ended)
+
+pub close-requires-clause-values : goal.close-requires-clause-values
+close-requires-clause-values g c =
+    let s = g.D.Search.state c.search_on.new.self.search in
+    let found = c.search_on.new.self.found.items in
+    let ends = c.in_ok-ending.ensures.left.answer in
+    subst (λ (j : Job). HaveValues (waved_for (asked_of j)) found) (sym c.in_ok-ending.ensures.job)
+    (have-values (asked_of c.args.self.now.job) s found c.search_on.new.self.steps c.in_ok-ending.ending ends.portions ends.ended)
+
 pub returns-in_err-stopped-3-clause-left : goal.returns-in_err-stopped-3-clause-left
 returns-in_err-stopped-3-clause-left g c =
     let p = err_from_is_err_and c.from_residual-in_err-stopped-3.result c.from_residual-in_err-stopped-3.ensures.1 in
@@ -173,12 +193,16 @@ returns-in_err-stopped-3-clause-left g c =
     let digest : IsDigest job.inputs = stopped-on_ok (IsDigest job.inputs) c.put_head.result (Some 0) c.in_ok-stopped-2.field-0
     (sym c.stopped-2.ensures ∙ c.in_ok-stopped-2.was) c.put_head.ensures.digest in
     let is = is-ended asked s found steps c.in_ok-ending.ending ends.portions ends.ended c.requires.job.few digest in
-    let left : Leaves (closing_writes asked found (drop steps s.log) c.in_ok-ending.ending) (outputs w3 w4 p3 p4) c.close.result =
-    subst (λ (j : Job). Leaves (closing_writes (asked_of j) found (drop steps s.log) c.in_ok-ending.ending)
-    (outputs w3 w4 p3 p4) c.close.result)
+    let some = runs-of asked s found steps c.in_ok-ending.ending ends.portions ends.ended in
+    let runs : Runs = some.0 in
+    let are : AreRuns (waved_for asked) (found_of ends.portions) runs = some.1 in
+    let left : Leaves (closing_writes asked found (drop steps s.log) c.in_ok-ending.ending runs) (outputs w3 w4 p3 p4) c.close.result =
+    subst (λ (j : Job). AreRuns (waved_for (asked_of j)) found runs
+    → Leaves (closing_writes (asked_of j) found (drop steps s.log) c.in_ok-ending.ending runs) (outputs w3 w4 p3 p4) c.close.result)
     c.in_ok-ending.ensures.job
-    (c.close.ensures.left (c.in_ok-ending.ensures.tells_shelf ∙ told-2) (c.in_ok-ending.ensures.tells_sink ∙ told_sink)) in
-    close-stopped asked s found steps c.in_ok-ending.ending ends.portions ends.ended is w0 w3 w4 p0 p3 p4 opening-done c.close.result
+    (c.close.ensures.left (c.in_ok-ending.ensures.tells_shelf ∙ told-2) (c.in_ok-ending.ensures.tells_sink ∙ told_sink) runs)
+    (subst (λ (f : List SetWithValues). AreRuns (waved_for asked) f runs) (sym ends.ended.found_are) are) in
+    close-stopped asked s found steps c.in_ok-ending.ending ends.portions ends.ended is runs are w0 w3 w4 p0 p3 p4 opening-done c.close.result
     c.in_err-stopped-3.field-0.0 (ap (λ (n : ℕ). stopped c.close.result (Some n)) (sym many) ∙ sym c.stopped-3.ensures
     ∙ c.in_err-stopped-3.was) left)
 
@@ -220,12 +244,16 @@ returns-clause-left g c = λ told_shelf told_sink.
     let digest : IsDigest job.inputs = stopped-on_ok (IsDigest job.inputs) c.put_head.result (Some 0) c.in_ok-stopped-2.field-0
     (sym c.stopped-2.ensures ∙ c.in_ok-stopped-2.was) c.put_head.ensures.digest in
     let is = is-ended asked s found steps c.in_ok-ending.ending ends.portions ends.ended c.requires.job.few digest in
-    let left : Leaves (closing_writes asked found (drop steps s.log) c.in_ok-ending.ending) (outputs w3 w4 p3 p4) c.close.result =
-    subst (λ (j : Job). Leaves (closing_writes (asked_of j) found (drop steps s.log) c.in_ok-ending.ending)
-    (outputs w3 w4 p3 p4) c.close.result)
+    let some = runs-of asked s found steps c.in_ok-ending.ending ends.portions ends.ended in
+    let runs : Runs = some.0 in
+    let are : AreRuns (waved_for asked) (found_of ends.portions) runs = some.1 in
+    let left : Leaves (closing_writes asked found (drop steps s.log) c.in_ok-ending.ending runs) (outputs w3 w4 p3 p4) c.close.result =
+    subst (λ (j : Job). AreRuns (waved_for (asked_of j)) found runs
+    → Leaves (closing_writes (asked_of j) found (drop steps s.log) c.in_ok-ending.ending runs) (outputs w3 w4 p3 p4) c.close.result)
     c.in_ok-ending.ensures.job
-    (c.close.ensures.left (c.in_ok-ending.ensures.tells_shelf ∙ told-2) (c.in_ok-ending.ensures.tells_sink ∙ told_sink)) in
-    close-done asked s found steps c.in_ok-ending.ending ends.portions ends.ended is w0 w3 w4 p0 p3 p4 opening-done
-    (stopped-ok (closing_writes asked found (drop steps s.log) c.in_ok-ending.ending) (outputs w3 w4 p3 p4) c.close.result
+    (c.close.ensures.left (c.in_ok-ending.ensures.tells_shelf ∙ told-2) (c.in_ok-ending.ensures.tells_sink ∙ told_sink) runs)
+    (subst (λ (f : List SetWithValues). AreRuns (waved_for asked) f runs) (sym ends.ended.found_are) are) in
+    close-done asked s found steps c.in_ok-ending.ending ends.portions ends.ended is runs are w0 w3 w4 p0 p3 p4 opening-done
+    (stopped-ok (closing_writes asked found (drop steps s.log) c.in_ok-ending.ending runs) (outputs w3 w4 p3 p4) c.close.result
     (Some c.len.result)
     c.in_ok-stopped-3.field-0 (sym c.stopped-3.ensures ∙ c.in_ok-stopped-3.was) left)

@@ -1,0 +1,10 @@
+pub mod EntryLaws
+pub mod OutputLaws
+pub mod Blocks
+pub mod RunOutputs
+pub mod RunLines
+pub mod NameLaws
+pub mod Given
+pub mod WriteLaws
+pub mod StandLaws
+pub mod RerunLaws
