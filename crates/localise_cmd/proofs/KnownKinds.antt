@@ -1,6 +1,6 @@
 -- What words ask of `find` is what a list may be asked.
 use Rattle.std.proofs.Common.{ℕ, ◌≡◌, ◌⊎◌, Bool, true, false, List, [], ◌∷◌, map, refl, sym, ap, subst, ◌∙◌, inl, inr, Some, None, Option}
-use Rattle.std.specs.Prelude.{All, Contains, if◌then◌else◌, nat_eq}
+use Rattle.std.specs.Prelude.{All, Contains, IfSome, if◌then◌else◌, nat_eq}
 use Rattle.std.specs.Cmp.Lexicographic.{pointwise}
 use Rattle.std.proofs.lemmas.Bool.{false≢true}
 use Rattle.std.proofs.lemmas.List.Elements.{All-head, All-tail}
@@ -8,7 +8,8 @@ use Rattle.loc_base.proofs.ShelfLists.{Contains-cons, Contains-empty}
 use Rattle.suspect_map.specs.Choose.{named, unknown, unknown_or}
 use Rattle.suspect_map.proofs.Steps.{same_name}
 use Rattle.check_words.specs.Check.{CheckAsked, IsCheckAsked}
-use Rattle.find_words.specs.Find.{FindAsked, IsFindAsked}
+use Rattle.find_words.specs.Find.{FindAsked, IsFindAsked, IsWavePrefix, other_names}
+use Rattle.set_waves.specs.Names.{IsNoWave}
 use Rattle.make_words.specs.Make.{IsMakeAsked, MakeAsked}
 use Rattle.check_cmd.specs.Asked.{Asked as Checking, IsAsked as IsCheckable}
 use Rattle.find_sets.specs.Asked.{AreKnown, Asked as Finding, IsAsked}
@@ -47,6 +48,11 @@ unknown-none called kinds (name ∷ names) all =
     (unknown-none called kinds names (All-tail (Contains (map called kinds)) name names all))
 
 -- ---- what is asked
+-- no other name is that of a wave
+waves-own : (words : FindAsked) (waves : Option (List ℕ)) → IfSome waves (IsWavePrefix words) → All (IsNoWave waves) (other_names words)
+waves-own words None own = λ k d below. tt
+waves-own words (Some prefix) own = own.own
+
 pub asked-held : (known : List (List ℕ)) (words : FindAsked) (request : Finding) → request ≡ finding_of words
     → IsFindAsked known words → IsAsked request
 asked-held known words request same held = subst IsAsked (sym same) (record {
@@ -60,6 +66,7 @@ asked-held known words request same held = subst IsAsked (sym same) (record {
   apart = held.apart;
   own_log = held.own_log;
   own_report = held.own_report;
+  no_waves = waves-own words words.waves held.waves;
 })
 
 pub known-held : {G : Type 0} (called : G → List ℕ) (kinds : List G) (words : FindAsked) (request : Finding)

@@ -172,8 +172,17 @@ fn each_command_is_asked_for_by_its_words(rt: HostRuntime) -> Result<(), Fail> {
 }
 
 #[test]
-fn only_a_list_writes_and_only_its_log_and_its_report(rt: HostRuntime) -> Result<(), Fail> {
-    let ran = run(&rt, rt.alloc(), "find m.v m t.vcd --report r --log l", NONE)?;
+fn only_a_list_writes_its_log_its_report_and_its_waves(rt: HostRuntime) -> Result<(), Fail> {
+    let ran = run(
+        &rt,
+        rt.alloc(),
+        "find m.v m t.vcd --report r --log l --waves w",
+        NONE,
+    )?;
+    for name in ["w-1-1.vcd", "w-2-1.vcd"] {
+        assert!(rt; ran.shelf.text(name).is_some(), "{name}");
+    }
+    assert!(rt; ran.shelf.text("w-3-1.vcd").is_none());
     assert_eq!(rt; ran.shelf.text("r").map(Bytes::as_slice), Some(REPORT));
     let Some(log) = ran.shelf.text("l") else {
         return Err(Fail::new("no log"));
