@@ -1,5 +1,5 @@
 -- What a made input is asked of, as plain data.
-use Rattle.std.specs.Prelude.{ℕ, ◌≢◌, ◌≤◌, List, [], ◌∷◌, AllPairs, Some, codes}
+use Rattle.std.specs.Prelude.{ℕ, ◌≢◌, ◌≤◌, List, [], ◌∷◌, AllPairs, Some, None, codes}
 use Rattle.find_sets.specs.Asked.{Asked as Finding, IsUpTo}
 
 -- the number of the input; the names of the design's text and of the trace's; what its list is asked: the names of the kinds of
@@ -17,7 +17,7 @@ pub record Asked : Type 0 where
   pub log : List ℕ
   pub report : List ℕ
 
--- the list of the made design and trace: the top is `made`, the clock is `clk`
+-- the list of the made design and trace: the top is `made`, the clock is `clk`, and no waves are written
 abbrev pub finding_of : Asked → Finding
 finding_of asked = record {
   design = asked.design;
@@ -31,6 +31,7 @@ finding_of asked = record {
   workers = asked.workers;
   log = asked.log;
   report = asked.report;
+  waves = None;
 }
 
 -- what may be asked; the four texts that are written have names of their own

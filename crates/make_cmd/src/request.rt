@@ -81,6 +81,7 @@ impl Request {
             workers: self.workers,
             log: String::from_str(alloc, self.log.as_str())?,
             report: String::from_str(alloc, self.report.as_str())?,
+            waves: None,
         })
     }
 }
