@@ -4,9 +4,8 @@ ghost use Rattle.std.specs.Prelude.{◌≡◌, ◌≤◌, IfOk};
 ghost use Rattle.check_cmd.specs.Asked.{IsAsked, asked_of};
 
 use crate::sessions::{OR_NOT, TRACE, kinds, name};
-use check_cmd::{Request, check};
+use check_cmd::{Request, Tools, check};
 use io_ports::{MemShelf, MemSink, Numbers, Texts};
-use list_inputs::Tools;
 use loc_base::{Bytes, FreeGate};
 use std::alloc::Global;
 use std::process::Abort;

@@ -32,7 +32,10 @@ pub(super) fn kinds(alloc: Global) -> Result<Vec<Box<dyn Granularity>>, Fail> {
 }
 
 pub(super) fn name(alloc: Global, text: &str) -> Result<Name, Fail> {
-    Name::new(alloc, text.as_bytes())?.ok_or(Fail::new("no name"))
+    match Name::new(alloc, text.as_bytes())? {
+        Some(name) => Ok(name),
+        None => Err(Fail::new("no name")),
+    }
 }
 
 /// A text with the first part that is like one put to another.

@@ -1,6 +1,7 @@
-use Rattle.std.proofs.Common.{ap, refl, sym, subst, ◌∙◌, Ok, Err}
+use Rattle.std.proofs.Common.{List, ℕ, ap, refl, sym, subst, ◌∙◌, Ok, Err}
 use Rattle.std.proofs.lemmas.Bool.{and_parts}
 use Rattle.list_inputs.specs.declared.refusal.Refusal.TheVariants.{Memory}
+use Rattle.list_inputs.specs.Ends.{Prints}
 use Rattle.list_inputs.proofs.Keeping.{refused-keeps}
 use Rattle.check_cmd.specs.Asked.{asked_of}
 use Rattle.check_cmd.specs.Parts.{given_of}
@@ -35,7 +36,10 @@ returns-in-Ok-answer_of g c =
           judged g.F.FrontEnd.means _ _ asked _ given c.in-Ok-answer_of.answer (c.in-Ok.ensures.means (both told).0) c.in-Ok.ensures.same
           c.in-Ok-answer_of.ensures;
       nothing = c.in-Ok.ensures.written;
-      prints = λ told. c.print_line.ensures.text (both told).1;
+      prints = λ told.
+          subst (λ (l : List ℕ). Prints l c.in-Ok-answer_of.answer.status (g.O.Sink.written c.args.out.now)
+          (g.O.Sink.written c.print_line.new.out) c.print_line.result)
+          c.deref.ensures.value (c.print_line.ensures.text (both told).1);
       shelf = c.in-Ok.ensures.counts;
       sink = c.print_line.ensures.counts;
     })
