@@ -1,3 +1,4 @@
 pub mod Listed
 pub mod Refused
 pub mod Reading
+pub mod Enough

@@ -1,6 +1,8 @@
 -- The promises of the command, from how a listing ends.
 use Rattle.std.proofs.Common.{ℕ, ◌≡◌, ◌≢◌, ◌≤◌, true, List, ap, refl, sym, subst, ◌∙◌, arith, ◌⊎◌, inl, inr}
 use Rattle.command_contract.specs.Contract.{Causes, IsInputRefusal, IsStatus, Keeps, NoneRose, OneRose, Run, Texts, counts_of}
+use Rattle.std.proofs.Common.{length}
+use Rattle.std.proofs.lemmas.Slice.Zip.{AllZip-long}
 use Rattle.command_contract.proofs.Statuses.{input-range, input-refusal}
 use Rattle.loc_base.specs.declared.digest.Digest.{Digest}
 use Rattle.front_end.specs.Means.{Meaning, Refusing}
@@ -10,6 +12,7 @@ use Rattle.report_doc.specs.declared.types.Ending.TheVariants.{Complete, Budget,
 use Rattle.set_listing.specs.declared.outcome.Outcome.{Outcome}
 use Rattle.set_listing.specs.declared.outcome.Outcome.TheVariants.{Ended, Failed, Memory}
 use Rattle.set_listing.specs.Lines.{ending_status}
+use Rattle.set_waves.specs.Names.{IsWave}
 use Rattle.set_listing.specs.Asked.{Asked as Listing}
 use Rattle.set_listing.specs.Due.{IsCut, IsListed, IsStopped}
 use Rattle.set_listing.specs.Outcomes.{Leaves, OutcomeCause, status_of}
@@ -24,7 +27,7 @@ pub record IsListing (M : Meaning) (S : Suspecting) (asked : Asked) (run : Run)
   pub digest : run.told ≡ true → IsDigestOf (wanted_of asked) run.texts inputs
   pub leaves : run.told ≡ true → Leaves (listing_of asked problem inputs) (outputs_of run) o
   pub others : run.told ≡ true → (name : List ℕ) → name ≢ asked.log → name ≢ asked.report
-      → run.now_written name ≡ run.written name
+      → ¬ IsWave asked.waves asked.sets (length problem.traces) name → run.now_written name ≡ run.written name
   pub cause : OutcomeCause run.counts o
 
 -- the status of an ending is 0 or 1
@@ -136,7 +139,9 @@ module _ (M : Meaning) (R : Refusing) (S : Suspecting) (asked : Asked) (run : Ru
       list-none o is.cause seven,
       list-cut o (is.means told) (is.digest told) (is.leaves told) seven,
     );
-    others = λ told name may. is.others told name (λ e. may (inl e)) (λ e. may (inr e));
+    others = λ told name may.
+        is.others told name (λ e. may (inl e)) (λ e. may (inr (inl e))) (λ e. may (inr (inr (subst
+        (λ n. IsWave asked.waves asked.sets n name) (AllZip-long _ asked.traces problem.traces (is.means told).traces) e))));
     causes = list-causes o is.cause;
     complete = λ told ready none. list-complete o is.cause none;
   }
@@ -152,7 +157,8 @@ pub listing-keeps : (M : Meaning) (R : Refusing) (S : Suspecting) (asked : Asked
       printed = run.printed;
       now_printed = run.now_printed;
     }) o)
-    → (run.told ≡ true → (name : List ℕ) → name ≢ listing.log → name ≢ listing.report → run.now_written name ≡ written name)
+    → (run.told ≡ true → (name : List ℕ) → name ≢ listing.log → name ≢ listing.report
+    → ¬ IsWave listing.waves listing.sets (length listing.problem.traces) name → run.now_written name ≡ written name)
     → OutcomeCause (counts_of shelf run.counts.now_shelf run.counts.sink run.counts.now_sink) o
     → Keeps (finding M R S asked) run status
 listing-keeps M R S asked run problem inputs listing written shelf o status is same kept ended means digest leaves others cause =
@@ -169,8 +175,9 @@ listing-keeps M R S asked run problem inputs listing written shelf o status is s
             printed = run.printed;
             now_printed = run.now_printed;
           }) o) same (leaves told));
-      others = λ told name no_log no_report.
+      others = λ told name no_log no_report no_wave.
           others told name (λ e. no_log (e ∙ ap (λ (l : Listing). l.log) is)) (λ e. no_report (e ∙ ap (λ (l : Listing). l.report) is))
+          (λ e. no_wave (subst (λ (l : Listing). IsWave l.waves l.sets (length l.problem.traces) name) is e))
           ∙ ap (λ (w : Texts). w name) same;
       cause = subst (λ n. OutcomeCause (counts_of n run.counts.now_shelf run.counts.sink run.counts.now_sink) o) kept cause;
     }))

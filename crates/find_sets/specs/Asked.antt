@@ -2,10 +2,11 @@
 use Rattle.std.specs.Prelude.{ℕ, ◌≡◌, ◌≢◌, ◌≤◌, List, [], ◌∷◌, length, All, AllPairs, Option, None}
 use Rattle.suspect_map.specs.Choose.{unknown}
 use Rattle.list_inputs.specs.Asked.{Asked as Wanted}
+use Rattle.set_waves.specs.Names.{IsNoWave}
 
 -- the names of the design's text, of the module that is the top, of the traces' texts and of the clock; the names of the kinds of
 -- suspects; the most members of a set, the most steps that may be learned, the most sets; how many workers check the log; the
--- names of the log and of the report
+-- names of the log and of the report; the prefix of the waves' names, where waves are asked for
 pub record Asked : Type 0 where
   pub design : List ℕ
   pub top : List ℕ
@@ -18,6 +19,7 @@ pub record Asked : Type 0 where
   pub workers : ℕ
   pub log : List ℕ
   pub report : List ℕ
+  pub waves : Option (List ℕ)
 
 -- what the list is asked of: the texts, what they are read by, the suspects, and the size of a set
 abbrev pub wanted_of : Asked → Wanted
@@ -34,7 +36,7 @@ wanted_of asked = record {
 abbrev pub IsUpTo : ℕ → ℕ → Type 0
 IsUpTo most n = (1 ≤ n) × (n ≤ most)
 
--- what may be asked; the two texts that are written have names of their own
+-- what may be asked; the log and the report have names of their own, and no name begins with the prefix of the waves and a hyphen
 pub record IsAsked (asked : Asked) : Type 0 where
   pub traces : IsUpTo 256 (length asked.traces)
   pub some_kinds : asked.suspects ≢ []
@@ -46,6 +48,7 @@ pub record IsAsked (asked : Asked) : Type 0 where
   pub apart : asked.log ≢ asked.report
   pub own_log : All (λ name. name ≢ asked.log) (asked.design ∷ asked.traces)
   pub own_report : All (λ name. name ≢ asked.report) (asked.design ∷ asked.traces)
+  pub no_waves : All (IsNoWave asked.waves) (asked.design ∷ asked.log ∷ asked.report ∷ asked.traces)
 
 -- each kind of suspects that is asked for is the name of one of some
 abbrev pub AreKnown : {G : Type 0} → (G → List ℕ) → List G → Asked → Type 0

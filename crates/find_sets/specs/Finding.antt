@@ -1,7 +1,7 @@
 -- The case of a list: for the problem that the texts mean, a prefix of exactly the inclusion-minimal sets of suspects that can make
 -- every trace right is printed and reported, with values that do, and the log shows it; the list is said to be complete only where
 -- it is whole and the log is accepted and closing.
-use Rattle.std.specs.Prelude.{ℕ, ◌≡◌, ◌⊎◌, List}
+use Rattle.std.specs.Prelude.{ℕ, ◌≡◌, ◌⊎◌, List, length}
 use Rattle.loc_base.specs.declared.digest.Digest.{Digest}
 use Rattle.command_contract.specs.Contract.{Case, IsInputRefusal, NoneRose, NothingWritten, OneRose, Run, Texts}
 use Rattle.front_end.specs.Means.{Meaning, Refusing}
@@ -11,6 +11,7 @@ use Rattle.list_inputs.specs.Lines.{LineCut, LineStops}
 use Rattle.list_inputs.specs.Means.{IsDigestOf, Means, Suspecting}
 use Rattle.list_inputs.specs.Refusals.{IsReady, Refused}
 use Rattle.set_listing.specs.Asked.{Asked as Listing}
+use Rattle.set_waves.specs.Names.{IsWave}
 use Rattle.set_listing.specs.Due.{IsCut, IsListed, IsStopped}
 use Rattle.find_sets.specs.Asked.{Asked, wanted_of}
 
@@ -26,6 +27,7 @@ listing_of asked p inputs = record {
   sets = asked.sets;
   log = asked.log;
   report = asked.report;
+  waves = asked.waves;
   inputs = inputs;
   top = asked.top;
   clock = asked.clock;
@@ -41,7 +43,7 @@ pub record OfInputs (M : Meaning) (S : Suspecting) (asked : Asked) (texts : Text
   pub is : P (listing_of asked problem inputs)
 
 -- ---- the case
--- its answers are 0 and 1, and it may write the log and the report
+-- its answers are 0 and 1, and it may write the log, the report and waves
 abbrev pub finding : Meaning → Refusing → Suspecting → Asked → Case
 finding M R S asked = record {
   MayAnswer = λ status. (status ≡ 0) ⊎ (status ≡ 1);
@@ -53,6 +55,7 @@ finding M R S asked = record {
       × (OfInputs M S asked run.texts (λ listing. IsStopped listing (outputs_of run))
       ⊎ LineStops (Refused M R S (wanted_of asked) run.texts) run);
   Cut = λ run. (NoneRose run.counts × OfInputs M S asked run.texts (λ listing. IsCut listing (outputs_of run))) ⊎ LineCut run;
-  Writes = λ name. (name ≡ asked.log) ⊎ (name ≡ asked.report);
+  Writes = λ name.
+      (name ≡ asked.log) ⊎ ((name ≡ asked.report) ⊎ IsWave asked.waves asked.sets (length asked.traces) name);
   Ready = λ run. IsReady M S (wanted_of asked) run.texts;
 }

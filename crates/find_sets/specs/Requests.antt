@@ -1,5 +1,6 @@
 -- What a request asks.
 use Rattle.std.specs.Prelude.{map, string_bytes}
+use Rattle.std.specs.Option.{option_map}
 use Rattle.find_sets.specs.declared.request.Request.{Request}
 use Rattle.find_sets.specs.Asked.{Asked}
 
@@ -16,4 +17,5 @@ asked_of request = record {
   workers = request.workers;
   log = string_bytes request.log;
   report = string_bytes request.report;
+  waves = option_map string_bytes request.waves;
 }

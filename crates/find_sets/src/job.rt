@@ -1,5 +1,6 @@
 //! The listing that is to be done.
 ghost use Rattle.std.specs.Prelude.{◌≡◌};
+ghost use Rattle.std.specs.Option.{option_copied};
 ghost use Rattle.list_inputs.specs.Ends.{problem_in};
 ghost use Rattle.set_listing.specs.Jobs.{asked_of as job_asked};
 ghost use Rattle.find_sets.specs.Finding.{listing_of};
@@ -10,6 +11,16 @@ use crate::tools::Tools;
 use list_inputs::Inputs;
 use set_listing::Job;
 use std::alloc::Global;
+
+/// The prefix of the waves' names, where waves are asked for.
+fn prefix_of(request: &Request) -> Option<&str>
+    ensures { option_copied result ≡ (asked_of request.now).waves }
+{
+    match &request.waves {
+        Some(prefix) => Some(prefix.as_str()),
+        None => None,
+    }
+}
 
 /// The listing of what was read.
 pub(crate) fn job_of<'a>(inputs: &'a Inputs, request: &'a Request) -> Job<'a>
@@ -22,6 +33,7 @@ pub(crate) fn job_of<'a>(inputs: &'a Inputs, request: &'a Request) -> Job<'a>
         sets: request.sets,
         log: request.log.as_str(),
         report: request.report.as_str(),
+        waves: prefix_of(request),
         inputs: inputs.digest,
         top: &request.top,
         clock: request.clock.as_ref(),

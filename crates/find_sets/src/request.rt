@@ -32,6 +32,8 @@ pub struct Request {
     pub log: String,
     /// The name of the report that is written.
     pub report: String,
+    /// The prefix of the waves' names, where waves are asked for: that of set S and trace T is `P-S-T.vcd`.
+    pub waves: Option<String>,
 }
 
 impl Request {

@@ -1,5 +1,5 @@
 -- What is due in some cases, and what stands where it is cut short.
-use Rattle.std.proofs.Common.{ℕ, ◌≡◌, List, [], ◌∷◌, ◌++◌, take, refl, ap, sym, ◌∙◌, Some, None}
+use Rattle.std.proofs.Common.{ℕ, ◌≡◌, List, [], ◌∷◌, ◌++◌, take, refl, Some, None}
 use Rattle.std.specs.Prelude.{codes}
 use Rattle.std.specs.Fmt.{digits}
 use Rattle.std.specs.List.{flat_map}
@@ -8,11 +8,11 @@ use Rattle.loc_base.specs.declared.digest.Digest.{Digest}
 use Rattle.clause_base.specs.declared.log.Step.{Step}
 use Rattle.log_portions.specs.Portions.{head_text, steps_text}
 use Rattle.report_doc.specs.declared.types.Ending.TheVariants.{Complete, Budget, Sets}
-use Rattle.write_order.specs.Writes.{Write, begin_text, print_piece, printed_by, put_piece, text_behind}
+use Rattle.write_order.specs.Writes.{begin_text, print_piece, printed_by, put_piece, text_behind}
 use Rattle.debug_core.specs.Problems.{Problem}
 use Rattle.set_listing.specs.Asked.{Asked}
-use Rattle.set_listing.specs.Found.{Portion, found_of}
-use Rattle.set_listing.specs.Lines.{ending_line, ending_status}
+use Rattle.set_listing.specs.Found.{Portion}
+use Rattle.set_listing.specs.Lines.{ending_line}
 use Rattle.set_listing.specs.Texts.{lines_of, report_of}
 use Rattle.set_listing.specs.Due.{opening, short, texts}
 use Rattle.set_waves.specs.Waved.{Runs}

@@ -112,9 +112,17 @@ module _ (asked : Asked) where
   own-texts : (form : List (List Lit)) (portions : List Portion) (rest : List Step) (ending : Ending) (runs : Runs)
       → IsEnded asked form portions rest ending → AreOwn asked (texts asked portions rest ending runs)
   own-texts form portions rest ending runs is =
-      let few : length (sets_of portions) ≤ asked.sets = few-sets-of asked portions (log_of portions ++ rest) ending is.ends in
-      (inl refl, (inr (inl refl), (inr (inl refl), waves-own asked.waves refl (own-waves asked.waves refl runs 0 (found_of portions)
-      (omega (arith, few, length-map portions (λ (p : Portion). p.set.members), length-map portions (λ (p : Portion). p.set)))))))
+      let few : length (sets_of portions) ≤ asked.sets = few-sets-of asked portions (log_of portions ++ rest) ending is.ends in (
+        inl refl,
+        (
+          inr (inl refl),
+          (
+            inr (inl refl),
+            waves-own asked.waves refl (own-waves asked.waves refl runs 0 (found_of portions)
+                (omega (arith, few, length-map portions (λ (p : Portion). p.set.members), length-map portions (λ (p : Portion). p.set)))),
+          ),
+        ),
+      )
     where
       waves-own : (prefix : Option (List ℕ)) → asked.waves ≡ prefix → AreOwn asked (waves_from asked prefix runs 0 (found_of portions))
           → AreOwn asked (waves_of prefix (waved_for asked) runs (found_of portions))

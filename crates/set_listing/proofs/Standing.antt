@@ -1,16 +1,14 @@
 -- What stands under the names of the log, the report and the waves once all is written.
-use Rattle.std.proofs.Common.{◌≡◌, ◌<◌, ◌≤◌, ◌^◌, ℕ, ◌+◌, Bool, true, false, cond, List, [], ◌∷◌, ◌++◌, length, Option, Some, refl, ap, sym, subst, ◌∙◌, arith, append_assoc, unwrap_or}
+use Rattle.std.proofs.Common.{◌≡◌, ◌<◌, ◌≤◌, ◌^◌, ℕ, ◌+◌, Bool, cond, List, [], ◌∷◌, ◌++◌, length, Option, Some, refl, ap, sym, ◌∙◌, arith, append_assoc}
 use Rattle.std.specs.Prelude.{slice_get}
-use Rattle.std.specs.Str.{bytes_eq}
 use Rattle.std.specs.Cmp.Lexicographic.{bytes_decides}
 use Rattle.std.proofs.lemmas.List.{append-nil, length-map}
-use Rattle.clause_base.specs.declared.log.Step.{Step}
 use Rattle.design_core.specs.declared.trace.Trace.{Trace}
 use Rattle.design_core.specs.declared.values.SetWithValues.{SetWithValues}
 use Rattle.log_portions.specs.Portions.{head_text, steps_text}
 use Rattle.log_portions.proofs.Joined.{join}
 use Rattle.proof_check.specs.Text.{text_of}
-use Rattle.write_order.specs.Writes.{Write, begin_text, print_piece, put_piece, text_after, text_behind}
+use Rattle.write_order.specs.Writes.{Write, print_piece, put_piece, text_after, text_behind}
 use Rattle.write_order.proofs.Carried.{text_behind-append}
 use Rattle.set_waves.specs.Names.{wave_name}
 use Rattle.set_waves.specs.Scenes.{wave_text}

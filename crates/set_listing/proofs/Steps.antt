@@ -1,5 +1,5 @@
 -- Lists, and the steps of logs.
-use Rattle.std.proofs.Common.{◌≡◌, ℕ, ◌+◌, Bool, true, false, cond, List, []}
+use Rattle.std.proofs.Common.{◌≡◌, ℕ, Bool, true, false, cond, List, []}
 use Rattle.std.proofs.Common.{◌∷◌, ◌++◌, map, refl, ap, ◌∙◌, subst, arith}
 use Rattle.std.specs.Prelude.{All, count_by, filter}
 use Rattle.std.proofs.lemmas.List.{get_or-map, length-map, map-append}

@@ -1,5 +1,5 @@
 -- Where budget and sets are enough, a listing that comes to its end is whole.
-use Rattle.std.proofs.Common.{◌≡◌, ◌<◌, ◌≤◌, ◌^◌, ℕ, List, ◌++◌, length, refl, ap, sym, ◌∙◌, arith}
+use Rattle.std.proofs.Common.{◌≡◌, ◌<◌, ◌≤◌, ◌^◌, ℕ, List, ◌++◌, length, refl, ap, ◌∙◌, arith}
 use Rattle.std.proofs.lemmas.List.{length-append}
 use Rattle.clause_base.specs.declared.literal.Lit.{Lit}
 use Rattle.debug_core.specs.Debugging.{IsListOf}

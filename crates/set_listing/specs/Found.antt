@@ -1,5 +1,5 @@
 -- What is found of a problem's list, with the log that shows it: so far, and when the listing has ended.
-use Rattle.std.specs.Prelude.{ℕ, ◌≡◌, ◌≢◌, ◌+◌, ◌-◌, ◌<◌, ◌≤◌, List, [], ◌∷◌, ◌++◌, All, length, map, count_by, slice_get}
+use Rattle.std.specs.Prelude.{ℕ, ◌≡◌, ◌+◌, ◌-◌, ◌<◌, ◌≤◌, List, [], ◌∷◌, ◌++◌, All, length, map, count_by, slice_get}
 use Rattle.std.specs.Option.{option_map_or}
 use Rattle.std.specs.List.{flat_map}
 use Rattle.design_core.specs.declared.values.SetWithValues.{SetWithValues}
@@ -16,7 +16,7 @@ use Rattle.set_enum.specs.Bounds.{bound_of, bounds_of}
 use Rattle.set_enum.specs.Sets.{block_of}
 use Rattle.report_doc.specs.declared.types.Ending.{Ending}
 use Rattle.report_doc.specs.declared.types.Ending.TheVariants.{Complete, Budget, Sets, Earlier}
-use Rattle.debug_core.specs.Problems.{Problem, IsFormFor, suspect_count, suspects_of}
+use Rattle.debug_core.specs.Problems.{Problem, suspect_count, suspects_of}
 use Rattle.debug_core.specs.Debugging.{IsFrontOf, IsListOf}
 use Rattle.set_listing.specs.Asked.{Asked}
 

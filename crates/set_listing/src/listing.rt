@@ -200,7 +200,12 @@ impl<'a, D: Search + Drop> Listing<'a, D> {
     {
         match self.job.waves {
             None => Ok(()),
-            Some(prefix) => put_waves(self.alloc, &waves_under(&self.job, prefix), &self.found, shelf),
+            Some(prefix) => put_waves(
+                self.alloc,
+                &waves_under(&self.job, prefix),
+                &self.found,
+                shelf,
+            ),
         }
     }
 

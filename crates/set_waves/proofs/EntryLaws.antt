@@ -1,5 +1,5 @@
 -- Entries one more.
-use Rattle.std.proofs.Common.{◌≡◌, ℕ, zero, suc, Bool, true, false, List, [], ◌∷◌, ◌++◌, refl}
+use Rattle.std.proofs.Common.{◌≡◌, ℕ, zero, suc, Bool, false, List, [], ◌∷◌, ◌++◌, refl}
 use Rattle.loc_base.specs.declared.bits.Bits.{Bits}
 use Rattle.loc_base.specs.Bits.{value_of}
 use Rattle.design_core.specs.Given.{freed_of}

@@ -1,13 +1,13 @@
 -- Waves of different sets or traces have different names, and no other text has the name of one.
-use Rattle.std.proofs.Common.{◌≡◌, ◌≢◌, ◌<◌, ◌^◌, ℕ, Bool, true, false, List, [], ◌∷◌, ◌++◌, Option, Some, None, refl, ap, sym, subst, ◌∙◌, append_assoc}
-use Rattle.std.specs.Prelude.{◌==◌, ◌&&◌, codes, decimal, nat_le}
+use Rattle.std.proofs.Common.{◌≡◌, ◌≢◌, ◌<◌, ◌^◌, ℕ, true, false, List, [], ◌∷◌, ◌++◌, Option, Some, None, refl, ap, sym, ◌∙◌, append_assoc}
+use Rattle.std.specs.Prelude.{codes, decimal}
 use Rattle.std.specs.List.{list_all}
 use Rattle.std.proofs.lemmas.Bool.{and_parts}
 use Rattle.std.proofs.lemmas.Fmt.{decimal_is_IsNumeral}
 use Rattle.std.specs.Str.Parse.{digits_value}
 use Rattle.loc_base.specs.Ascii.{is_decimal}
 use Rattle.vcd_waves.proofs.WordForms.{decimal_digits}
-use Rattle.set_waves.specs.Names.{IsNoWave, IsWave, IsWaveName, wave_name}
+use Rattle.set_waves.specs.Names.{IsNoWave, IsWave, wave_name}
 
 -- the name, from the left
 abbrev rest_of : List ℕ → List ℕ → List ℕ

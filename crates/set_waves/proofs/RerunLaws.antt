@@ -1,6 +1,6 @@
 -- A trace that is run again.
-use Rattle.std.proofs.Common.{◌≡◌, ◌<◌, ◌≤◌, ◌+◌, ◌-◌, ◌*◌, ◌^◌, ℕ, suc, Bool, List, [], ◌∷◌, length, map, take, drop, ◌++◌, Option, Some, None, refl, ap, sym, subst, ◌∙◌, arith}
-use Rattle.std.specs.Prelude.{All, IfOk, Result, Ok, Err, slice_get, slice_range, nat_lt}
+use Rattle.std.proofs.Common.{◌≡◌, ◌<◌, ◌≤◌, ◌+◌, ◌-◌, ◌*◌, ℕ, Bool, List, [], ◌∷◌, length, map, take, drop, ◌++◌, Some, None, refl, ap, sym, subst, arith}
+use Rattle.std.specs.Prelude.{All, IfOk, Result, Ok, Err, slice_get, slice_range}
 use Rattle.std.specs.Option.{option_copied}
 use Rattle.std.proofs.lemmas.List.{length-append, length-map}
 use Rattle.std.proofs.lemmas.Option.{slice_get_within}
@@ -8,7 +8,6 @@ use Rattle.loc_base.specs.declared.bits.Bits.{Bits}
 use Rattle.design_core.specs.declared.design.Design.{Design}
 use Rattle.design_core.specs.declared.trace.Checked.{Checked}
 use Rattle.design_core.specs.declared.trace.Trace.{Trace}
-use Rattle.design_core.specs.declared.values.Values.{Values}
 use Rattle.design_core.specs.Explained.{cycles_before}
 use Rattle.design_core.specs.Run.{Choices, IsRunFrom}
 use Rattle.design_core.specs.TraceFits.{IsTraceOf}
@@ -17,7 +16,7 @@ use Rattle.design_core.proofs.CyclesBefore.{cycles_before-whole}
 use Rattle.cycle_sim.specs.Misses.{AreValuesFor}
 use Rattle.cycle_sim.proofs.Replayed.{times-rises, trace-of}
 use Rattle.vcd_waves.specs.declared.wave.Wave.{Wave}
-use Rattle.vcd_waves.specs.Lines.{Shown, expected}
+use Rattle.vcd_waves.specs.Lines.{expected}
 use Rattle.vcd_waves.specs.Variables.{clock_of}
 use Rattle.set_waves.specs.declared.rerun.Rerun.{Rerun}
 use Rattle.set_waves.specs.Making.{IsRerun}

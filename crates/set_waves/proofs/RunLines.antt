@@ -1,7 +1,7 @@
 -- A wave whose trace has the outputs of a run is the wave of the scene.
 use Rattle.std.proofs.Common.{◌≡◌, ℕ, zero, suc, ◌+◌, ◌-◌, ◌*◌, ◌<◌, ◌≤◌, Bool, true, false, List, [], ◌∷◌, ◌++◌, length, map, take, drop}
 use Rattle.std.proofs.Common.{Option, Some, None, refl, ap, sym, subst, ◌∙◌, arith, append_assoc, get_or}
-use Rattle.std.specs.Prelude.{is_some, slice_get, slice_range}
+use Rattle.std.specs.Prelude.{is_some, slice_get}
 use Rattle.std.specs.Option.{option_map}
 use Rattle.std.proofs.Math.Path.{fun_ext}
 use Rattle.std.proofs.Math.Seq.{take-suc, take-length}
@@ -9,7 +9,6 @@ use Rattle.std.proofs.lemmas.List.{append-nil, drop-map, length-map, take-map}
 use Rattle.std.proofs.lemmas.Option.{get_or_from_slice_get, slice_get-map, slice_get_within}
 use Rattle.loc_base.specs.declared.bits.Bits.{Bits}
 use Rattle.design_core.specs.declared.design.Design.{Design}
-use Rattle.design_core.specs.declared.trace.Checked.{Checked}
 use Rattle.design_core.specs.Explained.{cycles_before, row_of}
 use Rattle.design_core.specs.Run.{samples_at}
 use Rattle.design_core.specs.Valuation.{Valuation}

@@ -1,5 +1,5 @@
 -- What stands under the names of waves, and under other names, behind the writes of all waves.
-use Rattle.std.proofs.Common.{◌≡◌, ◌≢◌, ◌⊎◌, inl, inr, ℕ, zero, suc, ◌+◌, ◌<◌, ◌≤◌, ◌^◌, Bool, true, false, cond, List, [], ◌∷◌, ◌++◌, length}
+use Rattle.std.proofs.Common.{◌≡◌, ◌≢◌, ℕ, zero, suc, ◌+◌, ◌<◌, ◌≤◌, ◌^◌, Bool, true, false, cond, List, [], ◌∷◌, ◌++◌, length}
 use Rattle.std.proofs.Common.{Option, Some, None, refl, ap, sym, subst, ◌∙◌, arith, unwrap_or}
 use Rattle.std.specs.Prelude.{slice_get}
 use Rattle.std.specs.Str.{bytes_eq}
@@ -10,7 +10,7 @@ use Rattle.design_core.specs.declared.trace.Trace.{Trace}
 use Rattle.design_core.specs.declared.values.Values.{Values}
 use Rattle.design_core.specs.declared.values.SetWithValues.{SetWithValues}
 use Rattle.design_core.specs.Valuation.{Valuation}
-use Rattle.write_order.specs.Writes.{Write, begin_text, put_piece, text_after, text_behind}
+use Rattle.write_order.specs.Writes.{text_behind}
 use Rattle.write_order.proofs.Carried.{text_behind-append}
 use Rattle.set_waves.specs.Names.{IsNoWave, wave_name}
 use Rattle.set_waves.specs.Scenes.{wave_text}

@@ -1,7 +1,7 @@
 -- What the laws of waves are said of.
-use Rattle.std.specs.Prelude.{ℕ, List, Option}
+use Rattle.std.specs.Prelude.{ℕ, List}
 use Rattle.design_core.specs.declared.values.SetWithValues.{SetWithValues}
-use Rattle.set_waves.specs.Waved.{Runs, Waved}
+use Rattle.set_waves.specs.Waved.{Waved}
 
 -- what waves are of, by an order of the design's drivers, and sets with values
 pub record WithSets : Type 0 where

@@ -1,11 +1,9 @@
 -- Private, for the functions inside this crate: what is known while a wave is made.
-use Rattle.std.specs.Prelude.{ℕ, ◌≡◌, ◌+◌, ◌-◌, ◌*◌, ◌<◌, ◌≤◌, ◌^◌, List, ◌++◌, length, map, All}
+use Rattle.std.specs.Prelude.{◌≡◌, ◌+◌, ◌-◌, ◌*◌, ◌<◌, ◌≤◌, ◌^◌, List, length, map, All}
 use Rattle.std.specs.List.{flat_map}
 use Rattle.loc_base.specs.declared.bits.Bits.{Bits}
 use Rattle.loc_base.specs.Bits.{value_of, width_of}
 use Rattle.design_core.specs.declared.design.Design.{Design}
-use Rattle.design_core.specs.declared.trace.Trace.{Trace}
-use Rattle.design_core.specs.declared.values.Values.{Values}
 use Rattle.design_core.specs.Explained.{is_one_of}
 use Rattle.design_core.specs.Given.{AreChosen}
 use Rattle.design_core.specs.Run.{IsRun}

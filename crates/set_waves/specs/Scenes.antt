@@ -1,6 +1,6 @@
 -- The wave of a set and a trace (IEEE 1364-2005, 18.2): the inputs have the trace's samples, the outputs what the run with the set's
 -- values gives, every bit of it known, and the set's places the values that were chosen for them.
-use Rattle.std.specs.Prelude.{ℕ, ◌+◌, ◌-◌, ◌*◌, ◌^◌, Bool, true, false, List, [], ◌∷◌, ◌++◌, length, Option, None, is_some, slice_get}
+use Rattle.std.specs.Prelude.{ℕ, ◌+◌, ◌-◌, ◌*◌, ◌^◌, Bool, true, false, List, [], ◌∷◌, ◌++◌, Option, None, is_some, slice_get}
 use Rattle.std.specs.Option.{option_map}
 use Rattle.design_core.specs.declared.design.Design.{Design}
 use Rattle.design_core.specs.declared.trace.Trace.{Trace}

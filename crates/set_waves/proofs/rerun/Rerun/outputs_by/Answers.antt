@@ -1,4 +1,4 @@
-use Rattle.std.proofs.Common.{◌≡◌, ◌∙◌, ℕ, List, map, subst, arith}
+use Rattle.std.proofs.Common.{◌∙◌, ℕ, List, map, subst, arith}
 use Rattle.design_core.specs.declared.design.Design.{Design}
 use Rattle.design_core.specs.Explained.{is_one_of}
 use Rattle.cycle_sim.specs.Replaying.{choices_from}

@@ -1,6 +1,5 @@
 use Rattle.std.proofs.Common.{◌≡◌, ◌*◌, List, length, map}
 use Rattle.design_core.specs.Explained.{is_one_of}
-use Rattle.design_core.specs.Run.{IsRun}
 use Rattle.design_core.specs.Valuation.{Valuation}
 use Rattle.cycle_sim.specs.Replaying.{choices_from}
 use Rattle.cycle_sim.specs.Simulator.{IsSim, held_by}

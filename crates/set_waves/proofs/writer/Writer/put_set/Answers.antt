@@ -1,9 +1,8 @@
 use Rattle.std.proofs.Common.{◌≡◌, ◌∙◌, ◌+◌, ℕ, List, length, Option, Some, Ok, Err, Result, refl, sym, subst, arith}
-use Rattle.std.specs.Prelude.{slice_get, true}
+use Rattle.std.specs.Prelude.{slice_get}
 use Rattle.std.proofs.lemmas.Result.{err_from_is_err_and}
 use Rattle.design_core.specs.declared.trace.Trace.{Trace}
 use Rattle.design_core.specs.declared.values.Values.{Values}
-use Rattle.design_core.specs.Explained.{cycles_before}
 use Rattle.design_core.specs.Valuation.{Valuation}
 use Rattle.design_core.proofs.CyclesBefore.{cycles_before-next, cycles_before-none, cycles_before-whole}
 use Rattle.write_order.specs.declared.write.WriteErr.{WriteErr}
@@ -11,7 +10,7 @@ use Rattle.write_order.specs.Writes.{Leaves, on_shelf}
 use Rattle.set_waves.specs.declared.waves.Waves.{Waves}
 use Rattle.set_waves.specs.Names.{wave_name}
 use Rattle.set_waves.specs.Scenes.{wave_text}
-use Rattle.set_waves.specs.Waved.{Waved, waved_of}
+use Rattle.set_waves.specs.Waved.{waved_of}
 use Rattle.set_waves.specs.Writes.{scene_of, set_writes, text_writes}
 use Rattle.set_waves.specs.Writing.{IsRunWith}
 use Rattle.set_waves.proofs.RunLines.{there-is}
@@ -62,7 +61,7 @@ pub overflow_add-first : goal.overflow_add-first
 overflow_add-first g c = omega (
   arith,
   cycles_before-whole c.args.self.now.waves.traces.now c.loop-j.j (length c.args.self.now.waves.traces.now) c.trace_at.result.now
-  c.trace_at.ensures c.loop-j-test.true,
+      c.trace_at.ensures c.loop-j-test.true,
   c.requires.writer.can.few,
   c.loop-j.invariant.first,
   c.cycle_count-first.ensures,

@@ -1,11 +1,9 @@
-use Rattle.std.proofs.Common.{◌≡◌, ◌∙◌, ◌+◌, ◌*◌, ℕ, List, length, map, take, drop, ap, sym, subst, Some, refl}
-use Rattle.std.specs.Prelude.{slice_get}
+use Rattle.std.proofs.Common.{◌≡◌, ◌∙◌, ◌*◌, ℕ, List, length, take, drop, ap, sym, subst, refl}
 use Rattle.loc_base.proofs.ShelfOptions.{Some-same}
 use Rattle.design_core.specs.declared.trace.Trace.{Trace}
 use Rattle.design_core.specs.declared.values.Values.{Values}
-use Rattle.design_core.specs.Explained.{cycles_before, is_one_of}
+use Rattle.design_core.specs.Explained.{is_one_of}
 use Rattle.design_core.specs.Run.{IsRun, start_state}
-use Rattle.design_core.specs.Valuation.{Valuation}
 use Rattle.cycle_sim.specs.Replaying.{choices_from}
 use Rattle.design_core.specs.TraceFits.{IsTraceOf}
 use Rattle.cycle_sim.proofs.Replayed.{trace-of}
