@@ -43,4 +43,5 @@ module _ (asked : Asked) (may : IsAsked asked) where
     apart = log-report;
     own_log = all-two (λ name. name ≢ asked.log) asked.design asked.trace design-log trace-log;
     own_report = all-two (λ name. name ≢ asked.report) asked.design asked.trace design-report trace-report;
+    no_waves = λ i d low. tt;
   }

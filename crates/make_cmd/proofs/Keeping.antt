@@ -36,6 +36,13 @@ trace-written asked written may =
 writes-spare : (asked : Asked) (name : List ℕ) → name ≢ asked.design → name ≢ asked.trace → AllSpare name (made_writes asked)
 writes-spare asked name no_design no_trace = (no_design, (no_design, (no_trace, (no_trace, tt))))
 
+-- the list writes its log and its report, and no waves
+unwritten : (asked : Asked) (name : List ℕ) → name ≢ asked.log → name ≢ asked.report
+    → (name ≡ asked.log) ⊎ ((name ≡ asked.report) ⊎ ⊥) → ⊥
+unwritten asked name other_log other_report (inl log) = other_log log
+unwritten asked name other_log other_report (inr (inl report)) = other_report report
+unwritten asked name other_log other_report (inr (inr wave)) = wave
+
 -- ---- statuses
 low-answer : (n : ℕ) → n ≤ 1 → (n ≡ 0) ⊎ (n ≡ 1)
 low-answer zero low = inl refl
@@ -241,27 +248,21 @@ module _ (M : Meaning) (R : Refusing) (S : Suspecting) (asked : Asked) (run : Ru
     list-others : (printed : List ℕ) (sink status : ℕ) → Keeps (finding M R S (finding_of asked)) (ran mid printed sink) status → Others
     list-others printed sink status keeps told name unnamed =
         (from-made printed sink status keeps told).others told name
-        (elim [ inl log ↦ unnamed (inr (inr (inl log))) | inr report ↦ unnamed (inr (inr (inr report))) ])
+        (unwritten asked name (λ e. unnamed (inr (inr (inl e)))) (λ e. unnamed (inr (inr (inr e)))))
         ∙ stays name (made_writes asked) (run.written name) (writes-spare asked name (λ e. unnamed (inl e)) (λ e. unnamed (inr (inl e))))
 
     design-stands : (printed : List ℕ) (sink status : ℕ) → Keeps (finding M R S (finding_of asked)) (ran mid printed sink) status
         → run.told ≡ true → run.now_written asked.design ≡ Some (design_text asked.number)
     design-stands printed sink status keeps told =
         (from-made printed sink status keeps told).others told asked.design
-        (elim [
-          | inl log ↦ design-log asked may log
-          | inr report ↦ design-report asked may report
-        ])
+        (unwritten asked asked.design (design-log asked may) (design-report asked may))
         ∙ design-written asked run.written may
 
     trace-stands : (printed : List ℕ) (sink status : ℕ) → Keeps (finding M R S (finding_of asked)) (ran mid printed sink) status
         → run.told ≡ true → run.now_written asked.trace ≡ Some (trace_text asked.number)
     trace-stands printed sink status keeps told =
         (from-made printed sink status keeps told).others told asked.trace
-        (elim [
-          | inl log ↦ trace-log asked may log
-          | inr report ↦ trace-report asked may report
-        ])
+        (unwritten asked asked.trace (trace-log asked may) (trace-report asked may))
         ∙ trace-written asked run.written may
 
     -- it ends the run, with no answer
