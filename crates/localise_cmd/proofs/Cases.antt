@@ -119,14 +119,17 @@ allows-memory tools (Ok (check asked)) run written = record {
 allows-memory tools (Ok (make asked)) run written = record {
   answer = λ status may. low-no_stop status (elim may [ inl zero ↦ omega (arith, zero) | inr one ↦ omega (arith, one) ]);
   refusals = input-refusal;
-  stopped = λ told rose front. (inr rose, in_memory_line 0 (
-    stops-then [] (print_piece memory_line ∷ []) run.written run.now_written run.now_written run.printed run.printed run.now_printed
-        (none-done run run.printed written refl) (print-stops memory_line run.now_written run.printed run.now_printed front)));
+  stopped = λ told rose front. (
+    inr rose,
+    in_memory_line 0 (
+        stops-then [] (print_piece memory_line ∷ []) run.written run.now_written run.now_written run.printed run.printed run.now_printed
+        (none-done run run.printed written refl) (print-stops memory_line run.now_written run.printed run.now_printed front)),
+  );
   cut = λ told text. for_texts 0 (elim text [
     | inl same ↦ inr (none-done run run.now_printed written same)
     | inr put ↦ inl (
-      done-then [] (print_piece memory_line ∷ []) run.written run.now_written run.now_written run.printed run.printed run.now_printed
-          (none-done run run.printed written refl) (print-done memory_line run.now_written run.printed run.now_printed put))
+        done-then [] (print_piece memory_line ∷ []) run.written run.now_written run.now_written run.printed run.printed run.now_printed
+        (none-done run run.printed written refl) (print-done memory_line run.now_written run.printed run.now_printed put))
   ]);
 }
 allows-memory tools (Err usage) run written = record {
