@@ -1,5 +1,5 @@
 -- What may be asked: the four names differ, and the list of the made texts may be asked too.
-use Rattle.std.proofs.Common.{ℕ, zero, suc, ◌≡◌, ◌≢◌, ◌<◌, ◌≤◌, List, [], ◌∷◌, length, sym, arith}
+use Rattle.std.proofs.Common.{ℕ, zero, suc, ◌≢◌, List, [], ◌∷◌, sym, arith}
 use Rattle.std.specs.Prelude.{All}
 use Rattle.find_sets.specs.Asked.{IsAsked as IsListAsked}
 use Rattle.make_cmd.specs.Asked.{Asked, IsAsked, finding_of}

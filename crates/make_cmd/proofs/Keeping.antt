@@ -5,7 +5,7 @@ use Rattle.std.proofs.Math.Path.{fun_ext}
 use Rattle.io_ports.specs.Faults.{Rose}
 use Rattle.io_ports.specs.Shelf.{AppendsFront}
 use Rattle.refusal_lines.specs.Refusals.{memory_line}
-use Rattle.command_contract.specs.Contract.{Causes, EndsRefused, IsInputRefusal, IsStatus, Keeps, NoneRose, OneRose, Run, Texts, counts_of}
+use Rattle.command_contract.specs.Contract.{Causes, Keeps, NoneRose, OneRose, Run, Texts, counts_of}
 use Rattle.command_contract.proofs.Statuses.{input-range, input-refusal}
 use Rattle.front_end.specs.Means.{Meaning, Refusing}
 use Rattle.write_order.specs.Writes.{AreDone, StopsIn, on_shelf, print_piece}
@@ -16,7 +16,7 @@ use Rattle.list_inputs.specs.Means.{Suspecting}
 use Rattle.find_sets.specs.Asked.{Asked as Finding}
 use Rattle.find_sets.specs.Finding.{finding, outputs_of}
 use Rattle.make_cmd.specs.Asked.{Asked, IsAsked, finding_of}
-use Rattle.make_cmd.specs.Making.{IsCut, IsListed, IsMade, IsStopped, list_run, made_texts, made_writes, made_written, making, short}
+use Rattle.make_cmd.specs.Making.{IsCut, IsListed, IsMade, IsStopped, made_texts, made_writes, made_written, making}
 use Rattle.make_cmd.specs.Making.{for_last_line, for_list, for_texts, in_last_line, in_list, in_memory_line, in_texts}
 use Rattle.make_cmd.proofs.Asking.{design-log, design-report, design-trace, trace-log, trace-report}
 use Rattle.make_cmd.proofs.Spared.{AllSpare, done-stays, other-name, same-name, spare-take, stays, stops-stays}

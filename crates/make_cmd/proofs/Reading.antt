@@ -1,6 +1,6 @@
 -- What was read of the made texts: no count of faults rose.
-use Rattle.std.proofs.Common.{ℕ, ◌≡◌, ◌≤◌, ◌<◌, refl, arith, lit<, Result, Ok, Err}
-use Rattle.io_ports.specs.Faults.{Rose, last_count}
+use Rattle.std.proofs.Common.{ℕ, ◌<◌, refl, arith, lit<, Result, Ok, Err}
+use Rattle.io_ports.specs.Faults.{Rose}
 use Rattle.list_inputs.specs.declared.inputs.Inputs.{Inputs}
 use Rattle.list_inputs.specs.declared.refusal.Refusal.{Refusal}
 use Rattle.list_inputs.specs.declared.refusal.Refusal.TheVariants.{Line, Memory}

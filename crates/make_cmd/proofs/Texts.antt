@@ -1,15 +1,14 @@
 -- The writes of the made texts.
-use Rattle.std.proofs.Common.{ℕ, ◌≡◌, true, List, [], ◌∷◌, ◌++◌, Option, refl, sym, ◌∙◌, subst, ap, Err}
+use Rattle.std.proofs.Common.{ℕ, ◌≡◌, List, ◌++◌, refl, subst, Err}
 use Rattle.command_contract.specs.Contract.{Texts}
 use Rattle.write_order.specs.declared.write.WriteErr.{WriteErr}
 use Rattle.write_order.specs.declared.write.WriteErr.TheVariants.{Failed, NoMemory}
 use Rattle.write_order.specs.Writes.{AreBegun, AreDone, Leaves, Outputs, StopsIn, Write, on_shelf}
 use Rattle.write_order.proofs.Carried.{begun-within, stops-within}
-use Rattle.made_input.specs.Made.{design_text, trace_text}
 use Rattle.make_cmd.specs.declared.made_shelf.MadeShelf.{MadeShelf}
 use Rattle.make_cmd.specs.Asked.{Asked}
 use Rattle.make_cmd.specs.Making.{made_texts, made_writes}
-use Rattle.make_cmd.specs.Shelves.{IsMadeBy, text_writes, texts_of, texts_writes}
+use Rattle.make_cmd.specs.Shelves.{IsMadeBy, texts_of, texts_writes}
 
 -- some writes, of which the first failed or wanted memory, before others that were due
 pub error-within : (first next : List Write) (was is : Texts) (printed : List ℕ) (error : WriteErr)

@@ -1,4 +1,4 @@
-use Rattle.std.proofs.Common.{◌≡◌, refl, sym, subst}
+use Rattle.std.proofs.Common.{refl, sym, subst}
 use Rattle.suspect_map.specs.Choose.{joined}
 use Rattle.list_inputs.specs.Asked.{AreKnown, Asked as Wanted, IsAsked, asked_of as wanted_asked}
 use Rattle.list_inputs.specs.Means.{Suspecting}
