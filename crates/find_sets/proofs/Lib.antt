@@ -2,3 +2,4 @@ pub mod Listed
 pub mod Refused
 pub mod Reading
 pub mod Enough
+pub mod Jobs

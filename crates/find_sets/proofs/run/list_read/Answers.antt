@@ -4,11 +4,20 @@ use Rattle.command_contract.specs.Contract.{counts_of, run_of}
 use Rattle.list_inputs.specs.Ends.{problem_in}
 use Rattle.list_inputs.specs.Means.{IsDigestOf, Means}
 use Rattle.set_listing.specs.Asked.{Asked as Listing}
+use Rattle.set_listing.specs.Jobs.{IsJob}
 use Rattle.find_sets.specs.Asked.{wanted_of}
 use Rattle.find_sets.specs.Requests.{asked_of}
+use Rattle.find_sets.proofs.Jobs.{job-held}
 use Rattle.find_sets.proofs.Listed.{listing-keeps}
 use Rattle.find_sets.proofs.Reading.{at-ok, counts-ok, unformed-keeps, unread-keeps}
 use Rattle.find_sets.proofs.run.list_read.Goals as goal
+
+pub list-requires-clause-job : goal.list-requires-clause-job
+list-requires-clause-job g c κs within =
+    let asked = asked_of c.args.request.now in
+    let inputs = c.in-Ok.inputs in
+    subst IsJob (sym c.job_of-job.ensures) (job-held asked (problem_in inputs asked.size) inputs.digest c.requires.asked
+    (at-ok (λ i. IsProblem (problem_in i asked.size)) c.args.read inputs c.in-Ok.is c.requires.problem))
 
 pub returns-in-Err-clause-keeps : goal.returns-in-Err-clause-keeps
 returns-in-Err-clause-keeps g c told texts faults on_shelf on_sink reads =
