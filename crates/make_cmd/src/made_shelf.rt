@@ -6,7 +6,8 @@ use io_ports::{LoadErr, PutErr, Shelf};
 use loc_base::Bytes;
 use std::alloc::Global;
 
-/// The made texts under their names. Nothing is written to it, and none of its calls fails.
+/// The made texts under their names, which stand on it as they were written. Nothing more is written to it, and none of its calls
+/// fails.
 #[derive(Drop)]
 pub(crate) struct MadeShelf<'a> {
     pub design_name: &'a str,
@@ -33,14 +34,14 @@ impl MadeShelf<'_> {
 }
 
 impl Shelf for MadeShelf<'_> {
-    ghost use Rattle.std.specs.Prelude.{true, None};
+    ghost use Rattle.std.specs.Prelude.{true};
     ghost use Rattle.make_cmd.specs.Shelves.{texts_of};
 
     ghost tells = { λ _. true };
 
     ghost texts = { texts_of };
 
-    ghost written = { λ _ _. None };
+    ghost written = { texts_of };
 
     ghost faults = { λ _. 0 };
 
