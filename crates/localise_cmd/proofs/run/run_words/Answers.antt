@@ -32,11 +32,6 @@ find-requires-clause-known g c =
     λ κs within. known-held (λ k. (goal.Granularity-dyn g (k.vtable, k.value)).called k.value) c.args.kinds.now
     (find_asked_of c.in-Ok-Find.words) (asked_of_find c.find_request.result) c.find_request.ensures held
 
-pub check-requires : goal.check-requires
-check-requires g c =
-    let held = rw c.in-Ok-Check.field-0-is at c.in-Ok-Check.ensures.holds in
-    λ κs within. check-held (check_asked_of c.in-Ok-Check.words) (asked_of_check c.check_request.result) c.check_request.ensures held
-
 pub make-requires-clause-asked : goal.make-requires-clause-asked
 make-requires-clause-asked g c =
     let held = rw c.in-Ok-Make.field-0-is at c.in-Ok-Make.ensures.holds in
