@@ -1,4 +1,4 @@
-//! The clauses of an unrolled form, and the values that an assignment of it gives to places.
+//! The clauses of an unrolled form: the counter, the cycles of each trace and what is expected of them.
 #![tactic(auto)]
 
 mod clauses;

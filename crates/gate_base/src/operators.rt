@@ -10,7 +10,7 @@ use crate::error::MakeErr;
 use crate::literal::Literal;
 
 impl Maker {
-    /// OR. After a refusal no node is gone.
+    /// OR: one of the two, or both.
     #[tactic(auto, unfolding(crate::specs::Nodes::or_made))]
     pub fn or(&mut self, left: Literal, right: Literal) -> Result<Literal, MakeErr>
         ensures ok { IfOk result (λ l. made self.new.nodes l ≡ or_made self.old.nodes left right) }

@@ -6,13 +6,11 @@ ghost use Rattle.node_map.specs.Pairs.{IsSettled};
 ghost use Rattle.v_synth_parts.specs.Store.{nodes_made};
 ghost use Rattle.v_synth_parts.specs.Driver.{assigned_made, driver_made, drivers_made};
 ghost use Rattle.v_synth_parts.specs.Lists.{prepared_in};
-ghost use Rattle.v_synth_parts.specs.Statement.{maps, statement_made};
-ghost use Rattle.v_synth_parts.specs.Arms.{DriverFits, DriversFit, StatementFits, continuous_made};
+ghost use Rattle.v_synth_parts.specs.Arms.{DriverFits, DriversFit, continuous_made};
 
-use crate::merge::Maps;
 use crate::scene::{Nodes, Scene, push, unsigned};
 use crate::store::{Left, Sides, indexes};
-use design_core::{Driver, Part, Stmt, Typed};
+use design_core::{Driver, Part, Typed};
 use loc_base::{Items, NoMemory};
 use node_map::{NodeMap, Pair};
 use word_net::{Operand, Operation};
@@ -75,21 +73,6 @@ impl Left<'_> {
             indexes: indexes.as_slice(),
         };
         self.parts(nodes, map, &sides, word)
-    }
-
-    /// What a statement leaves that starts from a map, which is read and which later updates begin with.
-    pub fn left_by(&self, nodes: &mut Nodes, map: &[u32], body: &Stmt) -> Result<Maps, NoMemory>
-        requires few { length self.now.signals.now < 2 ^ 32 }
-        requires each { length map.now ≡ length self.now.signals.now }
-        requires fits { StatementFits self.now.signals.now body.now }
-        ensures made { IfOk result (λ both. maps nodes.new both.current both.later ≡ statement_made self.now.signals.now (maps nodes.old map.now map.now) body.now) }
-        ensures current { IfOk result (λ both. length both.current ≡ length self.now.signals.now) }
-        ensures later { IfOk result (λ both. length both.later ≡ length self.now.signals.now) }
-    {
-        let mut both = Pair::new(self.alloc, map)?;
-        self.statement(nodes, &mut both, body)?;
-        let (current, later) = both.into_both();
-        Ok(Maps { current, later })
     }
 
     /// One driver, over the map that is read; later updates begin with the same nodes.

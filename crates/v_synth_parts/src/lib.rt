@@ -12,7 +12,6 @@ mod store;
 mod typed;
 
 pub use array_parts::ArrayPart;
-pub use merge::Maps;
 pub use scene::{Nodes, push, unsigned};
 pub use statement::Arm;
 pub use store::{Left, Stored};

@@ -8,24 +8,9 @@ ghost use Rattle.v_synth_parts.specs.Rows.{entry_row, rows_merged};
 
 use crate::scene::{Nodes, push, unsigned};
 use design_core::Signal;
-use loc_base::{Items, NoMemory};
+use loc_base::NoMemory;
 use node_map::{Kept, NodeMap, Pair};
 use word_net::Operation;
-
-/// The node of each signal as it is read, and as it is updated later.
-pub struct Maps {
-    pub current: Items<u32>,
-    pub later: Items<u32>,
-}
-
-impl Drop for Maps {
-    fn drop(self) {
-        let Maps {
-            current: _,
-            later: _,
-        } = self;
-    }
-}
 
 /// A choice for one signal: the node of the condition, the signal, and its width.
 #[derive(Clone, Copy)]
