@@ -3,9 +3,10 @@
 
     bench/check.py [PROGRAM] [--runs N] [--made N,N,..] [--only NAME..] [--cycles N] [--size K]
 
-Lists are made by `make` (of --made: 7, 24, 29 and 149 where nothing is said, the last being the largest) and, where Debian's package `iverilog` is
-installed, by `find` on the designs of bench/find.py (of --only; those that end within seconds where nothing is said). Printed are the sets, the lines of
-the log, the numbers of its chains and its bytes, the bytes of the report, and seconds by the clock, the least of N runs (3) each but for the first:
+Lists are made by `make` (of --made: 7, 24, 29 and 149 where nothing is said, the last being the largest) and, where Debian's package
+`iverilog` is installed, by `find` on the designs of bench/find.py (of --only; those that end within seconds where nothing is said).
+Printed are the sets, the lines of the log, the numbers of its chains and its bytes, the bytes of the report, and seconds by the clock,
+the least of N runs (3) each but for the first:
 
     find s     the making or finding (one run)
     form s     the circuit, the unrolling and the clauses, as `print_form` (crates/print_form, built beside) says
@@ -18,9 +19,9 @@ the log, the numbers of its chains and its bytes, the bytes of the report, and s
     cpu 4      the processor's time of all threads with four workers
     sim s      `sim` on the same design and dump, which reads both, simulates once, and prints a line a cycle
 
-and the most memory that `check` held with one worker, in MB. PROGRAM is
-crates/localise/out/localise where it isn't given. The status is 1 where `check` doesn't say `yes` to a list that is whole, or anything but `no
-closing` to another, or says something else with four workers.
+and the most memory that `check` held with one worker, in MB. PROGRAM is crates/localise/out/localise where it isn't given. The status is
+1 where `check` doesn't say `yes` to a list that is whole, or anything but `no closing` to another, or says something else with four
+workers.
 """
 
 import argparse
@@ -120,8 +121,9 @@ def row_of(asked, name, top, files, words, room):
     sizes = [os.path.getsize(os.path.join(room, file)) for file in ("localise.log", "localise.json")]
     number = sum(sizes_of(printed).values())
     times = "%.2f (%.2f)" % (alone / together, (alone - before) / max(together - before, 0.001))
+    parts = (found, form, reading, sets, alone, alone / (reading + sets), together, times, processor, simulated, memory)
     print("%-12s %5d %8d %9d %10d %9d %8.3f %7.3f %7.3f %7.3f %8.3f %7.2f %8.3f %12s %8.3f %7.3f %6.0f" % (
-        name, number, *log, *sizes, found, form, reading, sets, alone, alone / (reading + sets), together, times, processor, simulated, memory), flush=True)
+        name, number, *log, *sizes, *parts), flush=True)
     wanted = "yes %d" % number if ending[0].startswith("complete") else "no closing"
     if [last_line(one), last_line(four)] != [wanted, wanted]:
         print("%s: %r and %r in place of %r behind %r" % (name, last_line(one), last_line(four), wanted, ending[0]))
@@ -139,8 +141,8 @@ def main():
     asked.program, rights = os.path.abspath(asked.program), []
     size = ["--size", str(asked.size)]
     print("%-12s %5s %8s %9s %10s %9s %8s %7s %7s %7s %8s %7s %8s %12s %8s %7s %6s" % (
-        "list", "sets", "lines", "numbers", "log bytes", "report", "find s", "form s", "read s", "sets s", "check 1", "x work", "check 4", "x four", "cpu 4",
-        "sim s", "MB"))
+        "list", "sets", "lines", "numbers", "log bytes", "report", "find s", "form s", "read s", "sets s", "check 1", "x work", "check 4",
+        "x four", "cpu 4", "sim s", "MB"))
     for number in [it for it in asked.made.split(",") if it]:
         with tempfile.TemporaryDirectory() as room:
             rights.append(row_of(asked, "made " + number, "made", ("made.v", "made.vcd"), ["make", number, *size], room))

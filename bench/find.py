@@ -3,14 +3,15 @@
 
     bench/find.py [PROGRAM] [--size K] [--limit SECONDS] [--cycles N] [--only NAME..] [--alone]
 
-For each design Icarus Verilog runs the right text with random inputs and writes a dump (of --cycles where that is given); the question is put to
-the wrong text: which sets of at most K assignments can explain the dump. PROGRAM (crates/localise/out/localise where it isn't given) answers it by
-`find`, bench/ask_z3.py by yosys and z3, which are ended after --limit seconds, and aren't asked with --alone. Printed are the cycles, the sets, the seconds
-until the first set and until the end, the seconds from the form to the first set, the most memory, the lines of the log, the conflicts (its `l` lines),
-its bytes, the seconds of yosys and z3, and how many times those of `find` they are, `over N` where they were ended; then the median of these, with
-what they had when they were ended. `form s` is a run of `print_form` (crates/print_form, built beside), which reads the same texts and
-makes the same form, and the first set comes `first s` after the beginning of `find`. The status is 1 where the two find another number of sets of
-some size. Debian's packages `iverilog`, `yosys` and `python3-z3` must be installed.
+For each design Icarus Verilog runs the right text with random inputs and writes a dump (of --cycles where that is given); the question is
+put to the wrong text: which sets of at most K assignments can explain the dump. PROGRAM (crates/localise/out/localise where it isn't
+given) answers it by `find`, bench/ask_z3.py by yosys and z3, which are ended after --limit seconds, and aren't asked with --alone.
+Printed are the cycles, the sets, the seconds until the first set and until the end, the seconds from the form to the first set, the most
+memory, the lines of the log, the conflicts (its `l` lines), its bytes, the seconds of yosys and z3, and how many times those of `find`
+they are, `over N` where they were ended; then the median of these, with what they had when they were ended. `form s` is a run of
+`print_form` (crates/print_form, built beside), which reads the same texts and makes the same form, and the first set comes `first s`
+after the beginning of `find`. The status is 1 where the two find another number of sets of some size. Debian's packages `iverilog`,
+`yosys` and `python3-z3` must be installed.
 """
 
 import argparse

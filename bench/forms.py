@@ -10,9 +10,9 @@ bench/designs, with dumps that Icarus Verilog writes of random inputs, and print
 literals of the form, the seconds of the unrolling and of the clauses, the nanoseconds a literal, the growth from line to line, and the most
 memory of the run (at least what this script holds). Debian's package `iverilog` must be installed.
 
-The second makes forms whose variables come near 4,000,000: `frees` has bits of places with six suspects each, whose literals come near 64,000,000
-too, and `ands` hardly anything but ANDs. Beside them it compiles (`cc`) and runs a plain C program that writes as many literals of 8 bytes once, into a list
-that grows by doubling. The least of N runs (3) counts, of each column apart.
+The second makes forms whose variables come near 4,000,000: `frees` has bits of places with six suspects each, whose literals come near
+64,000,000 too, and `ands` hardly anything but ANDs. Beside them it compiles (`cc`) and runs a plain C program that writes as many
+literals of 8 bytes once, into a list that grows by doubling. The least of N runs (3) counts, of each column apart.
 
 The third reads lines of JSON with `design`, `trace`, `top`, `clock`, `size`, `kinds`, and the `variables`, `clauses`, `literals` and
 the SHA-256 of the clauses as lines of DIMACS that they are to have (an empty clause counts as one literal), and tells which forms
@@ -66,8 +66,9 @@ def frees(wires, cycles):
 
 def ands(wires, cycles):
     """One place of 128 bits, and a chain of XORs behind it."""
-    text = "module top(input [127:0] a, output [127:0] y);\nwire [127:0] w0; kept k(.a(a), .y(w0));\n%s\nassign y = w%d;\nendmodule\n" % (
-        "\n".join("wire [127:0] w%d; assign w%d = w%d ^ {w%d[126:0], w%d[127]};" % (n + 1, n + 1, n, n, n) for n in range(wires)), wires)
+    chain = "\n".join("wire [127:0] w%d; assign w%d = w%d ^ {w%d[126:0], w%d[127]};" % (n + 1, n + 1, n, n, n) for n in range(wires))
+    head = "module top(input [127:0] a, output [127:0] y);\nwire [127:0] w0; kept k(.a(a), .y(w0));\n"
+    text = "%s%s\nassign y = w%d;\nendmodule\n" % (head, chain, wires)
     return text + "module kept(input [127:0] a, output [127:0] y);\nassign y = a;\nendmodule\n", "instance"
 
 
@@ -78,7 +79,9 @@ LIMITS = {"frees": (frees, 312, 100), "ands": (ands, 104, 99)}
 def dump_of(names, cycles):
     """A dump in which each of these ports, of 128 bits, has another number in each cycle."""
     head = "".join("$var wire 128 %s %s $end\n" % (chr(97 + n), name) for n, name in enumerate(names))
-    body = "".join("#%d\n%s" % (t, "".join("b%s %s\n" % (bin(3 ** (t + n) % 2 ** 128)[2:], chr(97 + n)) for n in range(len(names)))) for t in range(cycles))
+    body = "".join(
+        "#%d\n%s" % (t, "".join("b%s %s\n" % (bin(3 ** (t + n) % 2**128)[2:], chr(97 + n)) for n in range(len(names)))) for t in range(cycles)
+    )
     return "$timescale 1ns $end\n$scope module top $end\n%s$upscope $end\n$enddefinitions $end\n%s" % (head, body)
 
 
@@ -123,7 +126,8 @@ def measure(program, all_cycles):
             unrolling, clauses, literals = int(times["unrolling"]) / 1000, int(times["clauses"]) / 1000, int(numbers["literals"])
             both = unrolling + clauses
             growth = "%8.2f" % (both / before) if before else ""
-            row = (name, cycles, numbers["nodes"], numbers["variables"], numbers["clauses"], literals, unrolling, clauses, both * 1e9 / literals, growth, memory)
+            sizes = (numbers["nodes"], numbers["variables"], numbers["clauses"], literals)
+            row = (name, cycles, *sizes, unrolling, clauses, both * 1e9 / literals, growth, memory)
             print("%-10s %7d %8s %9s %9s %10d %9.3f %9.3f %8.1f %8s %6.0f" % row, flush=True)
             before = both
 
@@ -153,7 +157,8 @@ def measure_limits(program, runs):
                 literals = int(numbers["literals"])
                 found.append((int(times["unrolling"]) / 1000, int(times["clauses"]) / 1000, memory, written(room, literals)))
         unrolling, clauses, memory, plain = (min(column) for column in zip(*found))
-        row = (name, cycles, numbers["variables"], numbers["clauses"], literals, unrolling, clauses, (unrolling + clauses) * 1e9 / literals, memory, plain, clauses / plain)
+        each, times = (unrolling + clauses) * 1e9 / literals, clauses / max(plain, 0.001)
+        row = (name, cycles, numbers["variables"], numbers["clauses"], literals, unrolling, clauses, each, memory, plain, times)
         print("%-8s %6d %9s %9s %10d %9.3f %9.3f %8.1f %6.0f %8.3f %6.1f" % row, flush=True)
 
 

@@ -5,11 +5,11 @@
 
 PROGRAM is crates/print_form/out/print_form where it isn't given: its `counts` prints how many nodes the circuit of a design has, inputs
 and states with them, and the milliseconds that the net of words and the circuit took together, by the clock, without the reading. The
-trace is one cycle. A family is one shape of design at growing sizes; `ns each` divides the time by the nodes, `MB` is the most memory that
-the whole run held, with the reading, the unrolling and the clauses of one cycle (at least what this script holds as it begins the program), and
-each `x` is how often the time, the nodes and the memory are those of the size before. The program is run N times (3), and the least time counts.
-Beside it `yosys` (Debian's package, where it is installed) runs `read_verilog; hierarchy; proc; flatten; memory; techmap; aigmap` on the text
-once, from whose seconds those of `read_verilog; hierarchy; proc` alone are taken off; of a family in which
+trace is one cycle. A family is one shape of design at growing sizes; `ns each` divides the time by the nodes, `MB` is the most memory
+that the whole run held, with the reading, the unrolling and the clauses of one cycle (at least what this script holds as it begins the
+program), and each `x` is how often the time, the nodes and the memory are those of the size before. The program is run N times (3), and
+the least time counts. Beside it `yosys` (Debian's package, where it is installed) runs `read_verilog; hierarchy; proc; flatten; memory;
+techmap; aigmap` on the text once, from whose seconds those of `read_verilog; hierarchy; proc` alone are taken off; of a family in which
 yosys was stopped, and of those in which it drops what no output reads, only the program is run. The status is 1 where a text is refused.
 """
 
