@@ -1,17 +1,22 @@
 #!/usr/bin/env python3
 """`localise find` on six designs with a wrong line each, beside the same question put to yosys and z3, in one run.
 
-    bench/find.py [PROGRAM] [--size K] [--limit SECONDS] [--cycles N] [--only NAME..] [--alone]
+    bench/find.py [PROGRAM] [--size K] [--limit SECONDS] [--logic NAME] [--cycles N]
+        [--only NAME..] [--alone]
 
 For each design Icarus Verilog runs the right text with random inputs and writes a dump (of --cycles where that is given); the question is
 put to the wrong text: which sets of at most K assignments can explain the dump. PROGRAM (crates/localise/out/localise where it isn't
-given) answers it by `find`, bench/ask_z3.py by yosys and z3, which are ended after --limit seconds, and aren't asked with --alone.
-Printed are the cycles, the sets, the seconds until the first set and until the end, the seconds from the form to the first set, the most
-memory, the lines of the log, the conflicts (its `l` lines), its bytes, the seconds of yosys and z3, and how many times those of `find`
-they are, `over N` where they were ended; then the median of these, with what they had when they were ended. `form s` is a run of
-`print_form` (crates/print_form, built beside), which reads the same texts and makes the same form, and the first set comes `first s`
-after the beginning of `find`. The status is 1 where the two find another number of sets of some size. Debian's packages `iverilog`,
-`yosys` and `python3-z3` must be installed.
+given) answers it by `find`, bench/ask_z3.py by yosys and z3, which are ended after --limit seconds, and aren't asked with --alone. Printed
+are the cycles and the sets, and:
+
+    form s     reading the texts and making the form: a run of `print_form` (crates/print_form, built beside)
+    to set     from there to the first set: the time at which `find` prints it, less form s
+    find s     all of `find`, and MB the most memory that it held
+    conflicts  the `l` lines of the log, and its bytes
+    z3 s       yosys and z3, and x find how many times find s that is, `over N` where they were ended
+
+then the median of these ratios, each with what it was when they were ended. The status is 1 where the two find another number of sets of
+some size. Debian's packages `iverilog`, `yosys` and `python3-z3` must be installed.
 """
 
 import argparse
@@ -105,13 +110,14 @@ def asked_of_z3(words, room, limit):
 
 
 def log_of(room):
-    """The lines of the log, those of conflicts among them, and its bytes."""
+    """The conflicts in the log, and its bytes."""
     log = os.path.join(room, "localise.log")
     if not os.path.exists(log):
-        return 0, 0, 0
+        return 0, 0
     with open(log) as file:
-        kinds = [line[:1] for line in file]
-    return len(kinds) - 2, kinds[2:].count("l"), os.path.getsize(log)
+        next(file)
+        conflicts = sum(line.startswith("l") for line in file)
+    return conflicts, os.path.getsize(log)
 
 
 def shown(seconds):
@@ -127,13 +133,14 @@ def row_of(asked, name):
         printed, first, ours, memory = listed([os.path.abspath(asked.program), "find", *words, *size], room)
         form = formed([FORMS, "counts", str(asked.size), "stmt", "clk", *words[:3]], room)
         log = log_of(room)
-        ask = ["/usr/bin/python3", os.path.join(HERE, "ask_z3.py"), *words, *size]
+        ask = ["/usr/bin/python3", os.path.join(HERE, "ask_z3.py"), *words, *size, "--logic", asked.logic]
         said, theirs, ended = ("", None, False) if asked.alone else asked_of_z3(ask, room, asked.limit)
     found, last = sizes_of(printed), (printed.strip().split("\n") or [""])[-1]
     ratio = None if asked.alone else theirs / ours
     times = "" if ratio is None else ("" if ended else "over ") + "%.1f" % ratio
-    row = (name, cycles, str(found), shown(form), shown(first), ours, memory, *log, shown(theirs), times)
-    print("%-12s %6d %-16s %8s %8s %9.3f %6.0f %9d %9d %10d %9s %11s" % row, flush=True)
+    behind = None if form is None or first is None else first - form
+    row = (name, cycles, str(found), shown(form), shown(behind), ours, memory, *log, shown(theirs), times)
+    print("%-12s %6d %-16s %8s %8s %9.3f %6.0f %9d %10d %9s %11s" % row, flush=True)
     right = last.startswith("complete") and (not ended or sizes_of(said) == found)
     if not right:
         print("%s: ours %r, theirs %r" % (name, last, sizes_of(said)))
@@ -144,11 +151,12 @@ def main():
     parser = argparse.ArgumentParser(description=__doc__, formatter_class=argparse.RawDescriptionHelpFormatter)
     parser.add_argument("program", nargs="?", default=BUILT)
     parser.add_argument("--size", type=int, default=2), parser.add_argument("--limit", type=float, default=600)
-    parser.add_argument("--cycles", type=int), parser.add_argument("--alone", action="store_true")
+    parser.add_argument("--logic", default="QF_FD"), parser.add_argument("--cycles", type=int)
+    parser.add_argument("--alone", action="store_true")
     parser.add_argument("--only", nargs="*", choices=list(BUGS), default=list(BUGS))
     asked = parser.parse_args()
-    print("%-12s %6s %-16s %8s %8s %9s %6s %9s %9s %10s %9s %11s" % (
-        "design", "cycles", "sets by size", "form s", "first s", "find s", "MB", "log lines", "conflicts", "log bytes", "z3 s", "x find"))
+    print("%-12s %6s %-16s %8s %8s %9s %6s %9s %10s %9s %11s" % (
+        "design", "cycles", "sets by size", "form s", "to set", "find s", "MB", "conflicts", "log bytes", "z3 s", "x find"))
     rows = [row_of(asked, name) for name in asked.only]
     if not asked.alone:
         least = "" if all(ended for _, _, ended in rows) else "at least "
