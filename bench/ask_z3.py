@@ -1,12 +1,13 @@
 #!/usr/bin/env python3
 """The question that `localise find` answers, put to yosys and z3: which smallest sets of assignments can explain a dump.
 
-    bench/ask_z3.py DESIGN TOP DUMP --clock CLOCK [--size K]
+    bench/ask_z3.py DESIGN TOP DUMP --clock CLOCK [--size K] [--logic NAME]
 
 Each assignment of the design's text gets a selector, the same in each cycle and in each instance of its module, and in each cycle and
 instance a free value that takes the place of its right side where the selector is true. yosys makes the transition system (SMT-LIB),
 and z3 looks for sets of at most 0, 1, .. K true selectors with which every cycle of the dump has its outputs; each set found is
-blocked with all that contain it. One line a set, by the numbers of its assignments in the order of the text, and `complete N`.
+blocked with all that contain it. One line a set, by the numbers of its assignments in the order of the text, and `complete N`. NAME is the logic
+whose solver z3 takes: QF_FD, its SAT solver for finite domains, where it isn't given, or `any` for its general one, which is slower here.
 
 It reads texts that are laid out like those of bench/designs: one clock, ports declared as wires or registers in the header, each
 assignment of one name or one select. Debian's packages `yosys` and `python3-z3` must be installed.
@@ -112,11 +113,11 @@ def cycles_of(path, top, clock):
     return rows
 
 
-def sets_of(system, top, rows, count, size):
+def sets_of(system, top, rows, count, asked):
     """The sets, by size."""
     declared = re.findall(r"; yosys-smt2-(input|output) (\w+) (\d+)", system)
     text = "\n".join(line for line in system.split("\n") if not line.startswith("(set-"))
-    solver = z3.SolverFor("QF_UFBV") if False else z3.Solver()
+    solver = z3.Solver() if asked.logic == "any" else z3.SolverFor(asked.logic)
     states = ["s%d" % t for t in range(len(rows))]
     sort = re.search(r"define-sort \|%s_s\| \(\) \(_ BitVec (\d+)\)" % top, text)
     asserts = ["(declare-fun %s () |%s_s|)" % (state, top) for state in states]
@@ -139,7 +140,7 @@ def sets_of(system, top, rows, count, size):
     selected = z3.BitVec("selected", count)
     picks = [z3.Extract(i, i, selected) == 1 for i in range(count)]
     found = []
-    for most in range(size + 1):
+    for most in range(asked.size + 1):
         solver.push()
         solver.add(z3.PbLe([(pick, 1) for pick in picks], most))
         blocks = []
@@ -161,11 +162,12 @@ def main():
     parser = argparse.ArgumentParser(description=__doc__, formatter_class=argparse.RawDescriptionHelpFormatter)
     parser.add_argument("design"), parser.add_argument("top"), parser.add_argument("dump")
     parser.add_argument("--clock", required=True), parser.add_argument("--size", type=int, default=2)
+    parser.add_argument("--logic", default="QF_FD")
     asked = parser.parse_args()
     with open(asked.design) as file:
         text, count = with_selectors(file.read())
     rows = cycles_of(asked.dump, asked.top, asked.clock)
-    sets_of(system_of(text, asked.top), asked.top, rows, count, asked.size)
+    sets_of(system_of(text, asked.top), asked.top, rows, count, asked)
 
 
 if __name__ == "__main__":

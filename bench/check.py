@@ -1,19 +1,32 @@
 #!/usr/bin/env python3
 """`localise check` with 1 and 4 workers on lists that `find` makes, beside `find` itself and a simulation of the same design and dump.
 
-    bench/check.py [PROGRAM] [--runs N] [--made N,N,..] [--only NAME..] [--size K]
+    bench/check.py [PROGRAM] [--runs N] [--made N,N,..] [--only NAME..] [--cycles N] [--size K]
 
-Lists are made by `make` (of --made: 7, 24, 29 and 149 where nothing is said, the last being the largest) and, where Debian's package `iverilog` is
-installed, by `find` on the designs of bench/find.py (of --only; those that end within seconds where nothing is said). Printed are the sets, the lines and
-bytes of the log, the bytes of the report, and seconds by the clock, the least of N runs (3) each: of the making or finding (one run), of `check` with one
-worker and with four, and of `sim` on the same design and dump, which reads both and simulates once (`check` reads them too, and simulates once for each set).
-`cpu 4` is the processor's time of all threads with four workers; `MB` the most memory that `check` held with one. PROGRAM is
-crates/localise/out/localise where it isn't given. The status is 1 where `check` doesn't say `yes` to a list that is whole, or anything but `no
-closing` to another, or says something else with four workers.
+Lists are made by `make` (of --made: 7, 24, 29 and 149 where nothing is said, the last being the largest) and, where Debian's package
+`iverilog` is installed, by `find` on the designs of bench/find.py (of --only; those that end within seconds where nothing is said).
+Printed are the sets, the lines of the log, the numbers of its chains and its bytes, the bytes of the report, and seconds by the clock,
+the least of N runs (3) each but for the first:
+
+    find s     the making or finding (one run)
+    form s     the circuit, the unrolling and the clauses, as `print_form` (crates/print_form, built beside) says
+    read s     reading the texts: `check` on the log of other inputs, which ends behind reading and the form, without the form
+    sets s     simulating the sets: `check` on the log with a wrong first step, which ends at that step, without what stands before
+    check 1    `check` with one worker
+    x work     how many times that is read s and sets s together
+    check 4    `check` with four workers
+    x four     how many times as fast that is, and in brackets without reading and the form, which one worker does
+    cpu 4      the processor's time of all threads with four workers
+    sim s      `sim` on the same design and dump, which reads both, simulates once, and prints a line a cycle
+
+and the most memory that `check` held with one worker, in MB. PROGRAM is crates/localise/out/localise where it isn't given. The status is
+1 where `check` doesn't say `yes` to a list that is whole, or anything but `no closing` to another, or says something else with four
+workers.
 """
 
 import argparse
 import os
+import re
 import shutil
 import subprocess
 import sys
@@ -21,8 +34,7 @@ import tempfile
 import time
 
 sys.path.insert(0, os.path.dirname(os.path.abspath(__file__)))
-from find import BUGS, BUILT, HERE, sizes_of, texts_of  # noqa: E402
-from simulation import test_of  # noqa: E402
+from find import BUGS, BUILT, FORMS, prepared, sizes_of  # noqa: E402
 
 MADE = "7,24,29,149"
 QUICK = ["fifo", "alu", "accumulator", "arbiter"]
@@ -47,35 +59,71 @@ def last_line(printed):
     return (printed.strip().split("\n") or [""])[-1]
 
 
-def prepared(name, room):
-    """Writes the wrong text of a design of bench/find.py, and the dump of the right one, into a folder."""
-    right, wrong = texts_of(name)
-    test = test_of(os.path.join(HERE, "designs", name + ".v"), name, BUGS[name][0])
-    for file, text in (("right.v", right), ("wrong.v", wrong), ("test.v", test)):
-        with open(os.path.join(room, file), "w") as made:
-            made.write(text)
-    subprocess.run(["iverilog", "-g2005", "-o", "run", "test.v", "right.v"], cwd=room, check=True)
-    subprocess.run(["vvp", "-n", "run", "+dump"], cwd=room, check=True, stdout=subprocess.DEVNULL)
+def numbers_of(path):
+    """The steps of a log and the numbers of their chains."""
+    steps, numbers = -2, 0
+    with open(path) as log:
+        for line in log:
+            steps += 1
+            numbers += len(line.partition(":")[2].split())
+    return steps, numbers
 
 
-def row_of(program, name, top, files, words, runs, room):
+def changed(room, name, change):
+    """Writes the log under another name, its second line changed and one put behind it."""
+    with open(os.path.join(room, "localise.log")) as log, open(os.path.join(room, name), "w") as other:
+        other.write(log.readline())
+        other.write(change(log.readline()))
+        shutil.copyfileobj(log, other)
+
+
+def of_other_inputs(line):
+    return "inputs " + ("1" if line[7] == "0" else "0") + line[8:]
+
+
+def with_wrong_step(line):
+    return line + "d : 4294967295\n"
+
+
+def form_of(words, room, runs):
+    """The seconds of the circuit, the unrolling and the clauses."""
+    ran = [subprocess.run([FORMS, "counts", *words], cwd=room, check=True, capture_output=True, text=True).stderr for _ in range(runs)]
+    return min(sum(int(it) for it in re.findall(r"\d+", said)) for said in ran) / 1000
+
+
+def parts_of(check, form, room, runs):
+    """The seconds of reading, and of simulating the sets; and those until the first of both ends."""
+    changed(room, "other.log", of_other_inputs), changed(room, "wrong.log", with_wrong_step)
+    seconds = []
+    for log, wanted in (("other.log", "input other"), ("wrong.log", "no step 1")):
+        said, taken, _, _ = least([log if it == "localise.log" else it for it in check] + ["--workers", "1"], room, runs)
+        if not last_line(said).startswith(wanted):
+            sys.exit("%r in place of %r" % (last_line(said), wanted))
+        seconds.append(taken)
+    return seconds[0] - form, seconds[1] - seconds[0], seconds[0]
+
+
+def row_of(asked, name, top, files, words, room):
     """Measures one list, prints its row, and says whether the answers are right."""
     design, dump = files
-    printed, found, _, _ = measured([program, *words], room)
+    printed, found, _, _ = measured([asked.program, *words], room)
     if not all(os.path.exists(os.path.join(room, file)) for file in ("localise.log", "localise.json", *files)):
         print("%s: no list was made: %r" % (name, last_line(printed)))
         return False
     ending = [line for line in printed.split("\n") if line.startswith(("complete", "front"))][-1:] or [last_line(printed)]
-    check = [program, "check", design, top, "localise.json", "localise.log", dump]
-    one, alone, _, memory = least(check + ["--workers", "1"], room, runs)
-    four, together, processor, _ = least(check + ["--workers", "4"], room, runs)
-    _, simulated, _, _ = least([program, "sim", design, top, dump, "--clock", "clk"], room, runs)
-    with open(os.path.join(room, "localise.log")) as log:
-        steps = sum(1 for _ in log) - 2
+    check = [asked.program, "check", design, top, "localise.json", "localise.log", dump]
+    form = form_of([str(asked.size), "stmt", "clk", design, top, dump], room, asked.runs)
+    reading, sets, before = parts_of(check, form, room, asked.runs)
+    one, alone, _, memory = least(check + ["--workers", "1"], room, asked.runs)
+    four, together, processor, _ = least(check + ["--workers", "4"], room, asked.runs)
+    _, simulated, _, _ = least([asked.program, "sim", design, top, dump, "--clock", "clk"], room, asked.runs)
+    log = numbers_of(os.path.join(room, "localise.log"))
     sizes = [os.path.getsize(os.path.join(room, file)) for file in ("localise.log", "localise.json")]
     number = sum(sizes_of(printed).values())
-    print("%-12s %6d %9d %10d %9d %9.3f %9.3f %9.3f %9.3f %9.3f %7.0f" % (
-        name, number, steps, *sizes, found, alone, together, processor, simulated, memory), flush=True)
+    times = "%.2f (%.2f)" % (alone / together, (alone - before) / max(together - before, 0.001))
+    parts = (found, form, reading, sets, alone, alone / (reading + sets), together, times, processor, simulated, memory)
+    print("%-12s %5d %8d %9d %10d %9d %8.3f %7.3f %7.3f %7.3f %8.3f %7.2f %8.3f %12s %8.3f %7.3f %6.0f" % (
+        name, number, *log, *sizes, *parts), flush=True)
     wanted = "yes %d" % number if ending[0].startswith("complete") else "no closing"
     if [last_line(one), last_line(four)] != [wanted, wanted]:
         print("%s: %r and %r in place of %r behind %r" % (name, last_line(one), last_line(four), wanted, ending[0]))
@@ -88,22 +136,24 @@ def main():
     parser.add_argument("program", nargs="?", default=BUILT)
     parser.add_argument("--runs", type=int, default=3), parser.add_argument("--made", default=MADE)
     parser.add_argument("--only", nargs="*", choices=list(BUGS), default=QUICK), parser.add_argument("--size", type=int, default=2)
+    parser.add_argument("--cycles", type=int)
     asked = parser.parse_args()
-    program, rights = os.path.abspath(asked.program), []
+    asked.program, rights = os.path.abspath(asked.program), []
     size = ["--size", str(asked.size)]
-    print("%-12s %6s %9s %10s %9s %9s %9s %9s %9s %9s %7s" % (
-        "list", "sets", "log lines", "log bytes", "report", "find s", "check 1", "check 4", "cpu 4", "sim s", "MB"))
+    print("%-12s %5s %8s %9s %10s %9s %8s %7s %7s %7s %8s %7s %8s %12s %8s %7s %6s" % (
+        "list", "sets", "lines", "numbers", "log bytes", "report", "find s", "form s", "read s", "sets s", "check 1", "x work", "check 4",
+        "x four", "cpu 4", "sim s", "MB"))
     for number in [it for it in asked.made.split(",") if it]:
         with tempfile.TemporaryDirectory() as room:
-            rights.append(row_of(program, "made " + number, "made", ("made.v", "made.vcd"), ["make", number, *size], asked.runs, room))
+            rights.append(row_of(asked, "made " + number, "made", ("made.v", "made.vcd"), ["make", number, *size], room))
     if asked.only and not shutil.which("iverilog"):
         print("(without iverilog there are no dumps of: %s)" % ", ".join(asked.only))
         asked.only = []
     for name in asked.only:
         with tempfile.TemporaryDirectory() as room:
-            prepared(name, room)
+            prepared(name, asked.cycles or BUGS[name][0], room)
             words = ["find", "wrong.v", name, "dump.vcd", "--clock", "clk", *size]
-            rights.append(row_of(program, name, name, ("wrong.v", "dump.vcd"), words, asked.runs, room))
+            rights.append(row_of(asked, name, name, ("wrong.v", "dump.vcd"), words, room))
     return 0 if all(rights) else 1
 
 

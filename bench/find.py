@@ -1,28 +1,40 @@
 #!/usr/bin/env python3
 """`localise find` on six designs with a wrong line each, beside the same question put to yosys and z3, in one run.
 
-    bench/find.py [PROGRAM] [--size K] [--limit SECONDS] [--only NAME..]
+    bench/find.py [PROGRAM] [--size K] [--limit SECONDS] [--logic NAME] [--cycles N]
+        [--only NAME..] [--alone]
 
-For each design Icarus Verilog runs the right text with random inputs and writes a dump; the question is put to the wrong text: which
-sets of at most K assignments can explain the dump. PROGRAM (crates/localise/out/localise where it isn't given) answers it by `find`,
-bench/ask_z3.py by yosys and z3, which is ended after --limit seconds. Printed are the cycles, the sets, the seconds of each, the
-steps of the log and its bytes. The status is 1 where the two find another number of sets of some size. Debian's packages `iverilog`,
-`yosys` and `python3-z3` must be installed.
+For each design Icarus Verilog runs the right text with random inputs and writes a dump (of --cycles where that is given); the question is
+put to the wrong text: which sets of at most K assignments can explain the dump. PROGRAM (crates/localise/out/localise where it isn't
+given) answers it by `find`, bench/ask_z3.py by yosys and z3, which are ended after --limit seconds, and aren't asked with --alone. Printed
+are the cycles and the sets, and:
+
+    form s     reading the texts and making the form: a run of `print_form` (crates/print_form, built beside)
+    to set     from there to the first set: the time at which `find` prints it, less form s
+    find s     all of `find`, and MB the most memory that it held
+    conflicts  the `l` lines of the log, and its bytes
+    z3 s       yosys and z3, and x find how many times find s that is, `over N` where they were ended
+
+then the median of these ratios, each with what it was when they were ended. The status is 1 where the two find another number of sets of
+some size. Debian's packages `iverilog`, `yosys` and `python3-z3` must be installed.
 """
 
 import argparse
 import os
 import re
+import signal
+import statistics
 import subprocess
 import sys
 import tempfile
 import time
 
 sys.path.insert(0, os.path.dirname(os.path.abspath(__file__)))
-from simulation import ports_of, test_of  # noqa: E402
+from simulation import test_of  # noqa: E402
 
 HERE = os.path.dirname(os.path.abspath(__file__))
 BUILT = os.path.join(HERE, "..", "crates", "localise", "out", "localise")
+FORMS = os.path.join(HERE, "..", "crates", "print_form", "out", "print_form")
 
 # the design, how many cycles are recorded, the right text and the wrong one
 BUGS = {
@@ -51,51 +63,105 @@ def sizes_of(printed):
     return {size: sizes.count(size) for size in sorted(set(sizes))}
 
 
-def timed(words, folder, limit):
+def prepared(name, cycles, room):
+    """Writes the wrong text of a design, and a dump of the right one, into a folder."""
+    right, wrong = texts_of(name)
+    test = test_of(os.path.join(HERE, "designs", name + ".v"), name, cycles)
+    for file, text in (("right.v", right), ("wrong.v", wrong), ("test.v", test)):
+        with open(os.path.join(room, file), "w") as made:
+            made.write(text)
+    subprocess.run(["iverilog", "-g2005", "-o", "run", "test.v", "right.v"], cwd=room, check=True)
+    subprocess.run(["vvp", "-n", "run", "+dump"], cwd=room, check=True, stdout=subprocess.DEVNULL)
+
+
+def listed(words, room):
+    """What `find` prints, its seconds until the first set and until the end, and the MB that it held."""
+    begun, first, lines = time.perf_counter(), None, []
+    ran = subprocess.Popen(words, cwd=room, stdout=subprocess.PIPE, text=True)
+    for line in ran.stdout:
+        if first is None and line.startswith("set"):
+            first = time.perf_counter() - begun
+        lines.append(line)
+    _, status, used = os.wait4(ran.pid, 0)
+    ran.returncode = os.waitstatus_to_exitcode(status)
+    return "".join(lines), first, time.perf_counter() - begun, used.ru_maxrss / 1024
+
+
+def formed(words, room):
+    """The seconds in which the same texts are read and the same form is made, where the program for that is built."""
+    if not os.path.exists(FORMS):
+        return None
     begun = time.perf_counter()
+    subprocess.run(words, cwd=room, check=True, capture_output=True)
+    return time.perf_counter() - begun
+
+
+def asked_of_z3(words, room, limit):
+    """What yosys and z3 print, their seconds, and whether they came to their end."""
+    begun = time.perf_counter()
+    ran = subprocess.Popen(words, cwd=room, stdout=subprocess.PIPE, text=True, start_new_session=True)
     try:
-        ran = subprocess.run(words, cwd=folder, capture_output=True, text=True, timeout=limit)
-        return time.perf_counter() - begun, ran.stdout, True
-    except subprocess.TimeoutExpired as ended:
-        return limit, (ended.stdout or b"").decode(), False
+        said, _ = ran.communicate(timeout=limit)
+        return said, time.perf_counter() - begun, ran.returncode == 0
+    except subprocess.TimeoutExpired:
+        os.killpg(ran.pid, signal.SIGKILL)
+        said, _ = ran.communicate()
+        return said, time.perf_counter() - begun, False
+
+
+def log_of(room):
+    """The conflicts in the log, and its bytes."""
+    log = os.path.join(room, "localise.log")
+    if not os.path.exists(log):
+        return 0, 0
+    with open(log) as file:
+        next(file)
+        conflicts = sum(line.startswith("l") for line in file)
+    return conflicts, os.path.getsize(log)
+
+
+def shown(seconds):
+    return "" if seconds is None else "%.3f" % seconds
+
+
+def row_of(asked, name):
+    """Measures a design and prints its row: whether the answers are right, and how many times the seconds of `find` the others took."""
+    cycles = asked.cycles or BUGS[name][0]
+    words, size = ["wrong.v", name, "dump.vcd", "--clock", "clk"], ["--size", str(asked.size)]
+    with tempfile.TemporaryDirectory() as room:
+        prepared(name, cycles, room)
+        printed, first, ours, memory = listed([os.path.abspath(asked.program), "find", *words, *size], room)
+        form = formed([FORMS, "counts", str(asked.size), "stmt", "clk", *words[:3]], room)
+        log = log_of(room)
+        ask = ["/usr/bin/python3", os.path.join(HERE, "ask_z3.py"), *words, *size, "--logic", asked.logic]
+        said, theirs, ended = ("", None, False) if asked.alone else asked_of_z3(ask, room, asked.limit)
+    found, last = sizes_of(printed), (printed.strip().split("\n") or [""])[-1]
+    ratio = None if asked.alone else theirs / ours
+    times = "" if ratio is None else ("" if ended else "over ") + "%.1f" % ratio
+    behind = None if form is None or first is None else first - form
+    row = (name, cycles, str(found), shown(form), shown(behind), ours, memory, *log, shown(theirs), times)
+    print("%-12s %6d %-16s %8s %8s %9.3f %6.0f %9d %10d %9s %11s" % row, flush=True)
+    right = last.startswith("complete") and (not ended or sizes_of(said) == found)
+    if not right:
+        print("%s: ours %r, theirs %r" % (name, last, sizes_of(said)))
+    return right, ratio, ended
 
 
 def main():
     parser = argparse.ArgumentParser(description=__doc__, formatter_class=argparse.RawDescriptionHelpFormatter)
     parser.add_argument("program", nargs="?", default=BUILT)
     parser.add_argument("--size", type=int, default=2), parser.add_argument("--limit", type=float, default=600)
-    parser.add_argument("--only", nargs="*", default=list(BUGS))
+    parser.add_argument("--logic", default="QF_FD"), parser.add_argument("--cycles", type=int)
+    parser.add_argument("--alone", action="store_true")
+    parser.add_argument("--only", nargs="*", choices=list(BUGS), default=list(BUGS))
     asked = parser.parse_args()
-    program, status, ratios = os.path.abspath(asked.program), 0, []
-    print("%-12s %6s %-22s %9s %10s %10s %9s %8s" % ("design", "cycles", "sets by size", "find s", "log lines", "log bytes", "z3 s", "x find"))
-    for name in asked.only:
-        cycles = BUGS[name][0]
-        right, wrong = texts_of(name)
-        with tempfile.TemporaryDirectory() as room:
-            for file, text in (("right.v", right), ("wrong.v", wrong), ("test.v", test_of(os.path.join(HERE, "designs", name + ".v"), name, cycles))):
-                with open(os.path.join(room, file), "w") as made:
-                    made.write(text)
-            subprocess.run(["iverilog", "-g2005", "-o", "run", "test.v", "right.v"], cwd=room, check=True)
-            subprocess.run(["vvp", "-n", "run", "+dump"], cwd=room, check=True, stdout=subprocess.DEVNULL)
-            size = ["--size", str(asked.size)]
-            ours, printed, _ = timed([program, "find", "wrong.v", name, "dump.vcd", "--clock", "clk", *size], room, None)
-            log = os.path.join(room, "localise.log")
-            steps, length = 0, 0
-            if os.path.exists(log):
-                length = os.path.getsize(log)
-                with open(log) as file:
-                    steps = sum(1 for _ in file) - 2
-            words = ["/usr/bin/python3", os.path.join(HERE, "ask_z3.py"), "wrong.v", name, "dump.vcd", "--clock", "clk", *size]
-            theirs, said, ended = timed(words, room, asked.limit)
-        found = sizes_of(printed)
-        if not printed.strip().split("\n")[-1].startswith("complete") or ended and sizes_of(said) != found:
-            print("%s: ours %r, theirs %r" % (name, printed.strip().split("\n")[-1], sizes_of(said)))
-            status = 1
-        ratios.append(theirs / ours)
-        row = (name, cycles, str(found), ours, steps, length, ("" if ended else ">") + "%.1f" % theirs, ratios[-1])
-        print("%-12s %6d %-22s %9.3f %10d %10d %9s %8.1f" % row, flush=True)
-    print("in the median %.1f times" % sorted(ratios)[len(ratios) // 2])
-    return status
+    print("%-12s %6s %-16s %8s %8s %9s %6s %9s %10s %9s %11s" % (
+        "design", "cycles", "sets by size", "form s", "to set", "find s", "MB", "conflicts", "log bytes", "z3 s", "x find"))
+    rows = [row_of(asked, name) for name in asked.only]
+    if not asked.alone:
+        least = "" if all(ended for _, _, ended in rows) else "at least "
+        print("in the median %s%.1f times" % (least, statistics.median(ratio for _, ratio, _ in rows)))
+    return 0 if all(right for right, _, _ in rows) else 1
 
 
 if __name__ == "__main__":

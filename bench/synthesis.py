@@ -1,13 +1,15 @@
 #!/usr/bin/env python3
-"""Milliseconds from a design to its circuit, and how large that is, as designs grow, beside yosys on the same text.
+"""Milliseconds from a design to its circuit, its memory, and how large it is, as designs grow, beside yosys on the same text.
 
-    bench/synthesis.py [PROGRAM] [--family NAME].. [--no-yosys]
+    bench/synthesis.py [PROGRAM] [--family NAME].. [--runs N] [--no-yosys]
 
 PROGRAM is crates/print_form/out/print_form where it isn't given: its `counts` prints how many nodes the circuit of a design has, inputs
 and states with them, and the milliseconds that the net of words and the circuit took together, by the clock, without the reading. The
-trace is one cycle. A family is one shape of design at growing sizes; `ns each` divides the time by the nodes. Beside it `yosys` (Debian's
-package, where it is installed) runs `read_verilog; hierarchy; proc; flatten; memory; techmap; aigmap` on the text, from whose seconds
-those of `read_verilog; hierarchy; proc` alone are taken off. Each is run once; of a family in which
+trace is one cycle. A family is one shape of design at growing sizes; `ns each` divides the time by the nodes, `MB` is the most memory
+that the whole run held, with the reading, the unrolling and the clauses of one cycle (at least what this script holds as it begins the
+program), and each `x` is how often the time, the nodes and the memory are those of the size before. The program is run N times (3), and
+the least time counts. Beside it `yosys` (Debian's package, where it is installed) runs `read_verilog; hierarchy; proc; flatten; memory;
+techmap; aigmap` on the text once, from whose seconds those of `read_verilog; hierarchy; proc` alone are taken off; of a family in which
 yosys was stopped, and of those in which it drops what no output reads, only the program is run. The status is 1 where a text is refused.
 """
 
@@ -28,6 +30,14 @@ PATIENCE = 30
 
 def lines(count, line):
     return "\n".join(line % {"n": n, "next": n + 1} for n in range(count))
+
+
+def assignments(size):
+    """So many continuous assignments of 8 bits, each of which is a place."""
+    return "module top(input [7:0] w0, input [7:0] a, output [7:0] y);\n%s\nassign y = w%d;\nendmodule\n" % (
+        lines(size - 1, "wire [7:0] w%(next)d; assign w%(next)d = w%(n)d ^ a;"),
+        size - 1,
+    )
 
 
 def sums(size):
@@ -93,6 +103,7 @@ def arrays(size):
 WHOLE = ("sums",)
 
 FAMILIES = {
+    "assignments": (assignments, 65536),
     "sums": (sums, 4000),
     "products": (products, 40),
     "branches": (branches, 8000),
@@ -114,6 +125,15 @@ def measured(words, folder):
         taken = time.perf_counter() - begun
         printed.seek(0)
         return status, taken, printed.read()
+
+
+def counted(words, folder):
+    """What a command printed, and the most memory that it held, in MB."""
+    ran = subprocess.Popen(words, cwd=folder, stdout=subprocess.PIPE, stderr=subprocess.STDOUT, text=True)
+    printed = ran.stdout.read()
+    _, status, used = os.wait4(ran.pid, 0)
+    ran.returncode = os.waitstatus_to_exitcode(status)
+    return printed, used.ru_maxrss / 1024
 
 
 def trace_of(text):
@@ -140,39 +160,54 @@ def yosys(folder):
     return "%.2f | %s |" % (whole - base, gates[0] if gates else 0)
 
 
-def row(program, name, size, text, with_yosys):
-    """Prints a row; whether yosys was fast enough for the next one."""
+def circuit_of(words, folder):
+    """The nodes of the circuit, the milliseconds that it took and the MB of the run."""
+    said, memory = counted(words, folder)
+    nodes, taken = re.search(r"nodes (\d+)", said), re.search(r"circuit (\d+)", said)
+    if not nodes or not taken:
+        sys.exit("refused: " + said)
+    return int(taken.group(1)), int(nodes.group(1)), memory
+
+
+def growth(now, before):
+    """How often each is that of the size before."""
+    return " | ".join("%.2f" % (one / other) if other else "" for one, other in zip(now, before)) if before else " | | "
+
+
+def row(asked, name, size, before, with_yosys):
+    """Prints a row; what was measured, and whether yosys was fast enough for the next one."""
+    text = FAMILIES[name][0](size)
     with tempfile.TemporaryDirectory() as folder:
         for file, what in (("design.v", text), ("trace.vcd", trace_of(text))):
             with open(os.path.join(folder, file), "w") as out:
                 out.write(what)
         clock = "clk" if "input clk" in text else "-"
-        _, _, said = measured([program, "counts", "0", "instance", clock, "design.v", "top", "trace.vcd"], folder)
-        nodes, taken = re.search(r"nodes (\d+)", said), re.search(r"circuit (\d+)", said)
-        if not nodes or not taken:
-            sys.exit("refused: " + said)
-        nodes, taken = int(nodes.group(1)), int(taken.group(1))
+        words = [asked.program, "counts", "0", "instance", clock, "design.v", "top", "trace.vcd"]
+        now = min(circuit_of(words, folder) for _ in range(asked.runs))
         theirs = yosys(folder) if with_yosys else "| |"
-        print("| %s | %d | %d | %d | %.0f | %s" % (name, size, nodes, taken, 1e6 * taken / nodes, theirs), flush=True)
-        return with_yosys and not theirs.startswith("over")
+    taken, nodes, memory = now
+    print("| %s | %d | %d | %d | %.0f | %.0f | %s | %s" % (
+        name, size, nodes, taken, 1e6 * taken / nodes, memory, growth(now, before), theirs), flush=True)
+    return now, with_yosys and not theirs.startswith("over")
 
 
 def main():
-    words = argparse.ArgumentParser()
+    words = argparse.ArgumentParser(description=__doc__, formatter_class=argparse.RawDescriptionHelpFormatter)
     words.add_argument("program", nargs="?", default=BUILT)
     words.add_argument("--family", action="append", choices=sorted(FAMILIES))
+    words.add_argument("--runs", type=int, default=3)
     words.add_argument("--no-yosys", action="store_true")
     asked = words.parse_args()
+    asked.program = os.path.abspath(asked.program)
     with_yosys = not asked.no_yosys and shutil.which("yosys") is not None
-    print("| family | size | nodes | ms | ns each | yosys, s | its ANDs |")
-    print("|---|---|---|---|---|---|---|")
-    for name, (text_of, most) in FAMILIES.items():
+    print("| family | size | nodes | ms | ns each | MB | x ms | x nodes | x MB | yosys, s | its ANDs |")
+    print("|---|---|---|---|---|---|---|---|---|---|---|")
+    for name, (_, most) in FAMILIES.items():
         if asked.family and name not in asked.family:
             continue
-        beside = with_yosys and name in WHOLE
+        beside, before = with_yosys and name in WHOLE, None
         for part in ((128, 64) if beside else ()) + (16, 8, 4, 2, 1):
-            size = most // part
-            beside = row(os.path.abspath(asked.program), name, size, text_of(size), beside)
+            before, beside = row(asked, name, most // part, before, beside)
 
 
 if __name__ == "__main__":
