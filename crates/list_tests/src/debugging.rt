@@ -46,7 +46,12 @@ fn run_with(alloc: Global, question: &Question<'_>, units: u32) -> Result<Run, F
 }
 
 /// The run for the sets of at most so many places.
-pub(super) fn listed(alloc: Global, ordered: &Ordered, traces: &[Trace], size: u32) -> Result<Run, Fail>
+pub(super) fn listed(
+    alloc: Global,
+    ordered: &Ordered,
+    traces: &[Trace],
+    size: u32,
+) -> Result<Run, Fail>
     requires ready { IsReady ordered.now.design ordered.now.order }
     requires traces { All (IsTraceOf ordered.now.design) traces.now }
 {

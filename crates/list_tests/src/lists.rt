@@ -1,13 +1,15 @@
 //! Lists of small networks, by the plain search and by the debugger.
 
-use crate::debugging::listed;
+use crate::debugging::{Run, listed};
 use crate::searches::{Values, has_sets, has_values, searched};
 use design_core::SetWithValues;
+use plain_list::PlainSearch;
 use small_networks::{FAN_OUT, OR_NOT, TWO_COPIES, network, traces};
 use std::alloc::Global;
 use std::test::Fail;
 
 /// What is listed of a network, worked by hand.
+#[derive(Clone, Copy)]
 struct Case {
     text: &'static [u8],
     traces: &'static [&'static [&'static str]],
@@ -34,14 +36,26 @@ fn are_alike(one: &[SetWithValues], other: &[SetWithValues]) -> bool {
             .all(|(one, other)| is_alike(one, other))
 }
 
-/// Whether the plain search finds the sets of a case with its values, and the debugger lists the same sets.
-fn is_listed(alloc: Global, case: &Case) -> Result<bool, Fail> {
+/// What the plain search finds.
+fn found(alloc: Global, case: &Case) -> Result<PlainSearch, Fail> {
     let ordered = network(alloc, case.text)?;
     let traces = traces(alloc, &ordered.design, case.traces)?;
-    let search = searched(alloc, &ordered, &traces, case.size)?;
-    let run = listed(alloc, &ordered, &traces, case.size)?;
-    let found = search.found();
-    Ok(has_sets(found, case.sets) && has_values(found, case.values) && are_alike(&run.sets, found))
+    Ok(searched(alloc, &ordered, &traces, case.size)?)
+}
+
+/// What the debugger lists.
+fn debugged(alloc: Global, case: &Case) -> Result<Run, Fail> {
+    let ordered = network(alloc, case.text)?;
+    let traces = traces(alloc, &ordered.design, case.traces)?;
+    listed(alloc, &ordered, &traces, case.size)
+}
+
+/// Whether the plain search finds the sets of a case with its values, and the debugger lists the same sets.
+fn is_listed(alloc: Global, case: &Case) -> Result<bool, Fail> {
+    let search = found(alloc, case)?;
+    let run = debugged(alloc, case)?;
+    let sets = search.found();
+    Ok(has_sets(sets, case.sets) && has_values(sets, case.values) && are_alike(&run.sets, sets))
 }
 
 fn are_listed(alloc: Global, cases: &[Case]) -> Result<bool, Fail> {
@@ -118,35 +132,31 @@ fn an_output_that_is_not_checked_rules_nothing_out(rt: HostRuntime) -> Result<()
     Ok(())
 }
 
-const TWO_TRACES: [Case; 2] = [
-    Case {
-        text: FAN_OUT,
-        traces: &[&["001x"], &["0011"]],
-        size: 1,
-        sets: &[&[1]],
-        values: &[(&[0], &[1, 1])],
-    },
-    Case {
-        text: FAN_OUT,
-        traces: &[&["001x"], &["0011"]],
-        size: 2,
-        sets: &[&[1], &[2, 3]],
-        values: &[(&[0], &[1, 1]), (&[1, 2], &[1, 0, 1, 1])],
-    },
-];
+const OF_ONE_PLACE: Case = Case {
+    text: FAN_OUT,
+    traces: &[&["001x"], &["0011"]],
+    size: 1,
+    sets: &[&[1]],
+    values: &[(&[0], &[1, 1])],
+};
+
+const OF_TWO_PLACES: Case = Case {
+    text: FAN_OUT,
+    traces: &[&["001x"], &["0011"]],
+    size: 2,
+    sets: &[&[1], &[2, 3]],
+    values: &[(&[0], &[1, 1]), (&[1, 2], &[1, 0, 1, 1])],
+};
 
 #[test]
 fn a_second_trace_rules_a_place_out(rt: HostRuntime) -> Result<(), Fail> {
-    assert!(rt; are_listed(rt.alloc(), &TWO_TRACES)?);
+    assert!(rt; are_listed(rt.alloc(), &[OF_ONE_PLACE, OF_TWO_PLACES])?);
     Ok(())
 }
 
 #[test]
 fn a_search_goes_on_where_its_budget_was_spent(rt: HostRuntime) -> Result<(), Fail> {
-    let alloc = rt.alloc();
-    let ordered = network(alloc, FAN_OUT)?;
-    let traces = traces(alloc, &ordered.design, &[&["001x"], &["0011"]])?;
-    let run = listed(alloc, &ordered, &traces, 2)?;
+    let run = debugged(rt.alloc(), &OF_TWO_PLACES)?;
     assert!(rt; run.spent >= 1);
     assert_eq!(rt; run.sets.len(), 2);
     Ok(())

@@ -50,10 +50,8 @@ fn are_values(found: &SetWithValues, values: &Values) -> bool {
     let rows = found.values.rows.as_slice();
     found.values.places.as_slice() == values.0
         && rows.len() == values.1.len()
-        && rows
-            .iter()
-            .zip(values.1)
-            .all(|(word, value)| word.width() == 1 && word.value() == *value)
+        && rows.iter().zip(values.1).all(|(word, value)| word.width() == 1
+            && word.value() == *value)
 }
 
 /// Whether the found sets have these values, in this order.
