@@ -3,7 +3,7 @@
 
     bench/icarus.py
 
-The texts are those of the tables READ in the files `.._texts.rt` of crates/v_parser_tests/src. Each is given to
+The texts are those of the tables READ in the files `.._texts.rt` of crates/grammar_tests/src. Each is given to
 `iverilog -g2005 -t null`, which must take it; those of the table READ_HERE it must refuse. Debian's package
 `iverilog` must be installed. The status is 1 where one differs.
 """
@@ -18,7 +18,7 @@ import sys
 import tempfile
 
 HERE = os.path.dirname(os.path.abspath(__file__))
-TESTS = os.path.join(HERE, "..", "crates", "v_parser_tests", "src", "*_texts.rt")
+TESTS = os.path.join(HERE, "..", "crates", "grammar_tests", "src", "*_texts.rt")
 REFUSED = "READ_HERE"
 
 

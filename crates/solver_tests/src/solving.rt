@@ -5,38 +5,17 @@ ghost use Rattle.std.specs.Prelude.{◌≡◌, ◌↔◌, ◌≤◌, ◌<◌, Is
 mod blocks;
 mod mixed;
 
-use clause_base::{Clauses, Form, Lit, Log, are_within, has_distinct_variables, is_within};
+use crate::clauses::{clauses_of, lit, literals};
+use clause_base::{Form, Lit, Log, are_within, has_distinct_variables, is_within};
 use loc_base::NoMemory;
 use sat_core::{Budget, Solver, Verdict};
 use std::alloc::Global;
 use std::process::Abort;
 use std::test::Fail;
 
-/// The literal of a number's size, negated where the number is negative.
-fn lit(n: i8) -> Lit {
-    Lit {
-        var: u32::from(n.unsigned_abs()),
-        negated: n < 0,
-    }
-}
-
-/// The literals of these numbers.
-fn literals(alloc: Global, numbers: &[i8]) -> Result<Vec<Lit>, NoMemory> {
-    let mut literals = Vec::new(alloc);
-    for n in numbers {
-        literals.push(lit(*n))?;
-    }
-    Ok(literals)
-}
-
 /// The form of the clauses of these numbers.
 fn form_of(rt: &impl Abort, alloc: Global, vars: u32, rows: &[&[i8]]) -> Result<Form, NoMemory> {
-    let mut clauses = Clauses::new(alloc);
-    for numbers in rows {
-        let clause = literals(alloc, numbers)?;
-        assert!(rt; has_distinct_variables(&clause));
-        clauses.push(&clause)?;
-    }
+    let clauses = clauses_of(rt, alloc, rows)?;
     Ok(Form { vars, clauses })
 }
 

@@ -5,29 +5,13 @@ ghost use Rattle.std.specs.Prelude.{◌≡◌, ◌+◌, ◌<◌, ◌≤◌, leng
 mod mixed;
 mod plain;
 
+use crate::clauses::{lit, literals};
 use clause_base::{Lit, has_distinct_variables, is_within};
 use loc_base::NoMemory;
 use std::alloc::Global;
 use std::process::Abort;
 use std::test::Fail;
 use trail_core::Trail;
-
-/// The literal of a number's size, negated where the number is negative.
-fn lit(n: i8) -> Lit {
-    Lit {
-        var: u32::from(n.unsigned_abs()),
-        negated: n < 0,
-    }
-}
-
-/// The literals of these numbers.
-fn literals(alloc: Global, numbers: &[i8]) -> Result<Vec<Lit>, NoMemory> {
-    let mut literals = Vec::new(alloc);
-    for n in numbers {
-        literals.push(lit(*n))?;
-    }
-    Ok(literals)
-}
 
 /// Adds the clause of these literals at level 0.
 fn add(rt: &impl Abort, trail: &mut Trail, clause: &[Lit]) -> Result<(), NoMemory>

@@ -2,6 +2,7 @@
 
 ghost use Rattle.std.specs.Prelude.{◌<◌, ◌≤◌};
 
+use crate::clauses::following;
 use super::{Answer, is_answer, solve, solver_of};
 use clause_base::{Clauses, Form, Lit, has_distinct_variables};
 use loc_base::NoMemory;
@@ -43,11 +44,6 @@ fn greatest(rt: &impl Abort, alloc: Global, form: &Form) -> Result<Option<Vec<bo
         }
     }
     Ok(None)
-}
-
-/// The number after this one in a fixed sequence (Park and Miller 1988).
-fn following(number: u64) -> u64 {
-    number % 2147483647 * 48271 % 2147483647
 }
 
 /// Three literals of the variables 1 to `vars`, by a number.

@@ -2,6 +2,7 @@
 
 ghost use Rattle.std.specs.Prelude.{◌≡◌, ◌<◌, length, IfOk};
 
+use crate::clauses::following;
 use super::{add, decide, go_back, plain};
 use clause_base::{Lit, has_distinct_variables};
 use loc_base::NoMemory;
@@ -12,11 +13,6 @@ use trail_core::Trail;
 
 /// How many variables there are.
 const VARS: u32 = 8;
-
-/// The number after this one in a fixed sequence (Park and Miller 1988).
-fn following(number: u64) -> u64 {
-    number % 2147483647 * 48271 % 2147483647
-}
 
 /// The literal that a number gives.
 fn literal(number: u64) -> Lit {

@@ -1,0 +1,90 @@
+//! A caller that knows the shelf by its trait alone, proved from the trait's clauses: a fault ends it, and what it has
+//! written then is a front of what was due.
+ghost use Rattle.std.specs.Prelude.{◌≡◌, ◌≢◌, ◌⊎◌, ◌++◌, ℕ, List, [], true, Some, unwrap_or, OnOk, IsErrOf, IsSomeAnd};
+ghost use Rattle.std.specs.Io.{StartsWith};
+ghost use Rattle.io_ports.specs.Faults.{Rose};
+
+use io_ports::{LoadErr, MemShelf, Numbers, PutErr, Shelf, Texts};
+use loc_base::Bytes;
+use std::alloc::Global;
+use std::test::Fail;
+
+/// Why the caller stopped.
+#[derive(Clone, Copy, Debug, PartialEq, Eq)]
+enum Stop {
+    ReadFault,
+    WriteFault,
+    Size,
+    Memory,
+}
+
+impl From<PutErr> for Stop {
+    ghost use Rattle.io_ports.specs.declared.errors.PutErr.TheVariants as put;
+    ghost use Rattle.ground_tests.specs.declared.caller.Stop.TheVariants as stop;
+
+    ghost from_gives = { λ e s. (e ≡ put.Failed → s ≡ stop.WriteFault) × (e ≡ put.NoMemory → s ≡ stop.Memory) };
+
+    fn from(error: PutErr) -> Stop {
+        match error {
+            PutErr::Failed => Stop::WriteFault,
+            PutErr::NoMemory => Stop::Memory,
+        }
+    }
+}
+
+/// Writes a text twice under another name.
+fn copy_twice<S: Shelf>(shelf: &mut S, alloc: Global, from: &str, to: &str) -> Result<(), Stop>
+    // What is due is the text twice, and what was written is due, or a front of it, or as before.
+    ensures due { S.tells shelf.old ≡ true → OnOk result (let text = unwrap_or (S.texts shelf.old from.now) [] in S.written shelf.new to.now ≡ Some (text ++ text)) }
+    ensures front { S.tells shelf.old ≡ true → let text = unwrap_or (S.texts shelf.old from.now) [] in
+        (S.written shelf.new to.now ≡ S.written shelf.old to.now) ⊎ IsSomeAnd (S.written shelf.new to.now) (StartsWith (text ++ text)) }
+    ensures others { (other : List ℕ) → other ≢ to.now → S.written shelf.new other ≡ S.written shelf.old other }
+
+    // A fault is answered only where the count rose in this call.
+    ensures read { IsErrOf result Stop.ReadFault → Rose (S.faults shelf.old) (S.faults shelf.new) }
+    ensures write { IsErrOf result Stop.WriteFault → Rose (S.faults shelf.old) (S.faults shelf.new) }
+    ensures memory { IsErrOf result Stop.Memory → S.faults shelf.new ≡ S.faults shelf.old }
+    ensures ok { OnOk result (S.faults shelf.new ≡ S.faults shelf.old) }
+{
+    let text = match shelf.load(alloc, from, 100) {
+        Ok(text) => text,
+        Err(LoadErr::Failed) => return Err(Stop::ReadFault),
+        Err(LoadErr::TooBig) => return Err(Stop::Size),
+        Err(LoadErr::NoMemory) => return Err(Stop::Memory),
+    };
+    shelf.begin(to)?;
+    shelf.put(to, text.as_slice())?;
+    shelf.put(to, text.as_slice())?;
+    Ok(())
+}
+
+/// What a caller that is stopped by the call of a number leaves under `to`.
+fn left_by(alloc: Global, fails: u64) -> Result<(Result<(), Stop>, MemShelf), Fail> {
+    let mut texts = Texts::new(alloc);
+    texts.add("from", Bytes::copy_of(alloc, b"abcd")?)?;
+    let mut numbers = Numbers::new(alloc);
+    numbers.push(fails)?;
+    let mut shelf = MemShelf::new(alloc, texts, numbers);
+    let answer = copy_twice(&mut shelf, alloc, "from", "to");
+    Ok((answer, shelf))
+}
+
+#[test]
+fn the_first_fault_ends_a_caller(rt: HostRuntime) -> Result<(), Fail> {
+    for (fails, want, left) in [
+        (0, Err(Stop::ReadFault), None),
+        (1, Err(Stop::WriteFault), None),
+        (2, Err(Stop::WriteFault), Some("ab")),
+        (3, Err(Stop::WriteFault), Some("abcdab")),
+        (4, Ok(()), Some("abcdabcd")),
+    ] {
+        let (answer, shelf) = left_by(rt.alloc(), fails)?;
+        assert_eq!(rt; answer, want, "where call {fails} fails");
+        assert_eq!(rt;
+            shelf.text("to").map(Bytes::as_slice),
+            left.map(|text: &str| text.as_bytes()),
+            "where call {fails} fails"
+        );
+    }
+    Ok(())
+}

@@ -1,0 +1,4 @@
+use Rattle.list_tests.proofs.searches.searched.Goals as goal
+
+pub loop-step-init : goal.loop-step-init
+loop-step-init c = c.in_ok-search.ensures.search c.args.traces.now

@@ -1,5 +1,0 @@
-use Rattle.card_counter.specs.InForm.{HasCounter}
-use Rattle.set_enum_tests.proofs.tests.problem.clauses_with.Given as goal
-
-abbrev pub invariant-loop-place : goal.invariant-loop-place
-invariant-loop-place g l = HasCounter l.n l.k l.vars l.clauses

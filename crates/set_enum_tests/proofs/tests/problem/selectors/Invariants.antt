@@ -1,6 +1,0 @@
-use Rattle.std.proofs.Common.{◌≡◌}
-use Rattle.card_counter.specs.InForm.{literals_from}
-use Rattle.set_enum_tests.proofs.tests.problem.selectors.Given as goal
-
-abbrev pub invariant-loop-before : goal.invariant-loop-before
-invariant-loop-before l = l.selectors.items ≡ literals_from 1 l.before

@@ -1,5 +1,0 @@
-mod budgets;
-mod imports;
-mod lists;
-mod mixed;
-mod problem;

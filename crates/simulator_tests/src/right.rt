@@ -1,0 +1,116 @@
+//! Whether chosen values make traces of a design right, as the plain program computes it.
+
+use crate::build::{bits, samples_of, width_at};
+use design_core::{Checked, Design, Trace};
+use design_fits::{are_chosen, can_run, is_trace_of};
+use loc_base::Bits;
+use plain_sim::meets;
+use std::alloc::Global;
+use std::test::Fail;
+
+/// Which places are freed, the values of all places, first those of cycle 0, and whether these make the trace right.
+pub(super) type Choice = (&'static [bool], &'static [u128], bool);
+
+/// A trace, and choices for it.
+#[derive(Clone, Copy)]
+pub(super) struct Case {
+    /// The order in which the drivers are computed.
+    pub(super) order: &'static [u32],
+    /// A sample for each input, first those of cycle 0.
+    pub(super) samples: &'static [u128],
+    /// What each output is expected to be, first those of cycle 0; there is no number where it is not checked.
+    pub(super) expected: &'static [Option<u128>],
+    pub(super) choices: &'static [Choice],
+}
+
+fn checked(width: u8, number: Option<u128>) -> Result<Checked, Fail> {
+    let zero = bits(width, 0)?;
+    match number {
+        Some(number) => Ok(Checked {
+            value: bits(width, number)?,
+            mask: zero.not(),
+        }),
+        None => Ok(Checked {
+            value: zero,
+            mask: zero,
+        }),
+    }
+}
+
+/// A trace of a design, as long as its outputs are expected.
+pub(super) fn trace_of(
+    alloc: Global,
+    design: &Design,
+    samples: &[u128],
+    expected: &[Option<u128>],
+) -> Result<Trace, Fail> {
+    let cycles = expected.len() / design.outputs.len().max(1);
+    let Ok(cycles) = u32::try_from(cycles) else {
+        return Err(Fail::new("too many cycles"));
+    };
+    let mut trace = Trace {
+        cycles,
+        inputs: samples_of(alloc, design, samples)?,
+        expected: Vec::new(alloc),
+    };
+    for (i, number) in expected.iter().enumerate() {
+        let width = width_at(design, &design.outputs, i);
+        trace.expected.push(checked(width, *number)?)?;
+    }
+    Ok(trace)
+}
+
+/// One word for each place in each cycle.
+fn chosen_of(alloc: Global, design: &Design, numbers: &[u128]) -> Result<Vec<Bits>, Fail> {
+    let mut words = Vec::new(alloc);
+    let places = design.places.as_slice();
+    for (i, number) in numbers.iter().enumerate() {
+        let width = if places.is_empty() {
+            1
+        } else {
+            places[i % places.len()].width
+        };
+        words.push(bits(width, *number)?)?;
+    }
+    Ok(words)
+}
+
+/// Whether a choice makes a trace right, once it is known that both fit the design.
+fn is_right(
+    alloc: Global,
+    design: &Design,
+    order: &[u32],
+    trace: &Trace,
+    choice: &Choice,
+) -> Result<bool, Fail> {
+    let (freed, numbers, _) = *choice;
+    let chosen = chosen_of(alloc, design, numbers)?;
+    if !can_run(design) || !is_trace_of(design, trace) {
+        return Err(Fail::new("the design or the trace does not fit"));
+    }
+    if !are_chosen(design, trace, freed, &chosen) {
+        return Err(Fail::new("the values do not fit"));
+    }
+    Ok(meets(alloc, design, order, trace, freed, &chosen)?)
+}
+
+/// Whether each choice of a case is right, or is not, as it says.
+fn holds(alloc: Global, design: &Design, case: &Case) -> Result<bool, Fail> {
+    let trace = trace_of(alloc, design, case.samples, case.expected)?;
+    for choice in case.choices {
+        if is_right(alloc, design, case.order, &trace, choice)? != choice.2 {
+            return Ok(false);
+        }
+    }
+    Ok(true)
+}
+
+/// Whether all cases of a design are as they say.
+pub(super) fn all_hold(alloc: Global, design: &Design, cases: &[Case]) -> Result<bool, Fail> {
+    for case in cases {
+        if !holds(alloc, design, case)? {
+            return Ok(false);
+        }
+    }
+    Ok(true)
+}

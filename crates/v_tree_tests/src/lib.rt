@@ -1,5 +1,0 @@
-//! Tests of the expressions of texts.
-#![tactic(auto)]
-
-#[cfg(test)]
-mod expressions;

@@ -1,0 +1,6 @@
+//! The instances of texts.
+
+mod hierarchy;
+mod limits;
+mod reading;
+mod refusals;
