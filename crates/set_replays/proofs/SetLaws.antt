@@ -1,7 +1,8 @@
 -- Sets of values tried one after another, and in pieces.
 use Rattle.std.proofs.Common.{ℕ, zero, suc, ◌+◌, ◌*◌, ◌/◌, ◌≡◌, ◌<◌, ◌≤◌, List, [], ◌∷◌, length, refl, ap, sym, subst, ◌∙◌, arith, ◌⊎◌, inl, inr, Option, Some, None, Result, Ok, Err}
 use Rattle.std.specs.Prelude.{slice_get, IfOk, All, min}
-use Rattle.std.proofs.Math.Nat.{div-add-mod, mod-lt}
+use Rattle.std.specs.Int.{div_ceil}
+use Rattle.std.proofs.lemmas.Grind.{div_ceil_times}
 use Rattle.std.proofs.lemmas.Bool.{cases_lt}
 use Rattle.std.proofs.lemmas.Option.{slice_get_within, get_or_from_slice_get}
 use Rattle.loc_base.specs.declared.memory.NoMemory.{NoMemory}
@@ -142,12 +143,22 @@ searched d traces sets many answers K each past (Ok found) is = λ holds. subst 
         (λ k answer at. subst (λ n. IfOk answer (FirstToMiss d traces sets (n * many) (n * many + many))) (from k) (under k answer holds (each k answer at)))
         (subst (λ n. AllMeet d traces sets 0 n) none (all-none d traces sets 0)) whole
 
--- the pieces of so many workers have each set
-pub pieces-cover : (many workers sets : ℕ) → 0 < workers → many ≡ sets / workers + 1 → sets ≤ workers * many
-pieces-cover many workers sets some is = subst (λ n. sets ≤ workers * n) (sym is) (omega (arith, spread, div-add-mod sets workers, mod-lt sets some))
+-- pieces of so many sets have each set
+pub share-cover : (sets many : ℕ) → 0 < many → sets ≤ div_ceil sets many * many
+share-cover sets many some = (div_ceil_times sets many some).0
+
+-- and there are no more of them than workers
+pub share-count : (sets workers many : ℕ) → 0 < workers → 0 < many → div_ceil sets workers ≤ many → div_ceil sets many ≤ workers
+share-count sets workers many some any enough = by (cases_lt workers (div_ceil sets many))
   where
-    spread : workers * (sets / workers + 1) ≡ workers * (sets / workers) + workers
-    spread = omega arith
+    dealt : sets ≤ workers * many
+    dealt = omega (arith, (div_ceil_times sets workers some).0, times-rises (div_ceil sets workers) many workers enough)
+
+    by : (workers < div_ceil sets many) ⊎ (div_ceil sets many ≤ workers) → div_ceil sets many ≤ workers
+    by (inr few) = few
+    by (inl more) = absurd (omega (arith, dealt, (div_ceil_times sets many any).1, times-rises (workers + 1) (div_ceil sets many) many (omega (arith, more))))
+
+pub ruleset share_rules = (share-cover, share-count)
 
 -- what holds of each design of a list of one
 pub of-only : (P : Design → Type 0) (designs : List Design) (d : Design) → designs ≡ d ∷ [] → All P designs → P d

@@ -62,14 +62,27 @@ fn first_found(
     }
 }
 
-/// How many sets each of some workers tries.
-fn piece_length(sets: usize, workers: u32) -> usize
+/// How many sets each piece but the last has, and how many pieces there are.
+#[derive(Clone, Copy)]
+struct Pieces {
+    many: usize,
+    count: usize,
+}
+
+/// The sets shared out among workers: as many to each, rounded up, the rest to the last, and none to who comes too late.
+#[tactic(auto, using(crate::proofs::SetLaws::share_rules))]
+fn shared_out(sets: usize, workers: u32) -> Pieces
     requires some { 0 < workers }
     requires few { sets < 2 ^ 32 }
-    ensures value { result ≡ sets / workers + 1 }
-    ensures few { result ≤ 2 ^ 32 }
+    ensures many { result.many ≤ 2 ^ 32 }
+    ensures count { result.count ≤ workers }
+    ensures cover { sets ≤ result.count * result.many }
 {
-    sets / workers as usize + 1
+    let many = sets.div_ceil(workers as usize).max(1);
+    Pieces {
+        many,
+        count: sets.div_ceil(many),
+    }
 }
 
 /// The only design of a list.
@@ -80,7 +93,7 @@ fn only_design(designs: &[Design]) -> &Design
     &designs[0]
 }
 
-/// Tries the sets, each worker so many of them. The design stands in a list of one, which workers can share.
+/// Tries the sets in pieces, each of which passes the gate once. The design stands in a list of one, which workers can share.
 #[tactic(auto, using(crate::proofs::Crossing::crossing_rules))]
 fn search_all<R: Threads + Sync, G: Gate + Sync>(
     rt: &R,
@@ -97,7 +110,8 @@ fn search_all<R: Threads + Sync, G: Gate + Sync>(
     ensures { IfOk result (λ found. IsSimulable trial.now.design.now trial.now.order.now
         → FirstToMiss trial.now.design.now trial.now.traces.now sets.now 0 (length sets.now) found) }
 {
-    let many = piece_length(sets.len(), workers);
+    let pieces = shared_out(sets.len(), workers);
+    let many = pieces.many;
     let designs = slice::from_ref(trial.design);
     let order = trial.order;
     let traces = trial.traces;
@@ -117,13 +131,13 @@ fn search_all<R: Threads + Sync, G: Gate + Sync>(
         };
         first_to_miss(alloc, &trial, sets, piece)
     };
-    let answers = map_indices(rt, alloc, workers as usize, &search)?;
+    let answers = map_indices(rt, alloc, pieces.count, &search)?;
     first_found(&answers)
 }
 
 /// The first of some sets whose values miss, with its least miss, tried by so many workers: the same for every number of
-/// workers and every gate, by which each of them passes before it begins. None where each trace is right with the values
-/// of each set.
+/// workers and every gate, by which each piece of the sets passes before it begins. None where each trace is right with the
+/// values of each set.
 pub fn replay_all<R: Threads + Sync, G: Gate + Sync>(
     rt: &R,
     alloc: Global,

@@ -11,7 +11,7 @@ use Rattle.design_core.specs.declared.design.Design.{Design}
 use Rattle.cycle_sim.specs.declared.miss.Miss.{Miss}
 use Rattle.cycle_sim.specs.Simulated.{IsSimulable}
 use Rattle.cycle_sim.specs.Misses.{FirstToMiss}
-use Rattle.set_replays.proofs.SetLaws.{pieces-cover, searched, one-found}
+use Rattle.set_replays.proofs.SetLaws.{searched, one-found}
 use Rattle.set_replays.proofs.set_search.search_all.Goals as goal
 
 pub map_indices-requires-sync-F : goal.map_indices-requires-sync-F
@@ -23,13 +23,13 @@ map_indices-requires-sync-F g c κs within =
 pub returns : goal.returns
 returns g c =
     let answers : List (Result (Option (ℕ × Miss)) NoMemory) = c.in_ok-answers.answers.items in
-    let many : length answers ≡ c.args.workers = search rules in
+    let count : length answers ≡ c.shared_out-pieces.result.count = search rules in
     let d : Design = c.args.trial.now.design.now in
-    let n : ℕ = c.piece_length-many.result in
+    let n : ℕ = c.shared_out-pieces.result.many in
     searched d c.args.trial.now.traces.now c.args.sets.now n answers (IsSimulable d c.args.trial.now.order.now)
     (λ k answer at. subst (λ (a : Result (Option (ℕ × Miss)) NoMemory). IfOk a (λ found. IsSimulable d c.args.trial.now.order.now
     → FirstToMiss d c.args.trial.now.traces.now c.args.sets.now (k * n) (k * n + n) found)) (get_or_from_slice_get answers k answer answer at)
     (one-found c.from_ref-designs.result.now d c.args.trial.now.order.now c.args.trial.now.traces.now c.args.sets.now (k * n) (k * n + n) c.from_ref-designs.ensures.value _
-    (c.in_ok-answers.ensures.each k answer (omega (arith, slice_get_within answers k answer at, many))).1.met))
-    (subst (λ w. length c.args.sets.now ≤ w * n) (sym many) (pieces-cover n c.args.workers (length c.args.sets.now) c.requires.some c.piece_length-many.ensures.value))
+    (c.in_ok-answers.ensures.each k answer (omega (arith, slice_get_within answers k answer at, count))).1.met))
+    (subst (λ w. length c.args.sets.now ≤ w * n) (sym count) c.shared_out-pieces.ensures.cover)
     c.first_found.result (search rules)
