@@ -183,13 +183,13 @@ fn an_if_without_else_keeps_what_stood_before(rt: HostRuntime) -> Result<(), Fai
             output: 4 5  next: -11 -14",
         ),
         (
-            "module m(input clk, input c, input d, output reg q, output reg t);
-        always @(posedge clk) if (c) begin t = d; q <= t; end endmodule",
+            "module m(input clk, input c, input d, output reg q);
+        reg t; always @(posedge clk) if (c) begin t = d; q <= t; end endmodule",
             "0: input 0 0  1: input 1 0  2: state 0 0  3: state 1 0
             4: free 0 0 1  5: free 1 0 4
             6: and 0 5  7: and -0 2  8: and -6 -7
             9: and 0 4  10: and -0 3  11: and -9 -10
-            output: 2  output: 3  next: -8  next: -11",
+            output: 2  next: -8  next: -11",
         ),
     ];
     check(&rt, rt.alloc(), &rows)
