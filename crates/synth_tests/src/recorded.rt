@@ -15,6 +15,7 @@ use std::test::Fail;
 use word_net::WordNet;
 
 /// One cycle: the samples of the inputs, the outputs in port order, and the next states of the registers in signal order.
+#[derive(Clone, Copy)]
 struct Cycle<'a> {
     samples: &'a [u128],
     outputs: &'a [u128],
@@ -22,6 +23,7 @@ struct Cycle<'a> {
 }
 
 /// A design, the numbers of its registers' signals, and its cycles.
+#[derive(Clone, Copy)]
 struct Recorded<'a> {
     text: &'a str,
     registers: &'a [u32],
