@@ -56,7 +56,7 @@ pub(super) fn chosen_of(alloc: Global, design: &Design, free: usize) -> Result<C
 }
 
 /// The words of some nodes.
-fn words_at(alloc: Global, out: &[Bits], numbers: &[u32]) -> Result<Vec<Bits>, Fail> {
+pub(super) fn words_at(alloc: Global, out: &[Bits], numbers: &[u32]) -> Result<Vec<Bits>, Fail> {
     let mut words = Vec::new(alloc);
     for number in numbers {
         match out.get(*number as usize) {
@@ -68,10 +68,28 @@ fn words_at(alloc: Global, out: &[Bits], numbers: &[u32]) -> Result<Vec<Bits>, F
 }
 
 /// Appends the values of words.
-fn add_values(words: &[Bits], values: &mut Vec<u128>) -> Result<(), Fail> {
+pub(super) fn add_values(words: &[Bits], values: &mut Vec<u128>) -> Result<(), Fail> {
     for word in words {
         values.push(word.value())?;
     }
+    Ok(())
+}
+
+/// Gives each node of a net its value in a cycle.
+pub(super) fn eval(
+    net: &WordNet,
+    state: &[Bits],
+    samples: &[Bits],
+    chosen: &Chosen,
+    out: &mut [Bits],
+) -> Result<(), Fail> {
+    if !are_given(net, state, samples, &chosen.freed, &chosen.words) {
+        return Err(Fail::new("the net reads what is not given"));
+    }
+    if out.len() != net.nodes().len() {
+        return Err(Fail::new("no word for a node"));
+    }
+    eval_into(net, state, samples, &chosen.freed, &chosen.words, out);
     Ok(())
 }
 
@@ -88,20 +106,7 @@ pub(super) fn by_net(
     let mut out = vec![in alloc; bits(1, 0)?; net.nodes().len()]?;
     for cycle in 0..cycles {
         let samples = samples_of(alloc, design, u128::from(cycle))?;
-        if !are_given(net, &state, &samples, &chosen.freed, &chosen.words) {
-            return Err(Fail::new("the net reads what is not given"));
-        }
-        if out.len() != net.nodes().len() {
-            return Err(Fail::new("no word for a node"));
-        }
-        eval_into(
-            net,
-            &state,
-            &samples,
-            &chosen.freed,
-            &chosen.words,
-            &mut out,
-        );
+        eval(net, &state, &samples, chosen, &mut out)?;
         let outputs = words_at(alloc, &out, net.outputs())?;
         add_values(&outputs, &mut values)?;
         state = words_at(alloc, &out, net.next())?;
@@ -124,7 +129,7 @@ fn add_outputs(sim: &Sim, design: &Design, values: &mut Vec<u128>) -> Result<(),
 }
 
 /// Makes one step, and appends the values of the outputs.
-fn step(
+pub(super) fn step(
     sim: &mut Sim,
     design: &Design,
     samples: &[Bits],
