@@ -111,10 +111,19 @@ fn what_is_written_is_read_back(rt: HostRuntime) -> Result<(), Fail> {
     Ok(())
 }
 
-const SAME: [(&str, &str); 6] = [
+/// Of two members with one name the later counts.
+const SAME: [(&str, &str); 8] = [
     ("top", " \"\\u006d\" "),
     ("size", "8,\"size\":2"),
     ("size", "[],\"size\":2"),
+    (
+        "sets",
+        "[{\"members\":[2],\"values\":[[[\"1\"],[\"2\"],[\"0\"]]],\"members\":[1]}]",
+    ),
+    (
+        "suspects",
+        "[{\"line\":-1,\"kind\":\"stmt\",\"label\":\"m\",\"line\":3}]",
+    ),
     (
         "suspects",
         "[{\"line\":3,\"label\":\"m\",\n\"kind\":\"stmt\"}]",
@@ -145,10 +154,16 @@ fn is_refused(alloc: Global, change: (&str, &str), want: ReportErr) -> Result<bo
     Ok(refusal(alloc, text.as_str().as_bytes()) == Some(want))
 }
 
-const NO_JSON: [(&str, &str); 6] = [
+const NO_JSON: [(&str, &str); 12] = [
     ("size", "02"),
     ("size", ""),
     ("size", "1e999"),
+    ("size", "2."),
+    ("size", ".2"),
+    ("size", "2e"),
+    ("size", "+2"),
+    ("kinds", "[\"stmt\",]"),
+    ("sets", "[{\"members\":[1],\"values\":[],}]"),
     ("top", "\"\\ud800\""),
     ("more", ","),
     ("more", "}"),
@@ -160,7 +175,16 @@ fn a_text_that_is_no_json_is_refused_as_that(rt: HostRuntime) -> Result<(), Fail
     for change in NO_JSON {
         assert!(rt; is_refused(alloc, change, ReportErr::Syntax)?, "{change:?}");
     }
-    for text in [b"".as_slice(), b"{", b"[1,]", b"\"\xff\"", b"nul"] {
+    for text in [
+        b"".as_slice(),
+        b"{",
+        b"[1,]",
+        b"{,}",
+        b"{\"version\":1,}",
+        b"{}{}",
+        b"\"\xff\"",
+        b"nul",
+    ] {
         assert_eq!(rt; refusal(alloc, text), Some(ReportErr::Syntax));
     }
     Ok(())
@@ -204,7 +228,7 @@ fn lists_nest_127_deep(rt: HostRuntime) -> Result<(), Fail> {
     Ok(())
 }
 
-const OTHER_SHAPE: [(&str, &str); 32] = [
+const OTHER_SHAPE: [(&str, &str); 42] = [
     ("clock", "null"),
     ("clock", "\"a b\""),
     ("ending", "\"whole\""),
@@ -228,9 +252,16 @@ const OTHER_SHAPE: [(&str, &str); 32] = [
         "[{\"members\":[1],\"values\":[[[\"0123456789abcdef0123456789abcdef0\"]]]}]",
     ),
     ("sets", "[{\"members\":[1],\"values\":[[\"1\"]]}]"),
+    ("sets", "[{\"members\":[1.0],\"values\":[]}]"),
+    ("sets", "[{\"members\":[1e0],\"values\":[]}]"),
+    ("sets", "[{\"members\":[1],\"values\":[],\"values\":1}]"),
     ("size", "9"),
     ("size", "18446744073709551616"),
     ("size", "1e0"),
+    ("size", "1e2"),
+    ("size", "2.0"),
+    ("size", "2,\"size\":9"),
+    ("size", "2,\"size\":\"2\""),
     ("size", "1.0"),
     ("size", "-1"),
     ("size", "-0"),
@@ -246,6 +277,9 @@ const OTHER_SHAPE: [(&str, &str); 32] = [
     ("top", "\"\""),
     ("version", "0"),
     ("version", "2"),
+    ("version", "1.0"),
+    ("version", "1e0"),
+    ("version", "true"),
     ("version", "\"1\""),
     ("more", ",\"zero\":0"),
     ("more", ",\"a\":0"),
@@ -257,7 +291,16 @@ fn json_of_another_shape_is_refused_as_that(rt: HostRuntime) -> Result<(), Fail>
     for change in OTHER_SHAPE {
         assert!(rt; is_refused(alloc, change, ReportErr::Shape)?, "{change:?}");
     }
-    for text in [b"[]".as_slice(), b"1", b"{}", b"\"m\""] {
+    for text in [
+        b"[]".as_slice(),
+        b"null",
+        b"1",
+        b"1.0",
+        b"1e2",
+        b"{}",
+        b"{\"version\":1,\"version\":1}",
+        b"\"m\"",
+    ] {
         assert_eq!(rt; refusal(alloc, text), Some(ReportErr::Shape));
     }
     Ok(())

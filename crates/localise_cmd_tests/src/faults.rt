@@ -1,0 +1,284 @@
+//! What is left where a call of the shelf or of the sink fails, for each call of each command in turn.
+
+use crate::runs::{Asked, NAMES, Ran, run, run_by, run_over, texts_with, words, written};
+use io_ports::Texts;
+use loc_base::{Bytes, FreeGate};
+use std::alloc::Global;
+use std::test::Fail;
+use std::thread::Threads;
+
+/// A call that is due: a text is loaded, or begun, or has a piece put behind what stands there, up to a part of the whole or to its
+/// end, which no part is; or lines are printed.
+#[derive(Clone, Copy)]
+enum Due<'a> {
+    Load(&'a str),
+    Begin(&'a str),
+    Put(&'a str, &'a [u8]),
+    Print(&'a str),
+}
+
+/// No text here has it as a part.
+const END: &[u8] = b"\n\n";
+
+const LOG: &str = "localise.log";
+
+const REPORT: &str = "localise.json";
+
+/// The heads of logs; their digests were computed apart from the program.
+const OR_NOT_HEAD: &[u8] =
+    b"localise-log 1\ninputs 4e8cae5cec1457bb6699c30389d997b502e30db26b5b032c76537885b4803196\n";
+
+const MADE_HEAD: &[u8] =
+    b"localise-log 1\ninputs 54e69af254a6cd78c358cc5b0bc71134308bc84c9f6f8c65132e86aceede0dd1\n";
+
+const FIRST: &str = "set {1}\n  1 stmt 3 m\n";
+
+const SECOND: &str = "set {2}\n  2 stmt 4 m\n";
+
+const FOUND: [Due<'static>; 16] = [
+    Due::Load("m.v"),
+    Due::Load("t.vcd"),
+    Due::Begin(LOG),
+    Due::Put(LOG, OR_NOT_HEAD),
+    Due::Put(LOG, b"\nb -1\n"),
+    Due::Print(FIRST),
+    Due::Put(LOG, b"\nb -2\n"),
+    Due::Print(SECOND),
+    Due::Put(LOG, END),
+    Due::Begin(REPORT),
+    Due::Put(REPORT, END),
+    Due::Begin("w-1-1.vcd"),
+    Due::Put("w-1-1.vcd", END),
+    Due::Begin("w-2-1.vcd"),
+    Due::Put("w-2-1.vcd", END),
+    Due::Print("complete 2\n"),
+];
+
+const FRONT: [Due<'static>; 10] = [
+    Due::Load("m.v"),
+    Due::Load("t.vcd"),
+    Due::Begin(LOG),
+    Due::Put(LOG, OR_NOT_HEAD),
+    Due::Put(LOG, b"\nb -1\n"),
+    Due::Print(FIRST),
+    Due::Put(LOG, END),
+    Due::Begin(REPORT),
+    Due::Put(REPORT, END),
+    Due::Print("front 1 sets\n"),
+];
+
+const MADE: [Due<'static>; 17] = [
+    Due::Begin("made.v"),
+    Due::Put("made.v", END),
+    Due::Begin("made.vcd"),
+    Due::Put("made.vcd", END),
+    Due::Begin(LOG),
+    Due::Put(LOG, MADE_HEAD),
+    Due::Put(LOG, b"\nb -2\n"),
+    Due::Print("set {2}\n  2 stmt 7 made\n"),
+    Due::Put(LOG, b"\nb -4\n"),
+    Due::Print("set {4}\n  4 stmt 10 made\n"),
+    Due::Put(LOG, b"\nb -5\n"),
+    Due::Print("set {5}\n  5 stmt 11 made\n"),
+    Due::Put(LOG, END),
+    Due::Begin(REPORT),
+    Due::Put(REPORT, END),
+    Due::Print("complete 3\n"),
+    Due::Print("made 0 stages 3 width 8 cycles 7\n"),
+];
+
+const JUDGED: [Due<'static>; 6] = [
+    Due::Load("r"),
+    Due::Load("m.v"),
+    Due::Load("t.vcd"),
+    Due::Load("u.vcd"),
+    Due::Load("l"),
+    Due::Print("yes 2\n"),
+];
+
+const COUNTED: [Due<'static>; 6] = [
+    Due::Load("c.v"),
+    Due::Load("c.vcd"),
+    Due::Print("1 0 q=0\n"),
+    Due::Print("1 1 q=2\n"),
+    Due::Print("1 2 q=4\n"),
+    Due::Print("trace 1 miss 1 q\n"),
+];
+
+/// Words, the calls that are due, and the status where none fails.
+const RUNS: [(&str, &[Due<'static>], u8); 7] = [
+    ("find m.v m t.vcd --waves w", &FOUND, 0),
+    ("find m.v m t.vcd --sets 1", &FRONT, 1),
+    ("make 0", &MADE, 0),
+    ("check m.v m r l t.vcd u.vcd", &JUDGED, 0),
+    ("sim c.v c c.vcd --clock clk", &COUNTED, 0),
+    ("sim m.v m", &[Due::Print("usage words\n")], 2),
+    (
+        "find other.v m t.vcd",
+        &[Due::Print("read fault other.v\n")],
+        5,
+    ),
+];
+
+/// A text up to and with a part of it; all of it, where it hasn't the part.
+fn through<'a>(text: &'a [u8], part: &[u8]) -> &'a [u8] {
+    for to in 0..text.len() {
+        if text[..to].ends_with(part) {
+            return &text[..to];
+        }
+    }
+    text
+}
+
+/// What stands under a name behind a call that is carried out, of the text that is whole in the end; none where it isn't begun.
+fn put_behind<'a>(
+    text: Option<&'a [u8]>,
+    whole: &'a [u8],
+    due: Due,
+    name: &str,
+) -> Option<&'a [u8]> {
+    match due {
+        Due::Begin(begun) if begun == name => Some(b""),
+        Due::Put(put, part) if put == name => Some(through(whole, part)),
+        _ => text,
+    }
+}
+
+/// The same, behind calls.
+fn standing<'a>(whole: &'a [u8], dues: &[Due], name: &str) -> Option<&'a [u8]> {
+    let mut text = None;
+    for due in dues {
+        text = put_behind(text, whole, *due, name);
+    }
+    text
+}
+
+/// What calls print.
+fn printed(alloc: Global, dues: &[Due]) -> Result<String, Fail> {
+    let mut text = String::new(alloc);
+    for due in dues {
+        if let Due::Print(lines) = *due {
+            text.push_str(lines)?;
+        }
+    }
+    Ok(text)
+}
+
+/// How many of the calls print.
+fn prints(dues: &[Due]) -> u64 {
+    let mut count = 0u64;
+    for due in dues {
+        if let Due::Print(_lines) = *due {
+            count = count.wrapping_add(1);
+        }
+    }
+    count
+}
+
+/// The words of a run in which the call behind some fails.
+#[derive(Clone, Copy)]
+struct Failing<'a> {
+    line: &'a str,
+    before: &'a [Due<'a>],
+    due: Due<'a>,
+}
+
+impl Failing<'_> {
+    fn run<R: Threads + Sync>(&self, rt: &R, alloc: Global, texts: Texts) -> Result<Ran, Fail> {
+        let printed = prints(self.before);
+        let sink = [printed];
+        let shelf = [(self.before.len() as u64).wrapping_sub(printed)];
+        let asked = match self.due {
+            Due::Print(_lines) => Asked {
+                sink_fails: &sink,
+                ..words(self.line)
+            },
+            _ => Asked {
+                shelf_fails: &shelf,
+                ..words(self.line)
+            },
+        };
+        run_by(rt, alloc, texts, asked, &FreeGate)
+    }
+
+    /// Whether the text under a name is what stood before the failing call, and a front of what it was to put there. A text that it
+    /// was to begin is as before or empty.
+    fn leaves(&self, text: Option<&[u8]>, whole: &[u8], name: &str) -> bool {
+        let before = standing(whole, self.before, name);
+        match (text, before, put_behind(before, whole, self.due, name)) {
+            (None, None, _) => true,
+            (Some(text), None, Some(_begun)) => text.is_empty(),
+            (Some(text), Some(before), Some(due)) => {
+                text.starts_with(before) && due.starts_with(text)
+            }
+            _ => false,
+        }
+    }
+
+    /// Whether each text is left so; the run in which no call failed has the whole ones.
+    fn leaves_all(&self, ran: &Ran, whole: &Ran) -> bool {
+        for name in NAMES {
+            let text = ran.shelf.text(name).map(Bytes::as_slice);
+            if !self.leaves(text, written(whole, name), name) {
+                return false;
+            }
+        }
+        true
+    }
+
+    /// Whether what is printed is what was printed before the failing call, and a front of what it was to print. A text that isn't
+    /// loaded is named.
+    fn is_printed(&self, alloc: Global, text: &[u8]) -> Result<bool, Fail> {
+        let before = printed(alloc, self.before)?;
+        match self.due {
+            Due::Load(name) => {
+                let line = format!(in alloc; "read fault {name}\n")?;
+                Ok(text == line.as_bytes())
+            }
+            Due::Print(lines) => {
+                let due = format!(in alloc; "{before}{lines}")?;
+                Ok(text.starts_with(before.as_bytes()) && due.as_bytes().starts_with(text))
+            }
+            _ => Ok(text == before.as_bytes()),
+        }
+    }
+
+    fn status(&self) -> u8 {
+        match self.due {
+            Due::Load(_name) => 5,
+            _ => 6,
+        }
+    }
+}
+
+#[test]
+fn a_call_that_fails_is_the_last_and_leaves_a_front_of_what_was_due(
+    rt: HostRuntime,
+) -> Result<(), Fail> {
+    let alloc = rt.alloc();
+    let line = "find m.v m t.vcd u.vcd --report r --log l";
+    let found = run(&rt, alloc, line)?;
+    for (line, dues, status) in RUNS {
+        let texts = texts_with(alloc, &found, &["r", "l"])?;
+        let whole = run_over(&rt, alloc, texts, line)?;
+        let all = printed(alloc, dues)?;
+        assert_eq!(rt; whole.out.text().as_slice(), all.as_bytes(), "{line}");
+        assert_eq!(rt; whole.status, status, "{line}");
+        for place in 0..dues.len() {
+            let failing = Failing {
+                line,
+                before: &dues[..place],
+                due: dues[place],
+            };
+            let texts = texts_with(alloc, &found, &["r", "l"])?;
+            let ran = failing.run(&rt, alloc, texts)?;
+            assert_eq!(rt; ran.status, failing.status(), "{line}: {place}");
+            assert!(rt;
+                failing.is_printed(alloc, ran.out.text().as_slice())?,
+                "{line}: {place}"
+            );
+            assert!(rt; failing.leaves_all(&ran, &whole), "{line}: {place}");
+        }
+    }
+    Ok(())
+}
