@@ -2,10 +2,8 @@
 
 ghost use Rattle.std.specs.Prelude.{◌<◌, length};
 
+use super::problem::{End, Limits, Shape, are_sets, enumerator_of, list_sets, problem_of};
 use crate::clauses::clauses_of;
-use super::problem::{
-    End, Limits, Shape, are_sets, enumerator_of, list_sets, problem_of,
-};
 use sat_core::Budget;
 use set_enum::{Enumerator, Next};
 use std::process::Abort;

@@ -3,10 +3,8 @@
 ghost use Rattle.std.specs.Prelude.{◌≡◌, ◌<◌, IfOk, length};
 ghost use Rattle.solver_tests.specs.Problems.{IsProblem};
 
+use super::problem::{End, Limits, Problem, Shape, are_sets, enumerator_of, list_sets, problem_of};
 use crate::clauses::clauses_of;
-use super::problem::{
-    End, Limits, Problem, Shape, are_sets, enumerator_of, list_sets, problem_of,
-};
 use loc_base::NoMemory;
 use set_enum::Enumerator;
 use std::alloc::Global;

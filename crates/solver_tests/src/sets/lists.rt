@@ -1,9 +1,7 @@
 //! Forms whose sets are known.
 
+use super::problem::{End, Limits, Shape, are_sets, enumerator_of, list_sets, problem_of};
 use crate::clauses::clauses_of;
-use super::problem::{
-    End, Limits, Shape, are_sets, enumerator_of, list_sets, problem_of,
-};
 use loc_base::NoMemory;
 use std::alloc::Global;
 use std::process::Abort;

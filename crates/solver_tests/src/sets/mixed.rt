@@ -2,8 +2,8 @@
 
 ghost use Rattle.std.specs.Prelude.{◌<◌, ◌≤◌};
 
-use crate::clauses::following;
 use super::problem::{End, Limits, Shape, enumerator_of, list_sets, problem_of};
+use crate::clauses::following;
 use clause_base::{Clauses, Lit, has_distinct_variables};
 use loc_base::NoMemory;
 use set_enum::Members;

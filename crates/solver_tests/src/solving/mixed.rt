@@ -2,8 +2,8 @@
 
 ghost use Rattle.std.specs.Prelude.{◌<◌, ◌≤◌};
 
-use crate::clauses::following;
 use super::{Answer, is_answer, solve, solver_of};
+use crate::clauses::following;
 use clause_base::{Clauses, Form, Lit, has_distinct_variables};
 use loc_base::NoMemory;
 use std::alloc::Global;

@@ -2,8 +2,8 @@
 
 ghost use Rattle.std.specs.Prelude.{◌≡◌, ◌<◌, length, IfOk};
 
-use crate::clauses::following;
 use super::{add, decide, go_back, plain};
+use crate::clauses::following;
 use clause_base::{Lit, has_distinct_variables};
 use loc_base::NoMemory;
 use std::alloc::Global;

@@ -1,9 +1,9 @@
 //! Constants of many levels.
+use crate::cases::deep_expression;
 use crate::constants::values::is_of;
 use std::alloc::Global;
 use std::test::Fail;
 use v_widths::{Scope, constant};
-use crate::cases::deep_expression;
 
 /// How many levels, what opens and closes them, and what stands in the middle.
 type Levels = (u32, (&'static [u8], &'static [u8], &'static [u8]));

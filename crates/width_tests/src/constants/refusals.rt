@@ -1,9 +1,9 @@
 //! Why an expression is no constant: the leftmost part that is wrong, and of one part the first fault.
+use crate::cases::Refusal::{NotConstant, Range, UnknownName, ZeroDivisor};
+use crate::cases::{Refusal, error_of, expression};
 use std::alloc::Global;
 use std::test::Fail;
 use v_widths::{Scope, WidthErr, constant};
-use crate::cases::Refusal::{NotConstant, Range, UnknownName, ZeroDivisor};
-use crate::cases::{Refusal, error_of, expression};
 
 /// The refusal of a constant, if it is refused.
 fn refusal_of(alloc: Global, scope: &Scope<'_>, text: &[u8]) -> Result<Option<WidthErr>, Fail> {

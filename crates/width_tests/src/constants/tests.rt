@@ -1,9 +1,9 @@
 //! What is a constant and what is none, and what names stand for. A scope is made once for many tables, since each test
 //! that makes one is proved with it.
+use crate::cases::{names, parameters, signals};
 use crate::constants::{deep, refusals, scopes, values};
 use std::test::Fail;
 use v_widths::Scope;
-use crate::cases::{names, parameters, signals};
 
 #[test]
 fn constants_have_their_values_and_refusals(rt: HostRuntime) -> Result<(), Fail> {

@@ -1,10 +1,10 @@
 //! Values of constants.
-use std::alloc::Global;
-use std::test::Fail;
-use v_widths::{Const, Scope, constant_in};
 use crate::cases::{
     COMPARISONS, CONSTANTS, CONTEXTS, INDEXED, JOINED, OPERATORS, Row, SELECTS, expression,
 };
+use std::alloc::Global;
+use std::test::Fail;
+use v_widths::{Const, Scope, constant_in};
 
 /// The width, the sign and the value of a constant.
 pub fn is_of(found: Const) -> (u8, bool, u128) {

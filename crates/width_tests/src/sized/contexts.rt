@@ -1,9 +1,9 @@
 //! What a context does to operands, and what it does not.
+use crate::cases::expression;
 use design_core::Node;
 use std::alloc::Global;
 use std::test::Fail;
 use v_widths::{Scope, typed};
-use crate::cases::expression;
 
 /// The width and the sign of an expression, and those of the left operand of its operator.
 type Sizes = (u8, bool, u8, bool);

@@ -1,8 +1,8 @@
 //! Expressions of many levels.
+use crate::cases::deep_expression;
 use std::alloc::Global;
 use std::test::Fail;
 use v_widths::{Scope, typed};
-use crate::cases::deep_expression;
 
 /// How many levels, what opens and closes them, and what stands in the middle.
 type Levels = (u32, (&'static [u8], &'static [u8], &'static [u8]));

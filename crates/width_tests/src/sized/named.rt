@@ -1,9 +1,9 @@
 //! Names where no expression stands, and sizes of what is refused.
+use crate::cases::expression;
 use std::alloc::Global;
 use std::test::Fail;
 use v_tree::Expr;
 use v_widths::{Scope, Size, WidthErr, own_size, typed, typed_name};
-use crate::cases::expression;
 
 /// The width and the sign that a name with its selects has by itself.
 fn size_of_name(alloc: Global, scope: &Scope<'_>, text: &[u8]) -> Result<(u8, bool), Fail> {

@@ -1,9 +1,9 @@
 //! Each refusal, and pairs of parts that are wrong: the leftmost counts, and of one part the first fault.
+use crate::cases::Refusal::{NotConstant, Range, UnknownName, ZeroDivisor};
+use crate::cases::{Refusal, error_of, expression};
 use std::alloc::Global;
 use std::test::Fail;
 use v_widths::{Scope, WidthErr, typed};
-use crate::cases::Refusal::{NotConstant, Range, UnknownName, ZeroDivisor};
-use crate::cases::{Refusal, error_of, expression};
 
 /// The refusal of an expression by itself, if it is refused.
 fn refusal_of(alloc: Global, scope: &Scope<'_>, text: &[u8]) -> Result<Option<WidthErr>, Fail> {

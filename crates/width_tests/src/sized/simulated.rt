@@ -1,11 +1,11 @@
 //! The value of a sized expression, as the plain program computes it.
+use crate::cases::registers;
 use design_core::{Design, Driver, Part, Signal, SignalKind, Target, Typed};
 use design_fits::{can_run, samples_fit};
 use loc_base::{Bits, Items, Name, Span};
 use plain_sim::{compute_cycle, start_words};
 use std::alloc::Global;
 use std::test::Fail;
-use crate::cases::registers;
 
 /// A net of a width.
 fn net(alloc: Global, width: u8) -> Result<Signal, Fail> {

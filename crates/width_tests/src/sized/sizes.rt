@@ -1,11 +1,11 @@
 //! Widths, signs and values of expressions over signals.
+use crate::cases::{
+    ARRAYS, COMPARISONS, CONTEXTS, INDEXED, JOINED, OPERATORS, Row, SELECTS, UNSIGNED, expression,
+};
 use crate::sized::simulated::value_of;
 use std::alloc::Global;
 use std::test::Fail;
 use v_widths::{Scope, typed};
-use crate::cases::{
-    ARRAYS, COMPARISONS, CONTEXTS, INDEXED, JOINED, OPERATORS, Row, SELECTS, UNSIGNED, expression,
-};
 
 /// What a row's expression is over signals, in a context that is unsigned where `unsigned` says so.
 fn found_of(

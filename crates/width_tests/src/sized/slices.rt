@@ -1,9 +1,9 @@
 //! Names whose selects are slices.
+use crate::cases::expression;
 use design_core::Node;
 use std::alloc::Global;
 use std::test::Fail;
 use v_widths::{Scope, typed};
-use crate::cases::expression;
 
 /// The signal, the lowest bit and the width of a slice.
 type Slice = (u32, u8, u8);

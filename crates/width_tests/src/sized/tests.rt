@@ -1,8 +1,8 @@
 //! What is sized and what is refused, over each kind of names. A scope is made once for many tables, since each test
 //! that makes one is proved with it.
+use crate::cases::{names, parameters, signals};
 use crate::sized::{contexts, deep, named, refusals, sizes, slices};
 use std::test::Fail;
-use crate::cases::{names, parameters, signals};
 
 #[test]
 fn expressions_over_signals_have_their_sizes_and_values(rt: HostRuntime) -> Result<(), Fail> {
