@@ -12,7 +12,7 @@ level : (x y : ℕ) (rest : Bool) → x ≡ y → rest ≡ true → (nat_lt x y 
 level x y rest same is = or_right (nat_lt x y) ((x == y) && rest) (and_from (x == y) rest (eq-eqb x y same) is)
 
 -- a number is below another, or the same and a fact of what follows
-compared : (x y : ℕ) (rest : Bool) → (nat_lt x y || ((x == y) && rest)) ≡ true → (x < y) ⊎ ((x ≡ y) × (rest ≡ true))
+pub compared : (x y : ℕ) (rest : Bool) → (nat_lt x y || ((x == y) && rest)) ≡ true → (x < y) ⊎ ((x ≡ y) × (rest ≡ true))
 compared x y rest is = at (or_cases (nat_lt x y) ((x == y) && rest) is)
   where
     at : (nat_lt x y ≡ true) ⊎ (((x == y) && rest) ≡ true) → (x < y) ⊎ ((x ≡ y) × (rest ≡ true))

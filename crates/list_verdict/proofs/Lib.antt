@@ -1,5 +1,6 @@
 pub mod Comparing
 pub mod Ordered
+pub mod Gaps
 pub mod Held
 pub mod Logs
 pub mod Asked

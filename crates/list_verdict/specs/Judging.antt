@@ -1,5 +1,5 @@
 -- Private, for the functions inside this crate: what is known of a list between two conditions.
-use Rattle.std.specs.Prelude.{ℕ, ◌≡◌, ◌+◌, ◌<◌, ◌≤◌, List, length, slice_get, All, Option, Some, None, true}
+use Rattle.std.specs.Prelude.{ℕ, ◌≡◌, ◌+◌, ◌<◌, ◌≤◌, ◌==◌, Bool, false, true, ◌&&◌, nat_lt, if◌then◌else◌, List, [], ◌∷◌, length, slice_get, All, Option, Some, None}
 use Rattle.std.specs.List.Sorted.{IsStrictlyIncreasing}
 use Rattle.design_core.specs.declared.values.SetWithValues.{SetWithValues}
 use Rattle.design_core.specs.Listing.{is_before}
@@ -64,6 +64,17 @@ FirstHeld sets place (Some other) = Holds sets (place + 1) (other + 1) × ((o : 
 -- none of the sets up to a place is within a list
 abbrev pub NoneWithin : List ReportSet → List ℕ → ℕ → Type 0
 NoneWithin sets outer place = (i : ℕ) (inner : ReportSet) → i < place → slice_get sets i ≡ Some inner → ¬ IsWithin inner.members outer
+
+-- of two ascending lists, the other not before the one: whether they are the same up to the one's first number that isn't in a third
+-- ascending list, the outer, and no number of the outer stands between that and the other's at its place
+abbrev pub shares_gap : (outer one other : List ℕ) → Bool
+shares_gap outer [] ys = false
+shares_gap [] (x ∷ xs) ys = true
+shares_gap (bound ∷ bounds) (x ∷ xs) [] = false
+shares_gap (bound ∷ bounds) (x ∷ xs) (y ∷ ys) =
+    if nat_lt bound x then shares_gap bounds (x ∷ xs) (y ∷ ys)
+    else if nat_lt x bound then nat_lt y bound
+    else (x == y) && shares_gap bounds xs ys
 
 -- the first set that holds another, where there is one
 abbrev pub FirstToHold : List ReportSet → Option Holding → Type 0

@@ -1,9 +1,12 @@
-//! Whether a set holds another.
+//! Whether a set holds another. For each set those before it are gone over from the first on. Where one of them isn't within the set,
+//! its first member outside lies in a gap between the set's members. The sets behind it that are the same up to there, and have a member
+//! in that gap too, follow one another, and aren't within the set either: one binary search passes them all.
 
-ghost use Rattle.std.specs.Prelude.{◌<◌, ◌^◌, length};
-ghost use Rattle.list_verdict.specs.Judging.{AreAscending, FirstHeld, FirstToHold};
+ghost use Rattle.std.specs.Prelude.{◌<◌, ◌≤◌, ◌+◌, ◌^◌, length};
+ghost use Rattle.std.specs.List.Sorted.{IsStrictlyIncreasing};
+ghost use Rattle.list_verdict.specs.Judging.{AreAscending, FirstHeld, FirstToHold, NoneWithin};
 
-use crate::members::is_within;
+use crate::members::{is_within, shares_gap};
 use crate::order::set_at;
 use report_doc::types::ReportSet;
 
@@ -12,6 +15,32 @@ use report_doc::types::ReportSet;
 pub(crate) struct Holding {
     pub(crate) set: u32,
     pub(crate) other: u32,
+}
+
+/// The place behind the sets that share the gap of the one at `from`, which isn't within `outer`: none of them is.
+fn past_gap(sets: &[ReportSet], outer: &[u32], from: usize, place: usize) -> usize
+    requires from { from < place }
+    requires place { place < length sets.now }
+    requires order { AreAscending sets.now }
+    requires outer { IsStrictlyIncreasing outer.now }
+    requires none { NoneWithin sets.now outer.now (from + 1) }
+    ensures later { from < result }
+    ensures most { result ≤ place }
+    ensures none { NoneWithin sets.now outer.now result }
+{
+    let first = set_at(sets, from).members.as_slice();
+    let mut low = from + 1;
+    let mut high = place;
+    while low < high {
+        let middle = low + (high - low) / 2;
+        let other = set_at(sets, middle).members.as_slice();
+        if other.len() == first.len() && shares_gap(outer, first, other) {
+            low = middle + 1;
+        } else {
+            high = middle;
+        }
+    }
+    low
 }
 
 /// The place, counted from 0, of the first set before another that is within it.
@@ -23,17 +52,22 @@ fn first_held(sets: &[ReportSet], place: usize) -> Option<usize>
 {
     let set = set_at(sets, place);
     let outer = set.members.as_slice();
-    for other in 0..place {
-        let inner = set_at(sets, other);
-        if is_within(inner.members.as_slice(), outer) {
-            return Some(other);
+    let mut from = 0;
+    while from < place {
+        let inner = set_at(sets, from).members.as_slice();
+        if outer.len() <= inner.len() {
+            return None;
         }
+        if is_within(inner, outer) {
+            return Some(from);
+        }
+        from = past_gap(sets, outer, from, place);
     }
     None
 }
 
 /// The first set that holds another, and the first that it holds. A set that is within another of the list stands before it, so
-/// that no later one is looked at; it takes the square of the number of sets.
+/// that no later one is looked at.
 #[tactic(auto, using(crate::proofs::Held::hold_rules))]
 pub(crate) fn first_to_hold(sets: &[ReportSet]) -> Option<Holding>
     requires few { length sets.now < 2 ^ 32 }

@@ -5,7 +5,7 @@ ghost use Rattle.std.specs.List.Sorted.{IsStrictlyIncreasing};
 ghost use Rattle.design_core.specs.Listing.{is_before, is_lower};
 ghost use Rattle.design_core.specs.Works.{IsWithin};
 ghost use Rattle.debug_core.specs.Problems.{problem_of};
-ghost use Rattle.list_verdict.specs.Judging.{AreMembers};
+ghost use Rattle.list_verdict.specs.Judging.{AreMembers, shares_gap};
 
 use debug_core::Question;
 
@@ -77,4 +77,27 @@ pub(crate) fn is_within(inner: &[u32], outer: &[u32]) -> bool
         }
     }
     true
+}
+
+/// Of two ascending lists, the other not before the one: whether they are the same up to the one's first member that isn't in `outer`,
+/// and no member of `outer` stands between that and the other's at its place.
+pub(crate) fn shares_gap(outer: &[u32], one: &[u32], other: &[u32]) -> bool
+    ensures { result ≡ shares_gap outer.now one.now other.now }
+{
+    let Some((x, xs)) = one.split_first() else {
+        return false;
+    };
+    let Some((bound, bounds)) = outer.split_first() else {
+        return true;
+    };
+    let Some((y, ys)) = other.split_first() else {
+        return false;
+    };
+    if bound < x {
+        shares_gap(bounds, one, other)
+    } else if x < bound {
+        y < bound
+    } else {
+        x == y && shares_gap(bounds, xs, ys)
+    }
 }
