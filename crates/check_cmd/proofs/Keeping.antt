@@ -4,6 +4,7 @@ use Rattle.io_ports.specs.Faults.{Rose}
 use Rattle.command_contract.specs.Contract.{Causes, IsInputRefusal, IsStatus, Keeps, OneRose, Run, Texts}
 use Rattle.command_contract.proofs.Statuses.{input-range, input-refusal}
 use Rattle.front_end.specs.Means.{Meaning, Refusing}
+use Rattle.debug_core.specs.Problems.{IsProblem}
 use Rattle.refusal_lines.specs.Refusals.{memory_line}
 use Rattle.list_inputs.specs.Ends.{PrintCounts, Prints}
 use Rattle.list_inputs.specs.Lines.{LineCut, LineStops}
@@ -75,14 +76,15 @@ pub answer-status : (g : Given) (answer : Answer) → Answers g answer → (answ
 answer-status g answer is = subst (λ n. (n ≡ 0) ⊎ (n ≡ 8)) (sym is.status) (verdict-answer is.verdict)
 
 pub judged : (M : Meaning) (known : List (List ℕ)) (S : Suspecting) (asked : Asked) (texts : Texts) (g : Given) (answer : Answer)
-    → Means M known S asked texts g → AreOfInputs g → Answers g answer
+    → Means M known S asked texts g → AreOfInputs g → IsProblem g.posed.problem → Answers g answer
     → (v : Verdict) × Judged M known S asked texts v answer.status answer.line.items
-judged M known S asked texts g answer means same is = (
+judged M known S asked texts g answer means same can is = (
   is.verdict,
   record {
     given = g;
     means = means;
     same = same;
+    can = can;
     is = is.is;
     has_status = is.status;
     has_line = is.line;

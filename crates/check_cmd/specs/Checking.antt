@@ -6,6 +6,7 @@ use Rattle.command_contract.specs.Contract.{Case, IsInputRefusal, NothingWritten
 use Rattle.front_end.specs.Means.{Meaning, Refusing}
 use Rattle.report_doc.specs.declared.types.Report.{Report}
 use Rattle.proof_check.specs.declared.types.LogText.{LogText}
+use Rattle.debug_core.specs.Problems.{IsProblem}
 use Rattle.list_inputs.specs.Lines.{LineCut, LineStops}
 use Rattle.list_inputs.specs.Means.{IsDigestOf, Suspecting}
 use Rattle.list_inputs.specs.Refusals.{IsReady as IsReadyList}
@@ -24,6 +25,8 @@ pub record Judged (M : Meaning) (known : List (List ℕ)) (S : Suspecting) (aske
   pub given : Given
   pub means : Means M known S asked texts given
   pub same : AreOfInputs given
+  -- the problem is one that can be asked: by the law `whole_is_judged` no verdict but a yes comes where the sets are the whole list
+  pub can : IsProblem given.posed.problem
   pub is : IsVerdict (claim_of given) v
   pub has_status : status ≡ verdict_status v
   pub has_line : line ≡ verdict_line given.posed.problem.design (length given.posed.report.sets) v

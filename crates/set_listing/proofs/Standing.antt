@@ -14,7 +14,7 @@ use Rattle.set_waves.specs.Names.{wave_name}
 use Rattle.set_waves.specs.Scenes.{wave_text}
 use Rattle.set_waves.specs.Writes.{scene_of, text_writes, waves_of}
 use Rattle.set_waves.proofs.StandLaws.{wave-stands, waves-elsewhere, writes-elsewhere, writes-here}
-use Rattle.set_listing.specs.Asked.{Asked, CanBeAsked}
+use Rattle.set_listing.specs.Asked.{Asked, HasOwnNames}
 use Rattle.set_listing.specs.Due.{opening, texts}
 use Rattle.set_listing.specs.Found.{Portion, found_of, log_of, sets_of}
 use Rattle.set_listing.specs.Going.{sets_writes}
@@ -27,7 +27,7 @@ use Rattle.set_listing.proofs.Ended.{few-sets-of}
 put-more : (name piece text : List ℕ) → text_after name (put_piece name piece) (Some text) ≡ Some (text ++ piece)
 put-more name piece text = ap (λ (b : Bool). cond b (Some (text ++ piece)) (Some text)) ((bytes_decides name name).1 refl)
 
-module _ (of : Listed) (can : CanBeAsked of.asked) where
+module _ (of : Listed) (own : HasOwnNames of.asked) where
   abbrev asked : Asked
   asked = of.asked
 
@@ -69,9 +69,9 @@ module _ (of : Listed) (can : CanBeAsked of.asked) where
       ∙ ap (λ (was : Option (List ℕ)). text_behind asked.log
       (text_writes asked.report report ++ waves asked (found_of of.is.portions) of.is.runs) was)
       (put-more asked.log (steps_text of.is.rest) (head_text asked.inputs ++ steps_text (log_of of.is.portions)))
-      ∙ waves-elsewhere asked.waves (waved_for asked) of.is.runs (found_of of.is.portions) asked.log can.own_log
+      ∙ waves-elsewhere asked.waves (waved_for asked) of.is.runs (found_of of.is.portions) asked.log own.own_log
       (text_behind asked.log (text_writes asked.report report) (Some whole))
-      ∙ writes-elsewhere asked.log asked.report report (Some whole) can.apart
+      ∙ writes-elsewhere asked.log asked.report report (Some whole) own.apart
       ∙ ap Some (append_assoc (head_text asked.inputs) (steps_text (log_of of.is.portions)) (steps_text of.is.rest)
       ∙ ap (λ t. head_text asked.inputs ++ t) (sym (join.joined (log_of of.is.portions) of.is.rest))
       ∙ sym (join.whole (record { inputs = asked.inputs; log = log_of of.is.portions ++ of.is.rest })))
@@ -86,7 +86,7 @@ module _ (of : Listed) (can : CanBeAsked of.asked) where
   pub report-stands : of.outputs.now_written asked.report ≡ Some (report_of asked (found_of of.is.portions) of.is.ending)
   report-stands =
       of.is.done.texts asked.report ∙ before-last asked.report (of.outputs.written asked.report)
-      ∙ waves-elsewhere asked.waves (waved_for asked) of.is.runs (found_of of.is.portions) asked.report can.own_report
+      ∙ waves-elsewhere asked.waves (waved_for asked) of.is.runs (found_of of.is.portions) asked.report own.own_report
       (text_behind asked.report (text_writes asked.report (report_of asked (found_of of.is.portions) of.is.ending)) was)
       ∙ writes-here asked.report (report_of asked (found_of of.is.portions) of.is.ending) was
     where

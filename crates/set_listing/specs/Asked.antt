@@ -20,6 +20,12 @@ pub record Asked : Type 0 where
   pub clock : Option (List ℕ)
   pub kinds : List (List ℕ)
 
+-- the log and the report have names of their own, and neither has that of a wave
+pub record HasOwnNames (asked : Asked) : Type 0 where
+  pub apart : asked.log ≢ asked.report
+  pub own_log : IsNoWave asked.waves asked.log
+  pub own_report : IsNoWave asked.waves asked.report
+
 -- what can be asked
 pub record CanBeAsked (asked : Asked) : Type 0 where
   pub problem : IsProblem asked.problem

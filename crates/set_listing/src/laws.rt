@@ -9,7 +9,7 @@ ghost use Rattle.proof_check.specs.Text.{text_of};
 ghost use Rattle.set_waves.specs.Names.{wave_name};
 ghost use Rattle.set_waves.specs.Scenes.{wave_text};
 ghost use Rattle.set_waves.specs.Writes.{scene_of};
-ghost use Rattle.set_listing.specs.Asked.{CanBeAsked};
+ghost use Rattle.set_listing.specs.Asked.{HasOwnNames};
 ghost use Rattle.set_listing.specs.Found.{found_of, log_of};
 ghost use Rattle.set_listing.specs.Laws.{Listed, WithList};
 ghost use Rattle.set_listing.specs.Texts.{report_of, waved_for};
@@ -18,7 +18,7 @@ ghost use Rattle.set_listing.specs.Texts.{report_of, waved_for};
 /// under the name of the wave of each set and each trace that wave.
 pub fn listed_texts()
     ghost of: { Listed }
-    requires asked { CanBeAsked of.asked }
+    requires names { HasOwnNames of.asked }
     requires few_sets { of.asked.sets < 2 ^ 32 }
     requires few_traces { length of.asked.problem.traces < 2 ^ 32 }
     ensures log { of.outputs.now_written of.asked.log

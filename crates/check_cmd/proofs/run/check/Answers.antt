@@ -34,7 +34,7 @@ returns-in-Ok-answer_of g c =
       answer = answer-status given c.in-Ok-answer_of.answer c.in-Ok-answer_of.ensures;
       judged = λ told.
           judged g.F.FrontEnd.means _ _ asked _ given c.in-Ok-answer_of.answer (c.in-Ok.ensures.means (both told).0) c.in-Ok.ensures.same
-          c.in-Ok-answer_of.ensures;
+          c.in-Ok.ensures.can.posed.problem c.in-Ok-answer_of.ensures;
       nothing = c.in-Ok.ensures.written;
       prints = λ told.
           subst (λ (l : List ℕ). Prints l c.in-Ok-answer_of.answer.status (g.O.Sink.written c.args.out.now)
