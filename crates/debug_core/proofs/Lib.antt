@@ -4,3 +4,4 @@ pub mod Refusals
 pub mod Debuggers
 pub mod Steps
 pub mod Rooms
+mod FewCycles
