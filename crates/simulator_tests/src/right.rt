@@ -44,7 +44,12 @@ pub(super) fn trace_of(
     samples: &[u128],
     expected: &[Option<u128>],
 ) -> Result<Trace, Fail> {
-    let cycles = expected.len() / design.outputs.len().max(1);
+    let outputs = design.outputs.len();
+    let cycles = if outputs == 0 {
+        0
+    } else {
+        expected.len() / outputs
+    };
     let Ok(cycles) = u32::try_from(cycles) else {
         return Err(Fail::new("too many cycles"));
     };
@@ -75,30 +80,24 @@ fn chosen_of(alloc: Global, design: &Design, numbers: &[u128]) -> Result<Vec<Bit
     Ok(words)
 }
 
-/// Whether a choice makes a trace right, once it is known that both fit the design.
-fn is_right(
-    alloc: Global,
-    design: &Design,
-    order: &[u32],
-    trace: &Trace,
-    choice: &Choice,
-) -> Result<bool, Fail> {
+/// Whether a choice makes the trace of a case right, once it is known that both fit the design.
+fn is_right(alloc: Global, design: &Design, case: &Case, choice: &Choice) -> Result<bool, Fail> {
     let (freed, numbers, _) = *choice;
+    let trace = trace_of(alloc, design, case.samples, case.expected)?;
     let chosen = chosen_of(alloc, design, numbers)?;
-    if !can_run(design) || !is_trace_of(design, trace) {
+    if !can_run(design) || !is_trace_of(design, &trace) {
         return Err(Fail::new("the design or the trace does not fit"));
     }
-    if !are_chosen(design, trace, freed, &chosen) {
+    if !are_chosen(design, &trace, freed, &chosen) {
         return Err(Fail::new("the values do not fit"));
     }
-    Ok(meets(alloc, design, order, trace, freed, &chosen)?)
+    Ok(meets(alloc, design, case.order, &trace, freed, &chosen)?)
 }
 
 /// Whether each choice of a case is right, or is not, as it says.
 fn holds(alloc: Global, design: &Design, case: &Case) -> Result<bool, Fail> {
-    let trace = trace_of(alloc, design, case.samples, case.expected)?;
     for choice in case.choices {
-        if is_right(alloc, design, case.order, &trace, choice)? != choice.2 {
+        if is_right(alloc, design, case, choice)? != choice.2 {
             return Ok(false);
         }
     }

@@ -1,4 +1,4 @@
 //! Statements of texts, bound over three registers of 8 bits.
 
-mod bound;
 mod reading;
+mod texts;

@@ -8,17 +8,17 @@ use std::process::Abort;
 use std::test::Fail;
 use vcd_waves::{Wave, has_rows, wave_text};
 
-/// A word, by its width and its value.
-type Word = (u8, u128);
+/// The width and the value of a word.
+type Number = (u8, u128);
 
 /// A trace and the values of freed places: all samples, all expected values with the masks of their checked bits, and all chosen
 /// values, each first of cycle 0.
 struct Rows {
     cycles: u32,
-    samples: &'static [Word],
-    expected: &'static [(Word, u128)],
+    samples: &'static [Number],
+    expected: &'static [(Number, u128)],
     places: &'static [u32],
-    chosen: &'static [Word],
+    chosen: &'static [Number],
 }
 
 /// A wave under its top's name, and what is read of its text.
@@ -30,11 +30,11 @@ struct Case {
     read: &'static [u8],
 }
 
-fn word(rt: &impl Abort, word: Word) -> Bits {
-    Bits::new(word.0, word.1).expect(rt, "a word")
+fn word(rt: &impl Abort, (width, value): Number) -> Bits {
+    Bits::new(width, value).expect(rt, "a word")
 }
 
-fn words(rt: &impl Abort, alloc: Global, list: &[Word]) -> Result<Vec<Bits>, Fail> {
+fn words(rt: &impl Abort, alloc: Global, list: &[Number]) -> Result<Vec<Bits>, Fail> {
     let mut words = Vec::new(alloc);
     for entry in list {
         words.push(word(rt, *entry))?;
