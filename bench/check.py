@@ -5,18 +5,18 @@
 
 Lists are made by `make` (of --made: 7, 24, 29 and 149 where nothing is said, the last being the largest) and, where Debian's package
 `iverilog` is installed, by `find` on the designs of bench/find.py (of --only; those that end within seconds where nothing is said).
-Printed are the sets, the lines of the log, the numbers of its chains and its bytes, the bytes of the report, and seconds by the clock,
-the least of N runs (3) each but for the first:
+Printed are the sets, the lines of the log, the numbers of its chains and its bytes, the bytes of the report, and seconds, the least of N
+runs (3) each but for the first. They are the processor's, where it isn't said that they are the clock's:
 
     find s     the making or finding (one run)
-    form s     the circuit, the unrolling and the clauses, as `print_form` (crates/print_form, built beside) says
+    form s     the circuit, the unrolling and the clauses: of a run of `print_form` (crates/print_form, built beside) the share that it says
     read s     reading the texts: `check` on the log of other inputs, which ends behind reading and the form, without the form
     sets s     simulating the sets: `check` on the log with a wrong first step, which ends at that step, without what stands before
     check 1    `check` with one worker
     x work     how many times that is read s and sets s together
-    check 4    `check` with four workers
-    x four     how many times as fast that is, and in brackets without reading and the form, which one worker does
-    cpu 4      the processor's time of all threads with four workers
+    cpu 4      `check` with four workers, all threads together
+    clock 1, 4 the clock's seconds with one worker and with four
+    x four     how many times as fast four are by the clock, and in brackets without reading and the form, which one worker does
     sim s      `sim` on the same design and dump, which reads both, simulates once, and prints a line a cycle
 
 and the most memory that `check` held with one worker, in MB. PROGRAM is crates/localise/out/localise where it isn't given. The status is
@@ -31,28 +31,18 @@ import shutil
 import subprocess
 import sys
 import tempfile
-import time
 
 sys.path.insert(0, os.path.dirname(os.path.abspath(__file__)))
-from find import BUGS, BUILT, FORMS, prepared, sizes_of  # noqa: E402
+from find import BUGS, BUILT, FORMS, measured, prepared, sizes_of  # noqa: E402
 
 MADE = "7,24,29,149"
 QUICK = ["fifo", "alu", "accumulator", "arbiter"]
 
 
-def measured(words, room):
-    """What a run prints, its seconds by the clock and of the processor, and the most memory that it held, in MB."""
-    begun = time.perf_counter()
-    ran = subprocess.Popen(words, cwd=room, stdout=subprocess.PIPE, text=True)
-    printed = ran.stdout.read()
-    _, status, used = os.wait4(ran.pid, 0)
-    ran.returncode = os.waitstatus_to_exitcode(status)
-    return printed, time.perf_counter() - begun, used.ru_utime + used.ru_stime, used.ru_maxrss / 1024
-
-
 def least(words, room, runs):
-    """The run with the least time by the clock."""
-    return min((measured(words, room) for _ in range(runs)), key=lambda it: it[1])
+    """What a run prints, the least seconds by the clock and of the processor of so many, and the MB that it held."""
+    ran = [measured(words, room) for _ in range(runs)]
+    return ran[0][0], min(it[2] for it in ran), min(it[3] for it in ran), ran[0][4]
 
 
 def last_line(printed):
@@ -87,46 +77,55 @@ def with_wrong_step(line):
 
 def form_of(words, room, runs):
     """The seconds of the circuit, the unrolling and the clauses."""
-    ran = [subprocess.run([FORMS, "counts", *words], cwd=room, check=True, capture_output=True, text=True).stderr for _ in range(runs)]
-    return min(sum(int(it) for it in re.findall(r"\d+", said)) for said in ran) / 1000
+    least_seconds = []
+    for _ in range(runs):
+        said, _, clock, processor, _ = measured(["sh", "-c", 'exec "$@" 2>&1', "sh", FORMS, "counts", *words], room)
+        told = re.search(r"circuit (\d+) unrolling (\d+) clauses (\d+)", said)
+        least_seconds.append(sum(map(int, told.groups())) / 1000 * processor / clock)
+    return min(least_seconds)
 
 
-def parts_of(check, form, room, runs):
-    """The seconds of reading, and of simulating the sets; and those until the first of both ends."""
+def until(check, log, wanted, room, runs):
+    """The seconds of `check` on another log, which ends where it finds that it isn't right, by the clock and of the processor."""
+    words = [log if it == "localise.log" else it for it in check] + ["--workers", "1"]
+    said, clock, processor, _ = least(words, room, runs)
+    if not last_line(said).startswith(wanted):
+        sys.exit("%r in place of %r" % (last_line(said), wanted))
+    return clock, processor
+
+
+def times_of(check, form, room, runs):
+    """The seconds of each part, and what `check` says with one worker and with four."""
     changed(room, "other.log", of_other_inputs), changed(room, "wrong.log", with_wrong_step)
-    seconds = []
-    for log, wanted in (("other.log", "input other"), ("wrong.log", "no step 1")):
-        said, taken, _, _ = least([log if it == "localise.log" else it for it in check] + ["--workers", "1"], room, runs)
-        if not last_line(said).startswith(wanted):
-            sys.exit("%r in place of %r" % (last_line(said), wanted))
-        seconds.append(taken)
-    return seconds[0] - form, seconds[1] - seconds[0], seconds[0]
+    before, read = until(check, "other.log", "input other", room, runs)
+    _, simulated = until(check, "wrong.log", "no step 1", room, runs)
+    one, alone, processor, memory = least(check + ["--workers", "1"], room, runs)
+    four, together, threads, _ = least(check + ["--workers", "4"], room, runs)
+    times = "%.2f (%.2f)" % (alone / together, (alone - before) / max(together - before, 0.001))
+    parts = (read - form, simulated - read, processor, processor / (simulated - form), threads, alone, together, times)
+    return parts, memory, [last_line(one), last_line(four)]
 
 
 def row_of(asked, name, top, files, words, room):
     """Measures one list, prints its row, and says whether the answers are right."""
     design, dump = files
-    printed, found, _, _ = measured([asked.program, *words], room)
+    printed, _, _, found, _ = measured([asked.program, *words], room)
     if not all(os.path.exists(os.path.join(room, file)) for file in ("localise.log", "localise.json", *files)):
         print("%s: no list was made: %r" % (name, last_line(printed)))
         return False
     ending = [line for line in printed.split("\n") if line.startswith(("complete", "front"))][-1:] or [last_line(printed)]
-    check = [asked.program, "check", design, top, "localise.json", "localise.log", dump]
     form = form_of([str(asked.size), "stmt", "clk", design, top, dump], room, asked.runs)
-    reading, sets, before = parts_of(check, form, room, asked.runs)
-    one, alone, _, memory = least(check + ["--workers", "1"], room, asked.runs)
-    four, together, processor, _ = least(check + ["--workers", "4"], room, asked.runs)
-    _, simulated, _, _ = least([asked.program, "sim", design, top, dump, "--clock", "clk"], room, asked.runs)
+    check = [asked.program, "check", design, top, "localise.json", "localise.log", dump]
+    parts, memory, said = times_of(check, form, room, asked.runs)
+    _, _, simulated, _ = least([asked.program, "sim", design, top, dump, "--clock", "clk"], room, asked.runs)
     log = numbers_of(os.path.join(room, "localise.log"))
     sizes = [os.path.getsize(os.path.join(room, file)) for file in ("localise.log", "localise.json")]
     number = sum(sizes_of(printed).values())
-    times = "%.2f (%.2f)" % (alone / together, (alone - before) / max(together - before, 0.001))
-    parts = (found, form, reading, sets, alone, alone / (reading + sets), together, times, processor, simulated, memory)
-    print("%-12s %5d %8d %9d %10d %9d %8.3f %7.3f %7.3f %7.3f %8.3f %7.2f %8.3f %12s %8.3f %7.3f %6.0f" % (
-        name, number, *log, *sizes, *parts), flush=True)
+    print("%-12s %4d %7d %9d %9d %8d %8.3f %7.3f %7.3f %7.3f %7.3f %6.2f %7.3f %7.3f %7.3f %12s %7.3f %5.0f" % (
+        name, number, *log, *sizes, found, form, *parts, simulated, memory), flush=True)
     wanted = "yes %d" % number if ending[0].startswith("complete") else "no closing"
-    if [last_line(one), last_line(four)] != [wanted, wanted]:
-        print("%s: %r and %r in place of %r behind %r" % (name, last_line(one), last_line(four), wanted, ending[0]))
+    if said != [wanted, wanted]:
+        print("%s: %r in place of %r behind %r" % (name, said, wanted, ending[0]))
         return False
     return True
 
@@ -140,9 +139,9 @@ def main():
     asked = parser.parse_args()
     asked.program, rights = os.path.abspath(asked.program), []
     size = ["--size", str(asked.size)]
-    print("%-12s %5s %8s %9s %10s %9s %8s %7s %7s %7s %8s %7s %8s %12s %8s %7s %6s" % (
-        "list", "sets", "lines", "numbers", "log bytes", "report", "find s", "form s", "read s", "sets s", "check 1", "x work", "check 4",
-        "x four", "cpu 4", "sim s", "MB"))
+    print("%-12s %4s %7s %9s %9s %8s %8s %7s %7s %7s %7s %6s %7s %7s %7s %12s %7s %5s" % (
+        "list", "sets", "lines", "numbers", "log bytes", "report", "find s", "form s", "read s", "sets s", "check 1", "x work", "cpu 4",
+        "clock 1", "clock 4", "x four", "sim s", "MB"))
     for number in [it for it in asked.made.split(",") if it]:
         with tempfile.TemporaryDirectory() as room:
             rights.append(row_of(asked, "made " + number, "made", ("made.v", "made.vcd"), ["make", number, *size], room))

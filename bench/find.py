@@ -6,11 +6,12 @@
 
 For each design Icarus Verilog runs the right text with random inputs and writes a dump (of --cycles where that is given); the question is
 put to the wrong text: which sets of at most K assignments can explain the dump. PROGRAM (crates/localise/out/localise where it isn't
-given) answers it by `find`, bench/ask_z3.py by yosys and z3, which are ended after --limit seconds, and aren't asked with --alone. Printed
+given) answers it by `find`, bench/ask_z3.py by yosys and z3, which are ended after --limit seconds, and aren't asked with --alone. All
+seconds are the processor's, of the process and those that it began, since those of the clock hang on what else the machine does. Printed
 are the cycles and the sets, and:
 
     form s     reading the texts and making the form: a run of `print_form` (crates/print_form, built beside)
-    to set     from there to the first set: the time at which `find` prints it, less form s
+    to set     from there to the first set: what `find` has used when that line is read, less form s
     find s     all of `find`, and MB the most memory that it held
     conflicts  the `l` lines of the log, and its bytes
     z3 s       yosys and z3, and x find how many times find s that is, `over N` where they were ended
@@ -22,7 +23,7 @@ some size. Debian's packages `iverilog`, `yosys` and `python3-z3` must be instal
 import argparse
 import os
 import re
-import signal
+import resource
 import statistics
 import subprocess
 import sys
@@ -74,39 +75,38 @@ def prepared(name, cycles, room):
     subprocess.run(["vvp", "-n", "run", "+dump"], cwd=room, check=True, stdout=subprocess.DEVNULL)
 
 
-def listed(words, room):
-    """What `find` prints, its seconds until the first set and until the end, and the MB that it held."""
-    begun, first, lines = time.perf_counter(), None, []
-    ran = subprocess.Popen(words, cwd=room, stdout=subprocess.PIPE, text=True)
+def measured(words, room, limit=None, at_line=None):
+    """What a run prints, whether it came to its end, its seconds by the clock and of the processor, and the MB that it held.
+
+    After `limit` seconds of the processor it is ended; `at_line` is called with its number and each line."""
+    limits = (lambda: resource.setrlimit(resource.RLIMIT_CPU, (limit, limit))) if limit else None
+    begun, lines = time.perf_counter(), []
+    ran = subprocess.Popen(words, cwd=room, stdout=subprocess.PIPE, text=True, preexec_fn=limits)
     for line in ran.stdout:
-        if first is None and line.startswith("set"):
-            first = time.perf_counter() - begun
+        if at_line:
+            at_line(ran.pid, line)
         lines.append(line)
     _, status, used = os.wait4(ran.pid, 0)
     ran.returncode = os.waitstatus_to_exitcode(status)
-    return "".join(lines), first, time.perf_counter() - begun, used.ru_maxrss / 1024
+    return "".join(lines), ran.returncode >= 0, time.perf_counter() - begun, used.ru_utime + used.ru_stime, used.ru_maxrss / 1024
+
+
+def listed(words, room):
+    """What `find` prints, the seconds that it has used at the first set and at the end, and the MB that it held."""
+    firsts = []
+
+    def note(pid, line):
+        if line.startswith("set") and not firsts:
+            with open("/proc/%d/schedstat" % pid) as file:
+                firsts.append(int(file.read().split()[0]) / 1e9)
+
+    printed, _, _, seconds, memory = measured(words, room, at_line=note)
+    return printed, firsts[0] if firsts else None, seconds, memory
 
 
 def formed(words, room):
     """The seconds in which the same texts are read and the same form is made, where the program for that is built."""
-    if not os.path.exists(FORMS):
-        return None
-    begun = time.perf_counter()
-    subprocess.run(words, cwd=room, check=True, capture_output=True)
-    return time.perf_counter() - begun
-
-
-def asked_of_z3(words, room, limit):
-    """What yosys and z3 print, their seconds, and whether they came to their end."""
-    begun = time.perf_counter()
-    ran = subprocess.Popen(words, cwd=room, stdout=subprocess.PIPE, text=True, start_new_session=True)
-    try:
-        said, _ = ran.communicate(timeout=limit)
-        return said, time.perf_counter() - begun, ran.returncode == 0
-    except subprocess.TimeoutExpired:
-        os.killpg(ran.pid, signal.SIGKILL)
-        said, _ = ran.communicate()
-        return said, time.perf_counter() - begun, False
+    return measured([FORMS, *words], room)[3] if os.path.exists(FORMS) else None
 
 
 def log_of(room):
@@ -131,10 +131,10 @@ def row_of(asked, name):
     with tempfile.TemporaryDirectory() as room:
         prepared(name, cycles, room)
         printed, first, ours, memory = listed([os.path.abspath(asked.program), "find", *words, *size], room)
-        form = formed([FORMS, "counts", str(asked.size), "stmt", "clk", *words[:3]], room)
+        form = formed(["counts", str(asked.size), "stmt", "clk", *words[:3]], room)
         log = log_of(room)
         ask = ["/usr/bin/python3", os.path.join(HERE, "ask_z3.py"), *words, *size, "--logic", asked.logic]
-        said, theirs, ended = ("", None, False) if asked.alone else asked_of_z3(ask, room, asked.limit)
+        said, ended, _, theirs, _ = ("", False, 0, None, 0) if asked.alone else measured(ask, room, limit=asked.limit)
     found, last = sizes_of(printed), (printed.strip().split("\n") or [""])[-1]
     ratio = None if asked.alone else theirs / ours
     times = "" if ratio is None else ("" if ended else "over ") + "%.1f" % ratio
@@ -150,7 +150,7 @@ def row_of(asked, name):
 def main():
     parser = argparse.ArgumentParser(description=__doc__, formatter_class=argparse.RawDescriptionHelpFormatter)
     parser.add_argument("program", nargs="?", default=BUILT)
-    parser.add_argument("--size", type=int, default=2), parser.add_argument("--limit", type=float, default=600)
+    parser.add_argument("--size", type=int, default=2), parser.add_argument("--limit", type=int, default=600)
     parser.add_argument("--logic", default="QF_FD"), parser.add_argument("--cycles", type=int)
     parser.add_argument("--alone", action="store_true")
     parser.add_argument("--only", nargs="*", choices=list(BUGS), default=list(BUGS))
