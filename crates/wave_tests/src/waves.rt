@@ -2,7 +2,7 @@
 
 use crate::design::{FOLLOWER, Ports, STEPPER, answer, design, name};
 use design_core::{Checked, SignalKind, Trace};
-use loc_base::{Bits, Name};
+use loc_base::{Bits, Bytes, Name};
 use std::alloc::Global;
 use std::process::Abort;
 use std::test::Fail;
@@ -62,7 +62,7 @@ fn written(
     alloc: Global,
     case: &Case,
     clock: Option<&Name>,
-) -> Result<Vec<u8>, Fail> {
+) -> Result<Bytes, Fail> {
     let top = name(rt, alloc, case.top)?;
     let design = design(rt, alloc, case.ports)?;
     let trace = trace(rt, alloc, case.rows)?;
@@ -80,14 +80,14 @@ fn written(
 }
 
 /// The text of a case, which is read as the case says.
-fn text_of(rt: &impl Abort, alloc: Global, case: &Case) -> Result<Vec<u8>, Fail> {
+fn text_of(rt: &impl Abort, alloc: Global, case: &Case) -> Result<Bytes, Fail> {
     let design = design(rt, alloc, case.ports)?;
     let clock = case.clock.unwrap_or("").as_bytes();
     let text = match Name::new(alloc, clock)? {
         Some(clock) => written(rt, alloc, case, Some(&clock))?,
         None => written(rt, alloc, case, None)?,
     };
-    let shown = answer(rt, alloc, &design, clock, &text)?;
+    let shown = answer(rt, alloc, &design, clock, text.as_slice())?;
     assert_eq!(rt; shown.as_str().as_bytes(), case.read);
     Ok(text)
 }

@@ -201,6 +201,14 @@ fn of_two_unknown_inputs_the_first_cycle_and_there_the_first_port_is_named(
     all_are(&rt, rt.alloc(), &design, frame, &TWO_UNKNOWN)
 }
 
+/// An output `q` of 1 bit.
+const ALONE: Ports = Ports {
+    signals: &[("q", 1, SignalKind::Reg)],
+    inputs: &[],
+    outputs: &[0],
+    places: &[],
+};
+
 /// A dump of an output `q` of 1 bit that has so many stamps.
 fn stamps(alloc: Global, count: u32) -> Result<Vec<u8>, Fail> {
     let header = "$scope module m $end $var wire 1 ! q $end $upscope $end $enddefinitions $end";
@@ -226,13 +234,7 @@ fn cycles(alloc: Global, design: &Design, text: &[u8]) -> Result<u32, VcdErr> {
 
 #[test]
 fn a_hundred_thousand_cycles_are_a_trace(rt: HostRuntime) -> Result<(), Fail> {
-    let ports = Ports {
-        signals: &[("q", 1, SignalKind::Reg)],
-        inputs: &[],
-        outputs: &[0],
-        places: &[],
-    };
-    let mut design = design(&rt, rt.alloc(), &ports)?;
+    let mut design = design(&rt, rt.alloc(), &ALONE)?;
     let text = stamps(rt.alloc(), 100_000)?;
     assert_eq!(rt; cycles(rt.alloc(), &design, &text), Ok(100_000));
     let text = stamps(rt.alloc(), 100_001)?;
