@@ -1,1 +1,1 @@
-pub mod Counters
+pub mod CounterLaws

@@ -16,7 +16,7 @@ use std::alloc::Global;
 use std::process::Abort;
 
 /// The literals of the variables from 1 to `n`.
-#[tactic(auto, using(crate::proofs::Counters::literals_next))]
+#[tactic(auto, using(crate::proofs::CounterLaws::literals_next))]
 fn selectors(alloc: Global, n: u32) -> Result<Vec<Lit>, NoMemory>
     ensures { IfOk result (λ selectors. selectors.items ≡ literals_from 1 n) }
 {

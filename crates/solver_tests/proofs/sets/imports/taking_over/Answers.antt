@@ -1,6 +1,6 @@
 use Rattle.std.proofs.Common.{◌≡◌, sym, ◌∙◌, ap, subst}
 use Rattle.set_enum.specs.EnumState.{MayBeImported, begun}
-use Rattle.solver_tests.proofs.Counters.{may_take_over}
+use Rattle.solver_tests.proofs.CounterLaws.{may_take_over}
 use Rattle.solver_tests.proofs.sets.imports.taking_over.Goals as goal
 
 pub import-requires : goal.import-requires

@@ -1,6 +1,6 @@
 use Rattle.std.proofs.Common.{rules, sym, subst}
 use Rattle.card_counter.specs.InForm.{HasCounter}
-use Rattle.solver_tests.proofs.Counters.{counter_push}
+use Rattle.solver_tests.proofs.CounterLaws.{counter_push}
 use Rattle.solver_tests.proofs.sets.problem.clauses_with.Goals as goal
 
 pub loop-place-preserved : goal.loop-place-preserved

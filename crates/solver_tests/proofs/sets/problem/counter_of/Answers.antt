@@ -2,7 +2,7 @@ use Rattle.std.proofs.Common.{◌∙◌, ◌+◌, ap, sym, subst, length, arith}
 use Rattle.card_counter.specs.Places.{starts}
 use Rattle.card_counter.specs.Means.{AreBefore}
 use Rattle.card_counter.proofs.InForms.{selectors-before}
-use Rattle.solver_tests.proofs.Counters.{literals_length}
+use Rattle.solver_tests.proofs.CounterLaws.{literals_length}
 use Rattle.solver_tests.proofs.sets.problem.counter_of.Goals as goal
 
 pub counter-requires-clause-before : goal.counter-requires-clause-before
