@@ -55,7 +55,7 @@ fn trace(rt: &impl Abort, alloc: Global, cycles: u32, checked: u32) -> Result<Tr
             value: bits(rt, 128, 0),
             mask: bits(rt, 128, low_bits(here)),
         })?;
-        left -= here;
+        left = left.saturating_sub(here);
     }
     Ok(Trace {
         cycles,
