@@ -1,7 +1,5 @@
-//! Tests of `proof_check`, beside a checker that searches through lists, and of `cnf_solve`.
+//! Tests of the log's text and its check, beside a checker that searches through lists.
 #![tactic(auto)]
 
 #[cfg(test)]
-mod formulas;
-#[cfg(test)]
-mod logs;
+mod tests;

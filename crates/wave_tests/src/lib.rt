@@ -2,8 +2,6 @@
 #![tactic(auto)]
 
 #[cfg(test)]
-mod design;
-#[cfg(test)]
 mod dump_words;
 #[cfg(test)]
 mod traces;

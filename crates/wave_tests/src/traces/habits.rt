@@ -1,5 +1,5 @@
 //! What dumpers write: headers and changes, each beside what is read of it.
-use crate::design::{FOLLOWER, Frame, Row, STEPPER, all_are, design};
+use crate::traces::design::{Frame, Row, all_are, follower, stepper};
 use std::test::Fail;
 
 /// Headers in the manner of Icarus, Verilator, GHDL and ModelSim; several scopes with a name; names outside a scope and inside an
@@ -57,7 +57,7 @@ const HEADERS: [Row; 12] = [
 
 #[test]
 fn habits_of_headers(rt: HostRuntime) -> Result<(), Fail> {
-    let design = design(&rt, rt.alloc(), &STEPPER)?;
+    let design = stepper(&rt, rt.alloc())?;
     let frame = Frame {
         front: b"",
         back: b" $enddefinitions $end #0 0! b101 # #5 1! b110 #",
@@ -107,6 +107,6 @@ const CHANGES: [Row; 17] = [
 
 #[test]
 fn habits_of_changes(rt: HostRuntime) -> Result<(), Fail> {
-    let design = design(&rt, rt.alloc(), &FOLLOWER)?;
+    let design = follower(&rt, rt.alloc())?;
     all_are(&rt, rt.alloc(), &design, Frame::changes(), &CHANGES)
 }

@@ -1,6 +1,6 @@
 //! Each refusal, with its numbers, beside the nearest dump that is read.
-use crate::design::{FOLLOWER, Frame, JOINER, Ports, Row, STEPPER, all_are, answer, design};
-use design_core::{Design, SignalKind};
+use crate::traces::design::{Frame, Row, all_are, answer, design, follower, joiner, stepper};
+use design_core::Design;
 use std::alloc::Global;
 use std::test::Fail;
 use vcd_traces::{VcdErr, has_ports, samples};
@@ -10,7 +10,7 @@ const STEP_BY_TWO: &[u8] =
 
 #[test]
 fn a_counter_is_seen_before_each_edge(rt: HostRuntime) -> Result<(), Fail> {
-    let design = design(&rt, rt.alloc(), &STEPPER)?;
+    let design = stepper(&rt, rt.alloc())?;
     let shown = answer(&rt, rt.alloc(), &design, b"clk", STEP_BY_TWO)?;
     assert_eq!(rt; shown.as_str().as_bytes(), b"3: 0/15 1/15 2/15".as_slice());
     let shown = answer(&rt, rt.alloc(), &design, b"", STEP_BY_TWO)?;
@@ -35,7 +35,7 @@ const CUTS: [(usize, &[u8]); 8] = [
 
 #[test]
 fn a_dump_that_is_cut_ends_too_soon(rt: HostRuntime) -> Result<(), Fail> {
-    let design = design(&rt, rt.alloc(), &STEPPER)?;
+    let design = stepper(&rt, rt.alloc())?;
     for (stop, want) in &CUTS {
         let front = STEP_BY_TWO.get(..*stop).expect(&rt, "a front");
         let shown = answer(&rt, rt.alloc(), &design, b"clk", front)?;
@@ -70,7 +70,7 @@ const WRONG: [Row; 20] = [
 
 #[test]
 fn a_wrong_word_is_named_by_its_offset(rt: HostRuntime) -> Result<(), Fail> {
-    let design = design(&rt, rt.alloc(), &FOLLOWER)?;
+    let design = follower(&rt, rt.alloc())?;
     all_are(&rt, rt.alloc(), &design, Frame::changes(), &WRONG)
 }
 
@@ -90,7 +90,7 @@ const WRONG_HEADERS: [Row; 10] = [
 
 #[test]
 fn a_wrong_word_of_the_header_is_named(rt: HostRuntime) -> Result<(), Fail> {
-    let design = design(&rt, rt.alloc(), &STEPPER)?;
+    let design = stepper(&rt, rt.alloc())?;
     let frame = Frame {
         front: b"",
         back: b"",
@@ -137,7 +137,7 @@ const PORTS: [Row; 9] = [
 
 #[test]
 fn ports_that_lack_or_differ_are_named(rt: HostRuntime) -> Result<(), Fail> {
-    let design = design(&rt, rt.alloc(), &STEPPER)?;
+    let design = stepper(&rt, rt.alloc())?;
     let frame = Frame {
         front: b"$scope module m $end ",
         back: b" $upscope $end $enddefinitions $end #0 1!",
@@ -167,7 +167,7 @@ const UNKNOWN: [Row; 10] = [
 
 #[test]
 fn an_unknown_input_is_named_by_cycle_and_port(rt: HostRuntime) -> Result<(), Fail> {
-    let design = design(&rt, rt.alloc(), &FOLLOWER)?;
+    let design = follower(&rt, rt.alloc())?;
     all_are(&rt, rt.alloc(), &design, Frame::changes(), &UNKNOWN)
 }
 
@@ -193,21 +193,13 @@ const TWO_UNKNOWN: [Row; 5] = [
 fn of_two_unknown_inputs_the_first_cycle_and_there_the_first_port_is_named(
     rt: HostRuntime,
 ) -> Result<(), Fail> {
-    let design = design(&rt, rt.alloc(), &JOINER)?;
+    let design = joiner(&rt, rt.alloc())?;
     let frame = Frame {
         front: b"$scope module m $end $var wire 1 ! clk $end $var wire 3 \" b $end $var wire 2 ' a $end $var wire 4 # q $end $upscope $end $enddefinitions $end ",
         back: b"",
     };
     all_are(&rt, rt.alloc(), &design, frame, &TWO_UNKNOWN)
 }
-
-/// An output `q` of 1 bit.
-const ALONE: Ports = Ports {
-    signals: &[("q", 1, SignalKind::Reg)],
-    inputs: &[],
-    outputs: &[0],
-    places: &[],
-};
 
 /// A dump of an output `q` of 1 bit that has so many stamps.
 fn stamps(alloc: Global, count: u32) -> Result<Vec<u8>, Fail> {
@@ -234,7 +226,8 @@ fn cycles(alloc: Global, design: &Design, text: &[u8]) -> Result<u32, VcdErr> {
 
 #[test]
 fn a_hundred_thousand_cycles_are_a_trace(rt: HostRuntime) -> Result<(), Fail> {
-    let mut design = design(&rt, rt.alloc(), &ALONE)?;
+    let mut design = design(&rt, rt.alloc(), &[("q", 1)])?;
+    design.outputs.push(0)?;
     let text = stamps(rt.alloc(), 100_000)?;
     assert_eq!(rt; cycles(rt.alloc(), &design, &text), Ok(100_000));
     let text = stamps(rt.alloc(), 100_001)?;

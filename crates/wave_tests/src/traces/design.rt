@@ -1,5 +1,5 @@
-//! Designs without drivers, for dumps and waves ask for ports alone, and what is answered of a dump as a text.
-use design_core::{Design, Place, PlaceKind, Signal, SignalKind, Trace};
+//! Designs without drivers, for dumps ask for ports alone, and what is answered of a dump as a text.
+use design_core::{Design, Signal, SignalKind, Trace};
 use loc_base::{Bits, Name};
 use std::alloc::Global;
 use std::process::Abort;
@@ -11,81 +11,51 @@ pub fn name(rt: &impl Abort, alloc: Global, text: &str) -> Result<Name, Fail> {
     Ok(name.expect(rt, "a name"))
 }
 
-/// The signals of a design, by name, width and kind, the numbers of its inputs and outputs, and the widths of its places.
-pub struct Ports {
-    pub signals: &'static [(&'static str, u8, SignalKind)],
-    pub inputs: &'static [u32],
-    pub outputs: &'static [u32],
-    pub places: &'static [u8],
-}
-
-/// A clock and an output `q` of 4 bits.
-pub const STEPPER: Ports = Ports {
-    signals: &[("clk", 1, SignalKind::Input), ("q", 4, SignalKind::Reg)],
-    inputs: &[],
-    outputs: &[1],
-    places: &[],
-};
-
-/// A clock, an input `d` of 2 bits and an output `q` of 4 bits.
-pub const FOLLOWER: Ports = Ports {
-    signals: &[
-        ("clk", 1, SignalKind::Input),
-        ("d", 2, SignalKind::Input),
-        ("q", 4, SignalKind::Reg),
-    ],
-    inputs: &[1],
-    outputs: &[2],
-    places: &[],
-};
-
-/// A clock, inputs `a` of 2 bits and `b` of 3, and an output `q` of 4 bits.
-pub const JOINER: Ports = Ports {
-    signals: &[
-        ("clk", 1, SignalKind::Input),
-        ("a", 2, SignalKind::Input),
-        ("b", 3, SignalKind::Input),
-        ("q", 4, SignalKind::Reg),
-    ],
-    inputs: &[1, 2],
-    outputs: &[3],
-    places: &[],
-};
-
-/// A design with these ports.
-pub fn design(rt: &impl Abort, alloc: Global, ports: &Ports) -> Result<Design, Fail> {
+/// A design with these signals and no ports.
+pub fn design(rt: &impl Abort, alloc: Global, signals: &[(&str, u8)]) -> Result<Design, Fail> {
     let mut design = Design {
         signals: Vec::new(alloc),
         drivers: Vec::new(alloc),
         clocked: Vec::new(alloc),
         places: Vec::new(alloc),
-        inputs: ports.inputs.to_vec(alloc)?,
-        outputs: ports.outputs.to_vec(alloc)?,
+        inputs: Vec::new(alloc),
+        outputs: Vec::new(alloc),
     };
-    for (text, width, kind) in ports.signals {
+    for (text, width) in signals {
         design.signals.push(Signal {
             path: name(rt, alloc, text)?,
             width: *width,
             signed: false,
             left: i32::from(*width) - 1,
             right: 0,
-            kind: *kind,
+            kind: SignalKind::Input,
             start: Bits::zero(1),
         })?;
     }
-    for width in ports.places {
-        design.places.push(Place {
-            kind: PlaceKind::Assign,
-            width: *width,
-            site: 0,
-            home: 0,
-            copy: 0,
-            line: 1,
-            module: name(rt, alloc, "m")?,
-            path: name(rt, alloc, "m")?,
-            signal: 0,
-        })?;
-    }
+    Ok(design)
+}
+
+/// A clock and an output `q` of 4 bits.
+pub fn stepper(rt: &impl Abort, alloc: Global) -> Result<Design, Fail> {
+    let mut design = design(rt, alloc, &[("clk", 1), ("q", 4)])?;
+    design.outputs.push(1)?;
+    Ok(design)
+}
+
+/// A clock, an input `d` of 2 bits and an output `q` of 4 bits.
+pub fn follower(rt: &impl Abort, alloc: Global) -> Result<Design, Fail> {
+    let mut design = design(rt, alloc, &[("clk", 1), ("d", 2), ("q", 4)])?;
+    design.inputs.push(1)?;
+    design.outputs.push(2)?;
+    Ok(design)
+}
+
+/// A clock, inputs `a` of 2 bits and `b` of 3, and an output `q` of 4 bits.
+pub fn joiner(rt: &impl Abort, alloc: Global) -> Result<Design, Fail> {
+    let mut design = design(rt, alloc, &[("clk", 1), ("a", 2), ("b", 3), ("q", 4)])?;
+    design.inputs.push(1)?;
+    design.inputs.push(2)?;
+    design.outputs.push(3)?;
     Ok(design)
 }
 
