@@ -42,7 +42,7 @@ BUGS = {
     "uart": (300, "count <= DIVISOR + DIVISOR / 2 - 1;", "count <= DIVISOR / 2 - 1;"),
     "fifo": (200, "assign full = count == 8;", "assign full = count == 7;"),
     "alu": (100, "(a[31] == second[31])", "(a[31] == b[31])"),
-    "pipeline": (50, "default: value = a + x_immediate;", "default: value = a + b;"),
+    "pipeline": (6, "default: value = a + x_immediate;", "default: value = a + b;"),
     "accumulator": (400, "+ {1'b0, word};", "+ {2'b0, word[62:0]};"),
     "arbiter": (200, "chosen = last + 3'd1 + next;", "chosen = last + next;"),
 }
@@ -106,7 +106,7 @@ def listed(words, room):
 
 def formed(words, room):
     """The seconds in which the same texts are read and the same form is made, where the program for that is built."""
-    return measured([FORMS, *words], room)[3] if os.path.exists(FORMS) else None
+    return measured(["sh", "-c", 'exec "$@" 2>/dev/null', "sh", FORMS, *words], room)[3] if os.path.exists(FORMS) else None
 
 
 def log_of(room):
