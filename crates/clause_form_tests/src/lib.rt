@@ -1,12 +1,9 @@
-//! Tests of `unroller`, `clause_form` and `form_values`: forms of small circuits, clause by clause, what models of them give,
-//! and the most variables and literals of a form.
+//! Tests of `unroller`, `clause_form` and `form_values`: forms of small circuits, clause by clause, and what models of them give.
 #![tactic(auto)]
 
 #[cfg(test)]
 mod build;
 #[cfg(test)]
 mod forms;
-#[cfg(test)]
-mod limits;
 #[cfg(test)]
 mod models;
