@@ -1,6 +1,6 @@
 //! Sessions that are judged.
 
-use crate::runs::{PLAIN, Way, expect, run, session};
+use crate::runs::{Given, PLAIN, Way, expect, run, session};
 use crate::sessions::{LOG, REPORT, put_to};
 use std::test::Fail;
 
@@ -8,6 +8,13 @@ use std::test::Fail;
 const FIRST: &str = "{\"members\":[1],\"values\":[[[\"0\"],[\"0\"],[\"0\"],[\"1\"]]]}";
 
 const SECOND: &str = "{\"members\":[2],\"values\":[[[\"1\"],[\"1\"],[\"1\"],[\"0\"]]]}";
+
+/// Both lines.
+const SETS: &str =
+    "{\"members\":[1],\"values\":[[[\"0\"],[\"0\"],[\"0\"],[\"1\"]]]},{\"members\":[2],\"values\":[[[\"1\"],[\"1\"],[\"1\"],[\"0\"]]]}";
+
+/// The line of the empty set, and that of the set of both suspects.
+const NOTHING: &str = "{\"members\":[],\"values\":[[[],[],[],[]]]}";
 
 const BOTH: &str =
     "{\"members\":[1,2],\"values\":[[[\"0\",\"1\"],[\"0\",\"1\"],[\"0\",\"1\"],[\"1\",\"0\"]]]}";
@@ -41,8 +48,22 @@ fn a_report_that_is_changed_is_not_right(rt: HostRuntime) -> Result<(), Fail> {
             "[\"1\"],[\"1\"]]]",
             "no replay 2 1 3 y\n",
         ),
+        // Those of the first put to those of the second.
+        (
+            "[\"0\"],[\"0\"],[\"0\"],[\"1\"]",
+            "[\"1\"],[\"1\"],[\"1\"],[\"0\"]",
+            "no replay 1 1 0 y\n",
+        ),
         (SECOND, BOTH, "no contains 2 1\n"),
+        (FIRST, NOTHING, "no contains 2 1\n"),
         (SECOND, FIRST, "no order 2\n"),
+        (FIRST, BOTH, "no order 2\n"),
+        // The log has the block of a set that isn't listed, in the place of one that is, or behind the last.
+        (SETS, SECOND, "no step 3\n"),
+        (SETS, FIRST, "no step 4\n"),
+        (SETS, "", "no step 3\n"),
+        // No place is freed.
+        (SETS, NOTHING, "no replay 1 1 1 y\n"),
         // No suspect has the number.
         ("\"members\":[2]", "\"members\":[3]", "no order 2\n"),
         ("\"members\":[1]", "\"members\":[0]", "no order 1\n"),
@@ -76,6 +97,10 @@ fn a_log_that_is_changed_is_not_right(rt: HostRuntime) -> Result<(), Fail> {
         // A literal is dropped, or one is added.
         ("l 4 :", "l :", "no step 1\n"),
         ("l 4 :", "l 4 5 :", "no step 1\n"),
+        ("b -1\n", "b\n", "no step 3\n"),
+        // A step is dropped, so that the chain of a later one names that one itself.
+        ("l 4 : 9 10 1 3 2 12\n", "", "no step 1\n"),
+        ("d 4 : 21\n", "", "no step 4\n"),
         // The chain lacks its last clause, or has one that is no earlier one.
         (" 2 12\nd", " 2\nd", "no step 1\n"),
         ("d 4 : 21", "d 4 : 22", "no step 2\n"),
@@ -93,4 +118,43 @@ fn a_log_that_is_changed_is_not_right(rt: HostRuntime) -> Result<(), Fail> {
         expect(&rt, alloc, &session(REPORT, log.as_slice()), (line, 8))?;
     }
     Ok(())
+}
+
+/// A net that goes to two outputs, both of which are to be 1 where they aren't: the net explains it, and the outputs together do.
+const FAN_OUT: &[u8] = b"module m(input a, input b, output y, output x);
+wire n;
+assign n = a;
+assign y = n | b;
+assign x = n;
+endmodule
+";
+
+const FAN_OUT_TRACE: &[u8] = b"$scope module m $end
+$var wire 1 a a $end
+$var wire 1 b b $end
+$var wire 1 y y $end
+$var wire 1 x x $end
+$upscope $end
+$enddefinitions $end
+#0 0a 0b 1y 1x
+";
+
+/// The outputs' values under the members of the net and of one output; the digest was computed apart from the program.
+const FAN_OUT_REPORT: &[u8] =
+    b"{\"clock\":\"\",\"ending\":\"complete\",\"inputs\":\"2f926d40bb30a484cb0c3e8d564edf35cfe9fd224be52d20b3d550ae6467d782\",\"kinds\":[\"stmt\"],\"sets\":[{\"members\":[1],\"values\":[[[\"1\"]]]},{\"members\":[1,2],\"values\":[[[\"1\",\"1\"]]]}],\"size\":2,\"suspects\":[],\"top\":\"m\",\"version\":1}\n";
+
+const FAN_OUT_LOG: &[u8] =
+    b"localise-log 1\ninputs 2f926d40bb30a484cb0c3e8d564edf35cfe9fd224be52d20b3d550ae6467d782\n";
+
+/// Whatever its values and its log are.
+#[test]
+fn a_set_that_contains_another_is_no_set_of_a_list(rt: HostRuntime) -> Result<(), Fail> {
+    let texts = Given {
+        design: FAN_OUT,
+        top: "m",
+        report: FAN_OUT_REPORT,
+        log: FAN_OUT_LOG,
+        trace: FAN_OUT_TRACE,
+    };
+    expect(&rt, rt.alloc(), &texts, ("no contains 2 1\n", 8))
 }

@@ -7,6 +7,42 @@ use std::test::Fail;
 /// A digest that isn't the inputs'.
 const OTHER: &str = "5e8cae5cec1457bb6699c30389d997b502e30db26b5b032c76537885b4803196";
 
+/// The text that is changed.
+#[derive(Clone, Copy)]
+enum Changed {
+    Design,
+    Trace,
+    Report,
+}
+
+impl Changed {
+    fn of<'a>(self, texts: &Given<'a>) -> &'a [u8] {
+        match self {
+            Changed::Design => texts.design,
+            Changed::Trace => texts.trace,
+            Changed::Report => texts.report,
+        }
+    }
+
+    /// The texts with another in the place of this one.
+    fn replaced<'a>(self, texts: Given<'a>, text: &'a [u8]) -> Given<'a> {
+        match self {
+            Changed::Design => Given {
+                design: text,
+                ..texts
+            },
+            Changed::Trace => Given {
+                trace: text,
+                ..texts
+            },
+            Changed::Report => Given {
+                report: text,
+                ..texts
+            },
+        }
+    }
+}
+
 #[test]
 fn a_session_of_other_inputs_is_named(rt: HostRuntime) -> Result<(), Fail> {
     let alloc = rt.alloc();
@@ -30,16 +66,51 @@ fn a_session_of_other_inputs_is_named(rt: HostRuntime) -> Result<(), Fail> {
         &session(third.as_slice(), log.as_slice()),
         (line.as_str(), 3),
     )?;
-    // Another size is another list.
-    let size = put_to(alloc, REPORT, "\"size\":2", "\"size\":1")?;
-    let ran = run(&rt, alloc, &session(size.as_slice(), LOG), PLAIN)?;
-    assert_eq!(rt; ran.status, 3);
-    assert!(rt;
-        ran.out
-            .text()
-            .as_slice()
-            .starts_with(b"input other 4e8cae5c")
-    );
+    Ok(())
+}
+
+/// The digests of the inputs with one change, computed apart from the program.
+#[test]
+fn a_report_of_another_design_trace_size_or_kind_is_named(rt: HostRuntime) -> Result<(), Fail> {
+    let alloc = rt.alloc();
+    for (text, part, other, digest) in [
+        (
+            Changed::Design,
+            "a | b",
+            "a & b",
+            "0b6c3594fe670b2559580e50e6ba58c46d5772194b60ba094bc150ca9a61372d",
+        ),
+        (
+            Changed::Trace,
+            "1b 0y",
+            "1b 1y",
+            "78b0ddf053ae3f3b59fa4fb0e5181caae83b13845f40dcdcf772f95997f13d67",
+        ),
+        (
+            Changed::Report,
+            "\"size\":2",
+            "\"size\":1",
+            "6f994112d642897b3f1fa4ba4da1413357102c8531460446bbab42af559283ab",
+        ),
+        (
+            Changed::Report,
+            "\"kinds\":[\"stmt\"]",
+            "\"kinds\":[\"block\"]",
+            "092974201979dae95c22ea6bf588f728816a0a755910d8925fc06796f3986be5",
+        ),
+        (
+            Changed::Report,
+            "\"kinds\":[\"stmt\"]",
+            "\"kinds\":[\"block\",\"stmt\"]",
+            "4b054321b9575bd9bbf4f42dc9dcf3230969fed55ab5cbe8991e9c71d99a15f4",
+        ),
+    ] {
+        let right = session(REPORT, LOG);
+        let line = format!(in alloc; "input other {INPUTS} {digest}\n")?;
+        let changed = put_to(alloc, text.of(&right), part, other)?;
+        let texts = text.replaced(right, changed.as_slice());
+        expect(&rt, alloc, &texts, (line.as_str(), 3))?;
+    }
     Ok(())
 }
 

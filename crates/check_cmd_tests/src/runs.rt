@@ -106,7 +106,7 @@ pub(super) fn run<R: Threads + Sync>(
     Ok(Ran { status, shelf, out })
 }
 
-/// What is printed of texts, and the status; nothing is written.
+/// What is printed of texts, and the status, by one worker and by seven; nothing is written.
 pub(super) fn expect<R: Threads + Sync + Abort>(
     rt: &R,
     alloc: Global,
@@ -114,11 +114,13 @@ pub(super) fn expect<R: Threads + Sync + Abort>(
     answer: (&str, u8),
 ) -> Result<(), Fail> {
     let (line, status) = answer;
-    let ran = run(rt, alloc, given, PLAIN)?;
-    assert_eq!(rt; ran.out.text().as_slice(), line.as_bytes(), "{line}");
-    assert_eq!(rt; ran.status, status, "{line}");
-    for name in ["m.v", "r", "l", "t.vcd", "localise.log", "localise.json"] {
-        assert!(rt; ran.shelf.text(name).is_none(), "{line}");
+    for workers in [1, 7] {
+        let ran = run(rt, alloc, given, Way { workers, ..PLAIN })?;
+        assert_eq!(rt; ran.out.text().as_slice(), line.as_bytes(), "{line}");
+        assert_eq!(rt; ran.status, status, "{line}");
+        for name in ["m.v", "r", "l", "t.vcd", "localise.log", "localise.json"] {
+            assert!(rt; ran.shelf.text(name).is_none(), "{line}");
+        }
     }
     Ok(())
 }
