@@ -75,6 +75,18 @@ bit-resized to from v q h =
       | false ↦ ap (λ n. n == 1) (bit_at-mod_low v to q h)
     ]
 
+-- and so does a whole word
+pub whole-resized : (from width w v old new p : ℕ) → from + width ≤ width → old < 2 ^ width → new < 2 ^ width → new ≡ resized width false w v
+    → bit new p ≡ (if nat_le from p && nat_lt p (from + width) then bit v (p - from) else bit old p)
+whole-resized from width w v old new p within one other is = elim (cases_lt p width) [
+  | inl low ↦
+      rw (le-leb from p (omega (arith, within)), lt-ltb p (from + width) (omega (arith, low)))
+      (ap (λ n. bit n p) is ∙ bit-resized width w v p low ∙ ap (bit v) (omega (arith, within)))
+  | inr high ↦
+      rw (le-leb from p (omega (arith, within, high)), le-ltb p (from + width) (omega (arith, within, high)))
+      (bit-high new width p other high ∙ sym (bit-high old width p one high))
+]
+
 -- which of the bits stands at a place
 pub chosen_bit : (f s p : ℕ) (old new : Bool)
     → (((nat_le (f + s) p && old) || (nat_lt p f && old)) || (nat_le f p && (nat_lt (p - f) s && new))) ≡ (if nat_le f p && nat_lt p (f + s) then new else old)

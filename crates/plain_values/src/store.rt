@@ -1,4 +1,4 @@
-ghost use Rattle.std.specs.Prelude.{◌≡◌, ◌<◌, length, IsTrue};
+ghost use Rattle.std.specs.Prelude.{◌≡◌, ◌<◌, length, IsTrue, ◌∷◌, []};
 ghost use Rattle.std.specs.List.{list_all};
 ghost use Rattle.loc_base.specs.Bits.{width_of, value_of};
 ghost use Rattle.design_core.specs.Operator.{integer_of};
@@ -119,6 +119,32 @@ fn store_part(signals: &[Signal], words: &mut [Bits], part: &Part, at: Bits, val
     }
 }
 
+/// Assigns a value to a left side of one part, whose index is read before it is stored.
+fn assign_one(
+    signals: &[Signal],
+    now: &mut [Bits],
+    later: &mut [Bits],
+    part: &Part,
+    value: Bits,
+    is_later: bool,
+)
+    requires now { AreWordsOf signals.now now.old }
+    requires later { AreWordsOf signals.now later.old }
+    requires fits { IsTrue (part_fits signals.now part.now) }
+    ensures now_words { AreWordsOf signals.now now.new }
+    ensures later_words { AreWordsOf signals.now later.new }
+    ensures value { record { now = valuation_of now.new; later = valuation_of later.new }
+        ≡ after_set signals.now (part.now ∷ []) (bit (value_of value)) is_later
+        (record { now = valuation_of now.old; later = valuation_of later.old }) }
+{
+    let at = part_index(signals, now, part);
+    if is_later {
+        store_part(signals, later, part, at, value);
+    } else {
+        store_part(signals, now, part, at, value);
+    }
+}
+
 /// Assigns a value to a left side (IEEE 1364-2005, 9.2), its parts from the left, each index read before the first of
 /// them is stored: into the words of later updates where `is_later` is true, else into those that are read.
 pub fn assign(
@@ -138,7 +164,9 @@ pub fn assign(
         ≡ after_set signals.now parts.now (bit (value_of value)) is_later
         (record { now = valuation_of now.old; later = valuation_of later.old }) }
 {
-    if let Some((last, left)) = parts.split_last() {
+    if let [only] = parts {
+        assign_one(signals, now, later, only, value, is_later);
+    } else if let Some((last, left)) = parts.split_last() {
         let at = part_index(signals, now, last);
         let high = value.shift_right(u128::from(part_width(signals, last)));
         assign(signals, now, later, left, high, is_later);

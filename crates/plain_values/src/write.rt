@@ -29,9 +29,8 @@ fn below(word: Bits, to: u8) -> Bits
     word.shift_left(by).shift_right(by)
 }
 
-/// A word with `width` of its bits from a position on replaced by the lowest bits of a value.
-
-fn replaced(word: Bits, from: u8, width: u8, value: Bits) -> Bits
+/// A word with `width` of its bits from a position on replaced by the lowest bits of a value, by masks.
+fn masked(word: Bits, from: u8, width: u8, value: Bits) -> Bits
     requires { from + width ≤ width_of word }
     ensures width { width_of result ≡ width_of word }
     ensures bits { (p : ℕ) → bit (value_of result) p
@@ -39,6 +38,21 @@ fn replaced(word: Bits, from: u8, width: u8, value: Bits) -> Bits
 {
     let placed = below(resized(value, false, word.width()), width).shift_left(u128::from(from));
     above(word, from + width).or(below(word, from)).or(placed)
+}
+
+/// A word with `width` of its bits from a position on replaced by the lowest bits of a value. Most stores are of whole words,
+/// which need no masks.
+fn replaced(word: Bits, from: u8, width: u8, value: Bits) -> Bits
+    requires { from + width ≤ width_of word }
+    ensures width { width_of result ≡ width_of word }
+    ensures bits { (p : ℕ) → bit (value_of result) p
+        ≡ (if nat_le from p && nat_lt p (from + width) then bit (value_of value) (p - from) else bit (value_of word) p) }
+{
+    if width == word.width() {
+        resized(value, false, width)
+    } else {
+        masked(word, from, width, value)
+    }
 }
 
 /// Replaces `width` bits of a signal, from a position on, by the lowest bits of a value.
