@@ -16,3 +16,4 @@ pub mod Choosing
 pub mod Running
 pub mod Chosen
 pub mod Replayed
+pub mod Wholes

@@ -12,6 +12,7 @@ ghost use Rattle.design_core.specs.Given.{AreChosen, CanRun};
 ghost use Rattle.cycle_sim.specs.Masks.{AreMasksFor, AreDriverMasks, with_own};
 
 use crate::mask::{Mask, clear_bits};
+use crate::whole::{put, whole_signal};
 use design_core::{Design, Driver};
 use loc_base::{Bits, Rows};
 use plain_values::{assign, assigned, run_statement, value};
@@ -29,7 +30,8 @@ fn placed(freed: &[bool], chosen: &[Bits], place: Option<u32>, computed: Bits) -
 }
 
 /// Carries out a driver, whose own bits are those of some masks: its right side reads the words as they are, then its
-/// own bits are put at 0, and then it stores. What it assigns by `<=` goes into the words of later updates.
+/// own bits are put at 0, and then it stores; an assignment to a whole signal leaves none of them as they were anyway. What it
+/// assigns by `<=` goes into the words of later updates.
 fn drive(
     design: &Design,
     masks: &[Mask],
@@ -58,8 +60,13 @@ fn drive(
         } => {
             let computed = value(&design.signals, values, computed);
             let word = placed(freed, chosen, *place, computed);
-            clear_bits(masks, values);
-            assign(&design.signals, values, later, &target.parts, word, false);
+            match whole_signal(&target.parts) {
+                Some(signal) => put(values, signal as usize, word),
+                None => {
+                    clear_bits(masks, values);
+                    assign(&design.signals, values, later, &target.parts, word, false);
+                }
+            }
         }
         Driver::Comb { body, .. } => {
             clear_bits(masks, values);

@@ -13,6 +13,7 @@ mod miss_search;
 mod plan;
 mod sim;
 mod suited;
+mod whole;
 
 pub use miss::Miss;
 pub use miss_search::replay;
