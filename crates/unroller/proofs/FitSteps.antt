@@ -1,5 +1,5 @@
 -- Steps of the loop over traces that are tested.
-use Rattle.std.proofs.Common.{◌≡◌, ℕ, ◌+◌, ◌<◌, ◌≤◌, List, [], ◌∷◌, ◌++◌, length, get_or, take, ◌∙◌, ap, arith}
+use Rattle.std.proofs.Common.{◌≡◌, ℕ, zero, suc, ◌+◌, ◌<◌, ◌≤◌, List, [], ◌∷◌, ◌++◌, length, get_or, take, ◌∙◌, ap, arith}
 use Rattle.std.proofs.lemmas.List.{take_all, take_more}
 use Rattle.design_core.specs.declared.trace.Trace.{Trace}
 use Rattle.unroller.specs.Unrolls.{cycles_of}
@@ -17,5 +17,12 @@ cycles_of-take traces i trace within is =
 
 pub cycles_of-all : (traces : List Trace) (i : ℕ) → length traces ≤ i → cycles_of (take i traces) ≡ cycles_of traces
 cycles_of-all traces i past = ap cycles_of (take_all i traces past)
+
+-- the cycles of a trace and of those before it are no more than those of all traces
+pub cycles_of-within : (traces : List Trace) (i : ℕ) (trace : Trace) → i < length traces → trace ≡ get_or traces i trace
+    → cycles_of (take i traces) + trace.cycles ≤ cycles_of traces
+cycles_of-within [] i trace within is = absurd (omega (arith, within))
+cycles_of-within (first ∷ traces) zero trace within is = omega (arith, ap (λ t. t.cycles) is)
+cycles_of-within (first ∷ traces) (suc i) trace within is = omega (arith, cycles_of-within traces i trace (omega (arith, within)) is)
 
 pub ruleset traces = (cycles_of-take, cycles_of-all)

@@ -1,6 +1,6 @@
 //! Whether traces are of a circuit, for callers that can't know.
 
-ghost use Rattle.std.specs.Prelude.{◌≡◌, ◌*◌, IsTrue};
+ghost use Rattle.std.specs.Prelude.{◌≡◌, ◌*◌, ◌↔◌, IsTrue};
 ghost use Rattle.unroller.specs.Unrolls.{AreTraces, IsTraceOf};
 
 use bit_circuit::Circuit;
@@ -8,7 +8,7 @@ use design_core::Trace;
 
 /// Whether a list has so many entries in each cycle.
 fn has_each(len: usize, cycles: usize, each: usize) -> bool
-    ensures { IsTrue result → len ≡ cycles * each }
+    ensures { IsTrue result ↔ len ≡ cycles * each }
 {
     match cycles.checked_mul(each) {
         Some(product) => product == len,
@@ -18,7 +18,7 @@ fn has_each(len: usize, cycles: usize, each: usize) -> bool
 
 /// Whether a trace has its words, and what is expected of so many outputs, in each cycle.
 fn is_trace_of(outputs: usize, trace: &Trace) -> bool
-    ensures { IsTrue result → IsTraceOf outputs trace.now }
+    ensures { IsTrue result ↔ IsTraceOf outputs trace.now }
 {
     let cycles = trace.cycles as usize;
     if cycles == 0 {
@@ -31,12 +31,15 @@ fn is_trace_of(outputs: usize, trace: &Trace) -> bool
 /// Whether each trace has its entries in each cycle, and the cycles of all traces are fewer than 2^32.
 #[tactic(auto, using(crate::proofs::FitSteps::traces))]
 pub fn are_traces(circuit: &Circuit, traces: &[Trace]) -> bool
-    ensures { IsTrue result → AreTraces circuit.now traces.now 0 }
+    ensures { IsTrue result ↔ AreTraces circuit.now traces.now 0 }
 {
     let mut left = u32::MAX;
     for i in 0..traces.len() {
         let cycles = traces[i].cycles;
-        if left < cycles || !is_trace_of(circuit.outputs().len(), &traces[i]) {
+        if left < cycles {
+            return false;
+        }
+        if !is_trace_of(circuit.outputs().len(), &traces[i]) {
             return false;
         }
         left -= cycles;

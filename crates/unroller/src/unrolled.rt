@@ -191,7 +191,7 @@ impl Unrolled {
 
     /// Whether a bit of an output in a cycle of a trace is there.
     pub fn has_output(&self, trace: u32, cycle: u32, output: u32, bit: u8) -> bool
-        ensures { IsTrue result → HasOutput self.now trace cycle output bit }
+        ensures { IsTrue result ↔ HasOutput self.now trace cycle output bit }
     {
         if !self.has_cycle(trace, cycle) || output as usize >= self.each {
             return false;
@@ -232,7 +232,7 @@ impl Unrolled {
 
     /// Whether a place has a bit.
     pub fn has_free(&self, place: u32, bit: u8) -> bool
-        ensures { IsTrue result → HasFreeBit self.now place bit }
+        ensures { IsTrue result ↔ HasFreeBit self.now place bit }
     {
         for column in 0..self.bits.len() {
             if self.is_at(column, place, bit) {
