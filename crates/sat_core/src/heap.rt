@@ -15,18 +15,14 @@ pub(crate) struct VariableHeap {
 }
 
 impl VariableHeap {
-    /// The variables 1 to `vars`, each of activity 0.
+    /// No variables, with room for those from 1 to `vars`, each of activity 0.
     pub(crate) fn new(alloc: Global, vars: u32) -> Result<VariableHeap, NoMemory> {
         let size = vars as usize + 1;
-        let mut heap = VariableHeap {
+        Ok(VariableHeap {
             activities: vec![in alloc; 0; size]?,
             heap: Vec::with_capacity(alloc, size)?,
             places: vec![in alloc; None; size]?,
-        };
-        for var in (0..vars).rev() {
-            heap.insert(var + 1);
-        }
-        Ok(heap)
+        })
     }
 
     /// Puts a variable into the heap, where it isn't there.

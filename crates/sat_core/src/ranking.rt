@@ -15,20 +15,25 @@ const GROWTH: u64 = 1 << 20;
 const HIGH: u64 = 1 << 62;
 
 /// The order in which variables are decided, and the values that they are given first. A variable that is met in a conflict takes
-/// the mean of its activity and of the increment, which grows with each conflict (Biere, Fröhlich 2015).
+/// the mean of its activity and of the increment, which grows with each conflict (Biere, Fröhlich 2015). Most variables are met in
+/// none: their activities are 0, of them the greatest comes first, and they need no heap.
 #[derive(Drop)]
 pub(crate) struct Ranking {
+    /// The variables without a value that were met in conflicts, and some with one.
     heap: VariableHeap,
+    /// No greater variable that was met in no conflict is without a value.
+    unmet: u32,
     /// The last value of each variable, at its number.
     values: Vec<bool>,
     increment: u64,
 }
 
 impl Ranking {
-    /// All variables from 1 to `vars`, by their numbers, each false at first.
+    /// All variables from 1 to `vars`, the greatest first, each false at first.
     pub(crate) fn new(alloc: Global, vars: u32) -> Result<Ranking, NoMemory> {
         Ok(Ranking {
             heap: VariableHeap::new(alloc, vars)?,
+            unmet: vars,
             values: vec![in alloc; false; vars as usize + 1]?,
             increment: 0,
         })
@@ -41,13 +46,37 @@ impl Ranking {
         ensures some { IfSome result (λ l. IsFree trail.now l.var) }
         ensures none { IfNone result (AllValued trail.now) }
     {
+        let var = match self.next_met(trail) {
+            Some(var) => var,
+            None => self.next_unmet(trail)?,
+        };
+        Some(self.literal_of(var))
+    }
+
+    /// The first variable of the heap that has no value.
+    fn next_met(&mut self, trail: &Trail) -> Option<u32>
+        ensures { IfSome result (IsFree trail.now) }
+    {
         while let Some(var) = self.heap.pop() {
             if is_free(trail, var) {
-                return Some(self.literal_of(var));
+                return Some(var);
             }
         }
-        let var = first_free(trail)?;
-        Some(self.literal_of(var))
+        None
+    }
+
+    /// The greatest variable that has no value, where the heap has none. None where each has one.
+    fn next_unmet(&mut self, trail: &Trail) -> Option<u32>
+        ensures some { IfSome result (IsFree trail.now) }
+        ensures none { IfNone result (AllValued trail.now) }
+    {
+        while 0 < self.unmet {
+            if is_free(trail, self.unmet) {
+                return Some(self.unmet);
+            }
+            self.unmet -= 1;
+        }
+        first_free(trail)
     }
 
     /// Raises the variables that were met in a conflict.
@@ -69,7 +98,16 @@ impl Ranking {
             if (l.var as usize) < self.values.len() {
                 self.values[l.var as usize] = !l.negated;
             }
-            self.heap.insert(l.var);
+            self.take_back(l.var);
+        }
+    }
+
+    /// Takes back a variable whose value goes.
+    fn take_back(&mut self, var: u32) {
+        if 0 < self.heap.activity(var) {
+            self.heap.insert(var);
+        } else {
+            self.unmet = self.unmet.max(var);
         }
     }
 

@@ -1,6 +1,6 @@
 use Rattle.std.proofs.Common.{length}
 use Rattle.std.specs.Prelude.{⊤}
-use Rattle.sat_core.proofs.ranking.Ranking.choose.Given as goal
+use Rattle.sat_core.proofs.ranking.Ranking.next_met.Given as goal
 
 abbrev pub invariant-loop-var : goal.invariant-loop-var
 invariant-loop-var l = ⊤
