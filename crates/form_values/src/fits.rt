@@ -1,6 +1,6 @@
 //! Whether values can be given, for callers that can't know.
 
-ghost use Rattle.std.specs.Prelude.{◌≡◌, ◌+◌, ◌==◌, ◌<◌, if◌then◌else◌, max, All, IsTrue, Some, get_or, length, slice_get, ℕ};
+ghost use Rattle.std.specs.Prelude.{◌≡◌, ◌↔◌, ◌+◌, ◌==◌, ◌<◌, if◌then◌else◌, max, All, IsTrue, Some, get_or, length, slice_get, ℕ};
 ghost use Rattle.unroller.specs.Reads.{HasFreeBit};
 ghost use Rattle.form_laws.specs.Models.{HasOneColumnEach, is_bit};
 ghost use Rattle.form_values.specs.ModelValues.{ArePlaces, IsPlace, width_in};
@@ -19,7 +19,7 @@ fn is_bit(free: FreeBit, place: u32, bit: u8) -> bool
 /// Whether none of the free bits from one on is that bit of that place.
 #[tactic(auto, using(crate::proofs::FitSteps::absent))]
 fn is_absent(bits: &[FreeBit], from: usize, place: u32, bit: u8) -> bool
-    ensures { IsTrue result → IsAbsent bits.now from place bit }
+    ensures { IsTrue result ↔ IsAbsent bits.now from place bit }
 {
     for i in from..bits.len() {
         if is_bit(bits[i], place, bit) {
@@ -32,7 +32,7 @@ fn is_absent(bits: &[FreeBit], from: usize, place: u32, bit: u8) -> bool
 /// Whether each bit of a place has one column of literals in a form. It is for tests: its time grows with the square of the bits.
 #[tactic(auto, using(crate::proofs::FitSteps::columns))]
 pub fn has_one_column_each(u: &Unrolled) -> bool
-    ensures { IsTrue result → HasOneColumnEach u.now }
+    ensures { IsTrue result ↔ HasOneColumnEach u.now }
 {
     let bits = u.bits();
     for i in 0..bits.len() {
@@ -67,8 +67,9 @@ fn width_in(bits: &[FreeBit], place: u32) -> u16
 }
 
 /// Whether a place has from 1 to 128 bits, and each up to the last is there.
+#[tactic(auto, using(crate::proofs::FitSteps::one_place))]
 fn is_place(u: &Unrolled, place: u32) -> bool
-    ensures { IsTrue result → IsPlace u.now place }
+    ensures { IsTrue result ↔ IsPlace u.now place }
 {
     let width = width_in(u.bits(), place);
     if width < 1 || width > 128 {
@@ -83,8 +84,9 @@ fn is_place(u: &Unrolled, place: u32) -> bool
 }
 
 /// Whether some places are.
+#[tactic(auto, using(crate::proofs::FitSteps::some_places))]
 fn are_all_places(u: &Unrolled, places: &[u32]) -> bool
-    ensures { IsTrue result → All (IsPlace u.now) places.now }
+    ensures { IsTrue result ↔ All (IsPlace u.now) places.now }
 {
     for i in 0..places.len() {
         if !is_place(u, places[i]) {
@@ -96,9 +98,8 @@ fn are_all_places(u: &Unrolled, places: &[u32]) -> bool
 
 /// Whether the places of the suspects are places of the circuit: each has from 1 to 128 bits, and each up to the last is there.
 /// It is for tests: it goes over the bits of the form for each place.
-#[tactic(auto, using(crate::proofs::FitSteps::places))]
 pub fn are_places(u: &Unrolled, groups: &Groups) -> bool
-    ensures { IsTrue result → ArePlaces u.now groups.now }
+    ensures { IsTrue result ↔ ArePlaces u.now groups.now }
 {
     for i in 0..groups.len() {
         if !are_all_places(u, groups[i].places.as_slice()) {
