@@ -1,4 +1,4 @@
-ghost use Rattle.std.specs.Prelude.{◌≡◌, ◌≤◌, ◌<◌, ◌^◌, ◌↔◌, [], false, length, IfOk, IfErr, IsTrue};
+ghost use Rattle.std.specs.Prelude.{◌≡◌, ◌≤◌, ◌<◌, ◌^◌, ◌↔◌, [], false, length, IfOk, IfErr, OnErr, IsTrue};
 ghost use Rattle.gate_base.specs.Nodes.{and_made, counted, free_made, input_made, is_counted, made, pushed, sources_in, state_made};
 ghost use Rattle.gate_base.specs.Arena.{UnlessNoMemory};
 
@@ -94,6 +94,7 @@ impl Maker {
         requires { IsTrue (is_counted node) }
         ensures ok { IfOk result (λ l. made self.new.nodes l ≡ pushed self.old.nodes node) }
         ensures err { IfErr result (λ e. UnlessNoMemory e (self.old.limit < counted (pushed self.old.nodes node).nodes)) }
+        ensures kept { OnErr result (self.new.nodes ≡ self.old.nodes) }
         ensures limit { self.new.limit ≡ self.old.limit }
     {
         if self.counted == self.limit {
@@ -114,6 +115,7 @@ impl Maker {
         requires source { is_counted node ≡ false }
         requires few { sources_in self.old.nodes < 2 ^ 31 }
         ensures ok { IfOk result (λ l. made self.new.nodes l ≡ pushed self.old.nodes node) }
+        ensures kept { OnErr result (self.new.nodes ≡ self.old.nodes) }
         ensures limit { self.new.limit ≡ self.old.limit }
     {
         let number = self.counted + self.sources;
@@ -125,27 +127,29 @@ impl Maker {
         })
     }
 
-    /// The bit of an input.
+    /// The bit of an input. Unchanged after `NoMemory`.
     #[tactic(auto, unfolding(crate::specs::Nodes::input_made))]
     pub fn input(&mut self, input: u32, bit: u8) -> Result<Literal, NoMemory>
         requires { sources_in self.old.nodes < 2 ^ 31 }
         ensures ok { IfOk result (λ l. made self.new.nodes l ≡ input_made self.old.nodes input bit) }
+        ensures kept { OnErr result (self.new.nodes ≡ self.old.nodes) }
         ensures limit { self.new.limit ≡ self.old.limit }
     {
         self.push_source(Node::Input { input, bit })
     }
 
-    /// The bit of a state.
+    /// The bit of a state. Unchanged after `NoMemory`.
     #[tactic(auto, unfolding(crate::specs::Nodes::state_made))]
     pub fn state(&mut self, state: u32, bit: u8) -> Result<Literal, NoMemory>
         requires { sources_in self.old.nodes < 2 ^ 31 }
         ensures ok { IfOk result (λ l. made self.new.nodes l ≡ state_made self.old.nodes state bit) }
+        ensures kept { OnErr result (self.new.nodes ≡ self.old.nodes) }
         ensures limit { self.new.limit ≡ self.old.limit }
     {
         self.push_source(Node::State { state, bit })
     }
 
-    /// The bit of a place.
+    /// The bit of a place. Unchanged after a refusal.
     #[tactic(auto, unfolding(crate::specs::Nodes::free_made))]
     pub fn free(
         &mut self,
@@ -156,6 +160,7 @@ impl Maker {
     ) -> Result<Literal, MakeErr>
         ensures ok { IfOk result (λ l. made self.new.nodes l ≡ free_made self.old.nodes moment place bit computed) }
         ensures err { IfErr result (λ e. UnlessNoMemory e (self.old.limit < counted (free_made self.old.nodes moment place bit computed).nodes)) }
+        ensures kept { OnErr result (self.new.nodes ≡ self.old.nodes) }
         ensures limit { self.new.limit ≡ self.old.limit }
     {
         self.push_counted(Node::Free {
@@ -166,11 +171,12 @@ impl Maker {
         })
     }
 
-    /// AND.
+    /// AND. Unchanged after a refusal.
     #[tactic(auto, unfolding(crate::specs::Nodes::and_made, crate::specs::Nodes::made_unless))]
     pub fn and(&mut self, left: Literal, right: Literal) -> Result<Literal, MakeErr>
         ensures ok { IfOk result (λ l. made self.new.nodes l ≡ and_made self.old.nodes left right) }
         ensures err { IfErr result (λ e. UnlessNoMemory e (self.old.limit < counted (and_made self.old.nodes left right).nodes)) }
+        ensures kept { OnErr result (self.new.nodes ≡ self.old.nodes) }
         ensures limit { self.new.limit ≡ self.old.limit }
     {
         match left.folded(right) {

@@ -53,6 +53,10 @@ unrolled_lit base (of.Of node negated) = lit.Of (record { var = base + node; neg
 abbrev pub moment_of : Unrolling → ℕ → ℕ → ℕ
 moment_of u trace cycle = get_or u.firsts trace 0 + cycle
 
+-- the number of the first cycle behind a trace: that of the next trace, or of all cycles
+abbrev pub end_of : Unrolling → ℕ → ℕ
+end_of u trace = get_or u.firsts (trace + 1) (length u.ends)
+
 -- the literals of an output in a cycle
 abbrev pub output_at : Unrolling → ℕ → ℕ → ℕ → List Literal
 output_at u trace cycle output = get_or u.outputs (moment_of u trace cycle * u.each + output) []
@@ -61,6 +65,7 @@ output_at u trace cycle output = get_or u.outputs (moment_of u trace cycle * u.e
 pub record HasCycle (u : Unrolling) (trace cycle : ℕ) : Type 0 where
   pub in_traces : trace < length u.firsts
   pub in_cycles : moment_of u trace cycle < length u.ends
+  pub in_trace : moment_of u trace cycle < end_of u trace
 
 -- and the bit of the output
 pub record HasOutput (u : Unrolling) (trace cycle output bit : ℕ) : Type 0 where

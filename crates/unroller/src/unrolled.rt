@@ -59,7 +59,7 @@ impl Drop for Unrolled {
 
 #[tactic(auto, using(crate::proofs::ReadSteps::reads))]
 impl Unrolled {
-    ghost use Rattle.unroller.specs.Reads.{HasFree, HasFreeBit, HasOutput, HasCycle, IsFreeAt, IsFreeBit, IsUnrolled, moment_of, output_at, unrolled_lit};
+    ghost use Rattle.unroller.specs.Reads.{HasFree, HasFreeBit, HasOutput, HasCycle, IsFreeAt, IsFreeBit, IsUnrolled, end_of, moment_of, output_at, unrolled_lit};
     ghost use Rattle.unroller.specs.Unrolls.{variables_of};
 
     /// The number of variables: those of the suspects, of their counters, and of the definitions.
@@ -148,12 +148,25 @@ impl Unrolled {
         }
     }
 
-    /// Whether a cycle of a trace is there.
+    /// The number of the first cycle behind a trace.
+    fn end_of(&self, trace: u32) -> usize
+        ensures { result ≡ end_of self.now trace }
+    {
+        match self.firsts.as_slice().get(trace as usize + 1) {
+            Some(next) => *next as usize,
+            None => self.ends.len(),
+        }
+    }
+
+    /// Whether a trace has a cycle of that number.
     pub fn has_cycle(&self, trace: u32, cycle: u32) -> bool
         ensures { IsTrue result ↔ HasCycle self.now trace cycle }
     {
         match self.firsts.as_slice().get(trace as usize) {
-            Some(first) => *first as usize + (cycle as usize) < self.ends.len(),
+            Some(first) => {
+                let moment = *first as usize + cycle as usize;
+                moment < self.ends.len() && moment < self.end_of(trace)
+            }
             None => false,
         }
     }
