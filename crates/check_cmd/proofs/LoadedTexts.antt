@@ -27,11 +27,11 @@ use Rattle.proof_check.specs.Errors.{OnSyntax as OnBadLine}
 use Rattle.proof_check.specs.Text.{IsFirstBadLine, IsLogText, lines_of, step_line, text_of}
 use Rattle.list_inputs.specs.declared.refusal.Refusal.{Refusal}
 use Rattle.list_inputs.specs.declared.refusal.Refusal.TheVariants.{Line, Memory}
-use Rattle.list_inputs.specs.Ends.{HasCause, HasStatus, IsSpared, RefusalCounts, Says}
+use Rattle.list_inputs.specs.Ends.{HasCause, HasStatus, IsMemory, IsSpared, RefusalCounts, Says}
 use Rattle.check_cmd.specs.Asked.{Asked}
 use Rattle.check_cmd.specs.Means.{IsLogOf, MeansLog, MeansReport}
 use Rattle.check_cmd.specs.Parts as parts
-use Rattle.check_cmd.specs.Parts.{IsMemory, IsShort, LoadRefused, LogTextRefused, ReportTextRefused}
+use Rattle.check_cmd.specs.Parts.{IsShort, LoadRefused, LogTextRefused, ReportTextRefused}
 use Rattle.check_cmd.specs.Refusals as refused
 use Rattle.check_cmd.specs.Refusals.{LogRefused, ReportRefused, bad_line}
 use Rattle.check_cmd.proofs.Causes.{cause-of, memory-cause, no-memory, said}

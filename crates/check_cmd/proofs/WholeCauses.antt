@@ -13,13 +13,13 @@ use Rattle.debug_core.specs.declared.error.DebugErr.TheVariants.{Nodes, Vars, Li
 use Rattle.debug_core.specs.Problems.{IsRefused, Problem}
 use Rattle.list_inputs.specs.declared.refusal.Refusal.{Refusal}
 use Rattle.list_inputs.specs.declared.refusal.Refusal.TheVariants.{Line, Memory}
-use Rattle.list_inputs.specs.Ends.{HasCause, HasStatus, Says}
+use Rattle.list_inputs.specs.Ends.{HasCause, HasStatus, IsMemory, Says}
 use Rattle.list_inputs.specs.Means.{Means as MeansProblem, Suspecting}
 use Rattle.list_inputs.specs.Refusals.{Refused as InputsRefused, for_problem, problem_line, problem_status}
 use Rattle.check_cmd.specs.declared.sessions.Digests.{Digests}
 use Rattle.check_cmd.specs.Asked.{Asked, wanted_by}
 use Rattle.check_cmd.specs.Means.{Asks, Given, Means, MeansReport, Posed, Poses, unknown_kind}
-use Rattle.check_cmd.specs.Parts.{FormRefused, IsMemory, KindRefused, OtherRefused, digests_of, first_name, form_fault, session_differs}
+use Rattle.check_cmd.specs.Parts.{FormRefused, KindRefused, OtherRefused, digests_of, first_name, form_fault, session_differs}
 use Rattle.check_cmd.specs.Refusals.{LogRefused, Refused, ReportRefused, for_inputs, for_kind, for_log, for_other, for_report, kind_line}
 use Rattle.check_cmd.proofs.Causes.{cause-of, said}
 use Rattle.command_contract.proofs.Statuses.{input-range}

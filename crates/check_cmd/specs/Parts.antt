@@ -18,8 +18,6 @@ use Rattle.proof_check.specs.declared.types.LogErr.TheVariants.{LogSyntax}
 use Rattle.proof_check.specs.Text.{IsFirstBadLine}
 use Rattle.debug_core.specs.declared.error.DebugErr.{DebugErr}
 use Rattle.debug_core.specs.Problems.{IsFormFor, IsProblem, IsRefused, Problem}
-use Rattle.list_inputs.specs.declared.refusal.Refusal.{Refusal}
-use Rattle.list_inputs.specs.declared.refusal.Refusal.TheVariants.{Line, Memory}
 use Rattle.list_inputs.specs.Ends.{HaveNumbers, problem_in}
 use Rattle.list_inputs.specs.Refusals.{problem_line, problem_status}
 use Rattle.list_verdict.specs.declared.verdict.Verdict.{Verdict}
@@ -85,12 +83,6 @@ AreSame digests = (digests.report ≡ digests.inputs) × (digests.log ≡ digest
 pub data OtherRefused (digests : Digests) : ℕ → List ℕ → Type 0 where
   session_differs : (session : Digest) → DiffersFirst digests.report digests.log digests.inputs session
       → OtherRefused digests 3 (other_line session digests.inputs)
-
--- ---- a refusal
--- memory was wanted
-abbrev pub IsMemory : Refusal → Type 0
-IsMemory (Line status line) = ⊥
-IsMemory Memory = Unit {0}
 
 -- ---- what was read
 abbrev pub posed_of : PosedInCode → Posed

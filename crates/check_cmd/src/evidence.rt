@@ -5,11 +5,11 @@ ghost use Rattle.report_doc.specs.Shape.{IsReport};
 ghost use Rattle.debug_core.specs.declared.error.DebugErr.{DebugErr as SomeErr};
 ghost use Rattle.debug_core.specs.declared.error.DebugErr.TheVariants.{NoMemory as WantOfMemory};
 ghost use Rattle.debug_core.specs.Problems.{IsFormFor, IsProblem, IsRefused};
-ghost use Rattle.list_inputs.specs.Ends.{CountsOf, HasCause, HasStatus, IsSpared, problem_in};
+ghost use Rattle.list_inputs.specs.Ends.{CountsOf, HasCause, HasStatus, IsMemory, IsSpared, problem_in};
 ghost use Rattle.check_cmd.specs.Asked.{IsAsked, asked_of};
 ghost use Rattle.check_cmd.specs.Checking.{IsReady};
 ghost use Rattle.check_cmd.specs.Means.{AreOfInputs, Asks, Means, Poses};
-ghost use Rattle.check_cmd.specs.Parts.{CanBePosed, FormRefused, IsEvidence, IsMemory, given_of, posed_of};
+ghost use Rattle.check_cmd.specs.Parts.{CanBePosed, FormRefused, IsEvidence, given_of, posed_of};
 ghost use Rattle.check_cmd.specs.Refusals.{Refused};
 
 use crate::kinds::know;

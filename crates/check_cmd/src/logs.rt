@@ -2,10 +2,10 @@
 ghost use Rattle.std.specs.Prelude.{◌≡◌, ◌+◌, ◌++◌, ◌<◌, ◌≤◌, ◌^◌, IfErr, IfOk, OnOk, length, true};
 ghost use Rattle.proof_check.specs.declared.types.LogText.{LogText as SomeLog};
 ghost use Rattle.run_inputs.specs.Means.{most_bytes};
-ghost use Rattle.list_inputs.specs.Ends.{CountsOf, HasCause, HasStatus, IsSpared, Says};
+ghost use Rattle.list_inputs.specs.Ends.{CountsOf, HasCause, HasStatus, IsMemory, IsSpared, Says};
 ghost use Rattle.check_cmd.specs.Asked.{asked_of};
 ghost use Rattle.check_cmd.specs.Means.{IsLogOf, MeansLog};
-ghost use Rattle.check_cmd.specs.Parts.{IsMemory, LogTextRefused, log_fault_line, log_fault_status};
+ghost use Rattle.check_cmd.specs.Parts.{LogTextRefused, log_fault_line, log_fault_status};
 ghost use Rattle.check_cmd.specs.Refusals.{LogRefused, bad_line};
 
 use crate::request::Request;

@@ -3,10 +3,10 @@ ghost use Rattle.std.specs.Prelude.{◌≡◌, IfErr, IfOk, true};
 ghost use Rattle.report_doc.specs.declared.types.Report.{Report as SomeReport};
 ghost use Rattle.report_doc.specs.Shape.{IsReport};
 ghost use Rattle.report_reading.specs.Reading.{IsReportOf};
-ghost use Rattle.list_inputs.specs.Ends.{CountsOf, HasCause, HasStatus, IsSpared, Says};
+ghost use Rattle.list_inputs.specs.Ends.{CountsOf, HasCause, HasStatus, IsMemory, IsSpared, Says};
 ghost use Rattle.check_cmd.specs.Asked.{asked_of};
 ghost use Rattle.check_cmd.specs.Means.{MeansReport};
-ghost use Rattle.check_cmd.specs.Parts.{IsMemory, ReportTextRefused, report_fault_line, report_fault_status};
+ghost use Rattle.check_cmd.specs.Parts.{ReportTextRefused, report_fault_line, report_fault_status};
 ghost use Rattle.check_cmd.specs.Refusals.{ReportRefused};
 
 use crate::request::Request;

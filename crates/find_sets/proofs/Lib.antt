@@ -3,3 +3,4 @@ pub mod Refused
 pub mod Reading
 pub mod Enough
 pub mod Jobs
+pub mod Faults

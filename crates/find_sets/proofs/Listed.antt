@@ -92,7 +92,7 @@ module _ (M : Meaning) (R : Refusing) (S : Suspecting) (asked : Asked) (run : Ru
   list-answered : (o : Outcome) → Means M S (wanted_of asked) run.texts problem → IsDigestOf (wanted_of asked) run.texts inputs
       → Leaves (listing_of asked problem inputs) (outputs_of run) o → (status_of o ≡ 0) ⊎ (status_of o ≡ 1)
       → OfInputs M S asked run.texts (λ listing. IsListed listing (outputs_of run) (status_of o))
-  list-answered (Ended ending) means digest leaves is = of-inputs _ means digest leaves
+  list-answered (Ended ending) means digest leaves is = of-inputs _ means digest leaves.listed
   list-answered Failed means digest leaves is = absurd (omega (arith, at-most-one 6 is))
   list-answered Memory means digest leaves is = absurd (omega (arith, at-most-one 7 is))
 

@@ -1,6 +1,7 @@
 -- What a list is asked of, as plain data.
 use Rattle.std.specs.Prelude.{ℕ, ◌≡◌, ◌≢◌, ◌≤◌, List, [], ◌∷◌, length, All, AllPairs, Option, None}
 use Rattle.suspect_map.specs.Choose.{unknown}
+use Rattle.report_reading.specs.Reading.{IsKindName}
 use Rattle.list_inputs.specs.Asked.{Asked as Wanted}
 use Rattle.set_waves.specs.Names.{IsNoWave}
 
@@ -36,10 +37,12 @@ wanted_of asked = record {
 abbrev pub IsUpTo : ℕ → ℕ → Type 0
 IsUpTo most n = (1 ≤ n) × (n ≤ most)
 
--- what may be asked; the log and the report have names of their own, and no name begins with the prefix of the waves and a hyphen
+-- what may be asked; kinds have names of kinds, so that the report is read again; the log and the report have names of their own, and no
+-- name begins with the prefix of the waves and a hyphen
 pub record IsAsked (asked : Asked) : Type 0 where
   pub traces : IsUpTo 256 (length asked.traces)
   pub some_kinds : asked.suspects ≢ []
+  pub kind_names : All IsKindName asked.suspects
   pub kinds_once : AllPairs (λ one other. one ≢ other) asked.suspects
   pub size : asked.size ≤ 8
   pub budget : IsUpTo 10000000 asked.budget

@@ -1,10 +1,10 @@
 -- What a list is made of: the inputs that were read of some texts, or why there are none.
-use Rattle.std.specs.Prelude.{ℕ, ◌≡◌, Bool, true, Result, IfOk, IfErr}
+use Rattle.std.specs.Prelude.{ℕ, ◌≡◌, Bool, true, Result, Ok, Err, IfOk, IfErr}
 use Rattle.command_contract.specs.Contract.{Texts}
 use Rattle.front_end.specs.Means.{Meaning, Refusing}
 use Rattle.list_inputs.specs.declared.inputs.Inputs.{Inputs}
 use Rattle.list_inputs.specs.declared.refusal.Refusal.{Refusal}
-use Rattle.list_inputs.specs.Ends.{CountsOf, HasCause, IsSpared, problem_in}
+use Rattle.list_inputs.specs.Ends.{CountsOf, HasCause, IsSpared, problem_in, status_of}
 use Rattle.list_inputs.specs.Means.{IsDigestOf, Means, Suspecting}
 use Rattle.list_inputs.specs.Refusals.{IsReady, Refused}
 use Rattle.find_sets.specs.Asked.{Asked, wanted_of}
@@ -17,3 +17,8 @@ pub record IsRead (M : Meaning) (R : Refusing) (S : Suspecting) (asked : Asked) 
   pub digest : told ≡ true → IfOk read (λ inputs. IsDigestOf (wanted_of asked) texts inputs.digest)
   pub refused : told ≡ true → IfErr read (HasCause (Refused M R S (wanted_of asked) texts))
   pub only : told ≡ true → IsReady M S (wanted_of asked) texts → IfErr read IsSpared
+
+-- nothing was read, since a text wasn't handed over
+abbrev pub IsReadFault : Result Inputs Refusal → Type 0
+IsReadFault (Ok inputs) = ⊥
+IsReadFault (Err refusal) = status_of refusal ≡ 5

@@ -6,7 +6,7 @@ ghost use Rattle.debug_core.specs.Problems.{IsProblem};
 ghost use Rattle.list_inputs.specs.Ends.{HasStatus, problem_in};
 ghost use Rattle.find_sets.specs.Asked.{AreKnown, IsAsked};
 ghost use Rattle.find_sets.specs.Finding.{finding};
-ghost use Rattle.find_sets.specs.Reading.{IsRead};
+ghost use Rattle.find_sets.specs.Reading.{IsRead, IsReadFault};
 ghost use Rattle.find_sets.specs.Requests.{asked_of};
 
 use crate::job::{job_of, listing_tools};
@@ -37,6 +37,9 @@ pub fn list_read<F: FrontEnd, R: Threads + Sync, G: Gate + Sync, S: Shelf, O: Si
     requires status { IfErr read HasStatus }
 
     ensures tells { O.tells out.new ≡ O.tells out.old }
+
+    // It loads nothing: that a text wasn't handed over is said only of what was read.
+    ensures fault { result ≡ 5 → IsReadFault read }
 
     // Of texts that stood anywhere: those that were read.
     ensures keeps { (told : Bool) (texts : Texts) (faults : ℕ)

@@ -36,6 +36,11 @@ abbrev pub Says : Refusal → ℕ → List ℕ → Type 0
 Says (Line status line) s text = (status ≡ s) × (line.items ≡ text)
 Says Memory s text = Unit {0}
 
+-- it says no line: memory was wanted
+abbrev pub IsMemory : Refusal → Type 0
+IsMemory (Line status line) = ⊥
+IsMemory Memory = Unit {0}
+
 -- for the cause that its line says
 abbrev pub HasCause : (ℕ → List ℕ → Type 0) → Refusal → Type 0
 HasCause Refuses (Line status line) = Refuses status line.items

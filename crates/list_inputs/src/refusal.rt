@@ -1,11 +1,11 @@
 //! Why nothing is listed, and the line that says so.
-ghost use Rattle.std.specs.Prelude.{◌≡◌, ◌+◌, ◌⊎◌, ℕ, List, IfOk, codes, true};
+ghost use Rattle.std.specs.Prelude.{◌≡◌, ◌+◌, ◌⊎◌, ℕ, List, IfOk, IsErr, codes, true};
 ghost use Rattle.command_contract.specs.Contract.{IsInputRefusal};
 ghost use Rattle.refusal_lines.specs.Codes.{code_line, code_status};
 ghost use Rattle.refusal_lines.specs.Refusals.{limit_line};
 ghost use Rattle.run_inputs.specs.Refusals.{design_fault_line, design_fault_status, trace_fault_line, trace_fault_status};
 ghost use Rattle.run_inputs.specs.Refusals.{load_line, load_status};
-ghost use Rattle.list_inputs.specs.Ends.{HasStatus, PrintCounts, Prints, Says, line_of, status_of};
+ghost use Rattle.list_inputs.specs.Ends.{HasStatus, IsMemory, PrintCounts, Prints, Says, line_of, status_of};
 ghost use Rattle.list_inputs.specs.Refusals.{problem_line, problem_status};
 
 use debug_core::DebugErr;
@@ -30,6 +30,7 @@ impl Refusal {
         requires { IsInputRefusal status ⊎ (status ≡ 7) }
         ensures says { Says result status line.items }
         ensures status { HasStatus result }
+        ensures memory { IsMemory result → status ≡ 7 }
     {
         if status == 7 {
             Refusal::Memory
@@ -43,6 +44,7 @@ impl Refusal {
         requires { IsInputRefusal status ⊎ (status ≡ 7) }
         ensures says { (text : List ℕ) → IfOk made (λ line. line.items ≡ text) → Says result status text }
         ensures status { HasStatus result }
+        ensures memory { IsMemory result → (status ≡ 7) ⊎ IsErr made }
     {
         match made {
             Ok(line) => Refusal::of(status, line),

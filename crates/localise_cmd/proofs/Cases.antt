@@ -118,7 +118,7 @@ allows-memory tools (Ok (check asked)) run written = record {
 }
 allows-memory tools (Ok (make asked)) run written = record {
   answer = λ status may. low-no_stop status (elim may [ inl zero ↦ omega (arith, zero) | inr one ↦ omega (arith, one) ]);
-  refusals = input-refusal;
+  refusals = λ status is. input-refusal status (elim is [ inl three ↦ inl three | inr four ↦ inr (inl four) ]);
   stopped = λ told rose front. (
     inr rose,
     in_memory_line 0 (

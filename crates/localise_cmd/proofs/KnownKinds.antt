@@ -15,6 +15,7 @@ use Rattle.check_cmd.specs.Asked.{Asked as Checking, IsAsked as IsCheckable}
 use Rattle.find_sets.specs.Asked.{AreKnown, Asked as Finding, IsAsked}
 use Rattle.make_cmd.specs.Asked.{Asked as Making, IsAsked as IsMakeable, finding_of as list_of}
 use Rattle.localise_cmd.specs.Commands.{checking_of, finding_of, making_of}
+use Rattle.localise_cmd.proofs.KindNames.{kind-names}
 
 -- ---- kinds that are known
 same-pointwise : (name : List ℕ) → pointwise nat_eq name name ≡ true
@@ -58,6 +59,7 @@ pub asked-held : (known : List (List ℕ)) (words : FindAsked) (request : Findin
 asked-held known words request same held = subst IsAsked (sym same) (record {
   traces = (held.sources.some, held.sources.most);
   some_kinds = held.some_kinds;
+  kind_names = kind-names words.suspects held.kind_names;
   kinds_once = held.kinds_once;
   size = held.size;
   budget = held.budget;
@@ -83,6 +85,7 @@ pub make-held : (known : List (List ℕ)) (words : MakeAsked) (request : Making)
 make-held known words request same held = subst IsMakeable (sym same) (record {
   number = held.number;
   some_kinds = held.some_kinds;
+  kind_names = kind-names words.suspects held.kind_names;
   kinds_once = held.kinds_once;
   size = held.size;
   budget = held.budget;

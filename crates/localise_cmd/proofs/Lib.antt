@@ -1,3 +1,4 @@
 pub mod Keeping
 pub mod Cases
+pub mod KindNames
 pub mod KnownKinds

@@ -35,6 +35,7 @@ module _ (asked : Asked) (may : IsAsked asked) where
   list-asked = record {
     traces = (omega arith, omega arith);
     some_kinds = may.some_kinds;
+    kind_names = may.kind_names;
     kinds_once = may.kinds_once;
     size = may.size;
     budget = may.budget;

@@ -5,8 +5,8 @@ use Rattle.std.proofs.Math.Path.{fun_ext}
 use Rattle.io_ports.specs.Faults.{Rose}
 use Rattle.io_ports.specs.Shelf.{AppendsFront}
 use Rattle.refusal_lines.specs.Refusals.{memory_line}
-use Rattle.command_contract.specs.Contract.{Causes, Keeps, NoneRose, OneRose, Run, Texts, counts_of}
-use Rattle.command_contract.proofs.Statuses.{input-range, input-refusal}
+use Rattle.command_contract.specs.Contract.{Causes, IsInputRefusal, IsRefusal, IsStatus, Keeps, NoneRose, OneRose, Run, Texts, counts_of}
+use Rattle.command_contract.proofs.Statuses.{input-refusal}
 use Rattle.front_end.specs.Means.{Meaning, Refusing}
 use Rattle.write_order.specs.Writes.{AreDone, StopsIn, on_shelf, print_piece}
 use Rattle.write_order.proofs.Carried.{done-then, print-done, print-stops, stops-then}
@@ -16,7 +16,7 @@ use Rattle.list_inputs.specs.Means.{Suspecting}
 use Rattle.find_sets.specs.Asked.{Asked as Finding}
 use Rattle.find_sets.specs.Finding.{finding, outputs_of}
 use Rattle.make_cmd.specs.Asked.{Asked, IsAsked, finding_of}
-use Rattle.make_cmd.specs.Making.{IsCut, IsListed, IsMade, IsStopped, made_texts, made_writes, made_written, making}
+use Rattle.make_cmd.specs.Making.{IsCut, IsListed, IsMade, IsMadeRefusal, IsStopped, made_texts, made_writes, made_written, making}
 use Rattle.make_cmd.specs.Making.{for_last_line, for_list, for_texts, in_last_line, in_list, in_memory_line, in_texts}
 use Rattle.make_cmd.proofs.Asking.{design-log, design-report, design-trace, trace-log, trace-report}
 use Rattle.make_cmd.proofs.Spared.{AllSpare, done-stays, other-name, same-name, spare-take, stays, stops-stays}
@@ -53,7 +53,27 @@ answer-low : (n : ℕ) → (n ≡ 0) ⊎ (n ≡ 1) → n ≤ 1
 answer-low n (inl e) = omega (arith, e)
 answer-low n (inr e) = omega (arith, e)
 
+-- a refusal of the made texts is one of inputs
+input-refused : (n : ℕ) → IsMadeRefusal n → IsInputRefusal n
+input-refused n (inl three) = inl three
+input-refused n (inr four) = inr (inl four)
+
+made-range : (n : ℕ) → IsMadeRefusal n → (3 ≤ n) × (n ≤ 4)
+made-range n (inl three) = (omega (arith, three), omega (arith, three))
+made-range n (inr four) = (omega (arith, four), omega (arith, four))
+
+refusal-made : (n : ℕ) → IsMadeRefusal n → IsRefusal n
+refusal-made n is = input-refusal n (input-refused n is)
+
 module _ (M : Meaning) (R : Refusing) (S : Suspecting) (asked : Asked) (run : Run) where
+  -- a status of the list but 5 is one of the command
+  made-status : (status : ℕ) → status ≢ 5 → IsStatus (finding M R S (finding_of asked)) status → IsStatus (making M R S asked) status
+  made-status status other (inl answer) = inl answer
+  made-status status other (inr (inl (inl three))) = inr (inl (inl three))
+  made-status status other (inr (inl (inr (inl four)))) = inr (inl (inr four))
+  made-status status other (inr (inl (inr (inr five)))) = absurd (other five)
+  made-status status other (inr (inr ends)) = inr (inr ends)
+
   -- ---- 6 and 7: the causes
   causes-six : OneRose run.counts → Causes (making M R S asked) run.counts 6
   causes-six rose = record {
@@ -79,9 +99,9 @@ module _ (M : Meaning) (R : Refusing) (S : Suspecting) (asked : Asked) (run : Ru
   six-keeps : OneRose run.counts → (run.told ≡ true → IsStopped M R S asked run) → Others → Keeps (making M R S asked) run 6
   six-keeps rose stopped others = record {
     is_status = inr (inr (inl refl));
-    refusals = input-refusal;
+    refusals = refusal-made;
     answered = λ told may. absurd (omega (arith, answer-low 6 may));
-    refused = λ told is. absurd (omega (arith, input-range 6 is));
+    refused = λ told is. absurd (omega (arith, made-range 6 is));
     stopped = λ told e. (rose, stopped told);
     cut = λ told e. absurd (omega (arith, e));
     others = others;
@@ -93,9 +113,9 @@ module _ (M : Meaning) (R : Refusing) (S : Suspecting) (asked : Asked) (run : Ru
       → Keeps (making M R S asked) run 7
   seven-keeps same cut others = record {
     is_status = inr (inr (inr refl));
-    refusals = input-refusal;
+    refusals = refusal-made;
     answered = λ told may. absurd (omega (arith, answer-low 7 may));
-    refused = λ told is. absurd (omega (arith, input-range 7 is));
+    refused = λ told is. absurd (omega (arith, made-range 7 is));
     stopped = λ told e. absurd (omega (arith, e));
     cut = λ told e. cut told;
     others = others;
@@ -266,17 +286,17 @@ module _ (M : Meaning) (R : Refusing) (S : Suspecting) (asked : Asked) (run : Ru
         ∙ trace-written asked run.written may
 
     -- it ends the run, with no answer
-    pub list-keeps : (status : ℕ) → 2 ≤ status
+    pub list-keeps : (status : ℕ) → 2 ≤ status → status ≢ 5
         → Keeps (finding M R S (finding_of asked)) (ran mid run.now_printed run.counts.now_sink) status
         → Keeps (making M R S asked) run status
-    list-keeps status least keeps =
+    list-keeps status least other keeps =
         let from = from-made run.now_printed run.counts.now_sink status keeps in
         record {
-          is_status = keeps.is_status;
-          refusals = input-refusal;
+          is_status = made-status status other keeps.is_status;
+          refusals = refusal-made;
           answered = λ told is. absurd (omega (arith, least, answer-low status is));
           refused = λ told is.
-              let ends = (from told).refused told is in
+              let ends = (from told).refused told (input-refused status is) in
               record { line = ends.line; refused = ends.refused; printed = ends.printed; stands = ends.stands };
           stopped = λ told six. (((from told).stopped told six).0, in_list ((from told).stopped told six));
           cut = λ told seven. for_list ((from told).cut told seven);
@@ -347,9 +367,9 @@ module _ (M : Meaning) (R : Refusing) (S : Suspecting) (asked : Asked) (run : Ru
           let none : NoneRose run.counts = (shelf-same, same ∙ sink-same) in
           record {
             is_status = inl (low-answer status small);
-            refusals = input-refusal;
+            refusals = refusal-made;
             answered = λ told may_answer. is-made status small told (prints told);
-            refused = λ told is_refused. absurd (omega (arith, small, input-range status is_refused));
+            refused = λ told is_refused. absurd (omega (arith, small, made-range status is_refused));
             stopped = λ told six. absurd (omega (arith, small, six));
             cut = λ told seven. absurd (omega (arith, small, seven));
             others = others-stay;

@@ -1,5 +1,6 @@
 -- What a made input is asked of, as plain data.
-use Rattle.std.specs.Prelude.{ℕ, ◌≢◌, ◌≤◌, List, [], ◌∷◌, AllPairs, Some, None, codes}
+use Rattle.std.specs.Prelude.{ℕ, ◌≢◌, ◌≤◌, List, [], ◌∷◌, All, AllPairs, Some, None, codes}
+use Rattle.report_reading.specs.Reading.{IsKindName}
 use Rattle.find_sets.specs.Asked.{Asked as Finding, IsUpTo}
 
 -- the number of the input; the names of the design's text and of the trace's; what its list is asked: the names of the kinds of
@@ -38,6 +39,7 @@ finding_of asked = record {
 pub record IsAsked (asked : Asked) : Type 0 where
   pub number : asked.number ≤ 9999
   pub some_kinds : asked.suspects ≢ []
+  pub kind_names : All IsKindName asked.suspects
   pub kinds_once : AllPairs (λ one other. one ≢ other) asked.suspects
   pub size : asked.size ≤ 8
   pub budget : IsUpTo 10000000 asked.budget

@@ -4,7 +4,7 @@ use Rattle.std.specs.Prelude.{ℕ, ◌≡◌, ◌⊎◌, ◌++◌, if◌then◌e
 use Rattle.std.specs.Str.{bytes_eq}
 use Rattle.io_ports.specs.Shelf.{AppendsFront}
 use Rattle.refusal_lines.specs.Refusals.{memory_line}
-use Rattle.command_contract.specs.Contract.{Case, IsInputRefusal, OneRose, Run, Texts}
+use Rattle.command_contract.specs.Contract.{Case, OneRose, Run, Texts}
 use Rattle.front_end.specs.Means.{Meaning, Refusing}
 use Rattle.write_order.specs.Writes.{AreDone, StopsIn, Write, begin_text, print_piece, put_piece, text_behind}
 use Rattle.made_input.specs.Made.{design_text, made_line, trace_text}
@@ -80,11 +80,15 @@ pub data IsCut (M : Meaning) (R : Refusing) (S : Suspecting) (asked : Asked) (ru
   for_last_line : (status : ℕ) → IsListed M R S asked run run.now_printed status → IsCut M R S asked run
 
 -- ---- the case
+-- the made texts are refused, 3, or a limit is passed, 4; a text that isn't handed over is no refusal, since nothing is loaded
+abbrev pub IsMadeRefusal : ℕ → Type 0
+IsMadeRefusal status = (status ≡ 3) ⊎ (status ≡ 4)
+
 -- its answers, its refusals and what stands against it are those of the list over the made texts
 abbrev pub making : Meaning → Refusing → Suspecting → Asked → Case
 making M R S asked = record {
   MayAnswer = λ status. (status ≡ 0) ⊎ (status ≡ 1);
-  MayRefuse = IsInputRefusal;
+  MayRefuse = IsMadeRefusal;
   Answered = IsMade M R S asked;
   Refused = λ run. Refused M R S (wanted_of (finding_of asked)) (made_texts asked);
   Stands = λ run. run.now_written ≡ made_written asked run.written;

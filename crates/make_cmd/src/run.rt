@@ -1,5 +1,5 @@
 //! A run of the command.
-ghost use Rattle.std.specs.Prelude.{◌≡◌, ◌&&◌, Bool, true};
+ghost use Rattle.std.specs.Prelude.{◌≡◌, ◌≢◌, ◌&&◌, Bool, true};
 ghost use Rattle.suspect_map.specs.Choose.{joined};
 ghost use Rattle.command_contract.specs.Contract.{Keeps, counts_of, run_of};
 ghost use Rattle.find_sets.specs.Asked.{AreKnown, IsAsked as IsListAsked};
@@ -36,6 +36,7 @@ fn list_texts<F: FrontEnd, R: Threads + Sync, G: Gate + Sync, S: Shelf, O: Sink>
     requires asked { IsListAsked (list_asked list.now) }
     requires known { AreKnown (λ kind. called kind) tools.now.kinds.now (list_asked list.now) }
     ensures tells { O.tells out.new ≡ O.tells out.old }
+    ensures no_fault { result ≢ 5 }
     ensures keeps { (told : Bool) → (told ≡ true → S.tells shelf.old ≡ true) → (told ≡ true → O.tells out.old ≡ true)
         → Keeps (finding F.means F.refuses (joined (λ kind. called kind) (λ kind. lists kind) tools.now.kinds.now)
         (list_asked list.now))

@@ -179,9 +179,10 @@ module _ (asked : Asked) where
     -- the texts under other names stay
     pub others-stay : (o : Outputs) (r : Outcome) → Leaves asked o r → o.now_written name ≡ o.written name
     others-stay o (outcome.Ended ending) is =
-        done-stays (opening asked is.portions ++ texts asked is.portions is.rest is.ending is.runs ++ print_piece (ending_line is.ending
-        (length is.portions)) ∷ [])
-        o (own-due is.form _ (whole is.portions is.rest is.ending is.runs is.is_ended is.are_runs)) is.done
+        let l = is.listed in
+        done-stays (opening asked l.portions ++ texts asked l.portions l.rest l.ending l.runs ++ print_piece (ending_line l.ending
+        (length l.portions)) ∷ [])
+        o (own-due l.form _ (whole l.portions l.rest l.ending l.runs l.is_ended l.are_runs)) l.done
     others-stay o outcome.Failed is =
         done-stays (take is.stops.count is.due ++ is.stops.part) o
         (own-append (take is.stops.count is.due) is.stops.part (own-take is.stops.count is.due (own-due is.form is.due is.is_due))

@@ -13,6 +13,7 @@ use Rattle.design_core.specs.declared.values.SetWithValues.{SetWithValues}
 use Rattle.log_portions.specs.Portions.{head_text}
 use Rattle.report_doc.specs.declared.types.Ending.{Ending}
 use Rattle.report_doc.specs.declared.types.Ending.TheVariants.{Budget}
+use Rattle.report_doc.specs.Shape.{IsReport}
 use Rattle.set_enum.specs.Sets.{block_of}
 use Rattle.write_order.specs.declared.write.WriteErr.{WriteErr}
 use Rattle.write_order.specs.declared.write.WriteErr.TheVariants as write
@@ -26,15 +27,15 @@ use Rattle.set_listing.specs.declared.stop.Stop.{Stop}
 use Rattle.set_listing.specs.declared.stop.Stop.TheVariants.{Failed, Memory}
 use Rattle.set_listing.specs.Asked.{Asked}
 use Rattle.set_listing.specs.Found.{AreFound, EndsAs, HasItsBlock, IsEnded, IsShown, Portion, found_of, sets_of}
-use Rattle.set_listing.specs.Lines.{ending_line, ending_status, memory_line}
-use Rattle.set_listing.specs.Due.{IsCut, IsListed, IsStopped, ended, going_on}
+use Rattle.set_listing.specs.Lines.{ending_line, memory_line}
+use Rattle.set_listing.specs.Due.{IsCut, IsListedTo, IsStopped, ended, going_on}
 use Rattle.set_listing.specs.Due.{opening, prints, sets_in, so_far, texts, wanting, whole}
 use Rattle.set_listing.specs.Going.{AreCut, HasEnded, IsSearched, RunLeaves, SearchCut, SearchEnds}
 use Rattle.set_listing.specs.Going.{SearchFails, Searched, StopsShort, TellsMemory}
 use Rattle.set_listing.specs.Going.{closing_writes, outputs, searched_of, sets_writes}
 use Rattle.set_listing.specs.Outcomes.{Leaves as Ends}
 use Rattle.set_listing.specs.Stops.{stopped}
-use Rattle.set_listing.specs.Texts.{waved_for}
+use Rattle.set_listing.specs.Texts.{report_for, waved_for}
 use Rattle.set_listing.proofs.Silent.{AreSilent, silent-print, waves-silent}
 use Rattle.set_listing.proofs.Turning.{prints-sets}
 use Rattle.set_waves.specs.Waved.{AreRuns, Runs}
@@ -237,23 +238,27 @@ module _ (asked : Asked) (s : DebugState) (found : List SetWithValues) (steps : 
           subst (EndsAs asked (sets_of portions) s.log) same has.ends in
           subst (λ (n : ℕ). n < 3 ^ s.vars) spent.0 has.holds.few_learned
 
-      pub close-done : AreDone (closing_writes asked found rest ending runs) (outputs mid is mid_printed now_printed) → IsListed asked o
-          (ending_status ending)
-      close-done done = record {
-        vars = s.vars;
-        form = s.form;
-        is_form = is-form-there;
-        portions = portions;
-        rest = rest;
-        ending = ending;
-        is_ended = is-ended;
-        has_status = refl;
-        is_spent = is-spent;
-        runs = runs;
-        are_runs = are;
-        done = subst (λ (ws : List Write). AreDone ws o) all-written
-            (done-then (opening asked portions)
-            (closing_writes asked found rest ending runs) was mid is printed mid_printed now_printed before done);
+      pub close-done : IsReport (report_for asked (found_of portions) ending)
+          → AreDone (closing_writes asked found rest ending runs) (outputs mid is mid_printed now_printed) → IsListedTo asked o ending
+      close-done report done = record {
+        listed = record {
+          vars = s.vars;
+          form = s.form;
+          is_form = is-form-there;
+          portions = portions;
+          rest = rest;
+          ending = ending;
+          is_ended = is-ended;
+          has_status = refl;
+          is_spent = is-spent;
+          is_report = report;
+          runs = runs;
+          are_runs = are;
+          done = subst (λ (ws : List Write). AreDone ws o) all-written
+              (done-then (opening asked portions)
+              (closing_writes asked found rest ending runs) was mid is printed mid_printed now_printed before done);
+        };
+        is = refl;
       }
 
       pub close-stops : StopsIn (closing_writes asked found rest ending runs) (outputs mid is mid_printed now_printed) → IsStopped asked o

@@ -8,11 +8,12 @@ use Rattle.log_portions.specs.Portions.{head_text, steps_text}
 use Rattle.write_order.specs.Writes.{AreDone, Outputs, StopsIn, Write, begin_text, print_piece, put_piece}
 use Rattle.report_doc.specs.declared.types.Ending.{Ending}
 use Rattle.report_doc.specs.declared.types.Ending.TheVariants.{Budget}
+use Rattle.report_doc.specs.Shape.{IsReport}
 use Rattle.debug_core.specs.Problems.{IsFormFor}
 use Rattle.set_listing.specs.Asked.{Asked}
 use Rattle.set_listing.specs.Found.{AreFound, IsEnded, Portion, found_of}
 use Rattle.set_listing.specs.Lines.{ending_line, ending_status, memory_line}
-use Rattle.set_listing.specs.Texts.{lines_of, report_of, waved_for, waves}
+use Rattle.set_listing.specs.Texts.{lines_of, report_for, report_of, waved_for, waves}
 use Rattle.set_waves.specs.Waved.{AreRuns, Runs}
 
 -- ---- the writes
@@ -77,11 +78,18 @@ pub record IsListed (asked : Asked) (o : Outputs) (status : ℕ) : Type 0 where
   pub has_status : status ≡ ending_status ending
   -- a budget of 3 ^ V, for the V variables of the form, is never spent
   pub is_spent : ending ≡ Budget → asked.budget < 3 ^ vars
+  -- what is reported is a report
+  pub is_report : IsReport (report_for asked (found_of portions) ending)
   -- the runs that the waves show: of each trace, with the values of each set
   pub runs : Runs
   pub are_runs : AreRuns (waved_for asked) (found_of portions) runs
   pub done : AreDone (opening asked portions ++ texts asked portions rest ending runs
       ++ print_piece (ending_line ending (length portions)) ∷ []) o
+
+-- and its ending, which its report and its last line say, is this one
+pub record IsListedTo (asked : Asked) (o : Outputs) (ending : Ending) : Type 0 where
+  pub listed : IsListed asked o (ending_status ending)
+  pub is : listed.ending ≡ ending
 
 -- 6: one of the writes that were due failed, and nothing was written behind it
 pub record IsStopped (asked : Asked) (o : Outputs) : Type 0 where

@@ -23,10 +23,10 @@ use Rattle.set_listing.specs.declared.outcome.Outcome.{Outcome}
 use Rattle.set_listing.specs.declared.outcome.Outcome.TheVariants as outcome
 use Rattle.set_listing.specs.Asked.{Asked}
 use Rattle.set_listing.specs.Found.{AreFound, EndsAs, HasItsBlock, IsShown, Portion, found_of, log_of, sets_of}
-use Rattle.set_listing.specs.Lines.{ending_line, ending_status, memory_line}
+use Rattle.set_listing.specs.Lines.{ending_line, memory_line}
 use Rattle.set_listing.specs.Texts.{report_of, waves}
 use Rattle.set_waves.specs.Waved.{Runs}
-use Rattle.set_listing.specs.Due.{IsBody, IsListed, IsStopped, prints, set_writes, sets_in}
+use Rattle.set_listing.specs.Due.{IsBody, IsListedTo, IsStopped, prints, set_writes, sets_in}
 
 -- ---- the outputs
 abbrev pub outputs : (List ℕ → Option (List ℕ)) → (List ℕ → Option (List ℕ)) → List ℕ → List ℕ → Outputs
@@ -235,7 +235,7 @@ pub record StopsShort (asked : Asked) (sets : Option ℕ) (o : Outputs) : Type 0
   pub done : AreDone (take count body) o
 
 abbrev pub RunLeaves : Asked → Outputs → Result Ending Stop → Type 0
-RunLeaves asked o (Ok ending) = IsListed asked o (ending_status ending)
+RunLeaves asked o (Ok ending) = IsListedTo asked o ending
 RunLeaves asked o (Err Failed) = IsStopped asked o
 RunLeaves asked o (Err (Memory sets)) = StopsShort asked sets o
 

@@ -5,7 +5,7 @@ use Rattle.write_order.specs.Writes.{Outputs}
 use Rattle.set_listing.specs.declared.outcome.Outcome.{Outcome}
 use Rattle.set_listing.specs.declared.outcome.Outcome.TheVariants.{Ended, Failed, Memory}
 use Rattle.set_listing.specs.Asked.{Asked}
-use Rattle.set_listing.specs.Due.{IsCut, IsListed, IsStopped}
+use Rattle.set_listing.specs.Due.{IsCut, IsListedTo, IsStopped}
 use Rattle.set_listing.specs.Lines.{ending_status}
 
 -- the status of the program
@@ -14,9 +14,9 @@ status_of (Ended ending) = ending_status ending
 status_of Failed = 6
 status_of Memory = 7
 
--- what stands on the outputs
+-- what stands on the outputs; the ending that is named is the one that is written
 abbrev pub Leaves : Asked → Outputs → Outcome → Type 0
-Leaves asked o (Ended ending) = IsListed asked o (ending_status ending)
+Leaves asked o (Ended ending) = IsListedTo asked o ending
 Leaves asked o Failed = IsStopped asked o
 Leaves asked o Memory = IsCut asked o
 

@@ -3,6 +3,7 @@ ghost use Rattle.std.specs.Prelude.{◌≡◌, ◌≢◌, ◌<◌, ◌≤◌, �
 ghost use Rattle.command_contract.specs.Contract.{counts_of};
 ghost use Rattle.debug_core.specs.Debugging.{Begins, HasRoom, IsDebugger};
 ghost use Rattle.report_doc.specs.Lines.{AreWithin, IsMemberOf};
+ghost use Rattle.report_doc.specs.Shape.{IsReport};
 ghost use Rattle.write_order.specs.Writes.{Leaves, WriteCause, on_shelf, on_sink};
 ghost use Rattle.set_listing.specs.Due.{set_writes};
 ghost use Rattle.set_listing.specs.Going.{IsTurn, IsSearched, MemoryCause, RunLeaves, StopCauses, TellsMemory};
@@ -11,7 +12,7 @@ ghost use Rattle.set_listing.specs.Jobs.{IsJob, IsUpTo, asked_of};
 ghost use Rattle.set_listing.specs.Outcomes.{Leaves as Ends, OutcomeCause};
 ghost use Rattle.set_listing.specs.Checks.{CanBeChecked};
 ghost use Rattle.set_listing.specs.Reporting.{CanBeReported};
-ghost use Rattle.set_listing.specs.Texts.{waved_for, waves};
+ghost use Rattle.set_listing.specs.Texts.{report_for, waved_for, waves};
 ghost use Rattle.set_waves.specs.Names.{IsWave};
 ghost use Rattle.set_waves.specs.Waved.{AreRuns, CanBeWaved, HaveValues, Runs};
 
@@ -174,6 +175,7 @@ impl<'a, D: Search + Drop> Listing<'a, D> {
         ensures left { S.tells shelf.old ≡ true → (printed : List ℕ)
             → Leaves (report_writes (asked_of self.now.job) self.now.found.items ending)
             (on_shelf (S.written shelf.old) (S.written shelf.new) printed) result }
+        ensures report { OnOk result (IsReport (report_for (asked_of self.now.job) self.now.found.items ending)) }
         ensures cause { WriteCause (S.faults shelf.old) (S.faults shelf.new) result }
     {
         // The text first, so that the report isn't begun where there is no memory for it.
@@ -228,6 +230,7 @@ impl<'a, D: Search + Drop> Listing<'a, D> {
             → Leaves (closing_writes (asked_of self.now.job) self.now.found.items
             (drop self.now.steps (D.state self.now.search).log) ending runs)
             (outputs (S.written shelf.old) (S.written shelf.new) (O.written out.old) (O.written out.new)) result }
+        ensures report { OnOk result (IsReport (report_for (asked_of self.now.job) self.now.found.items ending)) }
         ensures causes { WriteCauses (counts_of (S.faults shelf.old) (S.faults shelf.new) (O.faults out.old) (O.faults out.new)) result }
     {
         let rest = Written {

@@ -1,8 +1,9 @@
 //! The report of the sets that were found, with their values.
-ghost use Rattle.std.specs.Prelude.{◌≡◌, IfOk};
+ghost use Rattle.std.specs.Prelude.{◌≡◌, IfOk, OnOk};
+ghost use Rattle.report_doc.specs.Shape.{IsReport};
 ghost use Rattle.set_listing.specs.Jobs.{asked_of};
 ghost use Rattle.set_listing.specs.Reporting.{CanBeReported};
-ghost use Rattle.set_listing.specs.Texts.{report_of};
+ghost use Rattle.set_listing.specs.Texts.{report_for, report_of};
 
 use crate::job::Job;
 use design_core::SetWithValues;
@@ -20,7 +21,8 @@ pub(crate) fn text_of_report(
     ending: Ending,
 ) -> Result<Bytes, NoMemory>
     requires { CanBeReported (asked_of job.now) found.now }
-    ensures { IfOk result (λ text. text ≡ report_of (asked_of job.now) found.now ending) }
+    ensures text { IfOk result (λ text. text ≡ report_of (asked_of job.now) found.now ending) }
+    ensures report { OnOk result (IsReport (report_for (asked_of job.now) found.now ending)) }
 {
     let question = &job.question;
     let findings = Findings {

@@ -1,8 +1,8 @@
 use Rattle.check_cmd.specs.Asked.{asked_of}
 use Rattle.check_cmd.specs.Means.{MeansReport}
-use Rattle.check_cmd.specs.Parts.{IsMemory, ReportTextRefused}
+use Rattle.check_cmd.specs.Parts.{ReportTextRefused}
 use Rattle.check_cmd.specs.Refusals.{ReportRefused}
-use Rattle.list_inputs.specs.Ends.{HasCause, HasStatus, IsSpared}
+use Rattle.list_inputs.specs.Ends.{HasCause, HasStatus, IsMemory, IsSpared}
 use Rattle.report_doc.specs.Shape.{IsReport}
 use Rattle.report_reading.specs.Reading.{IsReportOf}
 use Rattle.run_inputs.proofs.Loaded.{passed_on}

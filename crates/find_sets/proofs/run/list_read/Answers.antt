@@ -7,6 +7,7 @@ use Rattle.set_listing.specs.Asked.{Asked as Listing}
 use Rattle.set_listing.specs.Jobs.{IsJob}
 use Rattle.find_sets.specs.Asked.{wanted_of}
 use Rattle.find_sets.specs.Requests.{asked_of}
+use Rattle.find_sets.proofs.Faults.{listed-fault, unformed-fault, unread-fault}
 use Rattle.find_sets.proofs.Jobs.{job-held}
 use Rattle.find_sets.proofs.Listed.{listing-keeps}
 use Rattle.find_sets.proofs.Reading.{at-ok, counts-ok, unformed-keeps, unread-keeps}
@@ -19,10 +20,18 @@ list-requires-clause-job g c κs within =
     subst IsJob (sym c.job_of-job.ensures) (job-held asked (problem_in inputs asked.size) inputs.digest c.requires.asked
     (at-ok (λ i. IsProblem (problem_in i asked.size)) c.args.read inputs c.in-Ok.is c.requires.problem))
 
+pub returns-in-Err-clause-fault : goal.returns-in-Err-clause-fault
+returns-in-Err-clause-fault g c five =
+    unread-fault c.args.read c.in-Err.refusal (g.O.Sink.faults c.args.out.now) (g.O.Sink.faults c.print.new.out) c.print.result
+    c.in-Err.is c.print.ensures.counts five
+
 pub returns-in-Err-clause-keeps : goal.returns-in-Err-clause-keeps
 returns-in-Err-clause-keeps g c told texts faults on_shelf on_sink reads =
     unread-keeps g.F.FrontEnd.means g.F.FrontEnd.refuses _ (asked_of c.args.request.now) _ _ c.args.read c.in-Err.refusal
     c.print.result c.in-Err.is reads c.requires.status refl refl (λ t. c.print.ensures.text (on_sink t)) c.print.ensures.counts
+
+pub returns-in-Ok-new-clause-fault : goal.returns-in-Ok-new-clause-fault
+returns-in-Ok-new-clause-fault g c five = listed-fault c.args.read c.list.result c.status.result c.status.ensures five
 
 pub returns-in-Ok-new-clause-keeps : goal.returns-in-Ok-new-clause-keeps
 returns-in-Ok-new-clause-keeps g c told texts faults on_shelf on_sink reads =
@@ -37,6 +46,12 @@ returns-in-Ok-new-clause-keeps g c told texts faults on_shelf on_sink reads =
     (λ t. c.list.ensures.left (on_shelf t) (on_sink t))
     (λ t. c.list.ensures.others (on_shelf t) (on_sink t))
     c.list.ensures.causes
+
+pub returns-clause-fault : goal.returns-clause-fault
+returns-clause-fault g c five =
+    unformed-fault c.args.read c.in-Err-new.fault c.of_problem.result (g.O.Sink.faults c.args.out.now)
+    (g.O.Sink.faults c.print-in-Err-new.new.out) c.print-in-Err-new.result c.of_problem.ensures.says c.print-in-Err-new.ensures.counts
+    five
 
 pub returns-clause-keeps : goal.returns-clause-keeps
 returns-clause-keeps g c told texts faults on_shelf on_sink reads =

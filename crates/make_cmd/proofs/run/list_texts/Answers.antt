@@ -5,7 +5,7 @@ use Rattle.list_inputs.specs.Means.{Suspecting}
 use Rattle.find_sets.specs.Requests.{asked_of as list_asked}
 use Rattle.find_sets.proofs.Reading.{read-wanted}
 use Rattle.make_cmd.specs.Shelves.{texts_of}
-use Rattle.make_cmd.proofs.Reading.{counts-anywhere}
+use Rattle.make_cmd.proofs.Reading.{counts-anywhere, never-five}
 use Rattle.make_cmd.proofs.run.list_texts.Goals as goal
 
 pub read-found-requires-clause-asked : goal.read-found-requires-clause-asked
@@ -20,6 +20,10 @@ read-found-requires-clause-known g c =
     subst
     (λ (w : Wanted). AreKnown (λ k. (goal.Granularity-dyn g (k.vtable, k.value)).called k.value) c.args.tools.now.kinds.now w)
     (sym c.wanted.ensures) c.requires.known
+
+pub returns-clause-no_fault : goal.returns-clause-no_fault
+returns-clause-no_fault g c =
+    never-five c.read-found.result c.list_read.result c.read-found.ensures.counts c.list_read.ensures.fault
 
 pub returns-clause-keeps : goal.returns-clause-keeps
 returns-clause-keeps g c told on_shelf on_sink =

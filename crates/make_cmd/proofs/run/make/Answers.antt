@@ -69,7 +69,7 @@ returns-then-status-gt1 g c =
     let least : 2 ≤ c.list_texts-status.result = omega (arith, c.if-status-gt1.true) in
     list-keeps g.F.FrontEnd.means g.F.FrontEnd.refuses S asked run c.requires.asked (g.S.Shelf.written c.write_texts.new.shelf)
     (λ t. done-made asked made.texts c.in-Ok.ensures.texts _ (c.in-Ok-write_texts.ensures.left (both t).0 (g.O.Sink.written out)))
-    c.list_texts-status.result least
+    c.list_texts-status.result least c.list_texts-status.ensures.no_fault
     (ran-made g.F.FrontEnd.means g.F.FrontEnd.refuses S asked run (list_asked made.list) (texts_of made.texts)
     (g.S.Shelf.written c.write_texts.new.shelf) (g.S.Shelf.faults c.write_texts.new.shelf)
     (g.O.Sink.written c.list_texts-status.new.out) (g.O.Sink.faults c.list_texts-status.new.out) c.list_texts-status.result

@@ -28,5 +28,5 @@ returns-in_ok-begin_text-in-Ok-clause-left g c = λ told printed.
     (on_shelf (g.S.Shelf.written c.begin_text.new.shelf) (g.S.Shelf.written c.put_piece.new.shelf) printed) c.put_piece.result)
     (c.as_slice.ensures ∙ subst (λ (found : List SetWithValues). c.in-Ok.text ≡ report_of
     (asked_of c.args.self.now.job) found c.args.ending)
-    c.deref.ensures.value c.in-Ok.ensures)
+    c.deref.ensures.value c.in-Ok.ensures.text)
     (c.put_piece.ensures.left (c.in_ok-begin_text-in-Ok.ensures.tells ∙ told) printed))

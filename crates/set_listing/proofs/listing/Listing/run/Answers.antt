@@ -4,6 +4,7 @@ use Rattle.log_portions.specs.Portions.{head_text}
 use Rattle.proof_check.specs.Text.{IsDigest}
 use Rattle.write_order.specs.Writes.{AreDone, Leaves, begin_text, put_piece}
 use Rattle.write_order.proofs.Carried.{done-then}
+use Rattle.report_doc.specs.Shape.{IsReport}
 use Rattle.set_listing.specs.declared.job.Job.{Job}
 use Rattle.set_listing.specs.Due.{opening}
 use Rattle.set_listing.specs.Going.{StopsShort, closing_writes, outputs}
@@ -13,7 +14,7 @@ use Rattle.set_listing.specs.Stops.{stopped}
 use Rattle.set_listing.proofs.Ended.{can-be-checked, can-be-reported, can-be-waved, have-values, is-ended, runs-of}
 use Rattle.design_core.specs.declared.values.SetWithValues.{SetWithValues}
 use Rattle.set_listing.specs.Found.{found_of}
-use Rattle.set_listing.specs.Texts.{waved_for}
+use Rattle.set_listing.specs.Texts.{report_for, waved_for}
 use Rattle.set_waves.specs.Waved.{AreRuns, CanBeWaved, HaveValues, Runs}
 use Rattle.set_listing.proofs.Runs.{begin-stopped, check-short, close-done, close-stopped, front}
 use Rattle.set_listing.proofs.Runs.{head-stopped, search-done, search-stopped, stopped-ok, stopped-on_ok}
@@ -253,7 +254,12 @@ returns-clause-left g c = λ told_shelf told_sink.
     c.in_ok-ending.ensures.job
     (c.close.ensures.left (c.in_ok-ending.ensures.tells_shelf ∙ told-2) (c.in_ok-ending.ensures.tells_sink ∙ told_sink) runs)
     (subst (λ (f : List SetWithValues). AreRuns (waved_for asked) f runs) (sym ends.ended.found_are) are) in
-    close-done asked s found steps c.in_ok-ending.ending ends.portions ends.ended is runs are w0 w3 w4 p0 p3 p4 opening-done
+    let report : IsReport (report_for asked (found_of ends.portions) c.in_ok-ending.ending) =
+    subst (λ (f : List SetWithValues). IsReport (report_for asked f c.in_ok-ending.ending)) ends.ended.found_are
+    (subst (λ (j : Job). IsReport (report_for (asked_of j) found c.in_ok-ending.ending)) c.in_ok-ending.ensures.job
+    (stopped-on_ok (IsReport (report_for (asked_of c.search_on.new.self.job) found c.in_ok-ending.ending)) c.close.result
+    (Some c.len.result) c.in_ok-stopped-3.field-0 (sym c.stopped-3.ensures ∙ c.in_ok-stopped-3.was) c.close.ensures.report)) in
+    close-done asked s found steps c.in_ok-ending.ending ends.portions ends.ended is runs are w0 w3 w4 p0 p3 p4 opening-done report
     (stopped-ok (closing_writes asked found (drop steps s.log) c.in_ok-ending.ending runs) (outputs w3 w4 p3 p4) c.close.result
     (Some c.len.result)
     c.in_ok-stopped-3.field-0 (sym c.stopped-3.ensures ∙ c.in_ok-stopped-3.was) left)
