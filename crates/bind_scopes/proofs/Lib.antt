@@ -2,6 +2,7 @@ pub mod CopiedViews
 pub mod HeldLaws
 pub mod NamedWidth
 pub mod Selects
+pub mod UnknownLaws
 pub mod BySelf
 pub mod NamesBack
 pub mod SocketLaws

@@ -1,5 +1,5 @@
 //! Which name of an expression is refused as unknown, and why an expression is refused (IEEE 1364-2005, clause 5 and 12.7).
-ghost use Rattle.std.specs.Prelude.{◌≡◌, map, Some, None};
+ghost use Rattle.std.specs.Prelude.{◌≡◌, ◌&&◌, not, false, if◌then◌else◌, map, Some, None};
 ghost use Rattle.std.specs.Option.{option_or};
 ghost use Rattle.v_tree.specs.Tree.{tree_of, trees_of, selection_of, selections_of};
 ghost use Rattle.v_tree.specs.Tree as written;
@@ -58,19 +58,31 @@ fn is_outside(names: &Names<'_>, name: &Name) -> bool
     }
 }
 
+/// Whether a name is the variable of a loop outside its turns, with at most one select.
+fn is_loop_variable(names: &Names<'_>, name: &Name, selects: &[Select]) -> bool
+    ensures { result ≡ (is_outside (find (names_in names.now) name.now) && not (has_two (selections_of (map selection_of selects.now)))) }
+{
+    is_outside(names, name) && !has_two(selects)
+}
+
+/// Of a name that stands for something: whether it is the variable of a loop, where it is refused as unknown.
+fn unknown_meaning(meaning: Meaning, selects: &[Select]) -> Option<bool>
+    ensures { result ≡ (if is_misused meaning (selections_of (map selection_of selects.now)) then Some false else None) }
+{
+    if is_misused(meaning, selects) {
+        Some(false)
+    } else {
+        None
+    }
+}
+
 /// Whether a name that is refused as unknown is the variable of a loop; nothing where it isn't refused so.
 fn unknown_name(names: &Names<'_>, name: &Name, selects: &[Select]) -> Option<bool>
     ensures { result ≡ unknown_name (names_in names.now) name.now (selections_of (map selection_of selects.now)) }
 {
     match names.scope().find(name) {
-        None => Some(is_outside(names, name) && !has_two(selects)),
-        Some(meaning) => {
-            if is_misused(meaning, selects) {
-                Some(false)
-            } else {
-                None
-            }
-        }
+        None => Some(is_loop_variable(names, name, selects)),
+        Some(meaning) => unknown_meaning(meaning, selects),
     }
 }
 

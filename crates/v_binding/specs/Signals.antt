@@ -1,9 +1,8 @@
 -- The signals of a design and their numbers (IEEE 1364-2005, 4.2, 4.9, 12.3 and 12.5): of each instance its ports in their order,
 -- then its nets, registers, words of arrays and integers in the order of the text. The number of a signal is the length of the
 -- list of those before it.
-use Rattle.std.specs.Prelude.{ℕ, zero, suc, ◌+◌, Bool, true, false, not, ◌&&◌, ◌||◌, if◌then◌else◌, nat_lt, ℤ, pos, ◌+ℤ◌, List, [], ◌∷◌, ◌++◌, map, length, Option, Some, None, Result, Ok, Err, is_some}
+use Rattle.std.specs.Prelude.{ℕ, zero, suc, Bool, true, false, not, ◌&&◌, ◌||◌, if◌then◌else◌, nat_lt, ℤ, pos, ◌+ℤ◌, List, [], ◌∷◌, ◌++◌, map, length, Option, Some, None, Ok, Err, is_some}
 use Rattle.std.specs.Option.{option_map_or}
-use Rattle.std.specs.List.{list_any}
 use Rattle.std.specs.Fmt.{signed_decimal}
 use Rattle.loc_base.specs.declared.span.Span.{Span}
 use Rattle.v_tree.specs.declared.declaration.Identifier.{Identifier}
@@ -12,7 +11,7 @@ use Rattle.v_tree.specs.declared.item.Direction.TheVariants as direction
 use Rattle.v_tree.specs.declared.item.NetKind.{NetKind}
 use Rattle.v_tree.specs.declared.item.NetKind.TheVariants as net_kind
 use Rattle.v_tree.specs.PartTree.{PlainRange}
-use Rattle.v_tree.specs.ItemTree.{PlainDeclarator, PlainItem, net_item, integer_item}
+use Rattle.v_tree.specs.ItemTree.{PlainDeclarator, net_item, integer_item}
 use Rattle.design_core.specs.declared.signal.Signal.{Signal}
 use Rattle.design_core.specs.declared.signal.SignalKind.{SignalKind}
 use Rattle.design_core.specs.declared.signal.SignalKind.TheVariants as kind
@@ -30,9 +29,7 @@ use Rattle.v_hierarchy.specs.Unrolled.{Steps, nothing, still, run, branch, choos
 use Rattle.v_hierarchy.specs.Items.{Copied, written, always, child, inner, Block, scope, Copies, no_copy, copy}
 use Rattle.v_hierarchy.specs.Items as items
 use Rattle.v_hierarchy.specs.Instances.{Instance}
-use Rattle.v_binding.specs.declared.error.BindErr.{BindErr}
 use Rattle.v_binding.specs.Steps.{through}
-use Rattle.v_binding.specs.declared.known.Use.{Use}
 use Rattle.v_binding.specs.declared.known.Use.TheVariants.{Stands as stands, Outside as outside}
 use Rattle.v_binding.specs.Names.{Known, Names, known, within, turned}
 use Rattle.v_binding.specs.Addresses.{Addresses, addresses_at}
