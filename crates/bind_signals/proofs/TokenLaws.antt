@@ -5,7 +5,7 @@ use Rattle.std.specs.Option.{option_or, option_map_or}
 use Rattle.std.proofs.lemmas.Slice.Eq.{bytes_eq-Decides}
 use Rattle.v_hierarchy.specs.Names.{Entry, same_name}
 use Rattle.v_hierarchy.specs.Places.{with_place}
-use Rattle.v_binding.specs.Signals.{declared_at}
+use Rattle.v_binding.specs.Signals.{declared_at, hides}
 use Rattle.bind_signals.specs.Tables.{last_with}
 use Rattle.bind_signals.proofs.LoopLaws.{or-assoc}
 
@@ -76,3 +76,15 @@ first-next q e rest before after is = ap (λ o. option_or o (declared_at q rest)
     step None true = refl
     step None false = refl
     step (Some n) same = refl
+
+-- ---- by what a table is found to have
+pub token-putting : (before after : List ℕ → Option ℕ) (bytes name q : List ℕ) (n token last : ℕ) (own : Option ℕ) → bytes ≡ name → own ≡ before bytes → last ≡ last_with n own
+    → after q ≡ with_place bytes last before q → behind (after q) token ≡ ((same_name name q && nat_lt token n) || behind (before q) token)
+token-putting before after bytes name q n token last own same found lasts is =
+    token-put before after name q n token
+    (is ∙ ap (λ l. with_place bytes l before q) (lasts ∙ ap (last_with n) found) ∙ ap (λ b. with_place b (last_with n (before b)) before q) same)
+
+pub hides-found : (table : List ℕ → Option ℕ) (entries : List Entry) (bytes name : List ℕ) (token : ℕ) (o p : Option ℕ) → ((q : List ℕ) → table q ≡ declared_at q entries)
+    → bytes ≡ name → o ≡ table bytes → o ≡ p → option_map_or (λ at. nat_lt at token) p false ≡ hides name entries token
+hides-found table entries bytes name token o p has same found is =
+    ap (λ x. option_map_or (λ at. nat_lt at token) x false) (sym is ∙ found ∙ ap table same ∙ has name)
