@@ -14,8 +14,8 @@ use Rattle.v_sizes.proofs.Meant.{Within}
 use Rattle.v_sizes.proofs.Sound.{width-within}
 use Rattle.v_sizes.proofs.Expressions.{law}
 use Rattle.v_binding.specs.declared.error.BindErr.{BindErr}
-use Rattle.v_binding.specs.Faults.{fault_beside}
-use Rattle.v_binding.specs.Names.{Names, look_in, bare_look}
+use Rattle.v_binding.specs.Names.{Names, look_in}
+use Rattle.v_binding.specs.Unknown.{fault_in}
 use Rattle.v_binding.specs.Expressions.{sized_in}
 use Rattle.bind_laws.specs.Fit.{NamesFit}
 use Rattle.bind_laws.proofs.Lists.{Ok-same, Err-Ok}
@@ -46,7 +46,7 @@ sized_in-fits signals names e context unsigned x fit most is = by (refusal_in lo
     by : (o : Option WidthErr) → refusal_in look e context unsigned ≡ o
         → ◌≡◌ {A = Result Typed BindErr} (elim o [
           | None ↦ Ok (typed_in look e context unsigned)
-          | Some wrong ↦ Err (fault_beside (refusal_in (bare_look names) e context unsigned) wrong)
+          | Some wrong ↦ Err (fault_in names e wrong)
         ]) (Ok x)
         → IsSized signals names e context unsigned x
     by (Some wrong) accepted is = Err-Ok is

@@ -38,7 +38,7 @@ use Rattle.v_binding.specs.declared.known.Use.TheVariants.{Stands as stands, AtT
 use Rattle.v_binding.specs.Steps.{◌>>=◌}
 use Rattle.v_binding.specs.Names.{Names, find, look_in}
 use Rattle.v_binding.specs.Expressions.{by_itself}
-use Rattle.v_binding.specs.Lefts.{indexes_at, no_left_side, ranged_of, beyond_offset, beyond, part_of, row_parts, parts_of, name_parts, nothing_named, beside, of_width, target, targets}
+use Rattle.v_binding.specs.Lefts.{is_constant, indexes_at, no_left_side, ranged_of, beyond_offset, beyond, part_of, row_parts, parts_of, name_parts, nothing_named, beside, of_width, target, targets}
 use Rattle.bind_laws.specs.Fit.{UseFits, NamesFit, LeftFits}
 use Rattle.bind_laws.proofs.Lists.{Ok-same, Err-Ok, between}
 use Rattle.bind_laws.proofs.Names.{find-every}
@@ -210,10 +210,10 @@ name-fits signals names site text selects l fit is = by (ranged_of (find names t
     by : (o : Option Ranged) → ranged_of (find names text) ≡ o
         → ◌≡◌ {A = Result Left BindErr} (elim o [
           | Some r ↦ named r
-          | None ↦ indexes_at names selects >>= λ _. Err (no_left_side site.span (find names text) selects)
+          | None ↦ indexes_at names (is_constant (look_in names text)) selects >>= λ _. Err (no_left_side site.span (find names text) selects)
         ]) (Ok l)
         → LeftFits signals l
-    by None found is = between (indexes_at names selects) (λ _. Err (no_left_side site.span (find names text) selects)) l (LeftFits signals l) is λ _ _ refused. Err-Ok refused
+    by None found is = between (indexes_at names (is_constant (look_in names text)) selects) (λ _. Err (no_left_side site.span (find names text) selects)) l (LeftFits signals l) is λ _ _ refused. Err-Ok refused
     by (Some r) found is =
         between (by_itself names (written.name site text selects)) (λ e. Ok (name_parts r e)) l (LeftFits signals l) is λ e sizes made.
         let x = sized_in-fits signals names (written.name site text selects) 0 false e fit (lit≤ tt) sizes in

@@ -11,7 +11,7 @@ use Rattle.v_hierarchy.specs.Items.{Copied, written, always, child, inner, turn,
 use Rattle.v_binding.specs.declared.known.Use.TheVariants.{Outside as outside}
 use Rattle.v_binding.specs.Steps.{through}
 use Rattle.v_binding.specs.Names.{Known, Names, known, within, turned}
-use Rattle.v_binding.specs.Signals.{is_looped, Scope, scoped, Scopes, no_scope, more_scopes, and_scope, Scoping, Ground, with_signal, declared_as, with_declarator, an_integer, with_integer, fixed_all, ground_of, begun, ended, numbered, numbered_copy}
+use Rattle.v_binding.specs.Signals.{is_loop_variable, Scope, scoped, Scopes, no_scope, more_scopes, and_scope, Scoping, Ground, with_signal, declared_as, with_declarator, an_integer, with_integer, fixed_all, ground_of, begun, ended, numbered, numbered_copy}
 use Rattle.bind_scopes.specs.Standing.{EntriesStand, CopiesStand, BlockStands}
 use Rattle.instance_laws.specs.Every.{Every}
 use Rattle.bind_laws.specs.Fit.{UseFits, StepsFit, Begins}
@@ -43,7 +43,7 @@ declarator-inside g d met = by (is_among d.name.name g.ports) (declared.find d.n
     by false None = refl
 
 integer-inside : (g : Ground) (name : Identifier) (met : Scoping) → (with_integer g name met).inside ≡ met.inside
-integer-inside g name met = by (is_looped name.name g.copies)
+integer-inside g name met = by (is_loop_variable name g.copies)
   where
     by : (looped : Bool)
         → scopes_in (if looped then hidden_integer name met else with_signal false g name an_integer met) ≡ met.inside
@@ -52,7 +52,7 @@ integer-inside g name met = by (is_looped name.name g.copies)
 
 integer-numbers : (w : Final) (g : Ground) (name : Identifier) (met : Scoping)
     → declared.find name.name g.entries ≡ Some integer → Numbers w g.entries met (with_integer g name met)
-integer-numbers w g name met found = by (is_looped name.name g.copies)
+integer-numbers w g name met found = by (is_loop_variable name g.copies)
   where
     by : (looped : Bool)
         → Numbers w g.entries met (if looped then hidden_integer name met else with_signal false g name an_integer met)

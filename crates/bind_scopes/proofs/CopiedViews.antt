@@ -9,7 +9,6 @@ use Rattle.v_tree.specs.ItemTree.{sensitivity_of, item_of}
 use Rattle.v_sizes.specs.declared.meaning.Const.{Const}
 use Rattle.v_hierarchy.specs.declared.instance.Block.{Block}
 use Rattle.v_hierarchy.specs.declared.instance.Child.{Child}
-use Rattle.v_hierarchy.specs.declared.instance.Copied.{Copied}
 use Rattle.v_hierarchy.specs.declared.instance.Copied.TheFolds.{fold-roll-Copied, fold_out-Block}
 use Rattle.v_hierarchy.specs.declared.instance.Copied.TheOpen.{Copied-F}
 use Rattle.v_hierarchy.specs.declared.instance.Copied.TheVariants as made

@@ -1,6 +1,6 @@
 -- Names with one more, and with one less.
 use Rattle.std.proofs.Common.{◌≡◌, ℕ, Bool, true, false, List, [], ◌∷◌, ◌++◌, reverse, drop, Option, Some, None, refl, sym, ap, ◌∙◌, subst}
-use Rattle.std.specs.Prelude.{⊤, ℤ, if◌then◌else◌, ◌||◌, option_map}
+use Rattle.std.specs.Prelude.{⊤, ℤ, if◌then◌else◌, ◌||◌}
 use Rattle.std.specs.Option.{option_and_then}
 use Rattle.std.proofs.lemmas.List.{reverse-append}
 use Rattle.std.proofs.lemmas.Slice.Eq.{bytes_eq-Decides}
@@ -18,7 +18,7 @@ use Rattle.v_binding.specs.declared.known.Use.TheVariants.{Stands as stands, AtT
 use Rattle.bind_scopes.specs.declared.names.Held.{Held}
 use Rattle.v_binding.specs.Uses.{meaning_of, bare_meaning}
 use Rattle.v_binding.specs.Names as plain
-use Rattle.v_binding.specs.Names.{find, look_in, bare_look}
+use Rattle.v_binding.specs.Names.{find, look_in}
 use Rattle.bind_scopes.specs.Held.{known_of, plain_names, names_of, AreHeld}
 
 -- what each name stands for, as one function
@@ -107,15 +107,6 @@ entries-put before put after name is same q there = same q ∙ is q ∙ either-t
 
 pub held-same : (before after : Scope) (hs : List Held) → ((q : List ℕ) → has_entry after q ≡ has_entry before q) → AreHeld before hs → AreHeld after hs
 held-same before after hs same held = held-grows before after hs (λ q there. same q ∙ there) held
-
--- ---- the scope in which the variables of loops are registers
-pub bare-pushed : (before after : Look) (k : plain.Known) (ks : plain.Names) → ((q : List ℕ) → before q ≡ bare_look ks q)
-    → ((q : List ℕ) → after q ≡ with_meaning k.name (bare_meaning k.use_of) before q) → (q : List ℕ) → after q ≡ bare_look (k ∷ ks) q
-bare-pushed before after k ks is put q = put q ∙ step (same_name k.name q)
-  where
-    step : (same : Bool) → (if same then Some (bare_meaning k.use_of) else before q) ≡ option_map bare_meaning (if same then Some k.use_of else find ks q)
-    step true = refl
-    step false = is q
 
 -- ---- what a name is found to stand for: a signal or an array is nothing else
 abbrev is_variable : Meaning → Type 0

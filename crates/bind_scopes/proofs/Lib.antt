@@ -1,6 +1,8 @@
 pub mod CopiedViews
 pub mod HeldLaws
 pub mod NamedWidth
+pub mod Selects
+pub mod UnknownLaws
 pub mod BySelf
 pub mod NamesBack
 pub mod SocketLaws

@@ -4,4 +4,5 @@ pub mod Views
 pub mod Held
 pub mod Seen
 pub mod Refuses
+pub mod Unknown
 pub mod Children

@@ -1,80 +1,22 @@
 //! Expressions and constants where they stand (IEEE 1364-2005, clause 5).
-ghost use Rattle.std.specs.Prelude.{◌≡◌, ◌≤◌, ◌⊎◌, map, false, Some, Ok, IfOk, IfErr};
+ghost use Rattle.std.specs.Prelude.{◌≡◌, ◌≤◌, map, Ok, IfOk, IfErr};
 ghost use Rattle.v_tree.specs.Tree.{tree_of, selection_of, selections_of};
 ghost use Rattle.v_tree.specs.Tree as written;
-ghost use Rattle.v_sizes.specs.declared.error.WidthErr.TheVariants.{NoMemory as OutOfMemory};
-ghost use Rattle.v_sizes.specs.Scopes.{look_of};
-ghost use Rattle.v_sizes.specs.Context.{refusal_in};
 ghost use Rattle.v_sizes.specs.Sizing.{sizing};
 ghost use Rattle.v_binding.specs.Names.{look_in};
 ghost use Rattle.v_binding.specs.Expressions.{sized_in, assigned, by_itself, constant_at, index_at};
-ghost use Rattle.v_binding.specs.Faults.{is_unknown, fault_beside};
-ghost use Rattle.bind_scopes.specs.Refuses.{Refuses, refusal_beside};
-ghost use Rattle.v_sizes.specs.declared.error.WidthErr.TheVariants as width_fault;
+ghost use Rattle.bind_scopes.specs.Refuses.{Refuses};
 ghost use Rattle.bind_scopes.specs.Seen.{names_in};
 
 use crate::names::Names;
+use crate::unknown::{fault_in, fault_of_name};
 use design_core::Typed;
-use loc_base::{Name, NoMemory, Span};
-use std::alloc::Global;
+use loc_base::{Name, NoMemory};
 use v_binding::BindErr;
 use v_hierarchy::{index_of, site_of};
-use v_sizes::{Const, WidthErr};
+use v_sizes::Const;
 use v_tree::{Expr, Select, Site};
-use v_widths::{Scope, Size, constant_in, own_size, typed, typed_name};
-
-/// Whether a name that spans this is refused as unknown.
-fn is_unknown(span: Span, fault: Option<WidthErr>) -> bool
-    ensures { result ≡ is_unknown span fault }
-{
-    match fault {
-        Some(WidthErr::UnknownName(other)) => span.from == other.from && span.to == other.to,
-        _ => false,
-    }
-}
-
-/// The fault of a name that is refused as unknown, by that where the variables of loops are registers.
-fn name_fault(span: Span, bare: Option<WidthErr>) -> BindErr
-    ensures { result ≡ fault_beside bare (width_fault.UnknownName span) }
-{
-    if is_unknown(span, bare) {
-        BindErr::UnknownName(span)
-    } else {
-        BindErr::NotConstant(span)
-    }
-}
-
-/// The fault of an expression by that where the variables of loops are registers, unless memory was wanting there.
-fn refusal_beside(bare: Option<WidthErr>, wrong: WidthErr) -> BindErr
-    ensures { result ≡ refusal_beside bare wrong }
-{
-    if let Some(WidthErr::NoMemory) = bare {
-        return BindErr::NoMemory;
-    }
-    match wrong {
-        WidthErr::UnknownName(span) => name_fault(span, bare),
-        WidthErr::NotConstant(_)
-        | WidthErr::ZeroDivisor(_)
-        | WidthErr::Range(_)
-        | WidthErr::NoMemory => wrong.into(),
-    }
-}
-
-/// Why a name with its selects is refused by itself, if it is.
-fn name_refusal(
-    alloc: Global,
-    scope: &Scope<'_>,
-    site: Site,
-    name: &Name,
-    selects: &[Select],
-) -> Option<WidthErr>
-    ensures { (result ≡ Some OutOfMemory) ⊎ (refusal_in (look_of scope.now) (written.name site name.now (selections_of (map selection_of selects.now))) 0 false ≡ result) }
-{
-    match typed_name(alloc, scope, site, name, selects) {
-        Ok(_) => None,
-        Err(wrong) => Some(wrong),
-    }
-}
+use v_widths::{Size, constant_in, own_size, typed, typed_name};
 
 impl<'t> Names<'t> {
     /// The sized expression in a context of a width, 0 for none; `unsigned` where what stands beside it makes it so.
@@ -86,15 +28,7 @@ impl<'t> Names<'t> {
         let alloc = self.allocator();
         match typed(alloc, e, self.scope(), context, unsigned) {
             Ok(typed) => Ok(typed),
-            Err(WidthErr::UnknownName(span)) => {
-                let bare = self.bare()?;
-                match typed(alloc, e, &bare, context, unsigned) {
-                    Ok(_) => Err(name_fault(span, None)),
-                    Err(WidthErr::NoMemory) => Err(BindErr::NoMemory),
-                    Err(fault) => Err(name_fault(span, Some(fault))),
-                }
-            }
-            Err(fault) => Err(fault.into()),
+            Err(wrong) => Err(fault_in(self, e, wrong)),
         }
     }
 
@@ -135,11 +69,7 @@ impl<'t> Names<'t> {
         let alloc = self.allocator();
         match typed_name(alloc, self.scope(), site, name, selects) {
             Ok(typed) => Ok(typed),
-            Err(wrong) => {
-                let bare = self.bare()?;
-                let beside = name_refusal(alloc, &bare, site, name, selects);
-                Err(refusal_beside(beside, wrong))
-            }
+            Err(wrong) => Err(fault_of_name(self, name, selects, wrong)),
         }
     }
 
@@ -152,15 +82,7 @@ impl<'t> Names<'t> {
         let alloc = self.allocator();
         match constant_in(alloc, e, self.scope(), width) {
             Ok(value) => Ok(value),
-            Err(WidthErr::UnknownName(span)) => {
-                let bare = self.bare()?;
-                match constant_in(alloc, e, &bare, width) {
-                    Ok(_) => Err(name_fault(span, None)),
-                    Err(WidthErr::NoMemory) => Err(BindErr::NoMemory),
-                    Err(fault) => Err(name_fault(span, Some(fault))),
-                }
-            }
-            Err(fault) => Err(fault.into()),
+            Err(wrong) => Err(fault_in(self, e, wrong)),
         }
     }
 

@@ -23,6 +23,7 @@ mod sockets;
 mod start;
 mod started;
 mod top;
+mod unknown;
 
 pub use children::children_numbers;
 pub use names::Names;
@@ -34,3 +35,4 @@ pub use sockets::{all_sockets, is_input};
 pub use start::{Initial, Start};
 pub use started::all_started;
 pub use top::{clock_of, inputs_of, outputs_of, top_roots};
+pub use unknown::has_two;

@@ -1,8 +1,6 @@
 //! The names that are seen from a place of the text (IEEE 1364-2005, 12.7).
-ghost use Rattle.std.specs.Prelude.{◌≡◌, ℕ, List, reverse, OnOk};
+ghost use Rattle.std.specs.Prelude.{◌≡◌, ℕ, List, reverse};
 ghost use Rattle.v_sizes.specs.Scopes.{look_of};
-ghost use Rattle.v_sizes.specs.Table.{with_meaning};
-ghost use Rattle.v_binding.specs.Uses.{bare_meaning};
 ghost use Rattle.v_binding.specs.Names.{look_in};
 ghost use Rattle.bind_scopes.specs.Held.{names_of, AreHeld, AreHeld-prop};
 
@@ -16,14 +14,6 @@ use v_sizes::{Meaning, Scope};
 struct Held<'t> {
     known: Known<'t>,
     was: Option<Meaning>,
-}
-
-/// Lets a name stand for what it does where the variables of loops are registers.
-fn put_bare<'t>(scope: &mut Scope<'t>, known: Known<'t>) -> Result<(), NoMemory>
-    ensures { OnOk result ((q : List ℕ) → look_of scope.new q ≡ with_meaning known.entry.name.now (bare_meaning known.entry.use_of) (look_of scope.old) q) }
-{
-    let _was = scope.put(known.name, known.use_of.bare_meaning())?;
-    Ok(())
 }
 
 /// The names that are seen from a place. One more, and one less, take the time of one look into a table.
@@ -48,8 +38,8 @@ impl<'t> Drop for Names<'t> {
 }
 
 impl<'t> Names<'t> {
-    ghost use Rattle.std.specs.Prelude.{[], ◌∷◌, ◌≢◌, drop, OnErr, IfOk};
-    ghost use Rattle.v_binding.specs.Names.{find, bare_look};
+    ghost use Rattle.std.specs.Prelude.{[], ◌∷◌, ◌≢◌, drop, OnErr, OnOk};
+    ghost use Rattle.v_binding.specs.Names.{find};
     ghost use Rattle.bind_scopes.specs.Held.{known_of};
     ghost use Rattle.bind_scopes.specs.Seen.{names_in};
 
@@ -70,18 +60,6 @@ impl<'t> Names<'t> {
         ensures { look_of result.now ≡ look_in (names_in self.now) }
     {
         &self.scope
-    }
-
-    /// What they stand for where the variables of loops are registers outside their turns.
-    #[tactic(auto, using(crate::proofs::HeldLaws::same_look))]
-    pub(crate) fn bare(&self) -> Result<Scope<'t>, NoMemory>
-        ensures { IfOk result (λ scope. look_of scope ≡ bare_look (names_in self.now)) }
-    {
-        let mut scope = Scope::new(self.alloc);
-        for held in self.held.iter() {
-            put_bare(&mut scope, held.known)?;
-        }
-        Ok(scope)
     }
 
     /// The allocator of its tables.

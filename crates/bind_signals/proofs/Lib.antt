@@ -2,6 +2,7 @@ pub mod StepViews
 pub mod FirstLaws
 pub mod LoopLaws
 pub mod TableLaws
+pub mod TokenLaws
 pub mod ZeroWords
 pub mod WordLaws
 pub mod ArrayLaws

@@ -10,6 +10,7 @@ mod names;
 mod numbering;
 mod ported;
 mod signals;
+mod tokens;
 mod words;
 
 pub use instances::signals_of;

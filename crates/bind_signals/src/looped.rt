@@ -1,23 +1,22 @@
 //! The variables of the loops of a scope (IEEE 1364-2005, 9.6), found by one look into a table.
-ghost use Rattle.std.specs.Prelude.{◌≡◌, ℕ, List, [], map, OnOk, IfOk};
-ghost use Rattle.v_hierarchy.specs.Frames.{names_of};
+ghost use Rattle.std.specs.Prelude.{◌≡◌, ℕ, List, [], map, nat_lt, OnOk, IfOk};
+ghost use Rattle.v_hierarchy.specs.Names.{Entry};
 ghost use Rattle.v_hierarchy.specs.Views.{steps_of, step_list_of, arm_of, arms_of, turn_of, turns_of, copied_of, copies_of, block_of};
-ghost use Rattle.v_hierarchy.specs.Parameters.{is_among};
 ghost use Rattle.bind_scopes.specs.Standing.{CopiedStands, CopiesStand, BlockStands};
-ghost use Rattle.bind_signals.specs.Tables.{is_in};
-ghost use Rattle.bind_signals.specs.LoopNames.{named, with_loops, with_all, with_arm, with_arms, with_turns, with_copies, with_copied, with_block, with_unhidden, without};
+ghost use Rattle.bind_signals.specs.Tables.{is_behind, HasFirsts};
+ghost use Rattle.bind_signals.specs.LoopNames.{listed, is_used, with_loops, with_all, with_arm, with_arms, with_turns, with_copies, with_copied, with_block, with_unhidden, without};
 
-use crate::declared::first_of_each;
-use crate::names::table_of;
+use crate::tokens::{firsts_of, hides, is_behind, last_of_each};
 use loc_base::{Items, Name, NoMemory};
 use std::alloc::Global;
-use v_hierarchy::{Arm, Block, Copied, Frame, Places, Steps, Turn};
+use v_hierarchy::{Arm, Block, Copied, Places, Steps, Turn};
+use v_tree::Identifier;
 
 /// The variables of the loops of a statement, behind those before.
 #[cycle(loops)]
 #[tactic(auto, using(crate::proofs::StepViews::step_views))]
-fn add_loops<'t>(steps: &Steps<'t>, names: &mut Items<&'t Name>) -> Result<(), NoMemory>
-    ensures { OnOk result (named names.new ≡ with_loops (steps_of steps.now) (named names.old)) }
+fn add_loops<'t>(steps: &Steps<'t>, names: &mut Items<&'t Identifier>) -> Result<(), NoMemory>
+    ensures { OnOk result (listed names.new ≡ with_loops (steps_of steps.now) (listed names.old)) }
 {
     match steps {
         Steps::Nothing | Steps::Still(_) => Ok(()),
@@ -36,7 +35,7 @@ fn add_loops<'t>(steps: &Steps<'t>, names: &mut Items<&'t Name>) -> Result<(), N
             arms,
         } => add_arms(arms.as_slice(), names),
         Steps::Repeated { variable, turns } => {
-            names.push(&variable.name)?;
+            names.push(*variable)?;
             add_turns(turns.as_slice(), names)
         }
     }
@@ -44,8 +43,8 @@ fn add_loops<'t>(steps: &Steps<'t>, names: &mut Items<&'t Name>) -> Result<(), N
 
 /// The same of several statements.
 #[cycle(loops)]
-fn add_all<'t>(list: &[Steps<'t>], names: &mut Items<&'t Name>) -> Result<(), NoMemory>
-    ensures { OnOk result (named names.new ≡ with_all (step_list_of (map steps_of list.now)) (named names.old)) }
+fn add_all<'t>(list: &[Steps<'t>], names: &mut Items<&'t Identifier>) -> Result<(), NoMemory>
+    ensures { OnOk result (listed names.new ≡ with_all (step_list_of (map steps_of list.now)) (listed names.old)) }
 {
     for steps in list {
         add_loops(steps, names)?;
@@ -56,8 +55,8 @@ fn add_all<'t>(list: &[Steps<'t>], names: &mut Items<&'t Name>) -> Result<(), No
 /// The same of an arm of a case.
 #[cycle(loops)]
 #[tactic(auto, using(crate::proofs::StepViews::step_views))]
-fn add_arm<'t>(arm: &Arm<'t>, names: &mut Items<&'t Name>) -> Result<(), NoMemory>
-    ensures { OnOk result (named names.new ≡ with_arm (arm_of arm.now) (named names.old)) }
+fn add_arm<'t>(arm: &Arm<'t>, names: &mut Items<&'t Identifier>) -> Result<(), NoMemory>
+    ensures { OnOk result (listed names.new ≡ with_arm (arm_of arm.now) (listed names.old)) }
 {
     match arm {
         Arm::Labels { labels: _, body } => add_loops(body, names),
@@ -68,8 +67,8 @@ fn add_arm<'t>(arm: &Arm<'t>, names: &mut Items<&'t Name>) -> Result<(), NoMemor
 /// The same of the arms of a case.
 #[cycle(loops)]
 #[tactic(auto, using(crate::proofs::LoopLaws::arms_step))]
-fn add_arms<'t>(arms: &[Arm<'t>], names: &mut Items<&'t Name>) -> Result<(), NoMemory>
-    ensures { OnOk result (named names.new ≡ with_arms (arms_of (map arm_of arms.now)) (named names.old)) }
+fn add_arms<'t>(arms: &[Arm<'t>], names: &mut Items<&'t Identifier>) -> Result<(), NoMemory>
+    ensures { OnOk result (listed names.new ≡ with_arms (arms_of (map arm_of arms.now)) (listed names.old)) }
 {
     for arm in arms {
         add_arm(arm, names)?;
@@ -80,8 +79,8 @@ fn add_arms<'t>(arms: &[Arm<'t>], names: &mut Items<&'t Name>) -> Result<(), NoM
 /// The same of the turns of a loop.
 #[cycle(loops)]
 #[tactic(auto, using(crate::proofs::StepViews::step_views))]
-fn add_turns<'t>(turns: &[Turn<'t>], names: &mut Items<&'t Name>) -> Result<(), NoMemory>
-    ensures { OnOk result (named names.new ≡ with_turns (turns_of (map turn_of turns.now)) (named names.old)) }
+fn add_turns<'t>(turns: &[Turn<'t>], names: &mut Items<&'t Identifier>) -> Result<(), NoMemory>
+    ensures { OnOk result (listed names.new ≡ with_turns (turns_of (map turn_of turns.now)) (listed names.old)) }
 {
     for turn in turns {
         add_loops(&turn.body, names)?;
@@ -89,50 +88,50 @@ fn add_turns<'t>(turns: &[Turn<'t>], names: &mut Items<&'t Name>) -> Result<(), 
     Ok(())
 }
 
-/// Those of the names that a scope doesn't declare.
+/// Those that stand before what a scope declares by their names.
 fn add_unhidden<'t>(
-    declared: &Frame<'t>,
-    inside: &[&'t Name],
-    names: &mut Items<&'t Name>,
+    declared: &Places<'t>,
+    inside: &[&'t Identifier],
+    names: &mut Items<&'t Identifier>,
 ) -> Result<(), NoMemory>
-    ensures { OnOk result (named names.new ≡ with_unhidden (names_of declared.now) (named inside.now) (named names.old)) }
+    ensures { OnOk result ((entries : List Entry) → HasFirsts declared.now entries → listed names.new ≡ with_unhidden entries (listed inside.now) (listed names.old)) }
 {
-    for name in inside {
-        if declared.find(name).is_none() {
-            names.push(*name)?;
+    for variable in inside {
+        if !hides(declared, variable) {
+            names.push(*variable)?;
         }
     }
     Ok(())
 }
 
-/// The names but for one.
+/// Those that haven't one name.
 fn add_others<'t>(
     hidden: &Name,
-    inside: &[&'t Name],
-    names: &mut Items<&'t Name>,
+    inside: &[&'t Identifier],
+    names: &mut Items<&'t Identifier>,
 ) -> Result<(), NoMemory>
-    ensures { OnOk result (named names.new ≡ without hidden.now (named inside.now) (named names.old)) }
+    ensures { OnOk result (listed names.new ≡ without hidden.now (listed inside.now) (listed names.old)) }
 {
-    for name in inside {
-        if hidden.as_bytes() != name.as_bytes() {
-            names.push(*name)?;
+    for variable in inside {
+        if hidden.as_bytes() != variable.name.as_bytes() {
+            names.push(*variable)?;
         }
     }
     Ok(())
 }
 
-/// The variables of the loops in a scope inside, but for the names that it declares.
+/// The variables of the loops in a scope inside, but for those that it declares before them.
 #[cycle(copies)]
 #[tactic(auto, using(bind_scopes::proofs::CopiedViews::copied_views))]
 fn add_block<'t>(
     alloc: Global,
     block: &Block<'t>,
-    names: &mut Items<&'t Name>,
+    names: &mut Items<&'t Identifier>,
 ) -> Result<(), NoMemory>
     requires { BlockStands (block_of block.now) }
-    ensures { OnOk result (named names.new ≡ with_block (block_of block.now) (named names.old)) }
+    ensures { OnOk result (listed names.new ≡ with_block (block_of block.now) (listed names.old)) }
 {
-    let declared = first_of_each(alloc, block.names.as_slice())?;
+    let declared = firsts_of(alloc, block.names.as_slice())?;
     let mut inside = Items::new(alloc);
     add_copies(alloc, block.copies.as_slice(), &mut inside)?;
     add_unhidden(&declared, inside.as_slice(), names)
@@ -144,10 +143,10 @@ fn add_block<'t>(
 fn add_copied<'t>(
     alloc: Global,
     copied: &Copied<'t>,
-    names: &mut Items<&'t Name>,
+    names: &mut Items<&'t Identifier>,
 ) -> Result<(), NoMemory>
     requires { CopiedStands (copied_of copied.now) }
-    ensures { OnOk result (named names.new ≡ with_copied (copied_of copied.now) (named names.old)) }
+    ensures { OnOk result (listed names.new ≡ with_copied (copied_of copied.now) (listed names.old)) }
 {
     match copied {
         Copied::Written(_) | Copied::Child { .. } => Ok(()),
@@ -174,10 +173,10 @@ fn add_copied<'t>(
 fn add_copies<'t>(
     alloc: Global,
     copies: &[Copied<'t>],
-    names: &mut Items<&'t Name>,
+    names: &mut Items<&'t Identifier>,
 ) -> Result<(), NoMemory>
     requires { CopiesStand (copies_of (map copied_of copies.now)) }
-    ensures { OnOk result (named names.new ≡ with_copies (copies_of (map copied_of copies.now)) (named names.old)) }
+    ensures { OnOk result (listed names.new ≡ with_copies (copies_of (map copied_of copies.now)) (listed names.old)) }
 {
     for copied in copies {
         add_copied(alloc, copied, names)?;
@@ -189,7 +188,7 @@ fn add_copies<'t>(
 pub(crate) struct Looped<'a, 't> {
     pub(crate) copies: &'a [Copied<'t>],
     table: Places<'t>,
-    pub ghost tells: { (q : List ℕ) → is_in table q ≡ is_among q (with_copies (copies_of (map copied_of copies.now)) []) },
+    pub ghost tells: { (q : List ℕ) (token : ℕ) → is_behind table q token ≡ is_used q (nat_lt token) (with_copies (copies_of (map copied_of copies.now)) []) },
 }
 
 // A `drop` is written out, so that it is proved once, here.
@@ -203,7 +202,7 @@ impl<'a, 't> Drop for Looped<'a, 't> {
 }
 
 impl<'a, 't> Looped<'a, 't> {
-    ghost use Rattle.v_binding.specs.Signals.{is_looped};
+    ghost use Rattle.v_binding.specs.Signals.{is_loop_variable};
 
     pub(crate) fn new(alloc: Global, copies: &'a [Copied<'t>]) -> Result<Looped<'a, 't>, NoMemory>
         requires { CopiesStand (copies_of (map copied_of copies.now)) }
@@ -211,15 +210,15 @@ impl<'a, 't> Looped<'a, 't> {
     {
         let mut names = Items::new(alloc);
         add_copies(alloc, copies, &mut names)?;
-        let table = table_of(alloc, names.as_slice())?;
+        let table = last_of_each(alloc, names.as_slice())?;
         Ok(Looped { copies, table })
     }
 
-    /// Whether a loop in the scope uses an integer.
+    /// Whether a loop uses an integer of the scope.
     #[tactic(auto, using(crate::proofs::LoopLaws::among_loops))]
-    pub(crate) fn contains(&self, name: &Name) -> bool
-        ensures { result ≡ is_looped name.now (copies_of (map copied_of self.now.copies.now)) }
+    pub(crate) fn contains(&self, integer: &Identifier) -> bool
+        ensures { result ≡ is_loop_variable integer.now (copies_of (map copied_of self.now.copies.now)) }
     {
-        self.table.find(name.as_bytes()).is_some()
+        is_behind(&self.table, integer)
     }
 }

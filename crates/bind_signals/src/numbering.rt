@@ -202,7 +202,7 @@ impl<'a, 't> Ground<'a, 't> {
         ensures ok { OnOk result (scoping_of met.new ≡ with_integer (ground_in self.now (names_in met.old.seen)) name.now (scoping_of met.old)) }
         ensures same { OnOk result (names_in met.new.seen ≡ names_in met.old.seen) }
     {
-        if self.looped.contains(&name.name) {
+        if self.looped.contains(name) {
             met.add_name(Known::new(&name.name, Use::Outside))
         } else {
             let signal = an_integer();

@@ -1,59 +1,94 @@
 //! What a name with its selects is assigned by, or why it can't be a left side (IEEE 1364-2005, 6.1 and 9.2.1).
 ghost use Rattle.std.specs.Prelude.{◌≡◌, ◌≤◌, map, Some, Ok, IfOk, IfErr, OnOk};
-ghost use Rattle.v_tree.specs.Tree.{selection_of, selections_of};
-ghost use Rattle.v_binding.specs.Lefts.{indexes_at, index_of, has_two, no_left_side, part_of, parts_of, name_target};
+ghost use Rattle.std.specs.Option.{option_and_then};
+ghost use Rattle.v_tree.specs.Tree.{tree_of, selection_of, selections_of};
+ghost use Rattle.v_sizes.specs.Refusals.{is_bound};
+ghost use Rattle.v_binding.specs.Uses.{meaning_of};
+ghost use Rattle.v_binding.specs.Lefts.{is_constant, number_at, indexes_at, index_of, no_left_side, part_of, parts_of, name_target};
 ghost use Rattle.bind_scopes.specs.Refuses.{Refuses};
 ghost use Rattle.bind_scopes.specs.Seen.{names_in};
 
 use crate::parts::{part_of, ranged_of};
-use bind_scopes::Names;
+use bind_scopes::{Names, has_two};
 use design_core::{Node, Part, Typed};
 use loc_base::{Items, Name, NoMemory, Span};
 use std::alloc::Global;
 use v_binding::{BindErr, Left, Ranged, Use};
-use v_tree::{Select, Site};
+use v_sizes::Meaning;
+use v_tree::{Expr, PartKind, Select, Site};
 
-/// The indexes of a select, each by itself.
-#[tactic(auto, using(v_widths::proofs::TreeSteps::select_steps))]
-fn index_of(names: &Names<'_>, select: &Select) -> Result<(), BindErr>
-    ensures ok { OnOk result (index_of (names_in names.now) (selection_of select.now) ≡ Ok tt) }
-    ensures err { IfErr result (λ fault. Refuses (index_of (names_in names.now) (selection_of select.now)) fault) }
+/// Whether what a name stands for is a constant.
+fn is_constant_meaning(meaning: Option<Meaning>) -> bool
+    ensures { result ≡ is_constant meaning }
 {
-    match select {
-        Select::Bit { site: _, index } => {
-            let _index = names.by_itself(index)?;
-            Ok(())
-        }
-        Select::Part {
-            site: _,
-            kind: _,
-            left,
-            right,
-        } => {
-            let _left = names.by_itself(left)?;
-            let _right = names.by_itself(right)?;
-            Ok(())
-        }
+    match meaning {
+        Some(Meaning::Constant { .. }) => true,
+        Some(Meaning::Signal { .. } | Meaning::Array { .. }) | None => false,
     }
 }
 
-/// The indexes of the selects, from the left.
-fn indexes_at(names: &Names<'_>, selects: &[Select]) -> Result<(), BindErr>
-    ensures ok { OnOk result (indexes_at (names_in names.now) (selections_of (map selection_of selects.now)) ≡ Ok tt) }
-    ensures err { IfErr result (λ fault. Refuses (indexes_at (names_in names.now) (selections_of (map selection_of selects.now))) fault) }
+/// Whether a name stands for a constant.
+fn is_constant(own: Option<Use>) -> bool
+    ensures { result ≡ is_constant (option_and_then meaning_of own) }
 {
-    for select in selects {
-        index_of(names, select)?;
+    match own {
+        Some(own) => is_constant_meaning(own.meaning()),
+        None => false,
+    }
+}
+
+/// Whether the first number of a part-select is a bound.
+fn is_bound(kind: PartKind) -> bool
+    ensures { result ≡ is_bound kind }
+{
+    match kind {
+        PartKind::Range => true,
+        PartKind::Up | PartKind::Down => false,
+    }
+}
+
+/// A number in a select, by itself; `only` where constants alone may stand.
+fn number_at(names: &Names<'_>, only: bool, e: &Expr) -> Result<(), BindErr>
+    ensures ok { OnOk result (number_at (names_in names.now) only (tree_of e.now) ≡ Ok tt) }
+    ensures err { IfErr result (λ fault. Refuses (number_at (names_in names.now) only (tree_of e.now)) fault) }
+{
+    if only {
+        let _value = names.constant_at(e, 0)?;
+    } else {
+        let _value = names.by_itself(e)?;
     }
     Ok(())
 }
 
-/// Whether there are two selects or more.
-#[tactic(auto, using(crate::proofs::Selects::two_selects))]
-fn has_two(selects: &[Select]) -> bool
-    ensures { result ≡ has_two (selections_of (map selection_of selects.now)) }
+/// The numbers in a select.
+#[tactic(auto, using(v_widths::proofs::TreeSteps::select_steps))]
+fn index_of(names: &Names<'_>, only: bool, select: &Select) -> Result<(), BindErr>
+    ensures ok { OnOk result (index_of (names_in names.now) only (selection_of select.now) ≡ Ok tt) }
+    ensures err { IfErr result (λ fault. Refuses (index_of (names_in names.now) only (selection_of select.now)) fault) }
 {
-    selects.len() >= 2
+    match select {
+        Select::Bit { site: _, index } => number_at(names, only, index),
+        Select::Part {
+            site: _,
+            kind,
+            left,
+            right,
+        } => {
+            number_at(names, only || is_bound(*kind), left)?;
+            number_at(names, true, right)
+        }
+    }
+}
+
+/// The numbers in the selects, from the left.
+fn indexes_at(names: &Names<'_>, only: bool, selects: &[Select]) -> Result<(), BindErr>
+    ensures ok { OnOk result (indexes_at (names_in names.now) only (selections_of (map selection_of selects.now)) ≡ Ok tt) }
+    ensures err { IfErr result (λ fault. Refuses (indexes_at (names_in names.now) only (selections_of (map selection_of selects.now))) fault) }
+{
+    for select in selects {
+        index_of(names, only, select)?;
+    }
+    Ok(())
 }
 
 /// Why a name that stands for something is no left side.
@@ -132,7 +167,7 @@ pub(crate) fn name_target(
             })
         }
         None => {
-            indexes_at(names, selects)?;
+            indexes_at(names, is_constant(own), selects)?;
             Err(no_left_side(site.span, own, selects))
         }
     }

@@ -1,6 +1,6 @@
 -- Worked examples of the definitions: wild bits, left sides, places and signals by number, and why a text is refused.
 use Rattle.std.proofs.Common.{◌≡◌, ℕ, ◌+◌, List, [], ◌∷◌, refl}
-use Rattle.std.specs.Prelude.{true, false, pos, Option, Some, None, Result, Ok, Err, codes, map, length}
+use Rattle.std.specs.Prelude.{false, pos, None, Result, Ok, Err, codes, map}
 use Rattle.v_lexer.specs.Bytes.{is_decimal, is_white}
 use Rattle.v_lexer.specs.Numbers.{is_sign, is_wild, is_hexadecimal}
 use Rattle.v_lexer.specs.Literals.{digit_value, base_of}
@@ -8,7 +8,7 @@ use Rattle.v_tree.specs.declared.site.Site.{Site}
 use Rattle.v_tree.specs.declared.statement.AssignKind.TheVariants as assign_kind
 use Rattle.v_tree.specs.Tree.{Tree, no_select}
 use Rattle.v_tree.specs.Tree as written
-use Rattle.v_tree.specs.PartTree.{PlainLeft, name_left, concat_left, Lefts, no_left, left}
+use Rattle.v_tree.specs.PartTree.{PlainLeft, name_left, concat_left, no_left, left}
 use Rattle.v_tree.specs.StatementTree.{assignment}
 use Rattle.design_core.specs.declared.statement.Part.TheVariants as part
 use Rattle.design_core.specs.declared.statement.Stmt.{Stmt}
@@ -16,7 +16,6 @@ use Rattle.v_sizes.specs.declared.meaning.Meaning.TheVariants as meaning
 use Rattle.v_hierarchy.specs.Unrolled.{Steps, still, run, branch, nothing, step, no_step}
 use Rattle.v_binding.specs.declared.error.BindErr.{BindErr}
 use Rattle.v_binding.specs.declared.error.BindErr.TheVariants as fault
-use Rattle.v_binding.specs.declared.left.Left.{Left}
 use Rattle.v_binding.specs.declared.known.Use.TheVariants.{Stands as stands, Outside as outside}
 use Rattle.v_binding.specs.Names.{Names, known}
 use Rattle.v_binding.specs.Lefts.{target}

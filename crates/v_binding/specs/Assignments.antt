@@ -1,5 +1,5 @@
 -- Continuous assignments, values of declarations, and initial blocks (IEEE 1364-2005, 6.1, 6.2.1 and 9.9.1).
-use Rattle.std.specs.Prelude.{ℕ, Bool, false, List, [], ◌∷◌, ◌++◌, length, Option, Some, None, Result, Ok, Err}
+use Rattle.std.specs.Prelude.{ℕ, List, [], ◌∷◌, ◌++◌, length, Option, Some, None, Result, Ok, Err}
 use Rattle.loc_base.specs.declared.span.Span.{Span}
 use Rattle.v_tree.specs.declared.site.Site.{Site}
 use Rattle.v_tree.specs.declared.item.NetKind.{NetKind}
@@ -16,7 +16,7 @@ use Rattle.design_core.specs.declared.place.PlaceKind.TheVariants as place_kind
 use Rattle.v_sizes.specs.declared.meaning.Meaning.TheVariants as meaning
 use Rattle.v_binding.specs.declared.error.BindErr.{BindErr}
 use Rattle.v_binding.specs.declared.error.BindErr.TheVariants as fault
-use Rattle.v_binding.specs.Steps.{◌>>=◌, each}
+use Rattle.v_binding.specs.Steps.{◌>>=◌}
 use Rattle.v_binding.specs.declared.known.Use.{Use}
 use Rattle.v_binding.specs.declared.known.Use.TheVariants.{Stands as stands, AtTurn as at_turn, Outside as outside}
 use Rattle.v_binding.specs.Names.{Names, find}

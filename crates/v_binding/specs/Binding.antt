@@ -1,22 +1,22 @@
 -- A design from its instances (IEEE 1364-2005, clause 12): all signals first, then the items of each instance in the order of the
 -- instances.
-use Rattle.std.specs.Prelude.{ℕ, ◌+◌, ◌==◌, Bool, true, false, not, ◌&&◌, if◌then◌else◌, List, [], ◌∷◌, ◌++◌, map, Option, Some, None, Result, Ok, Err}
+use Rattle.std.specs.Prelude.{ℕ, ◌+◌, ◌==◌, Bool, true, false, not, ◌&&◌, if◌then◌else◌, List, [], ◌∷◌, ◌++◌, map, Option, Some, None, Result, Ok}
 use Rattle.std.specs.Option.{option_map_or}
 use Rattle.design_core.specs.declared.signal.Signal.{Signal}
 use Rattle.v_hierarchy.specs.Names.{same_name}
 use Rattle.v_hierarchy.specs.Headers.{Port}
-use Rattle.v_hierarchy.specs.Items.{Block, scope}
+use Rattle.v_hierarchy.specs.Items.{scope}
 use Rattle.v_hierarchy.specs.Instances.{Instance}
 use Rattle.v_binding.specs.declared.error.BindErr.{BindErr}
 use Rattle.v_binding.specs.Steps.{◌>>=◌, each}
 use Rattle.v_binding.specs.Names.{Names, within}
-use Rattle.v_binding.specs.Signals.{Numbered, Scope, scoped, Scopes, Whole, signals_of}
+use Rattle.v_binding.specs.Signals.{Numbered, Scope, Whole, signals_of}
 use Rattle.v_binding.specs.Starts.{all_started}
 use Rattle.v_binding.specs.Bound.{Root, Bound}
 use Rattle.v_binding.specs.Blocks.{Frame}
 use Rattle.v_binding.specs.Assignments.{start_at}
 use Rattle.v_binding.specs.Connections.{Socket, sockets}
-use Rattle.v_binding.specs.Items.{Met, Ground, names_of, scopes_of, bound_copies}
+use Rattle.v_binding.specs.Items.{Ground, names_of, scopes_of, bound_copies}
 
 -- ---- ports
 -- the ports of each instance

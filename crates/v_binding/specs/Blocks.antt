@@ -1,6 +1,5 @@
 -- Always blocks (IEEE 1364-2005, 9.7.5 and 9.9): one that waits for edges is clocked, any other combinational.
-use Rattle.std.specs.Prelude.{⊤, ℕ, Bool, true, false, ◌||◌, List, [], ◌∷◌, Option, Some, None, Result, Ok, Err}
-use Rattle.std.specs.Option.{option_map_or}
+use Rattle.std.specs.Prelude.{⊤, ℕ, Bool, true, false, ◌||◌, List, [], ◌∷◌, Option, Some, None, Result, Ok}
 use Rattle.v_tree.specs.declared.site.Site.{Site}
 use Rattle.v_tree.specs.Tree.{Selection, Selections, no_select, select}
 use Rattle.v_tree.specs.Tree as written
@@ -13,7 +12,7 @@ use Rattle.v_binding.specs.declared.error.BindErr.{BindErr}
 use Rattle.v_binding.specs.Steps.{◌>>=◌, each}
 use Rattle.v_binding.specs.Names.{Names}
 use Rattle.v_binding.specs.Expressions.{by_itself}
-use Rattle.v_binding.specs.Places.{Home, Placed}
+use Rattle.v_binding.specs.Places.{Home}
 use Rattle.v_binding.specs.Statements.{bound}
 use Rattle.v_binding.specs.Bound.{Bound, with_places, with_driver, with_clocked, with_misclocked, with_clock_read}
 use Rattle.v_binding.specs.Clocks.{block_reads_clock, edges, wait_for, clocked_of}

@@ -1,6 +1,6 @@
 -- The expressions of a case statement (IEEE 1364-2005, 9.5): all are sized to the widest, and signed only where all are. The wild
 -- bits of a label of `casez` (3.5.1, 9.5.1) are not compared.
-use Rattle.std.specs.Prelude.{ℕ, ◌+◌, ◌-◌, ◌*◌, ◌%◌, ◌^◌, ◌==◌, Bool, true, false, not, ◌&&◌, ◌||◌, if◌then◌else◌, max, List, [], ◌∷◌, ◌++◌, drop, Option, Some, None, Result, Ok}
+use Rattle.std.specs.Prelude.{ℕ, ◌+◌, ◌-◌, ◌*◌, ◌%◌, ◌^◌, Bool, true, false, not, ◌&&◌, if◌then◌else◌, max, List, [], ◌∷◌, ◌++◌, drop, Result, Ok}
 use Rattle.std.specs.Option.{option_map_or}
 use Rattle.v_lexer.specs.Numbers.{is_sign, is_wild, is_hexadecimal}
 use Rattle.v_lexer.specs.Literals.{base_of, skip_white}

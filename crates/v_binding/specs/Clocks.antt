@@ -1,6 +1,6 @@
 -- The clock and resets (IEEE 1364.1-2002, 5.2.2): one clock for the whole design, an input of the top, handed on by plain names
 -- alone; a reset is another input of the top. The rule of the clock is this project's own.
-use Rattle.std.specs.Prelude.{ℕ, ◌==◌, Bool, true, false, not, ◌&&◌, ◌||◌, if◌then◌else◌, List, [], ◌∷◌, Option, Some, None, Result, Ok, Err}
+use Rattle.std.specs.Prelude.{ℕ, ◌==◌, Bool, true, false, not, ◌&&◌, if◌then◌else◌, List, [], ◌∷◌, Option, Some, None, Ok, Err}
 use Rattle.std.specs.Option.{option_map_or, option_and_then}
 use Rattle.std.specs.List.{list_any}
 use Rattle.loc_base.specs.Bits.{value_of}
@@ -14,17 +14,15 @@ use Rattle.v_tree.specs.ItemTree.{PlainEvent, edge_event, change_event}
 use Rattle.design_core.specs.declared.expression.Node.{Node}
 use Rattle.design_core.specs.declared.expression.Node.TheVariants as node
 use Rattle.design_core.specs.declared.driver.Driver.{Driver}
-use Rattle.design_core.specs.declared.driver.Driver.TheVariants as driver
 use Rattle.design_core.specs.declared.driver.Clocked.{Clocked}
 use Rattle.design_core.specs.declared.signal.Signal.{Signal}
 use Rattle.design_core.specs.declared.statement.Stmt.{Stmt, Row_of-Stmt, end_of-Stmt, more_of-Stmt}
 use Rattle.design_core.specs.declared.statement.Stmt.TheVariants as stmt
 use Rattle.design_core.specs.Mentions.{driver_mentions, statement_mentions}
 use Rattle.design_core.specs.WellFormed.{is_reset_values}
-use Rattle.v_sizes.specs.declared.meaning.Meaning.{Meaning}
 use Rattle.v_sizes.specs.declared.meaning.Meaning.TheVariants as meaning
 use Rattle.v_hierarchy.specs.Names.{same_name}
-use Rattle.v_hierarchy.specs.Unrolled.{Steps, run, branch, StepList, no_step, step}
+use Rattle.v_hierarchy.specs.Unrolled.{Steps, run, branch, no_step, step}
 use Rattle.v_binding.specs.declared.known.Use.{Use}
 use Rattle.v_binding.specs.declared.known.Use.TheVariants.{Stands as stands}
 use Rattle.v_binding.specs.Names.{Names, find}

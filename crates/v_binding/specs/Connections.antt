@@ -1,6 +1,6 @@
 -- Connections of module instances (IEEE 1364-2005, 12.3.9): each is a continuous assignment, of an expression to an input or of an
 -- output to a left side, which is a place. They come in the order of the ports.
-use Rattle.std.specs.Prelude.{ℕ, ◌==◌, Bool, true, false, ◌&&◌, if◌then◌else◌, max, List, [], ◌∷◌, map, length, Option, Some, None, Result, Ok, Err}
+use Rattle.std.specs.Prelude.{ℕ, ◌==◌, Bool, if◌then◌else◌, max, List, [], ◌∷◌, map, length, Option, Some, None, Result, Ok, Err}
 use Rattle.std.specs.Option.{option_map_or}
 use Rattle.v_tree.specs.declared.site.Site.{Site}
 use Rattle.v_tree.specs.Tree.{Tree, no_select}
@@ -22,11 +22,10 @@ use Rattle.v_binding.specs.declared.error.BindErr.TheVariants as fault
 use Rattle.v_binding.specs.Steps.{◌>>=◌}
 use Rattle.v_binding.specs.Names.{Names, find}
 use Rattle.v_binding.specs.Expressions.{assigned}
-use Rattle.v_binding.specs.declared.left.Left.{Left}
 use Rattle.v_binding.specs.Lefts.{target, as_left}
 use Rattle.v_binding.specs.Places.{Home}
 use Rattle.v_binding.specs.Signals.{is_input, Scope, scoped}
-use Rattle.v_binding.specs.Bound.{Root, Bound, with_driver, with_root}
+use Rattle.v_binding.specs.Bound.{Bound, with_driver, with_root}
 use Rattle.v_binding.specs.Clocks.{root_named}
 use Rattle.v_binding.specs.Blocks.{Frame}
 use Rattle.v_binding.specs.Assignments.{driven, driven_at, number_of}

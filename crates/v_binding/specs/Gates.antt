@@ -1,8 +1,8 @@
 -- Gates (IEEE 1364-2005, 7.1 to 7.3): each output is a place. A gate takes bit 0 of each of its inputs.
-use Rattle.std.specs.Prelude.{⊤, ℕ, zero, suc, ◌+◌, ◌-◌, ◌==◌, Bool, true, false, not, ◌&&◌, ◌||◌, if◌then◌else◌, max, nat_lt, ℤ, List, [], ◌∷◌, ◌++◌, length, take, drop, Option, Some, None, Result, Ok, Err}
+use Rattle.std.specs.Prelude.{⊤, ℕ, ◌-◌, Bool, true, false, ◌||◌, if◌then◌else◌, nat_lt, ℤ, List, [], ◌∷◌, ◌++◌, length, take, drop, Option, Some, None, Result, Ok, Err}
 use Rattle.std.specs.Option.{option_map_or}
 use Rattle.loc_base.specs.declared.span.Span.{Span}
-use Rattle.loc_base.specs.Bits.{width_of, value_of}
+use Rattle.loc_base.specs.Bits.{value_of}
 use Rattle.v_tree.specs.declared.site.Site.{Site}
 use Rattle.v_tree.specs.declared.item.GateKind.{GateKind}
 use Rattle.v_tree.specs.declared.item.GateKind.TheVariants as gate

@@ -1,6 +1,6 @@
 -- Left sides (IEEE 1364-2005, 6.1, 9.2.1 and 9.2.2): the parts of signals that they name, from the left. A name with its selects
 -- is assigned the bits that it has as an expression; a bit that none of its signals has is stored nowhere (5.2.1).
-use Rattle.std.specs.Prelude.{⊤, ℕ, ◌+◌, Bool, true, false, if◌then◌else◌, min, ℤ, pos, ◌-ℤ◌, List, [], ◌∷◌, ◌++◌, Option, Some, None, Result, Ok, Err}
+use Rattle.std.specs.Prelude.{⊤, ℕ, ◌+◌, Bool, true, false, ◌||◌, if◌then◌else◌, min, ℤ, pos, ◌-ℤ◌, List, [], ◌∷◌, ◌++◌, Option, Some, None, Result, Ok, Err}
 use Rattle.std.specs.Option.{option_map_or}
 use Rattle.loc_base.specs.Bits.{width_of}
 use Rattle.loc_base.specs.declared.span.Span.{Span}
@@ -13,11 +13,12 @@ use Rattle.design_core.specs.declared.expression.Node.{Node, Row_of-Typed, end_o
 use Rattle.design_core.specs.declared.expression.Node.TheVariants as node
 use Rattle.design_core.specs.declared.statement.Part.{Part}
 use Rattle.design_core.specs.declared.statement.Part.TheVariants as part
+use Rattle.v_sizes.specs.declared.meaning.Meaning.{Meaning}
 use Rattle.v_sizes.specs.declared.meaning.Meaning.TheVariants as meaning
 use Rattle.v_sizes.specs.Operations.{word_of, is_below_0, magnitude}
 use Rattle.v_sizes.specs.Selected.{descends}
 use Rattle.v_sizes.specs.Sized.{constant, offsets_to}
-use Rattle.v_sizes.specs.Refusals.{is_bad_width}
+use Rattle.v_sizes.specs.Refusals.{is_bad_width, is_bound}
 use Rattle.v_binding.specs.declared.error.BindErr.{BindErr}
 use Rattle.v_binding.specs.declared.error.BindErr.TheVariants as fault
 use Rattle.v_binding.specs.declared.left.Left.{Left}
@@ -25,22 +26,27 @@ use Rattle.v_binding.specs.declared.left.Ranged.{Ranged}
 use Rattle.v_binding.specs.Steps.{◌>>=◌}
 use Rattle.v_binding.specs.declared.known.Use.{Use}
 use Rattle.v_binding.specs.declared.known.Use.TheVariants.{Stands as stands, AtTurn as at_turn, Outside as outside}
-use Rattle.v_binding.specs.Names.{Names, find}
-use Rattle.v_binding.specs.Expressions.{by_itself}
+use Rattle.v_binding.specs.Names.{Names, find, look_in}
+use Rattle.v_binding.specs.Unknown.{has_two}
+use Rattle.v_binding.specs.Expressions.{by_itself, constant_at}
 
--- ---- what can't be a left side: the indexes are refused first, from the left, then the name
-abbrev mutual
-  pub indexes_at : Names → Selections → Result ⊤ BindErr
-  indexes_at names no_select = Ok tt
-  indexes_at names (select s rest) = index_of names s >>= λ _. indexes_at names rest
+-- ---- what can't be a left side: the indexes are refused first, from the left, then the name. They are what they are in an
+-- expression: a bound or a count is a constant, and so is each number in a select of what stands for a constant
+abbrev pub is_constant : Option Meaning → Bool
+is_constant (Some (meaning.Constant _ _ _)) = true
+is_constant _ = false
 
-  pub index_of : Names → Selection → Result ⊤ BindErr
-  index_of names (written.bit _ index) = by_itself names index >>= λ _. Ok tt
-  index_of names (written.part _ _ one other) = by_itself names one >>= λ _. by_itself names other >>= λ _. Ok tt
+abbrev pub number_at : Names → Bool → Tree → Result ⊤ BindErr
+number_at names true e = constant_at names e 0 >>= λ _. Ok tt
+number_at names false e = by_itself names e >>= λ _. Ok tt
 
-abbrev pub has_two : Selections → Bool
-has_two (select _ (select _ _)) = true
-has_two _ = false
+abbrev pub index_of : Names → Bool → Selection → Result ⊤ BindErr
+index_of names only (written.bit _ index) = number_at names only index
+index_of names only (written.part _ kind one other) = number_at names (only || is_bound kind) one >>= λ _. number_at names true other
+
+abbrev pub indexes_at : Names → Bool → Selections → Result ⊤ BindErr
+indexes_at names only no_select = Ok tt
+indexes_at names only (select s rest) = index_of names only s >>= λ _. indexes_at names only rest
 
 -- a name that stands for nothing, a parameter, or the variable of a loop
 abbrev pub no_left_side : Span → Option Use → Selections → BindErr
@@ -90,7 +96,7 @@ name_parts r e = record { parts = parts_of r e.node; width = e.width; named = r.
 abbrev pub name_target : Names → Site → List ℕ → Selections → Result Left BindErr
 name_target names site text selects = elim (ranged_of (find names text)) [
   | Some r ↦ by_itself names (written.name site text selects) >>= λ e. Ok (name_parts r e)
-  | None ↦ indexes_at names selects >>= λ _. Err (no_left_side site.span (find names text) selects)
+  | None ↦ indexes_at names (is_constant (look_in names text)) selects >>= λ _. Err (no_left_side site.span (find names text) selects)
 ]
 
 -- ---- concatenations: a width above 128 counts as 129

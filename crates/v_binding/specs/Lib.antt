@@ -2,6 +2,7 @@ pub mod Faults
 pub mod Steps
 pub mod Uses
 pub mod Names
+pub mod Unknown
 pub mod Expressions
 pub mod Addresses
 pub mod Lefts

@@ -1,6 +1,6 @@
 -- What the names of scopes stand for once signals have numbers (IEEE 1364-2005, 12.7): a name is looked up in its scope, then in
 -- the scopes around it.
-use Rattle.std.specs.Prelude.{ℕ, if◌then◌else◌, List, [], ◌∷◌, Option, Some, None, option_map}
+use Rattle.std.specs.Prelude.{ℕ, if◌then◌else◌, List, [], ◌∷◌, Option, Some, None}
 use Rattle.std.specs.Option.{option_and_then}
 use Rattle.v_tree.specs.declared.declaration.Identifier.{Identifier}
 use Rattle.v_sizes.specs.declared.meaning.Const.{Const}
@@ -8,7 +8,7 @@ use Rattle.v_sizes.specs.Look.{Look}
 use Rattle.v_hierarchy.specs.Names.{same_name}
 use Rattle.v_binding.specs.declared.known.Use.{Use}
 use Rattle.v_binding.specs.declared.known.Use.TheVariants.{AtTurn as at_turn}
-use Rattle.v_binding.specs.Uses.{meaning_of, bare_meaning}
+use Rattle.v_binding.specs.Uses.{meaning_of}
 
 pub record Known : Type 0 where
   pub name : List ℕ
@@ -24,10 +24,6 @@ find (k ∷ ks) name = if same_name k.name name then Some k.use_of else find ks 
 
 abbrev pub look_in : Names → Look
 look_in names name = option_and_then meaning_of (find names name)
-
--- the same, where the variable of a loop is a register outside its turns
-abbrev pub bare_look : Names → Look
-bare_look names name = option_map bare_meaning (find names name)
 
 -- a name that stands for something
 abbrev pub known : List ℕ → Use → Known

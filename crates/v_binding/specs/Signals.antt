@@ -1,9 +1,8 @@
 -- The signals of a design and their numbers (IEEE 1364-2005, 4.2, 4.9, 12.3 and 12.5): of each instance its ports in their order,
 -- then its nets, registers, words of arrays and integers in the order of the text. The number of a signal is the length of the
 -- list of those before it.
-use Rattle.std.specs.Prelude.{ℕ, zero, suc, ◌+◌, Bool, true, false, not, ◌&&◌, ◌||◌, if◌then◌else◌, ℤ, pos, ◌+ℤ◌, List, [], ◌∷◌, ◌++◌, map, length, Option, Some, None, Result, Ok, Err, is_some}
+use Rattle.std.specs.Prelude.{ℕ, zero, suc, Bool, true, false, not, ◌&&◌, ◌||◌, if◌then◌else◌, nat_lt, ℤ, pos, ◌+ℤ◌, List, [], ◌∷◌, ◌++◌, map, length, Option, Some, None, Ok, Err, is_some}
 use Rattle.std.specs.Option.{option_map_or}
-use Rattle.std.specs.List.{list_any}
 use Rattle.std.specs.Fmt.{signed_decimal}
 use Rattle.loc_base.specs.declared.span.Span.{Span}
 use Rattle.v_tree.specs.declared.declaration.Identifier.{Identifier}
@@ -12,7 +11,7 @@ use Rattle.v_tree.specs.declared.item.Direction.TheVariants as direction
 use Rattle.v_tree.specs.declared.item.NetKind.{NetKind}
 use Rattle.v_tree.specs.declared.item.NetKind.TheVariants as net_kind
 use Rattle.v_tree.specs.PartTree.{PlainRange}
-use Rattle.v_tree.specs.ItemTree.{PlainDeclarator, PlainItem, net_item, integer_item}
+use Rattle.v_tree.specs.ItemTree.{PlainDeclarator, net_item, integer_item}
 use Rattle.design_core.specs.declared.signal.Signal.{Signal}
 use Rattle.design_core.specs.declared.signal.SignalKind.{SignalKind}
 use Rattle.design_core.specs.declared.signal.SignalKind.TheVariants as kind
@@ -30,9 +29,7 @@ use Rattle.v_hierarchy.specs.Unrolled.{Steps, nothing, still, run, branch, choos
 use Rattle.v_hierarchy.specs.Items.{Copied, written, always, child, inner, Block, scope, Copies, no_copy, copy}
 use Rattle.v_hierarchy.specs.Items as items
 use Rattle.v_hierarchy.specs.Instances.{Instance}
-use Rattle.v_binding.specs.declared.error.BindErr.{BindErr}
 use Rattle.v_binding.specs.Steps.{through}
-use Rattle.v_binding.specs.declared.known.Use.{Use}
 use Rattle.v_binding.specs.declared.known.Use.TheVariants.{Stands as stands, Outside as outside}
 use Rattle.v_binding.specs.Names.{Known, Names, known, within, turned}
 use Rattle.v_binding.specs.Addresses.{Addresses, addresses_at}
@@ -75,42 +72,56 @@ unfoldable pub words : (ℤ → Numbered) → ℕ → ℤ → List Numbered
 words one zero address = []
 words one (suc count) address = one address ∷ words one count (address +ℤ pos 1)
 
--- ---- the integers of a scope that loops in it use
+-- ---- the integers that loops use: the variable of a loop is what its name is declared as before the loop, in the loop's own scope
+-- or else in those around it. `seen` tells of each place of the text whether the integer is what its name means there
 abbrev mutual
-  pub loops_on : List ℕ → Steps → Bool
-  loops_on name nothing = false
-  loops_on name (still _) = false
-  loops_on name (run steps) = loops_on_all name steps
-  loops_on name (branch _ on_true other) = loops_on name on_true || loops_on name other
-  loops_on name (choose _ _ arms) = loops_on_arms name arms
-  loops_on name (repeated variable turns) = same_name variable.name name || loops_on_turns name turns
+  pub loops_on : List ℕ → (ℕ → Bool) → Steps → Bool
+  loops_on name seen nothing = false
+  loops_on name seen (still _) = false
+  loops_on name seen (run steps) = loops_on_all name seen steps
+  loops_on name seen (branch _ on_true other) = loops_on name seen on_true || loops_on name seen other
+  loops_on name seen (choose _ _ arms) = loops_on_arms name seen arms
+  loops_on name seen (repeated variable turns) = (same_name variable.name name && seen variable.site.token) || loops_on_turns name seen turns
 
-  pub loops_on_all : List ℕ → StepList → Bool
-  loops_on_all name no_step = false
-  loops_on_all name (step x xs) = loops_on name x || loops_on_all name xs
+  pub loops_on_all : List ℕ → (ℕ → Bool) → StepList → Bool
+  loops_on_all name seen no_step = false
+  loops_on_all name seen (step x xs) = loops_on name seen x || loops_on_all name seen xs
 
-  pub loops_on_arms : List ℕ → Arms → Bool
-  loops_on_arms name no_arm = false
-  loops_on_arms name (arm _ x xs) = loops_on name x || loops_on_arms name xs
-  loops_on_arms name (default_arm x xs) = loops_on name x || loops_on_arms name xs
+  pub loops_on_arms : List ℕ → (ℕ → Bool) → Arms → Bool
+  loops_on_arms name seen no_arm = false
+  loops_on_arms name seen (arm _ x xs) = loops_on name seen x || loops_on_arms name seen xs
+  loops_on_arms name seen (default_arm x xs) = loops_on name seen x || loops_on_arms name seen xs
 
-  pub loops_on_turns : List ℕ → Turns → Bool
-  loops_on_turns name no_turn = false
-  loops_on_turns name (turn _ x xs) = loops_on name x || loops_on_turns name xs
+  pub loops_on_turns : List ℕ → (ℕ → Bool) → Turns → Bool
+  loops_on_turns name seen no_turn = false
+  loops_on_turns name seen (turn _ x xs) = loops_on name seen x || loops_on_turns name seen xs
 
--- also in the scopes inside that don't declare the name
+-- the token with which a name is first declared in a scope
+abbrev pub declared_at : List ℕ → List Entry → Option ℕ
+declared_at name [] = None
+declared_at name (e ∷ es) = if same_name e.name.name name then Some e.name.site.token else declared_at name es
+
+-- whether a declaration of a name stands before a token
+abbrev pub hides : List ℕ → List Entry → ℕ → Bool
+hides name entries token = option_map_or (λ at. nat_lt at token) (declared_at name entries) false
+
+-- in a scope inside the integer is seen up to where its name is declared again
 abbrev mutual
-  pub is_looped : List ℕ → Copies → Bool
-  is_looped name no_copy = false
-  is_looped name (copy x xs) = is_looped_in name x || is_looped name xs
+  pub is_looped : List ℕ → (ℕ → Bool) → Copies → Bool
+  is_looped name seen no_copy = false
+  is_looped name seen (copy x xs) = is_looped_in name seen x || is_looped name seen xs
 
-  pub is_looped_in : List ℕ → Copied → Bool
-  is_looped_in name (written _) = false
-  is_looped_in name (always _ _ body) = loops_on name body
-  is_looped_in name (child _ _) = false
-  is_looped_in name (inner (scope _ names copies)) = not (is_some (declared.find name names)) && is_looped name copies
-  is_looped_in name (items.turn variable _ (scope _ names copies)) =
-      not (same_name variable.name name) && not (is_some (declared.find name names)) && is_looped name copies
+  pub is_looped_in : List ℕ → (ℕ → Bool) → Copied → Bool
+  is_looped_in name seen (written _) = false
+  is_looped_in name seen (always _ _ body) = loops_on name seen body
+  is_looped_in name seen (child _ _) = false
+  is_looped_in name seen (inner (scope _ entries copies)) = is_looped name (λ token. seen token && not (hides name entries token)) copies
+  is_looped_in name seen (items.turn variable _ (scope _ entries copies)) =
+      not (same_name variable.name name) && is_looped name (λ token. seen token && not (hides name entries token)) copies
+
+-- whether a loop uses an integer of a scope with such items: it is seen behind its declaration
+abbrev pub is_loop_variable : Identifier → Copies → Bool
+is_loop_variable name copies = is_looped name.name (nat_lt name.site.token) copies
 
 -- ---- the names of a scope
 -- a scope's names, and the scopes that stand in it, in the order of the text
@@ -189,7 +200,7 @@ an_integer = record { direction = None; kind = Some net_kind.Reg; signed = true;
 
 abbrev pub with_integer : Ground → Identifier → Scoping → Scoping
 with_integer g name met =
-    if is_looped name.name g.copies
+    if is_loop_variable name g.copies
     then record { signals = met.signals; names = met.names ++ known name.name outside ∷ []; inside = met.inside }
     else with_signal false g name an_integer met
 

@@ -1,6 +1,6 @@
 -- The values that registers have at the start (IEEE 1364-2005, 6.2.1 and 9.9.1): constants of declarations, then those of initial
 -- blocks; of several the last counts.
-use Rattle.std.specs.Prelude.{ℕ, ◌+◌, ◌==◌, if◌then◌else◌, List, [], ◌∷◌, ◌++◌, map}
+use Rattle.std.specs.Prelude.{ℕ, ◌+◌, ◌==◌, if◌then◌else◌, List, [], ◌∷◌, map}
 use Rattle.loc_base.specs.declared.bits.Bits.{Bits}
 use Rattle.loc_base.specs.declared.span.Span.{Span}
 use Rattle.design_core.specs.declared.signal.Signal.{Signal}

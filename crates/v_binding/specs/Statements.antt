@@ -1,6 +1,6 @@
 -- Procedural statements (IEEE 1364-2005, 9.2, 9.4, 9.5, 9.8), with loops unrolled: each assignment is a place. Parts are met from
 -- the left: a left side before its right side, a condition before what it guards.
-use Rattle.std.specs.Prelude.{ℕ, Bool, true, false, not, List, [], ◌∷◌, ◌++◌, length, Result, Ok, Err}
+use Rattle.std.specs.Prelude.{Bool, true, false, not, List, [], ◌∷◌, ◌++◌, length, Result, Ok}
 use Rattle.v_tree.specs.declared.declaration.Identifier.{Identifier}
 use Rattle.v_tree.specs.declared.site.Site.{Site}
 use Rattle.v_tree.specs.declared.statement.AssignKind.{AssignKind}

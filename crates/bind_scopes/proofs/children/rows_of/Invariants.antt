@@ -1,4 +1,4 @@
-use Rattle.std.proofs.Common.{◌≡◌, length, map, drop}
+use Rattle.std.proofs.Common.{◌≡◌, map, drop}
 use Rattle.v_hierarchy.specs.Views.{instance_of}
 use Rattle.bind_scopes.specs.Children.{rows_from, rows_of}
 use Rattle.bind_scopes.proofs.children.rows_of.Given as goal

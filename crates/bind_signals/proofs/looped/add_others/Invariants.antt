@@ -1,6 +1,6 @@
 use Rattle.std.proofs.Common.{◌≡◌, map, drop}
-use Rattle.bind_signals.specs.LoopNames.{named, without}
+use Rattle.bind_signals.specs.LoopNames.{listed, without}
 use Rattle.bind_signals.proofs.looped.add_others.Given as goal
 
-abbrev pub invariant-loop-name : goal.invariant-loop-name
-invariant-loop-name l = without l.hidden (named (drop l.name-index l.inside)) (named l.names) ≡ without l.hidden (named l.inside) (named l.initial.names)
+abbrev pub invariant-loop-variable : goal.invariant-loop-variable
+invariant-loop-variable l = without l.hidden (listed (drop l.variable-index l.inside)) (listed l.names) ≡ without l.hidden (listed l.inside) (listed l.initial.names)

@@ -6,5 +6,5 @@ use Rattle.bind_statements.proofs.named.indexes_at.Given as goal
 
 abbrev pub invariant-loop-select : goal.invariant-loop-select
 invariant-loop-select l =
-    indexes_at (names_in l.names) (selections_of (map selection_of (drop l.select-index l.selects)))
-    ≡ indexes_at (names_in l.names) (selections_of (map selection_of l.selects))
+    indexes_at (names_in l.names) l.only (selections_of (map selection_of (drop l.select-index l.selects)))
+    ≡ indexes_at (names_in l.names) l.only (selections_of (map selection_of l.selects))

@@ -17,12 +17,8 @@ returns-in-Ok-clause-most c =
     typed-most c.scope.result.now (written.name c.args.site c.args.name.now (selections_of (map selection_of c.args.selects.now)))
     c.in-Ok.typed c.in-Ok.ensures.ok c.in-Ok.ensures.accepted
 
-pub returns-in_ok-bare-in-Err : goal.returns-in_ok-bare-in-Err
-returns-in_ok-bare-in-Err c = record {
-  ok = tt;
-  most = tt;
-  err =
-      refused-by (names_in c.args.self.now) (written.name c.args.site c.args.name.now (selections_of (map selection_of c.args.selects.now)))
-      (look_of c.scope.result.now) (look_of c.in_ok-bare-in-Err.bare) c.in-Err.wrong c.name_refusal-beside.result c.refusal_beside.result
-      c.scope.ensures c.in_ok-bare-in-Err.ensures c.in-Err.ensures.refused c.name_refusal-beside.ensures c.refusal_beside.ensures;
-}
+pub returns-in-Err-clause-err : goal.returns-in-Err-clause-err
+returns-in-Err-clause-err c =
+    let e = written.name c.args.site c.args.name.now (selections_of (map selection_of c.args.selects.now)) in
+    refused-by (names_in c.args.self.now) e (look_of c.scope.result.now) c.in-Err.wrong c.fault_of_name.result
+    c.scope.ensures c.in-Err.ensures.refused (c.fault_of_name.ensures c.args.site)

@@ -3,7 +3,7 @@ use Rattle.std.proofs.Common.{◌≡◌, List, [], ◌∷◌, length, map, refl,
 use Rattle.std.specs.Prelude.{nat_le}
 use Rattle.v_tree.specs.declared.expression.Select.{Select}
 use Rattle.v_tree.specs.Tree.{selection_of, selections_of}
-use Rattle.v_binding.specs.Lefts.{has_two}
+use Rattle.v_binding.specs.Unknown.{has_two}
 
 pub two-selects : (ss : List Select) → has_two (selections_of (map selection_of ss)) ≡ nat_le 2 (length ss)
 two-selects [] = refl
