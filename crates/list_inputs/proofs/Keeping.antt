@@ -1,5 +1,5 @@
 -- The promises of a command, where a run of it ends by the line of a refusal.
-use Rattle.std.proofs.Common.{ℕ, ◌≡◌, ◌≢◌, ◌≤◌, true, List, ap, refl, sym, subst, ◌∙◌, arith, inl, inr}
+use Rattle.std.proofs.Common.{ℕ, ◌≡◌, ◌≢◌, ◌≤◌, true, ap, refl, sym, subst, ◌∙◌, arith, inl, inr}
 use Rattle.io_ports.specs.Faults.{Rose}
 use Rattle.command_contract.specs.Contract.{Case, Causes, EndsRefused, IsInputRefusal, IsStatus, Keeps, NothingWritten, OneRose, Run}
 use Rattle.command_contract.proofs.Statuses.{input-range, input-refusal}

@@ -1,14 +1,12 @@
 -- A listing that ended with status 0 is whole by its report and its log.
-use Rattle.std.proofs.Common.{ℕ, ◌≡◌, ◌≢◌, ◌+◌, ◌-◌, ◌<◌, ◌≤◌, ◌⊎◌, inl, inr, List, [], ◌∷◌, ◌++◌, length, map, Some, refl, ap, sym, ◌∙◌, subst, arith}
+use Rattle.std.proofs.Common.{ℕ, ◌≡◌, ◌-◌, ◌<◌, ◌≤◌, ◌⊎◌, inl, inr, List, [], ◌∷◌, length, map, Some, refl, ap, sym, ◌∙◌, subst, arith}
 use Rattle.std.proofs.Math.Path.{fun_ext}
-use Rattle.std.specs.Prelude.{All, AllPairs, IsTrue, slice_get}
+use Rattle.std.specs.Prelude.{IsTrue, slice_get}
 use Rattle.std.proofs.lemmas.Bool.{cases_lt}
 use Rattle.clause_base.specs.declared.literal.Lit.{Lit}
-use Rattle.clause_base.specs.declared.log.Step.{Step}
 use Rattle.clause_base.specs.Acceptance.{IsAccepted}
 use Rattle.design_core.specs.declared.values.SetWithValues.{SetWithValues}
-use Rattle.design_core.specs.declared.values.Values.{Values}
-use Rattle.design_core.specs.Explained.{choices_in, is_one_of}
+use Rattle.design_core.specs.Explained.{choices_in}
 use Rattle.design_core.specs.Listing.{IsEntry, is_before}
 use Rattle.design_core.specs.Run.{Meets}
 use Rattle.design_core.specs.Works.{IsSet, IsWithin}
@@ -25,12 +23,11 @@ use Rattle.debug_core.specs.Problems.{Problem, suspects_of}
 use Rattle.list_verdict.specs.Claims.{Claim, IsSetAt}
 use Rattle.list_verdict.specs.Conditions.{Closes, Holds, IsInOrder, IsRightSet, blocks_for}
 use Rattle.list_verdict.specs.Verdicts.{IsWhole}
-use Rattle.set_listing.specs.Asked.{Asked}
 use Rattle.set_listing.specs.Found.{EndsAs, IsShown, Portion, found_of, sets_of}
 use Rattle.set_listing.specs.Laws.{Listed}
 use Rattle.set_listing.specs.Lines.{ending_status}
 use Rattle.verdict_laws.specs.Listings.{claim_in}
-use Rattle.verdict_laws.proofs.Places.{got-all, got-from, got-map, got-pair, got-within}
+use Rattle.verdict_laws.proofs.Places.{got-all, got-from, got-map, got-pair}
 
 module _ (of : Listed) where
   abbrev p : Problem
