@@ -181,6 +181,16 @@ pub(super) fn written<'a>(ran: &'a Ran, name: &str) -> &'a [u8] {
     }
 }
 
+/// What a run printed.
+pub(super) fn printed(ran: &Ran) -> &[u8] {
+    ran.out.text().as_slice()
+}
+
+/// Whether a text was begun under a name.
+pub(super) fn begun(ran: &Ran, name: &str) -> bool {
+    ran.shelf.text(name).is_some()
+}
+
 /// The texts above, and beside them those that a run wrote under names.
 pub(super) fn texts_with(alloc: Global, ran: &Ran, names: &[&str]) -> Result<Texts, Fail> {
     let mut texts = texts_of(alloc)?;
