@@ -43,13 +43,13 @@ b10 \"
 /// The counter by two, its dump, and the dump's first 188 bytes, which end in `b10`.
 fn counter(alloc: Global) -> Result<Texts, Fail> {
     let mut texts = Texts::new(alloc);
-    texts.add("m.v", Bytes::copy_of(alloc, BY_TWO)?)?;
-    texts.add("t.vcd", Bytes::copy_of(alloc, BY_ONE_DUMP)?)?;
-    let Some(cut) = BY_ONE_DUMP.get(..188) else {
-        return Err(Fail::new("too short"));
-    };
-    assert_cut(cut)?;
-    texts.add("cut.vcd", Bytes::copy_of(alloc, cut)?)?;
+    for (name, text) in &[
+        ("m.v", BY_TWO),
+        ("t.vcd", BY_ONE_DUMP),
+        ("cut.vcd", cut_dump()?),
+    ] {
+        texts.add(*name, Bytes::copy_of(alloc, *text)?)?;
+    }
     Ok(texts)
 }
 
@@ -58,11 +58,11 @@ fn reports(ran: &Ran, part: &[u8]) -> bool {
     begun(ran, "localise.json") && has(written(ran, "localise.json"), part)
 }
 
-fn assert_cut(cut: &[u8]) -> Result<(), Fail> {
-    if cut.ends_with(b"b10") {
-        Ok(())
-    } else {
-        Err(Fail::new("cut elsewhere"))
+/// The dump's first 188 bytes, which end in `b10`.
+fn cut_dump() -> Result<&'static [u8], Fail> {
+    match BY_ONE_DUMP.get(..188) {
+        Some(cut) if cut.ends_with(b"b10") => Ok(cut),
+        _ => Err(Fail::new("cut elsewhere")),
     }
 }
 

@@ -117,15 +117,22 @@ pub(super) fn words(line: &str) -> Asked<'_> {
     }
 }
 
+/// Their names.
+const TEXTS: [(&str, &[u8]); 6] = [
+    ("m.v", OR_NOT),
+    ("t.vcd", OR_NOT_TRACE),
+    ("u.vcd", RIGHT_TRACE),
+    ("c.v", BY_TWO),
+    ("c.vcd", BY_TWO_TRACE),
+    ("d.v", SHOWN),
+];
+
 /// The texts above.
 pub(super) fn texts_of(alloc: Global) -> Result<Texts, Fail> {
     let mut texts = Texts::new(alloc);
-    texts.add("m.v", Bytes::copy_of(alloc, OR_NOT)?)?;
-    texts.add("t.vcd", Bytes::copy_of(alloc, OR_NOT_TRACE)?)?;
-    texts.add("u.vcd", Bytes::copy_of(alloc, RIGHT_TRACE)?)?;
-    texts.add("c.v", Bytes::copy_of(alloc, BY_TWO)?)?;
-    texts.add("c.vcd", Bytes::copy_of(alloc, BY_TWO_TRACE)?)?;
-    texts.add("d.v", Bytes::copy_of(alloc, SHOWN)?)?;
+    for (name, text) in &TEXTS {
+        texts.add(*name, Bytes::copy_of(alloc, *text)?)?;
+    }
     Ok(texts)
 }
 
@@ -195,7 +202,8 @@ pub(super) fn begun(ran: &Ran, name: &str) -> bool {
 pub(super) fn texts_with(alloc: Global, ran: &Ran, names: &[&str]) -> Result<Texts, Fail> {
     let mut texts = texts_of(alloc)?;
     for name in names {
-        texts.add(*name, Bytes::copy_of(alloc, written(ran, *name))?)?;
+        let text = Bytes::copy_of(alloc, written(ran, *name))?;
+        texts.add(*name, text)?;
     }
     Ok(texts)
 }
