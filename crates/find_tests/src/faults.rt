@@ -1,9 +1,10 @@
 //! What is left where a call of the shelf or of the sink fails.
 
 use crate::nets::OR_NOT;
-use crate::runs::{Asked, Ran, run, run_line, texts_of};
-use loc_base::Bytes;
+use crate::runs::{Asked, Ran, begun, printed, run, run_line, texts_of, written};
+use crate::same::same;
 use std::alloc::Global;
+use std::process::Abort;
 use std::test::Fail;
 use std::thread::Threads;
 
@@ -44,14 +45,6 @@ fn head(log: &[u8]) -> &[u8] {
     log
 }
 
-/// What was written under a name; nothing where it wasn't begun.
-fn written<'a>(ran: &'a Ran, name: &str) -> &'a [u8] {
-    match ran.shelf.text(name) {
-        Some(text) => text.as_slice(),
-        None => b"",
-    }
-}
-
 /// A run with one failing call of the shelf.
 fn failing<R: Threads + Sync>(
     rt: &R,
@@ -67,57 +60,104 @@ fn failing<R: Threads + Sync>(
     run(rt, alloc, texts_of(alloc, &OR_NOT)?, asked)
 }
 
+/// What the two texts that `find` writes are in the end.
+#[derive(Clone, Copy)]
+struct Whole<'a> {
+    log: &'a [u8],
+    report: &'a [u8],
+}
+
+/// Up to where the log is written.
+#[derive(Clone, Copy, Debug, PartialEq, Eq)]
+enum Stage {
+    None,
+    Head,
+    First,
+    Second,
+    End,
+}
+
+impl Whole<'_> {
+    fn log_to(&self, stage: Stage) -> &[u8] {
+        match stage {
+            Stage::None => b"",
+            Stage::Head => head(self.log),
+            Stage::First => through(self.log, FIRST_SET),
+            Stage::Second => through(self.log, SECOND_SET),
+            Stage::End => self.log,
+        }
+    }
+}
+
+/// The call that fails, what is printed, the status, and from and to where the log is written at that call.
+type Row = (u64, &'static str, u8, Stage, Stage);
+
+const SHELF_CALLS: [Row; 10] = [
+    (0, "read fault m.v\n", 5, Stage::None, Stage::None),
+    (1, "read fault t1.vcd\n", 5, Stage::None, Stage::None),
+    (2, "", 6, Stage::None, Stage::None),
+    (3, "", 6, Stage::None, Stage::Head),
+    (4, "", 6, Stage::Head, Stage::First),
+    (5, FIRST, 6, Stage::First, Stage::Second),
+    (6, BOTH, 6, Stage::Second, Stage::End),
+    (7, BOTH, 6, Stage::End, Stage::End),
+    (8, BOTH, 6, Stage::End, Stage::End),
+    (9, WHOLE, 0, Stage::End, Stage::End),
+];
+
+/// Whether a text begins with one, and is the front of another.
+fn is_between(text: &[u8], least: &[u8], due: &[u8]) -> bool {
+    text.starts_with(least) && due.starts_with(text)
+}
+
+/// Whether the two texts are begun only at or behind their calls.
+fn are_begun_in_turn(ran: &Ran, call: u64) -> bool {
+    (call > 1 || !begun(ran, "localise.log")) && (call > 6 || !begun(ran, "localise.json"))
+}
+
+/// What is due of the log at the call is a bound of what is written, and the report isn't begun before the log is whole.
+fn shelf_call<R: Threads + Sync + Abort>(
+    rt: &R,
+    alloc: Global,
+    whole: &Whole,
+    row: &Row,
+) -> Result<(), Fail> {
+    let (call, wanted, status, least, due) = *row;
+    let ran = failing(rt, alloc, &[call], &[])?;
+    same(rt, &call, &printed(&ran), &wanted.as_bytes());
+    same(rt, &call, &ran.status, &status);
+    let log = written(&ran, "localise.log");
+    let is_due = is_between(log, whole.log_to(least), whole.log_to(due));
+    let is_front = whole.report.starts_with(written(&ran, "localise.json"));
+    let in_turn = are_begun_in_turn(&ran, call);
+    same(rt, &call, &(is_due, is_front, in_turn), &(true, true, true));
+    Ok(())
+}
+
 /// Each call of the shelf in turn: the loads of the design and of the dump, the beginning of the log, the log's head, its parts
-/// with each set, its rest, the beginning of the report, and the report. What is due of the log at that call is a bound of what is
-/// written; the report isn't begun before the log is whole.
+/// with each set, its rest, the beginning of the report, and the report.
 #[test]
 fn each_call_of_the_shelf_that_fails_leaves_a_front_of_what_was_due(
     rt: HostRuntime,
 ) -> Result<(), Fail> {
     let alloc = rt.alloc();
     let ample = run_line(&rt, alloc, &OR_NOT, LINE)?;
-    let log = written(&ample, "localise.log");
-    let report = written(&ample, "localise.json");
-    let none = b"".as_slice();
-    for (call, printed, status, due, least) in [
-        (0, "read fault m.v\n", 5, none, none),
-        (1, "read fault t1.vcd\n", 5, none, none),
-        (2, "", 6, none, none),
-        (3, "", 6, head(log), none),
-        (4, "", 6, through(log, FIRST_SET), head(log)),
-        (
-            5,
-            FIRST,
-            6,
-            through(log, SECOND_SET),
-            through(log, FIRST_SET),
-        ),
-        (6, BOTH, 6, log, through(log, SECOND_SET)),
-        (7, BOTH, 6, log, log),
-        (8, BOTH, 6, log, log),
-        (9, WHOLE, 0, log, log),
-    ] {
-        let ran = failing(&rt, alloc, &[call], &[])?;
-        assert_eq!(rt; ran.out.text().as_slice(), printed.as_bytes(), "{call}");
-        assert_eq!(rt; ran.status, status, "{call}");
-        let left = written(&ran, "localise.log");
-        assert!(rt; due.starts_with(left), "{call}");
-        assert!(rt; left.starts_with(least), "{call}");
-        assert!(rt;
-            report.starts_with(written(&ran, "localise.json")),
-            "{call}"
-        );
-        assert!(rt;
-            call > 1 || ran.shelf.text("localise.log").is_none(),
-            "{call}"
-        );
-        assert!(rt;
-            call > 6 || ran.shelf.text("localise.json").is_none(),
-            "{call}"
-        );
+    let whole = Whole {
+        log: written(&ample, "localise.log"),
+        report: written(&ample, "localise.json"),
+    };
+    for row in &SHELF_CALLS {
+        shelf_call(&rt, alloc, &whole, row)?;
     }
     Ok(())
 }
+
+/// The put that fails, what is printed before it and with it, how far the log is written, and whether the report is.
+const SINK_PUTS: [(u64, &str, &str, Stage, bool); 3] = [
+    (0, "", FIRST, Stage::First, false),
+    (1, FIRST, BOTH, Stage::Second, false),
+    (2, BOTH, WHOLE, Stage::End, true),
+];
 
 /// Each put on the sink in turn: the lines of the sets, and the last line.
 #[test]
@@ -126,22 +166,19 @@ fn each_put_on_the_sink_that_fails_leaves_a_front_of_what_was_due(
 ) -> Result<(), Fail> {
     let alloc = rt.alloc();
     let ample = run_line(&rt, alloc, &OR_NOT, LINE)?;
-    let log = written(&ample, "localise.log");
-    let report = written(&ample, "localise.json");
-    let none = b"".as_slice();
-    for (put, before, after, logged, reported) in [
-        (0, "", FIRST, through(log, FIRST_SET), none),
-        (1, FIRST, BOTH, through(log, SECOND_SET), none),
-        (2, BOTH, WHOLE, log, report),
-    ] {
-        let ran = failing(&rt, alloc, &[], &[put])?;
-        let printed = ran.out.text().as_slice();
-        assert_eq!(rt; ran.status, 6, "{put}");
-        assert!(rt; printed.starts_with(before.as_bytes()), "{put}");
-        assert!(rt; after.as_bytes().starts_with(printed), "{put}");
-        assert!(rt; printed.len() < after.len(), "{put}");
-        assert_eq!(rt; written(&ran, "localise.log"), logged, "{put}");
-        assert_eq!(rt; written(&ran, "localise.json"), reported, "{put}");
+    let whole = Whole {
+        log: written(&ample, "localise.log"),
+        report: written(&ample, "localise.json"),
+    };
+    for (put, before, after, logged, is_reported) in &SINK_PUTS {
+        let ran = failing(&rt, alloc, &[], &[*put])?;
+        let text = printed(&ran);
+        let is_front = is_between(text, before.as_bytes(), after.as_bytes());
+        let report = if *is_reported { whole.report } else { b"" };
+        same(&rt, put, &(ran.status, is_front), &(6, true));
+        same(&rt, put, &(text.len() < after.len()), &true);
+        same(&rt, put, &written(&ran, "localise.log"), &whole.log_to(*logged));
+        same(&rt, put, &written(&ran, "localise.json"), &report);
     }
     Ok(())
 }

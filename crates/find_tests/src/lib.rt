@@ -21,3 +21,5 @@ mod refusals;
 mod registers;
 #[cfg(test)]
 mod runs;
+#[cfg(test)]
+mod same;

@@ -1,8 +1,8 @@
 //! Designs of assignments and gates.
 
 use crate::dumps::Ports;
-use crate::runs::{Example, Row, hold, run_line};
-use loc_base::Bytes;
+use crate::runs::{Example, Row, hold, printed, run_line, written};
+use crate::same::same;
 use std::test::Fail;
 
 /// The inputs `a` and `b` and the output `y`, a bit each.
@@ -79,12 +79,9 @@ fn lines_with(text: &[u8], letter: u8) -> u32 {
 #[test]
 fn a_budget_is_spent_on_as_many_learned_clauses(rt: HostRuntime) -> Result<(), Fail> {
     let ran = run_line(&rt, rt.alloc(), &OR_NOT, "find m.v m t1.vcd --budget 1")?;
-    assert_eq!(rt; ran.out.text().as_slice(), b"front 0 budget\n".as_slice());
-    assert_eq!(rt; ran.status, 1);
-    let Some(log) = ran.shelf.text("localise.log") else {
-        return Err(Fail::new("no log"));
-    };
-    assert_eq!(rt; lines_with(log.as_slice(), b'l'), 2);
+    assert!(rt; printed(&ran) == b"front 0 budget\n".as_slice());
+    assert!(rt; ran.status == 1);
+    assert!(rt; lines_with(written(&ran, "localise.log"), b'l') == 2);
     Ok(())
 }
 
@@ -96,10 +93,7 @@ const PASSING_LOG: &[u8] =
 #[test]
 fn what_is_right_already_is_logged_in_two_lines(rt: HostRuntime) -> Result<(), Fail> {
     let ran = run_line(&rt, rt.alloc(), &OR_NOT, "find m.v m t2.vcd")?;
-    assert_eq!(rt;
-        ran.shelf.text("localise.log").map(Bytes::as_slice),
-        Some(PASSING_LOG)
-    );
+    same(&rt, &"localise.log", &written(&ran, "localise.log"), &PASSING_LOG);
     Ok(())
 }
 
@@ -113,17 +107,18 @@ const CONSTANT: Example<'static> = Example {
     dumps: &[&["1"]],
 };
 
+const CONSTANT_RUNS: [Row<'static>; 2] = [
+    ("find m.v m t1.vcd --suspects instance", "complete 0\n", 0),
+    (
+        "find m.v m t1.vcd",
+        "set {1}\n  1 stmt 2 m\ncomplete 1\n",
+        0,
+    ),
+];
+
 #[test]
 fn without_suspects_no_set_is_found(rt: HostRuntime) -> Result<(), Fail> {
-    let rows = [
-        ("find m.v m t1.vcd --suspects instance", "complete 0\n", 0),
-        (
-            "find m.v m t1.vcd",
-            "set {1}\n  1 stmt 2 m\ncomplete 1\n",
-            0,
-        ),
-    ];
-    hold(&rt, rt.alloc(), &CONSTANT, &rows)
+    hold(&rt, rt.alloc(), &CONSTANT, &CONSTANT_RUNS)
 }
 
 /// Two outputs that each copy an input, and are both to be 1 where the inputs are 0.
@@ -136,15 +131,17 @@ const TWO_COPIES: Example<'static> = Example {
     dumps: &[&["0 0 1 1"]],
 };
 
+const BOTH: &str = "set {1,2}\n  1 stmt 2 m\n  2 stmt 3 m\ncomplete 1\n";
+
+const TWO_COPIES_RUNS: [Row<'static>; 3] = [
+    ("find m.v m t1.vcd", BOTH, 0),
+    ("find m.v m t1.vcd --size 8", BOTH, 0),
+    ("find m.v m t1.vcd --size 1", "complete 0\n", 0),
+];
+
 #[test]
 fn two_faults_are_explained_by_both_assignments_alone(rt: HostRuntime) -> Result<(), Fail> {
-    let both = "set {1,2}\n  1 stmt 2 m\n  2 stmt 3 m\ncomplete 1\n";
-    let rows = [
-        ("find m.v m t1.vcd", both, 0),
-        ("find m.v m t1.vcd --size 8", both, 0),
-        ("find m.v m t1.vcd --size 1", "complete 0\n", 0),
-    ];
-    hold(&rt, rt.alloc(), &TWO_COPIES, &rows)
+    hold(&rt, rt.alloc(), &TWO_COPIES, &TWO_COPIES_RUNS)
 }
 
 /// A net that goes to two outputs. In the first dump one is unchecked; the third is right.
@@ -157,22 +154,24 @@ const FAN_OUT: Example<'static> = Example {
     dumps: &[&["0 0 1 x"], &["0 0 1 1"], &["1 0 1 1", "0 1 1 0"]],
 };
 
+const FIRST: &str = "set {1}\n  1 stmt 3 m\ncomplete 1\n";
+
+const WITH_PAIR: &str = "set {1}\n  1 stmt 3 m\nset {2,3}\n  2 stmt 4 m\n  3 stmt 5 m\ncomplete 2\n";
+
+const FAN_OUT_RUNS: [Row<'static>; 8] = [
+    ("find m.v m t1.vcd --size 1", EITHER, 0),
+    ("find m.v m t1.vcd", EITHER, 0),
+    ("find m.v m t1.vcd t2.vcd --size 1", FIRST, 0),
+    ("find m.v m t1.vcd t2.vcd", WITH_PAIR, 0),
+    ("find m.v m t1.vcd t2.vcd t3.vcd --size 1", FIRST, 0),
+    ("find m.v m t1.vcd t2.vcd t3.vcd", WITH_PAIR, 0),
+    ("find m.v m t3.vcd t2.vcd t1.vcd --size 3", WITH_PAIR, 0),
+    ("find m.v m t3.vcd", NOTHING, 0),
+];
+
 #[test]
 fn further_dumps_rule_sets_out_where_they_fail(rt: HostRuntime) -> Result<(), Fail> {
-    let either = "set {1}\n  1 stmt 3 m\nset {2}\n  2 stmt 4 m\ncomplete 2\n";
-    let first = "set {1}\n  1 stmt 3 m\ncomplete 1\n";
-    let with_pair = "set {1}\n  1 stmt 3 m\nset {2,3}\n  2 stmt 4 m\n  3 stmt 5 m\ncomplete 2\n";
-    let rows = [
-        ("find m.v m t1.vcd --size 1", either, 0),
-        ("find m.v m t1.vcd", either, 0),
-        ("find m.v m t1.vcd t2.vcd --size 1", first, 0),
-        ("find m.v m t1.vcd t2.vcd", with_pair, 0),
-        ("find m.v m t1.vcd t2.vcd t3.vcd --size 1", first, 0),
-        ("find m.v m t1.vcd t2.vcd t3.vcd", with_pair, 0),
-        ("find m.v m t3.vcd t2.vcd t1.vcd --size 3", with_pair, 0),
-        ("find m.v m t3.vcd", NOTHING, 0),
-    ];
-    hold(&rt, rt.alloc(), &FAN_OUT, &rows)
+    hold(&rt, rt.alloc(), &FAN_OUT, &FAN_OUT_RUNS)
 }
 
 /// An inverted OR of two gates.
@@ -182,30 +181,31 @@ const GATES: Example<'static> = Example {
     dumps: OR_NOT_DUMPS,
 };
 
+const GATES_RUNS: [Row<'static>; 5] = [
+    (
+        "find m.v m t1.vcd --suspects gate",
+        "set {1}\n  1 gate 3 m.g1\nset {2}\n  2 gate 4 m.g2\ncomplete 2\n",
+        0,
+    ),
+    (
+        "find m.v m t1.vcd --suspects module",
+        "set {1}\n  1 module 3 m\ncomplete 1\n",
+        0,
+    ),
+    ("find m.v m t1.vcd --suspects stmt", "complete 0\n", 0),
+    (
+        "find m.v m t1.vcd --suspects all",
+        "set {1}\n  1 all 3 all\ncomplete 1\n",
+        0,
+    ),
+    (
+        "find m.v m t1.vcd --suspects all,stmt,gate,instance,block",
+        "set {1}\n  1 all 3 all\nset {2}\n  2 gate 3 m.g1\nset {3}\n  3 gate 4 m.g2\ncomplete 3\n",
+        0,
+    ),
+];
+
 #[test]
 fn each_kind_makes_its_own_suspects_of_gates(rt: HostRuntime) -> Result<(), Fail> {
-    let rows = [
-        (
-            "find m.v m t1.vcd --suspects gate",
-            "set {1}\n  1 gate 3 m.g1\nset {2}\n  2 gate 4 m.g2\ncomplete 2\n",
-            0,
-        ),
-        (
-            "find m.v m t1.vcd --suspects module",
-            "set {1}\n  1 module 3 m\ncomplete 1\n",
-            0,
-        ),
-        ("find m.v m t1.vcd --suspects stmt", "complete 0\n", 0),
-        (
-            "find m.v m t1.vcd --suspects all",
-            "set {1}\n  1 all 3 all\ncomplete 1\n",
-            0,
-        ),
-        (
-            "find m.v m t1.vcd --suspects all,stmt,gate,instance,block",
-            "set {1}\n  1 all 3 all\nset {2}\n  2 gate 3 m.g1\nset {3}\n  3 gate 4 m.g2\ncomplete 3\n",
-            0,
-        ),
-    ];
-    hold(&rt, rt.alloc(), &GATES, &rows)
+    hold(&rt, rt.alloc(), &GATES, &GATES_RUNS)
 }

@@ -6,13 +6,16 @@ ghost use Rattle.plain_list.specs.Network.{IsNetwork};
 
 use crate::dumps::Ports;
 use crate::random::{FIRST_LINE, Gate, Numbers, changed, cycle, gates, text};
-use crate::runs::{Example, run_line};
+use crate::runs::{Example, Ran, printed, run_line};
+use crate::same::same;
 use design_core::{SetWithValues, Trace};
 use front_end::Ordered;
 use plain_list::PlainSearch;
 use small_networks::{network, traces};
 use std::alloc::Global;
+use std::process::Abort;
 use std::test::Fail;
+use std::thread::Threads;
 
 const PORTS: Ports<'static> = Ports {
     widths: &[("a", 1), ("b", 1), ("c", 1), ("y", 1), ("z", 1)],
@@ -95,20 +98,62 @@ fn slices<'a>(alloc: Global, rows: &'a [String]) -> Result<Vec<&'a str>, Fail> {
     Ok(slices)
 }
 
-/// A list of one dump.
-fn only<'a>(alloc: Global, rows: &'a [&'a str]) -> Result<Vec<&'a [&'a str]>, Fail> {
-    let mut dumps = Vec::new(alloc);
-    dumps.push(rows)?;
-    Ok(dumps)
-}
-
 /// What a plain trial lists for a design and a dump's rows.
 fn plain(alloc: Global, design: &str, rows: &[&str]) -> Result<String, Fail> {
     let ordered = network(alloc, design.as_bytes())?;
-    let dumps = only(alloc, rows)?;
-    let traces = traces(alloc, &ordered.design, &dumps)?;
+    let traces = traces(alloc, &ordered.design, &[rows])?;
     let search = tried(alloc, &ordered, &traces)?;
     list_lines(alloc, search.found())
+}
+
+/// What `find` does for a design and a dump's rows.
+fn found<R: Threads + Sync>(
+    rt: &R,
+    alloc: Global,
+    design: &str,
+    rows: &[&str],
+) -> Result<Ran, Fail> {
+    let example = Example {
+        design,
+        ports: PORTS,
+        dumps: &[rows],
+    };
+    run_line(rt, alloc, &example, "find m.v m t1.vcd")
+}
+
+/// The text of a network, and rows of the network as it was, for the plain trial and for a dump.
+#[derive(Drop)]
+struct Changed {
+    design: String,
+    letters: Vec<String>,
+    words: Vec<String>,
+}
+
+/// A network with other operators at two of its gates.
+fn changed_network(alloc: Global, numbers: &mut Numbers) -> Result<Changed, Fail> {
+    let right = gates(alloc, numbers)?;
+    let wrong = changed(alloc, &right, numbers)?;
+    let inputs = [numbers.below(8), numbers.below(8), numbers.below(8)];
+    Ok(Changed {
+        design: text(alloc, &wrong)?,
+        letters: rows(alloc, &right, inputs, "")?,
+        words: rows(alloc, &right, inputs, " ")?,
+    })
+}
+
+/// The list of the network of a number is that of a plain trial.
+fn is_tried<R: Threads + Sync + Abort>(
+    rt: &R,
+    alloc: Global,
+    number: u32,
+    changed: &Changed,
+) -> Result<(), Fail> {
+    let design = changed.design.as_str();
+    let wanted = plain(alloc, design, &slices(alloc, &changed.letters)?)?;
+    let ran = found(rt, alloc, design, &slices(alloc, &changed.words)?)?;
+    same(rt, &number, &printed(&ran), &wanted.as_bytes());
+    same(rt, &number, &ran.status, &0);
+    Ok(())
 }
 
 /// Networks with other operators at two of their gates, by dumps of the networks as they were.
@@ -116,24 +161,9 @@ fn plain(alloc: Global, design: &str, rows: &[&str]) -> Result<String, Fail> {
 fn random_networks_have_the_lists_of_a_plain_trial(rt: HostRuntime) -> Result<(), Fail> {
     let alloc = rt.alloc();
     let mut numbers = Numbers::new(1);
-    for network in 0..NETWORKS {
-        let right = gates(alloc, &mut numbers)?;
-        let wrong = changed(alloc, &right, &mut numbers)?;
-        let design = text(alloc, &wrong)?;
-        let inputs = [numbers.below(8), numbers.below(8), numbers.below(8)];
-        let letters = rows(alloc, &right, inputs, "")?;
-        let words = rows(alloc, &right, inputs, " ")?;
-        let wanted = plain(alloc, design.as_str(), &slices(alloc, &letters)?)?;
-        let dump = slices(alloc, &words)?;
-        let dumps = only(alloc, &dump)?;
-        let example = Example {
-            design: design.as_str(),
-            ports: PORTS,
-            dumps: &dumps,
-        };
-        let ran = run_line(&rt, alloc, &example, "find m.v m t1.vcd")?;
-        assert_eq!(rt; ran.out.text().as_slice(), wanted.as_bytes(), "{network}");
-        assert_eq!(rt; ran.status, 0, "{network}");
+    for number in 0..NETWORKS {
+        let changed = changed_network(alloc, &mut numbers)?;
+        is_tried(&rt, alloc, number, &changed)?;
     }
     Ok(())
 }

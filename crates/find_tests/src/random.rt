@@ -71,17 +71,24 @@ impl Gate {
         }
     }
 
+    /// What stands before, between and behind the two names.
+    fn symbols(self) -> (&'static str, &'static str, &'static str) {
+        match self.operator {
+            0 => ("", "&", ""),
+            1 => ("", "|", ""),
+            2 => ("", "^", ""),
+            3 => ("~(", "&", ")"),
+            4 => ("~(", "|", ")"),
+            _ => ("~(", "^", ")"),
+        }
+    }
+
     fn text(self, alloc: Global, name: &str) -> Result<String, Fail> {
         let left = name_of(self.left);
         let right = name_of(self.right);
-        Ok(match self.operator {
-            0 => format!(in alloc; "assign {name} = {left} & {right};\n")?,
-            1 => format!(in alloc; "assign {name} = {left} | {right};\n")?,
-            2 => format!(in alloc; "assign {name} = {left} ^ {right};\n")?,
-            3 => format!(in alloc; "assign {name} = ~({left} & {right});\n")?,
-            4 => format!(in alloc; "assign {name} = ~({left} | {right});\n")?,
-            _ => format!(in alloc; "assign {name} = ~({left} ^ {right});\n")?,
-        })
+        let (begins, between, ends) = self.symbols();
+        let text = format!(in alloc; "assign {name} = {begins}{left} {between} {right}{ends};\n")?;
+        Ok(text)
     }
 }
 

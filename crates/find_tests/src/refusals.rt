@@ -1,9 +1,11 @@
 //! Texts that are refused, and counts that pass a limit or just don't.
 
-use crate::runs::{Asked, Ran, run};
+use crate::runs::{Row, printed, run, words};
+use crate::same::same;
 use io_ports::Texts;
 use loc_base::Bytes;
 use std::alloc::Global;
+use std::process::Abort;
 use std::test::Fail;
 use std::thread::Threads;
 
@@ -23,93 +25,96 @@ fn texts_of(alloc: Global, design: Bytes, dump: Bytes) -> Result<Texts, Fail> {
     Ok(texts)
 }
 
-/// Runs words over texts; no call fails.
-fn run_over<R: Threads + Sync>(
+/// A design under the name `m.v`, and a dump without cycles.
+fn texts_of_design(alloc: Global, design: &[u8]) -> Result<Texts, Fail> {
+    texts_of(
+        alloc,
+        Bytes::copy_of(alloc, design)?,
+        Bytes::copy_of(alloc, HEAD)?,
+    )
+}
+
+/// A row's words over texts print what the row says.
+fn holds<R: Threads + Sync + Abort>(
     rt: &R,
     alloc: Global,
     texts: Texts,
-    line: &str,
-) -> Result<Ran, Fail> {
-    let asked = Asked {
-        line,
-        shelf_fails: &[],
-        sink_fails: &[],
-    };
-    run(rt, alloc, texts, asked)
+    row: &Row,
+) -> Result<(), Fail> {
+    let (line, wanted, status) = *row;
+    let ran = run(rt, alloc, texts, words(line))?;
+    same(rt, row, &printed(&ran), &wanted.as_bytes());
+    same(rt, row, &ran.status, &status);
+    Ok(())
 }
 
 /// A place of 128 bits.
 const WIDE: &[u8] =
     b"module m(input a, input b, output y);\nwire [127:0] n;\nassign n = {64{a, b}};\nassign y = n[0];\nendmodule\n";
 
-/// Designs by their texts: the refusals of reading and elaboration that have one span by the rules.
-#[test]
-fn designs_are_refused_with_a_code_and_a_span(rt: HostRuntime) -> Result<(), Fail> {
-    let alloc = rt.alloc();
-    for (design, printed, status) in [
-        ("", "input E5\n", 3),
-        ("module x; endmodule", "input E5\n", 3),
-        (
-            "module m(output y);\nassign y = 4'b10x1;\nendmodule\n",
-            "input L4 31 32\n",
-            3,
-        ),
-        (
-            "module m(output y);\nassign y = ;\nendmodule\n",
-            "input P1 31 32\n",
-            3,
-        ),
-        (
-            "module m(input clk, input rst, output reg q);
+const CLOCKED: &str = "find m.v m t.vcd --clock clk";
+
+/// Designs, what is printed, and the status: the refusals of reading and elaboration that have one span by the rules.
+const WITH_SPAN: [Row<'static>; 6] = [
+    ("", "input E5\n", 3),
+    ("module x; endmodule", "input E5\n", 3),
+    (
+        "module m(output y);\nassign y = 4'b10x1;\nendmodule\n",
+        "input L4 31 32\n",
+        3,
+    ),
+    (
+        "module m(output y);\nassign y = ;\nendmodule\n",
+        "input P1 31 32\n",
+        3,
+    ),
+    (
+        "module m(input clk, input rst, output reg q);
 always @(posedge clk or posedge rst or posedge rst)
 if (rst) q <= 1'b0;
 else q <= ~q;
 endmodule
 ",
-            "input P2 82 84\n",
-            3,
-        ),
-        (
-            "module m;\ngenvar i;\nfor (i = 0; i < 65537; i = i + 1) begin : part\nend\nendmodule\n",
-            "limit E10\n",
-            4,
-        ),
-    ] {
-        let texts = texts_of(
-            alloc,
-            Bytes::copy_of(alloc, design.as_bytes())?,
-            Bytes::copy_of(alloc, HEAD)?,
-        )?;
-        let ran = run_over(&rt, alloc, texts, "find m.v m t.vcd --clock clk")?;
-        assert_eq!(rt; ran.out.text().as_slice(), printed.as_bytes(), "{design}");
-        assert_eq!(rt; ran.status, status, "{design}");
+        "input P2 82 84\n",
+        3,
+    ),
+    (
+        "module m;\ngenvar i;\nfor (i = 0; i < 65537; i = i + 1) begin : part\nend\nendmodule\n",
+        "limit E10\n",
+        4,
+    ),
+];
+
+#[test]
+fn designs_are_refused_with_a_code_and_a_span(rt: HostRuntime) -> Result<(), Fail> {
+    let alloc = rt.alloc();
+    for (design, wanted, status) in &WITH_SPAN {
+        let texts = texts_of_design(alloc, design.as_bytes())?;
+        holds(&rt, alloc, texts, &(CLOCKED, *wanted, *status))?;
     }
     Ok(())
 }
 
-/// Designs whose refusal names a code; which span it carries is no part of the rules.
-#[test]
-fn designs_are_refused_with_a_code(rt: HostRuntime) -> Result<(), Fail> {
-    let alloc = rt.alloc();
-    for (design, begins) in [
-        (
-            "module m(input clk);\nwire [128:0] a;\nendmodule\n",
-            "input E4 ",
-        ),
-        (
-            "module m(input clk, output [3:0] q);\nreg [3:0] mem [0:1024];\nassign q = mem[0];\nendmodule\n",
-            "input E4 ",
-        ),
-        (
-            "module m(input clk, output [3:0] q);\nreg [3:0] mem [0:2];\nassign q = mem;\nendmodule\n",
-            "input E1 ",
-        ),
-        (
-            "module m(input clk);\nwire a, b;\nassign a = b;\nassign b = a;\nendmodule\n",
-            "input S4 ",
-        ),
-        (
-            "module m(input clk, input rst, output reg q);
+/// Designs whose refusal names a code, with what the line begins with; which span it carries is no part of the rules.
+const WITH_CODE: [(&str, &str); 5] = [
+    (
+        "module m(input clk);\nwire [128:0] a;\nendmodule\n",
+        "input E4 ",
+    ),
+    (
+        "module m(input clk, output [3:0] q);\nreg [3:0] mem [0:1024];\nassign q = mem[0];\nendmodule\n",
+        "input E4 ",
+    ),
+    (
+        "module m(input clk, output [3:0] q);\nreg [3:0] mem [0:2];\nassign q = mem;\nendmodule\n",
+        "input E1 ",
+    ),
+    (
+        "module m(input clk);\nwire a, b;\nassign a = b;\nassign b = a;\nendmodule\n",
+        "input S4 ",
+    ),
+    (
+        "module m(input clk, input rst, output reg q);
 wire r;
 assign r = rst;
 always @(posedge clk or posedge r)
@@ -117,20 +122,18 @@ if (r) q <= 1'b0;
 else q <= ~q;
 endmodule
 ",
-            "input S5 ",
-        ),
-    ] {
-        let texts = texts_of(
-            alloc,
-            Bytes::copy_of(alloc, design.as_bytes())?,
-            Bytes::copy_of(alloc, HEAD)?,
-        )?;
-        let ran = run_over(&rt, alloc, texts, "find m.v m t.vcd --clock clk")?;
-        assert!(rt;
-            ran.out.text().as_slice().starts_with(begins.as_bytes()),
-            "{design}"
-        );
-        assert_eq!(rt; ran.status, 3, "{design}");
+        "input S5 ",
+    ),
+];
+
+#[test]
+fn designs_are_refused_with_a_code(rt: HostRuntime) -> Result<(), Fail> {
+    let alloc = rt.alloc();
+    for (design, begins) in &WITH_CODE {
+        let texts = texts_of_design(alloc, design.as_bytes())?;
+        let ran = run(&rt, alloc, texts, words(CLOCKED))?;
+        let begins_so = printed(&ran).starts_with(begins.as_bytes());
+        same(&rt, design, &(begins_so, ran.status), &(true, 3));
     }
     Ok(())
 }
@@ -161,61 +164,48 @@ fn cycles(alloc: Global, count: u32) -> Result<Bytes, Fail> {
     Ok(dump)
 }
 
+const PLAIN: &str = "find m.v m t.vcd";
+
 #[test]
 fn a_text_above_its_limit_is_refused(rt: HostRuntime) -> Result<(), Fail> {
     let alloc = rt.alloc();
     let spaces = vec![in alloc; b' '; 16_777_217]?;
     let texts = texts_of(alloc, Bytes::copy_of(alloc, &spaces)?, cycles(alloc, 1)?)?;
-    let ran = run_over(&rt, alloc, texts, "find m.v m t.vcd")?;
-    assert_eq!(rt; ran.out.text().as_slice(), b"limit L9\n".as_slice());
-    assert_eq!(rt; ran.status, 4);
-    Ok(())
+    holds(&rt, alloc, texts, &(PLAIN, "limit L9\n", 4))
 }
+
+const GATES: &str = "find m.v m t.vcd --suspects gate --size 0";
 
 #[test]
 fn more_suspects_than_4096_are_refused(rt: HostRuntime) -> Result<(), Fail> {
     let alloc = rt.alloc();
-    for (count, printed, status) in [(4096, "set {}\ncomplete 1\n", 0), (4097, "limit Z4\n", 4)] {
-        let texts = texts_of(alloc, copies(alloc, count)?, cycles(alloc, 1)?)?;
-        let line = "find m.v m t.vcd --suspects gate --size 0";
-        let ran = run_over(&rt, alloc, texts, line)?;
-        assert_eq!(rt; ran.out.text().as_slice(), printed.as_bytes(), "{count}");
-        assert_eq!(rt; ran.status, status, "{count}");
-    }
-    Ok(())
+    let most = texts_of(alloc, copies(alloc, 4096)?, cycles(alloc, 1)?)?;
+    holds(&rt, alloc, most, &(GATES, "set {}\ncomplete 1\n", 0))?;
+    let more = texts_of(alloc, copies(alloc, 4097)?, cycles(alloc, 1)?)?;
+    holds(&rt, alloc, more, &(GATES, "limit Z4\n", 4))
+}
+
+/// A design, with a dump of so many cycles in which all is 0, and what stands behind them.
+fn long(alloc: Global, design: &[u8], count: u32, last: &[u8]) -> Result<Texts, Fail> {
+    let mut dump = cycles(alloc, count)?;
+    dump.append(last)?;
+    texts_of(alloc, Bytes::copy_of(alloc, design)?, dump)
 }
 
 #[test]
 fn more_cycles_than_100000_are_refused(rt: HostRuntime) -> Result<(), Fail> {
-    let alloc = rt.alloc();
-    let texts = texts_of(
-        alloc,
-        Bytes::copy_of(alloc, OR_NOT)?,
-        cycles(alloc, 100_001)?,
-    )?;
-    let ran = run_over(&rt, alloc, texts, "find m.v m t.vcd")?;
-    assert_eq!(rt; ran.out.text().as_slice(), b"limit Z3\n".as_slice());
-    assert_eq!(rt; ran.status, 4);
-    Ok(())
+    let texts = long(rt.alloc(), OR_NOT, 100_001, b"")?;
+    holds(&rt, rt.alloc(), texts, &(PLAIN, "limit Z3\n", 4))
 }
+
+const EITHER: &str = "set {1}\n  1 stmt 3 m\nset {2}\n  2 stmt 4 m\ncomplete 2\n";
 
 /// In as many cycles as there may be, an inverted OR that is wrong in all but the last passes no limit; a place of 128 bits has too
 /// many variables.
 #[test]
 fn a_hundred_thousand_cycles_are_searched(rt: HostRuntime) -> Result<(), Fail> {
-    let alloc = rt.alloc();
-    let mut dump = cycles(alloc, 99_999)?;
-    dump.append(b"#99999\n1b\n")?;
-    let texts = texts_of(alloc, Bytes::copy_of(alloc, OR_NOT)?, dump)?;
-    let ran = run_over(&rt, alloc, texts, "find m.v m t.vcd")?;
-    assert_eq!(rt;
-        ran.out.text().as_slice(),
-        b"set {1}\n  1 stmt 3 m\nset {2}\n  2 stmt 4 m\ncomplete 2\n".as_slice()
-    );
-    assert_eq!(rt; ran.status, 0);
-    let texts = texts_of(alloc, Bytes::copy_of(alloc, WIDE)?, cycles(alloc, 100_000)?)?;
-    let ran = run_over(&rt, alloc, texts, "find m.v m t.vcd")?;
-    assert_eq!(rt; ran.out.text().as_slice(), b"limit Z5\n".as_slice());
-    assert_eq!(rt; ran.status, 4);
-    Ok(())
+    let texts = long(rt.alloc(), OR_NOT, 99_999, b"#99999\n1b\n")?;
+    holds(&rt, rt.alloc(), texts, &(PLAIN, EITHER, 0))?;
+    let texts = long(rt.alloc(), WIDE, 100_000, b"")?;
+    holds(&rt, rt.alloc(), texts, &(PLAIN, "limit Z5\n", 4))
 }

@@ -1,7 +1,8 @@
 //! Designs with a clock.
 
 use crate::dumps::Ports;
-use crate::runs::{Asked, Example, Row, has, hold, run, run_line};
+use crate::runs::{Example, Ran, Row, begun, has, hold, printed, run, run_line, words, written};
+use crate::same::same;
 use io_ports::Texts;
 use loc_base::Bytes;
 use std::alloc::Global;
@@ -42,57 +43,60 @@ b10 \"
 /// The counter by two, its dump, and the dump's first 188 bytes, which end in `b10`.
 fn counter(alloc: Global) -> Result<Texts, Fail> {
     let mut texts = Texts::new(alloc);
-    texts.add("m.v", Bytes::copy_of(alloc, BY_TWO)?)?;
-    texts.add("t.vcd", Bytes::copy_of(alloc, BY_ONE_DUMP)?)?;
-    let Some(cut) = BY_ONE_DUMP.get(..188) else {
-        return Err(Fail::new("too short"));
-    };
-    assert_cut(cut)?;
-    texts.add("cut.vcd", Bytes::copy_of(alloc, cut)?)?;
+    for (name, text) in &[
+        ("m.v", BY_TWO),
+        ("t.vcd", BY_ONE_DUMP),
+        ("cut.vcd", cut_dump()?),
+    ] {
+        texts.add(*name, Bytes::copy_of(alloc, *text)?)?;
+    }
     Ok(texts)
 }
 
-fn assert_cut(cut: &[u8]) -> Result<(), Fail> {
-    if cut.ends_with(b"b10") {
-        Ok(())
-    } else {
-        Err(Fail::new("cut elsewhere"))
+/// Whether a run wrote a report with such a part.
+fn reports(ran: &Ran, part: &[u8]) -> bool {
+    begun(ran, "localise.json") && has(written(ran, "localise.json"), part)
+}
+
+/// The dump's first 188 bytes, which end in `b10`.
+fn cut_dump() -> Result<&'static [u8], Fail> {
+    match BY_ONE_DUMP.get(..188) {
+        Some(cut) if cut.ends_with(b"b10") => Ok(cut),
+        _ => Err(Fail::new("cut elsewhere")),
     }
 }
+
+/// Words, what is printed, the status, and a part of the report.
+const BY_TWO_RUNS: [(&str, &str, u8, &[u8]); 3] = [
+    (
+        "find m.v m t.vcd --clock clk",
+        "set {1}\n  1 stmt 3 m\ncomplete 1\n",
+        0,
+        b"\"values\":[[[\"1\"],[\"2\"],[\"",
+    ),
+    (
+        "find m.v m cut.vcd --clock clk",
+        "input T1 1 188\n",
+        3,
+        b"",
+    ),
+    (
+        "find m.v m t.vcd cut.vcd --clock=clk",
+        "input T1 2 188\n",
+        3,
+        b"",
+    ),
+];
 
 /// Its value is 1 in the first cycle and 2 in the second.
 #[test]
 fn a_counter_by_two_is_explained_by_its_step(rt: HostRuntime) -> Result<(), Fail> {
     let alloc = rt.alloc();
-    let rows = [
-        (
-            "find m.v m t.vcd --clock clk",
-            "set {1}\n  1 stmt 3 m\ncomplete 1\n",
-            0,
-        ),
-        ("find m.v m cut.vcd --clock clk", "input T1 1 188\n", 3),
-        (
-            "find m.v m t.vcd cut.vcd --clock=clk",
-            "input T1 2 188\n",
-            3,
-        ),
-    ];
-    for row in rows {
-        let (line, printed, status) = row;
-        let asked = Asked {
-            line,
-            shelf_fails: &[],
-            sink_fails: &[],
-        };
-        let ran = run(&rt, alloc, counter(alloc)?, asked)?;
-        assert_eq!(rt; ran.out.text().as_slice(), printed.as_bytes(), "{line}");
-        assert_eq!(rt; ran.status, status, "{line}");
-        if status == 0 {
-            let Some(report) = ran.shelf.text("localise.json") else {
-                return Err(Fail::new("no report"));
-            };
-            assert!(rt; has(report.as_slice(), b"\"values\":[[[\"1\"],[\"2\"],[\""));
-        }
+    for (line, wanted, status, part) in &BY_TWO_RUNS {
+        let ran = run(&rt, alloc, counter(alloc)?, words(*line))?;
+        same(&rt, line, &printed(&ran), &wanted.as_bytes());
+        same(&rt, line, &ran.status, status);
+        same(&rt, line, &reports(&ran, *part), &(*status == 0));
     }
     Ok(())
 }
@@ -112,14 +116,8 @@ fn a_register_that_keeps_its_value_is_explained_by_its_assignment(
     rt: HostRuntime,
 ) -> Result<(), Fail> {
     let ran = run_line(&rt, rt.alloc(), &HELD, "find m.v m t1.vcd --clock clk")?;
-    assert_eq!(rt;
-        ran.out.text().as_slice(),
-        b"set {1}\n  1 stmt 2 m\ncomplete 1\n".as_slice()
-    );
-    let Some(report) = ran.shelf.text("localise.json") else {
-        return Err(Fail::new("no report"));
-    };
-    assert!(rt; has(report.as_slice(), b"\"values\":[[[\"1\"],[\"0\"],[\""));
+    assert!(rt; printed(&ran) == b"set {1}\n  1 stmt 2 m\ncomplete 1\n".as_slice());
+    assert!(rt; reports(&ran, b"\"values\":[[[\"1\"],[\"0\"],[\""));
     Ok(())
 }
 
@@ -152,26 +150,27 @@ endmodule
     ]],
 };
 
+const DIVIDER_RUNS: [Row<'static>; 3] = [
+    (
+        "find m.v div3 t1.vcd --clock clk",
+        "set {1}\n  1 stmt 5 div3\nset {5}\n  5 stmt 12 div3\nset {4,6}\n  4 stmt 10 div3\n  6 stmt 13 div3\ncomplete 3\n",
+        0,
+    ),
+    (
+        "find m.v div3 t1.vcd --clock clk --size 1",
+        "set {1}\n  1 stmt 5 div3\nset {5}\n  5 stmt 12 div3\ncomplete 2\n",
+        0,
+    ),
+    (
+        "find m.v div3 t1.vcd --clock clk --suspects block",
+        "set {1}\n  1 block 5 div3\ncomplete 1\n",
+        0,
+    ),
+];
+
 #[test]
 fn a_divider_is_explained_by_what_it_counts_or_by_its_ticks(rt: HostRuntime) -> Result<(), Fail> {
-    let rows = [
-        (
-            "find m.v div3 t1.vcd --clock clk",
-            "set {1}\n  1 stmt 5 div3\nset {5}\n  5 stmt 12 div3\nset {4,6}\n  4 stmt 10 div3\n  6 stmt 13 div3\ncomplete 3\n",
-            0,
-        ),
-        (
-            "find m.v div3 t1.vcd --clock clk --size 1",
-            "set {1}\n  1 stmt 5 div3\nset {5}\n  5 stmt 12 div3\ncomplete 2\n",
-            0,
-        ),
-        (
-            "find m.v div3 t1.vcd --clock clk --suspects block",
-            "set {1}\n  1 block 5 div3\ncomplete 1\n",
-            0,
-        ),
-    ];
-    hold(&rt, rt.alloc(), &DIVIDER, &rows)
+    hold(&rt, rt.alloc(), &DIVIDER, &DIVIDER_RUNS)
 }
 
 const RESET_PORTS: Ports<'static> = Ports {
@@ -206,16 +205,10 @@ endmodule
 /// The value in the last cycle is 1; in the others the reset isn't active, and any value does.
 #[test]
 fn a_reset_to_a_wrong_value_is_explained_by_the_reset_alone(rt: HostRuntime) -> Result<(), Fail> {
-    for example in [RESET, LOW_RESET] {
-        let ran = run_line(&rt, rt.alloc(), &example, "find m.v m t1.vcd --clock clk")?;
-        assert_eq!(rt;
-            ran.out.text().as_slice(),
-            b"set {1}\n  1 stmt 3 m\ncomplete 1\n".as_slice()
-        );
-        let Some(report) = ran.shelf.text("localise.json") else {
-            return Err(Fail::new("no report"));
-        };
-        assert!(rt; has(report.as_slice(), b"\"],[\"1\"]]]}],\"size\":2"));
+    for example in &[RESET, LOW_RESET] {
+        let ran = run_line(&rt, rt.alloc(), example, "find m.v m t1.vcd --clock clk")?;
+        assert!(rt; printed(&ran) == b"set {1}\n  1 stmt 3 m\ncomplete 1\n".as_slice());
+        assert!(rt; reports(&ran, b"\"],[\"1\"]]]}],\"size\":2"));
     }
     Ok(())
 }
@@ -238,21 +231,22 @@ endmodule
     ],
 };
 
+const ARRAY_RUNS: [Row<'static>; 2] = [
+    (
+        "find m.v m t1.vcd --clock clk",
+        "set {1}\n  1 stmt 3 m\nset {2}\n  2 stmt 4 m\ncomplete 2\n",
+        0,
+    ),
+    (
+        "find m.v m t2.vcd --clock clk",
+        "set {2}\n  2 stmt 4 m\ncomplete 1\n",
+        0,
+    ),
+];
+
 #[test]
 fn a_word_of_an_array_is_explained_by_what_wrote_or_reads_it(rt: HostRuntime) -> Result<(), Fail> {
-    let rows: [Row; 2] = [
-        (
-            "find m.v m t1.vcd --clock clk",
-            "set {1}\n  1 stmt 3 m\nset {2}\n  2 stmt 4 m\ncomplete 2\n",
-            0,
-        ),
-        (
-            "find m.v m t2.vcd --clock clk",
-            "set {2}\n  2 stmt 4 m\ncomplete 1\n",
-            0,
-        ),
-    ];
-    hold(&rt, rt.alloc(), &ARRAY, &rows)
+    hold(&rt, rt.alloc(), &ARRAY, &ARRAY_RUNS)
 }
 
 /// A register of an input.
@@ -265,15 +259,16 @@ const FOLLOWER: Example<'static> = Example {
     dumps: &[&["0 0", "1 0", "x 1"], &[]],
 };
 
+const FOLLOWER_RUNS: [Row<'static>; 3] = [
+    ("find m.v m t1.vcd --clock clk", "input T5 1 2 d\n", 3),
+    ("find m.v m t2.vcd --clock clk", "input T4 1\n", 3),
+    ("find m.v m t2.vcd t1.vcd --clock clk", "input T4 1\n", 3),
+];
+
 /// An input without a value is told by its cycle, counted from 0; a clock that never rises gives no cycle.
 #[test]
 fn dumps_without_values_of_inputs_or_without_cycles_are_refused(
     rt: HostRuntime,
 ) -> Result<(), Fail> {
-    let rows: [Row; 3] = [
-        ("find m.v m t1.vcd --clock clk", "input T5 1 2 d\n", 3),
-        ("find m.v m t2.vcd --clock clk", "input T4 1\n", 3),
-        ("find m.v m t2.vcd t1.vcd --clock clk", "input T4 1\n", 3),
-    ];
-    hold(&rt, rt.alloc(), &FOLLOWER, &rows)
+    hold(&rt, rt.alloc(), &FOLLOWER, &FOLLOWER_RUNS)
 }

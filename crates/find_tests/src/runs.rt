@@ -2,6 +2,7 @@
 
 use crate::dumps::{Ports, dump};
 use crate::own::Everything;
+use crate::same::same;
 use io_ports::{MemShelf, MemSink, Numbers, Texts};
 use loc_base::{Bytes, FreeGate};
 use localise_cmd::run_words;
@@ -90,6 +91,15 @@ pub(super) fn run<R: Threads + Sync>(
     Ok(Ran { status, shelf, out })
 }
 
+/// Words of which no call fails.
+pub(super) fn words(line: &str) -> Asked<'_> {
+    Asked {
+        line,
+        shelf_fails: &[],
+        sink_fails: &[],
+    }
+}
+
 /// Runs words over the texts of an example.
 pub(super) fn run_line<R: Threads + Sync>(
     rt: &R,
@@ -97,12 +107,7 @@ pub(super) fn run_line<R: Threads + Sync>(
     example: &Example,
     line: &str,
 ) -> Result<Ran, Fail> {
-    let asked = Asked {
-        line,
-        shelf_fails: &[],
-        sink_fails: &[],
-    };
-    run(rt, alloc, texts_of(alloc, example)?, asked)
+    run(rt, alloc, texts_of(alloc, example)?, words(line))
 }
 
 /// Each row's words print what the row says, over the texts of an example.
@@ -113,12 +118,30 @@ pub(super) fn hold<R: Threads + Sync + Abort>(
     rows: &[Row],
 ) -> Result<(), Fail> {
     for row in rows {
-        let (line, printed, status) = *row;
+        let (line, wanted, status) = *row;
         let ran = run_line(rt, alloc, example, line)?;
-        assert_eq!(rt; ran.out.text().as_slice(), printed.as_bytes(), "{line}");
-        assert_eq!(rt; ran.status, status, "{line}");
+        same(rt, &line, &printed(&ran), &wanted.as_bytes());
+        same(rt, &line, &ran.status, &status);
     }
     Ok(())
+}
+
+/// What a run printed.
+pub(super) fn printed(ran: &Ran) -> &[u8] {
+    ran.out.text().as_slice()
+}
+
+/// Whether a text was begun under a name.
+pub(super) fn begun(ran: &Ran, name: &str) -> bool {
+    ran.shelf.text(name).is_some()
+}
+
+/// What was written under a name; nothing where it wasn't begun.
+pub(super) fn written<'a>(ran: &'a Ran, name: &str) -> &'a [u8] {
+    match ran.shelf.text(name) {
+        Some(text) => text.as_slice(),
+        None => b"",
+    }
 }
 
 /// Whether a text stands in another.

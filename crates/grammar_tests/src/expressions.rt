@@ -1,4 +1,7 @@
 //! Expressions of texts, by the precedence of IEEE 1364-2005, table 5-4, and the refusals that README.md names.
+use crate::reading::Refusal::{Unexpected, Unsupported};
+use crate::reading::{Refusal, error_of};
+use crate::same::same;
 use loc_base::{Bytes, NoMemory, Span};
 use std::alloc::Global;
 use std::process::Abort;
@@ -86,74 +89,83 @@ fn taken(rt: &impl Abort, alloc: Global, text: &[u8]) -> Result<Result<usize, Pa
     }
 }
 
+/// The expression of a text with parentheses around each operator.
+fn bound(rt: &impl Abort, alloc: Global, text: &[u8]) -> Result<Bytes, Fail> {
+    let found = tokens(alloc, text)?;
+    assert!(rt; found.len() < 4_000_000_000);
+    let (tree, _) = expr(alloc, found.as_slice(), 0)?;
+    let mut out = Bytes::new(alloc);
+    shape(&mut out, &tree)?;
+    Ok(out)
+}
+
+const BINDING: [(&[u8], &[u8]); 9] = [
+    (b"a + b * c", b"(a+(b*c))"),
+    (b"a - b - c", b"((a-b)-c)"),
+    (b"a ? b : c ? d : e", b"(a?b:(c?d:e))"),
+    (b"-a ** ~b", b"((-a)**(~b))"),
+    (b"a | b & c ^ d", b"(a|((b&c)^d))"),
+    (b"a == b < c", b"(a==(b<c))"),
+    (b"a << b + c", b"(a<<(b+c))"),
+    (b"a && b || c && d", b"((a&&b)||(c&&d))"),
+    (b"a * b + c ? d : e", b"(((a*b)+c)?d:e)"),
+];
+
 #[test]
 fn operators_bind_by_the_table_of_the_standard(rt: HostRuntime) -> Result<(), Fail> {
-    let table: [(&[u8], &[u8]); 9] = [
-        (b"a + b * c", b"(a+(b*c))"),
-        (b"a - b - c", b"((a-b)-c)"),
-        (b"a ? b : c ? d : e", b"(a?b:(c?d:e))"),
-        (b"-a ** ~b", b"((-a)**(~b))"),
-        (b"a | b & c ^ d", b"(a|((b&c)^d))"),
-        (b"a == b < c", b"(a==(b<c))"),
-        (b"a << b + c", b"(a<<(b+c))"),
-        (b"a && b || c && d", b"((a&&b)||(c&&d))"),
-        (b"a * b + c ? d : e", b"(((a*b)+c)?d:e)"),
-    ];
-    for (text, want) in table {
-        let found = tokens(rt.alloc(), text)?;
-        assert!(rt; found.len() < 4_000_000_000);
-        let (tree, _) = expr(rt.alloc(), found.as_slice(), 0)?;
-        let mut out = Bytes::new(rt.alloc());
-        shape(&mut out, &tree)?;
-        assert_eq!(rt; out.as_slice(), want);
+    for (text, want) in &BINDING {
+        let found = bound(&rt, rt.alloc(), *text)?;
+        same(&rt, text, &found.as_slice(), want);
     }
     Ok(())
 }
+
+const TAKEN: [(&[u8], usize); 14] = [
+    (b"a", 1),
+    (b"a ) b", 1),
+    (b"a[1][2]", 7),
+    (b"a[0][1][2]", 7),
+    (b"a[3:0] + b;", 8),
+    (b"x[i +: 4]", 6),
+    (b"x[i -: 4]", 6),
+    (b"{a, b}", 5),
+    (b"{2{a, b}}", 8),
+    (b"$signed(a) >>> 1", 6),
+    (b"~^a ^~ b", 4),
+    (b"4'b1? : y", 1),
+    (b"(a) (b)", 3),
+    (b"c ? x : y :", 5),
+];
 
 #[test]
 fn an_expression_goes_on_as_far_as_it_can(rt: HostRuntime) -> Result<(), Fail> {
-    let table: [(&[u8], usize); 14] = [
-        (b"a", 1),
-        (b"a ) b", 1),
-        (b"a[1][2]", 7),
-        (b"a[0][1][2]", 7),
-        (b"a[3:0] + b;", 8),
-        (b"x[i +: 4]", 6),
-        (b"x[i -: 4]", 6),
-        (b"{a, b}", 5),
-        (b"{2{a, b}}", 8),
-        (b"$signed(a) >>> 1", 6),
-        (b"~^a ^~ b", 4),
-        (b"4'b1? : y", 1),
-        (b"(a) (b)", 3),
-        (b"c ? x : y :", 5),
-    ];
-    for (text, want) in table {
-        assert_eq!(rt; taken(&rt, rt.alloc(), text)?, Ok(want));
+    for (text, want) in &TAKEN {
+        same(&rt, text, &taken(&rt, rt.alloc(), *text)?, &Ok(*want));
     }
     Ok(())
 }
 
+const REFUSED: [(&[u8], Refusal); 13] = [
+    (b"", Unexpected(0, 0)),
+    (b"a +", Unexpected(3, 3)),
+    (b"a + ;", Unexpected(4, 5)),
+    (b"(a", Unexpected(2, 2)),
+    (b"{a, }", Unexpected(4, 5)),
+    (b"a[1 2]", Unexpected(4, 5)),
+    (b"{2{a} b", Unexpected(6, 7)),
+    (b"$signed a", Unexpected(8, 9)),
+    (b"c ? x ;", Unexpected(6, 7)),
+    (b"while", Unsupported(0, 5)),
+    (b"a + real", Unsupported(4, 8)),
+    (b"4'bz + a", Unsupported(0, 4)),
+    (b"a + 4'bz", Unsupported(4, 8)),
+];
+
 #[test]
 fn the_first_token_without_a_place_is_named(rt: HostRuntime) -> Result<(), Fail> {
-    let at = |from: u32, to: u32| Span { from, to };
-    let table: [(&[u8], ParseErr); 13] = [
-        (b"", ParseErr::Unexpected(at(0, 0))),
-        (b"a +", ParseErr::Unexpected(at(3, 3))),
-        (b"a + ;", ParseErr::Unexpected(at(4, 5))),
-        (b"(a", ParseErr::Unexpected(at(2, 2))),
-        (b"{a, }", ParseErr::Unexpected(at(4, 5))),
-        (b"a[1 2]", ParseErr::Unexpected(at(4, 5))),
-        (b"{2{a} b", ParseErr::Unexpected(at(6, 7))),
-        (b"$signed a", ParseErr::Unexpected(at(8, 9))),
-        (b"c ? x ;", ParseErr::Unexpected(at(6, 7))),
-        (b"while", ParseErr::Unsupported(at(0, 5))),
-        (b"a + real", ParseErr::Unsupported(at(4, 8))),
-        (b"4'bz + a", ParseErr::Unsupported(at(0, 4))),
-        (b"a + 4'bz", ParseErr::Unsupported(at(4, 8))),
-    ];
-    for (text, want) in table {
-        assert_eq!(rt; taken(&rt, rt.alloc(), text)?, Err(want));
+    for (text, want) in &REFUSED {
+        let found = taken(&rt, rt.alloc(), *text)?;
+        same(&rt, text, &found, &Err(error_of(*want)));
     }
     Ok(())
 }
@@ -174,29 +186,44 @@ fn repeated(
     Ok(text)
 }
 
-#[test]
-fn parentheses_nest_256_deep(rt: HostRuntime) -> Result<(), Fail> {
-    let deep = repeated(rt.alloc(), b"", b"(", 257, b"a")?;
-    let named = ParseErr::Deep(Span { from: 256, to: 257 });
-    assert_eq!(rt; taken(&rt, rt.alloc(), deep.as_slice())?, Err(named));
+/// What stands in front, what is repeated how often, what stands at the end, and how many tokens are taken, or what is named as too deep.
+type Row = (
+    &'static [u8],
+    &'static [u8],
+    u32,
+    &'static [u8],
+    Result<usize, (u32, u32)>,
+);
+
+const DEEP: [Row; 4] = [
+    (b"", b"(", 257, b"a", Err((256, 257))),
+    (b"a", b"+a", 4096, b"", Ok(8193)),
+    (b"a", b"+a", 4097, b"", Err((8193, 8194))),
+    (b"~(a", b"+a", 4096, b")", Err((8193, 8194))),
+];
+
+/// A text is taken as far as its row says, or is refused where it nests too deep.
+fn is_taken(rt: &impl Abort, alloc: Global, row: &Row) -> Result<(), Fail> {
+    let (front, more, times, end, want) = *row;
+    let text = repeated(alloc, front, more, times, end)?;
+    let found = taken(rt, alloc, text.as_slice())?;
+    let want = match want {
+        Ok(count) => Ok(count),
+        Err((from, to)) => Err(ParseErr::Deep(Span { from, to })),
+    };
+    same(rt, row, &found, &want);
     Ok(())
 }
 
 #[test]
+fn parentheses_nest_256_deep(rt: HostRuntime) -> Result<(), Fail> {
+    is_taken(&rt, rt.alloc(), &DEEP[0])
+}
+
+#[test]
 fn a_tree_has_4096_levels(rt: HostRuntime) -> Result<(), Fail> {
-    let most = repeated(rt.alloc(), b"a", b"+a", 4096, b"")?;
-    assert_eq!(rt; taken(&rt, rt.alloc(), most.as_slice())?, Ok(8193));
-    let more = repeated(rt.alloc(), b"a", b"+a", 4097, b"")?;
-    let named = ParseErr::Deep(Span {
-        from: 8193,
-        to: 8194,
-    });
-    assert_eq!(rt; taken(&rt, rt.alloc(), more.as_slice())?, Err(named));
-    let under = repeated(rt.alloc(), b"~(a", b"+a", 4096, b")")?;
-    let named = ParseErr::Deep(Span {
-        from: 8193,
-        to: 8194,
-    });
-    assert_eq!(rt; taken(&rt, rt.alloc(), under.as_slice())?, Err(named));
+    for row in &DEEP[1..] {
+        is_taken(&rt, rt.alloc(), row)?;
+    }
     Ok(())
 }

@@ -22,6 +22,8 @@ mod procedure_texts;
 #[cfg(test)]
 mod reading;
 #[cfg(test)]
+mod same;
+#[cfg(test)]
 mod statement_texts;
 #[cfg(test)]
 mod statements;

@@ -2,6 +2,7 @@
 //! what an `else` and a block hold.
 use crate::reading::Refusal::{Unexpected, Unsupported};
 use crate::reading::{Refusal, all_are_refused, read};
+use crate::same::same;
 use loc_base::Span;
 use std::test::Fail;
 use v_tree::{GenerateBlock, Item, Site, SourceTree};
@@ -54,8 +55,8 @@ const REFUSED: [(&[u8], Refusal); 18] = [
 
 #[test]
 fn a_text_is_any_number_of_modules(rt: HostRuntime) -> Result<(), Fail> {
-    for (text, count) in COUNTED {
-        assert_eq!(rt; read(rt.alloc(), text)??.modules.len(), count);
+    for (text, count) in &COUNTED {
+        same(&rt, text, &read(rt.alloc(), *text)??.modules.len(), count);
     }
     Ok(())
 }
@@ -107,28 +108,30 @@ fn held(tree: &SourceTree) -> Option<(Site, bool)> {
     }
 }
 
+/// Texts, the end of what a loop holds, and whether that is one item.
+const LOOPS: [(&[u8], u32, bool); 2] = [
+    (
+        b"module m;\nfor (i = 0; i < 4; i = i + 1)\nif (a) begin end\nendmodule",
+        56,
+        true,
+    ),
+    (
+        b"module m;\nfor (i = 0; i < 4; i = i + 1)\nbegin : l if (a) begin end end\nendmodule",
+        70,
+        false,
+    ),
+];
+
 #[test]
 fn a_loop_holds_one_item_or_a_block(rt: HostRuntime) -> Result<(), Fail> {
-    let table: [(&[u8], u32, bool); 2] = [
-        (
-            b"module m;\nfor (i = 0; i < 4; i = i + 1)\nif (a) begin end\nendmodule",
-            56,
-            true,
-        ),
-        (
-            b"module m;\nfor (i = 0; i < 4; i = i + 1)\nbegin : l if (a) begin end end\nendmodule",
-            70,
-            false,
-        ),
-    ];
-    for (text, to, is_item) in table {
-        let tree = read(rt.alloc(), text)??;
+    for (text, to, is_item) in &LOOPS {
+        let tree = read(rt.alloc(), *text)??;
         let site = Site {
-            span: Span { from: 40, to },
+            span: Span { from: 40, to: *to },
             token: 19,
             line: 3,
         };
-        assert!(rt; held(&tree) == Some((site, is_item)));
+        assert!(rt; held(&tree) == Some((site, *is_item)));
     }
     Ok(())
 }

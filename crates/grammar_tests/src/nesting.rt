@@ -1,7 +1,9 @@
 //! How deep a module may nest.
 use crate::reading::read;
+use crate::same::same;
 use loc_base::{Bytes, NoMemory, Span};
 use std::alloc::Global;
+use std::process::Abort;
 use std::test::Fail;
 use v_tree::ParseErr;
 
@@ -35,39 +37,47 @@ fn nested(
     Ok(text)
 }
 
-#[test]
-fn a_module_nests_256_deep(rt: HostRuntime) -> Result<(), Fail> {
-    let most = nested(rt.alloc(), 2, 256, b"generate ", b"endgenerate ")?;
-    assert_eq!(rt; counted(rt.alloc(), most.as_slice())?, Ok(2));
-    let more = nested(rt.alloc(), 1, 257, b"generate ", b"endgenerate ")?;
-    let named = ParseErr::Deep(Span {
-        from: 2314,
-        to: 2322,
-    });
-    assert_eq!(rt; counted(rt.alloc(), more.as_slice())?, Err(named));
+/// So many modules, so many times what opens and what closes, and how many modules are read, or the span that is too deep.
+type Row = (u32, u32, &'static [u8], &'static [u8], Result<usize, (u32, u32)>);
+
+/// Each text has as many modules as its row says, or is refused where it nests too deep.
+fn all_are_counted(rt: &impl Abort, alloc: Global, table: &[Row]) -> Result<(), Fail> {
+    for row in table {
+        let (modules, times, open, close, want) = *row;
+        let text = nested(alloc, modules, times, open, close)?;
+        let found = counted(alloc, text.as_slice())?;
+        let want = match want {
+            Ok(count) => Ok(count),
+            Err((from, to)) => Err(ParseErr::Deep(Span { from, to })),
+        };
+        same(rt, row, &found, &want);
+    }
     Ok(())
 }
+
+const GENERATES: [Row; 2] = [
+    (2, 256, b"generate ", b"endgenerate ", Ok(2)),
+    (1, 257, b"generate ", b"endgenerate ", Err((2314, 2322))),
+];
+
+#[test]
+fn a_module_nests_256_deep(rt: HostRuntime) -> Result<(), Fail> {
+    all_are_counted(&rt, rt.alloc(), &GENERATES)
+}
+
+const CONDITIONS: [Row; 2] = [
+    (1, 256, b"if (a) begin ", b"end ", Ok(1)),
+    (1, 257, b"if (a) begin ", b"end ", Err((3338, 3340))),
+];
 
 #[test]
 fn a_block_of_a_condition_is_no_nesting_of_its_own(rt: HostRuntime) -> Result<(), Fail> {
-    let most = nested(rt.alloc(), 1, 256, b"if (a) begin ", b"end ")?;
-    assert_eq!(rt; counted(rt.alloc(), most.as_slice())?, Ok(1));
-    let more = nested(rt.alloc(), 1, 257, b"if (a) begin ", b"end ")?;
-    let named = ParseErr::Deep(Span {
-        from: 3338,
-        to: 3340,
-    });
-    assert_eq!(rt; counted(rt.alloc(), more.as_slice())?, Err(named));
-    Ok(())
+    all_are_counted(&rt, rt.alloc(), &CONDITIONS)
 }
+
+const PARENTHESES: [Row; 1] = [(1, 256, b"if ((a)) begin ", b"end ", Err((3839, 3840)))];
 
 #[test]
 fn what_is_open_in_a_module_counts_in_its_expressions(rt: HostRuntime) -> Result<(), Fail> {
-    let deep = nested(rt.alloc(), 1, 256, b"if ((a)) begin ", b"end ")?;
-    let named = ParseErr::Deep(Span {
-        from: 3839,
-        to: 3840,
-    });
-    assert_eq!(rt; counted(rt.alloc(), deep.as_slice())?, Err(named));
-    Ok(())
+    all_are_counted(&rt, rt.alloc(), &PARENTHESES)
 }

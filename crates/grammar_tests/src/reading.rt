@@ -1,4 +1,5 @@
 //! How the tests read a text, and rows of tables.
+use crate::same::same;
 use loc_base::{Bytes, NoMemory, Span};
 use std::alloc::Global;
 use std::process::Abort;
@@ -34,7 +35,7 @@ pub fn read(alloc: Global, text: &[u8]) -> Result<Result<SourceTree, ParseErr>, 
 /// Each text has a tree.
 pub fn all_are_read(rt: &impl Abort, alloc: Global, table: &[&[u8]]) -> Result<(), Fail> {
     for text in table {
-        assert!(rt; read(alloc, text)?.is_ok());
+        same(rt, text, &read(alloc, text)?.is_ok(), &true);
     }
     Ok(())
 }
@@ -46,7 +47,7 @@ pub fn all_are_refused(
     table: &[(&[u8], Refusal)],
 ) -> Result<(), Fail> {
     for (text, refusal) in table {
-        assert_eq!(rt; read(alloc, text)?.err(), Some(error_of(*refusal)));
+        same(rt, text, &read(alloc, text)?.err(), &Some(error_of(*refusal)));
     }
     Ok(())
 }

@@ -1,6 +1,7 @@
 //! Statements of texts, and those of initial blocks: how far one goes, which form it has, and the refusals with their spans.
 use crate::reading::Refusal::{Unexpected, Unsupported};
 use crate::reading::{Refusal, error_of, repeated};
+use crate::same::same;
 use loc_base::Span;
 use std::alloc::Global;
 use std::test::Fail;
@@ -73,16 +74,16 @@ fn taken(alloc: Global, text: &[u8]) -> Result<Result<usize, ParseErr>, Fail> {
 
 #[test]
 fn a_statement_ends_at_its_last_token(rt: HostRuntime) -> Result<(), Fail> {
-    for (text, end) in READ {
-        assert_eq!(rt; taken(rt.alloc(), text)?, Ok(end));
+    for (text, end) in &READ {
+        same(&rt, text, &taken(rt.alloc(), *text)?, &Ok(*end));
     }
     Ok(())
 }
 
 #[test]
 fn the_first_token_without_a_place_is_named(rt: HostRuntime) -> Result<(), Fail> {
-    for (text, refusal) in REFUSED {
-        assert_eq!(rt; taken(rt.alloc(), text)?, Err(error_of(refusal)));
+    for (text, refusal) in &REFUSED {
+        same(&rt, text, &taken(rt.alloc(), *text)?, &Err(error_of(*refusal)));
     }
     Ok(())
 }
@@ -104,10 +105,10 @@ fn an_else_belongs_to_the_nearest_if(rt: HostRuntime) -> Result<(), Fail> {
 #[test]
 fn statements_nest_256_deep(rt: HostRuntime) -> Result<(), Fail> {
     let most = repeated(rt.alloc(), b"#1 ", 256, b";")?;
-    assert_eq!(rt; taken(rt.alloc(), most.as_slice())?, Ok(513));
+    same(&rt, &256, &taken(rt.alloc(), most.as_slice())?, &Ok(513));
     let more = repeated(rt.alloc(), b"#1 ", 257, b";")?;
     let named = ParseErr::Deep(Span { from: 768, to: 769 });
-    assert_eq!(rt; taken(rt.alloc(), more.as_slice())?, Err(named));
+    same(&rt, &257, &taken(rt.alloc(), more.as_slice())?, &Err(named));
     Ok(())
 }
 
@@ -115,7 +116,7 @@ fn statements_nest_256_deep(rt: HostRuntime) -> Result<(), Fail> {
 fn what_is_open_in_a_statement_counts_in_its_expressions(rt: HostRuntime) -> Result<(), Fail> {
     let deep = repeated(rt.alloc(), b"#1 ", 256, b"a = (b);")?;
     let named = ParseErr::Deep(Span { from: 772, to: 773 });
-    assert_eq!(rt; taken(rt.alloc(), deep.as_slice())?, Err(named));
+    same(&rt, &"deep", &taken(rt.alloc(), deep.as_slice())?, &Err(named));
     Ok(())
 }
 
@@ -131,16 +132,17 @@ fn taken_first(alloc: Global, text: &[u8]) -> Result<Result<usize, ParseErr>, Fa
 
 #[test]
 fn an_initial_block_takes_assignments_of_names(rt: HostRuntime) -> Result<(), Fail> {
-    for (text, end) in READ_FIRST {
-        assert_eq!(rt; taken_first(rt.alloc(), text)?, Ok(end));
+    for (text, end) in &READ_FIRST {
+        same(&rt, text, &taken_first(rt.alloc(), *text)?, &Ok(*end));
     }
     Ok(())
 }
 
 #[test]
 fn other_forms_are_left_out_of_an_initial_block(rt: HostRuntime) -> Result<(), Fail> {
-    for (text, refusal) in REFUSED_FIRST {
-        assert_eq!(rt; taken_first(rt.alloc(), text)?, Err(error_of(refusal)));
+    for (text, refusal) in &REFUSED_FIRST {
+        let found = taken_first(rt.alloc(), *text)?;
+        same(&rt, text, &found, &Err(error_of(*refusal)));
     }
     Ok(())
 }

@@ -4,6 +4,7 @@ ghost use Rattle.std.specs.Prelude.{◌≡◌, ◌≢◌, ◌⊎◌, ◌++◌, �
 ghost use Rattle.std.specs.Io.{StartsWith};
 ghost use Rattle.io_ports.specs.Faults.{Rose};
 
+use crate::same::same;
 use io_ports::{LoadErr, MemShelf, Numbers, PutErr, Shelf, Texts};
 use loc_base::Bytes;
 use std::alloc::Global;
@@ -69,22 +70,22 @@ fn left_by(alloc: Global, fails: u64) -> Result<(Result<(), Stop>, MemShelf), Fa
     Ok((answer, shelf))
 }
 
+/// The call that fails, the answer, and what is left.
+const STOPPED: [(u64, Result<(), Stop>, Option<&[u8]>); 5] = [
+    (0, Err(Stop::ReadFault), None),
+    (1, Err(Stop::WriteFault), None),
+    (2, Err(Stop::WriteFault), Some(b"ab")),
+    (3, Err(Stop::WriteFault), Some(b"abcdab")),
+    (4, Ok(()), Some(b"abcdabcd")),
+];
+
 #[test]
 fn the_first_fault_ends_a_caller(rt: HostRuntime) -> Result<(), Fail> {
-    for (fails, want, left) in [
-        (0, Err(Stop::ReadFault), None),
-        (1, Err(Stop::WriteFault), None),
-        (2, Err(Stop::WriteFault), Some("ab")),
-        (3, Err(Stop::WriteFault), Some("abcdab")),
-        (4, Ok(()), Some("abcdabcd")),
-    ] {
+    for row in &STOPPED {
+        let (fails, want, left) = *row;
         let (answer, shelf) = left_by(rt.alloc(), fails)?;
-        assert_eq!(rt; answer, want, "where call {fails} fails");
-        assert_eq!(rt;
-            shelf.text("to").map(Bytes::as_slice),
-            left.map(|text: &str| text.as_bytes()),
-            "where call {fails} fails"
-        );
+        same(&rt, row, &answer, &want);
+        same(&rt, row, &shelf.text("to").map(Bytes::as_slice), &left);
     }
     Ok(())
 }

@@ -7,12 +7,12 @@ use std::test::Fail;
 #[test]
 fn what_is_written_is_loaded(rt: HostRuntime) -> Result<(), Fail> {
     let mut shelf = FileShelf::new(&rt, rt.alloc());
-    assert_eq!(rt; shelf.begin("written.txt"), Ok(()));
-    assert_eq!(rt; shelf.put("written.txt", b"one"), Ok(()));
-    assert_eq!(rt; shelf.begin("other.txt"), Ok(()));
-    assert_eq!(rt; shelf.put("written.txt", b"two"), Ok(()));
+    shelf.begin("written.txt")?;
+    shelf.put("written.txt", b"one")?;
+    shelf.begin("other.txt")?;
+    shelf.put("written.txt", b"two")?;
     let text = shelf.load(rt.alloc(), "written.txt", 6)?;
-    assert_eq!(rt; text.as_slice(), b"onetwo".as_slice());
+    assert!(rt; text.as_slice() == b"onetwo".as_slice());
     assert!(rt; shelf.load(rt.alloc(), "other.txt", 0)?.is_empty());
     fs::remove_file(&rt, "written.txt")?;
     fs::remove_file(&rt, "other.txt")?;
@@ -23,7 +23,7 @@ fn what_is_written_is_loaded(rt: HostRuntime) -> Result<(), Fail> {
 fn begin_empties_a_file(rt: HostRuntime) -> Result<(), Fail> {
     let mut shelf = FileShelf::new(&rt, rt.alloc());
     fs::write(&rt, "emptied.txt", "old")?;
-    assert_eq!(rt; shelf.begin("emptied.txt"), Ok(()));
+    shelf.begin("emptied.txt")?;
     assert!(rt; shelf.load(rt.alloc(), "emptied.txt", 0)?.is_empty());
     fs::remove_file(&rt, "emptied.txt")?;
     Ok(())
@@ -48,6 +48,6 @@ fn what_the_system_refuses_is_a_fault(rt: HostRuntime) {
         )
     );
     assert!(rt; matches!(shelf.load(rt.alloc(), ".", 9), Err(LoadErr::Failed)));
-    assert_eq!(rt; shelf.begin("absent/log.txt"), Err(PutErr::Failed));
-    assert_eq!(rt; shelf.put("absent/log.txt", b"x"), Err(PutErr::Failed));
+    assert!(rt; matches!(shelf.begin("absent/log.txt"), Err(PutErr::Failed)));
+    assert!(rt; matches!(shelf.put("absent/log.txt", b"x"), Err(PutErr::Failed)));
 }

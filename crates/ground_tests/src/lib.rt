@@ -15,6 +15,8 @@ mod mem_shelf;
 #[cfg(test)]
 mod names;
 #[cfg(test)]
+mod same;
+#[cfg(test)]
 mod sinks;
 #[cfg(test)]
 mod transfer;

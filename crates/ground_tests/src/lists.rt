@@ -9,19 +9,19 @@ fn bytes_grow_at_their_end(rt: HostRuntime) -> Result<(), Fail> {
     assert!(rt; bytes.is_empty());
     bytes.push(b'a')?;
     bytes.append(b"bc")?;
-    assert_eq!(rt; bytes.len(), 3);
-    assert_eq!(rt; bytes.as_slice(), b"abc".as_slice());
+    assert!(rt; bytes.len() == 3);
+    assert!(rt; bytes.as_slice() == b"abc".as_slice());
     Ok(())
 }
 
 #[test]
 fn lists_are_made_of_a_slice_and_of_a_vector(rt: HostRuntime) -> Result<(), Fail> {
     let copy = Items::copy_of(rt.alloc(), &[7u32, 9])?;
-    assert_eq!(rt; copy.as_slice(), [7, 9].as_slice());
+    assert!(rt; copy.as_slice() == [7, 9].as_slice());
     let words = Items::from_vec(vec![in rt.alloc(); 1u64, 2]?);
-    assert_eq!(rt; words.get(1), Some(&2));
-    assert_eq!(rt; words.get(2), None);
-    assert_eq!(rt; words.into_vec().as_slice(), [1, 2].as_slice());
+    assert!(rt; matches!(words.get(1), Some(2)));
+    assert!(rt; words.get(2).is_none());
+    assert!(rt; words.into_vec().as_slice() == [1, 2].as_slice());
     Ok(())
 }
 
@@ -29,9 +29,9 @@ fn lists_are_made_of_a_slice_and_of_a_vector(rt: HostRuntime) -> Result<(), Fail
 fn an_element_is_put_in_place_and_the_last_is_taken(rt: HostRuntime) -> Result<(), Fail> {
     let mut list = Items::copy_of(rt.alloc(), &[1u8, 2])?;
     list.set(0, 5);
-    assert_eq!(rt; list.pop(), Some(2));
-    assert_eq!(rt; list.pop(), Some(5));
-    assert_eq!(rt; list.pop(), None);
+    assert!(rt; matches!(list.pop(), Some(2)));
+    assert!(rt; matches!(list.pop(), Some(5)));
+    assert!(rt; list.pop().is_none());
     Ok(())
 }
 
@@ -41,23 +41,19 @@ fn rows_of_any_length_stand_one_behind_the_other(rt: HostRuntime) -> Result<(), 
     rows.push(&[1u8, 2])?;
     rows.push(&[])?;
     rows.push(&[3])?;
-    assert_eq!(rt; rows.len(), 3);
-    for (number, want) in [
-        (0, [1, 2].as_slice()),
-        (1, [].as_slice()),
-        (2, [3].as_slice()),
-    ] {
-        assert_eq!(rt; rows.row(number), want, "{number}");
-    }
+    assert!(rt; rows.len() == 3);
+    assert!(rt; rows.row(0) == [1, 2].as_slice());
+    assert!(rt; rows.row(1).is_empty());
+    assert!(rt; rows.row(2) == [3].as_slice());
     rows.pop();
-    assert_eq!(rt; rows.len(), 2);
+    assert!(rt; rows.len() == 2);
     Ok(())
 }
 
 #[test]
 fn a_box_gives_its_value_back(rt: HostRuntime) -> Result<(), Fail> {
     let boxed = Boxed::new(rt.alloc(), 7u8)?;
-    assert_eq!(rt; *boxed.get(), 7);
-    assert_eq!(rt; boxed.into_inner(), 7);
+    assert!(rt; *boxed.get() == 7);
+    assert!(rt; boxed.into_inner() == 7);
     Ok(())
 }

@@ -69,9 +69,9 @@ impl Print for Recorder {
 fn what_is_put_is_printed(rt: HostRuntime) -> Result<(), Fail> {
     let recorder = Recorder::new(&rt, 9);
     let mut sink = OutSink::new(&recorder);
-    assert_eq!(rt; sink.put(b"one line\n"), Ok(()));
-    assert_eq!(rt; sink.put(b""), Ok(()));
-    assert_eq!(rt; sink.put(b"two"), Ok(()));
+    sink.put(b"one line\n")?;
+    sink.put(b"")?;
+    sink.put(b"two")?;
     assert!(rt; recorder.has_printed(b"one line\ntwo"));
     Ok(())
 }
@@ -80,7 +80,7 @@ fn what_is_put_is_printed(rt: HostRuntime) -> Result<(), Fail> {
 fn what_is_not_printed_to_its_end_is_a_fault(rt: HostRuntime) -> Result<(), Fail> {
     let recorder = Recorder::new(&rt, 1);
     let mut sink = OutSink::new(&recorder);
-    assert_eq!(rt; sink.put(b"abcd"), Err(SinkFault::Failed));
+    assert!(rt; matches!(sink.put(b"abcd"), Err(SinkFault::Failed)));
     assert!(rt; recorder.has_printed(b"abc"));
     Ok(())
 }
@@ -88,7 +88,7 @@ fn what_is_not_printed_to_its_end_is_a_fault(rt: HostRuntime) -> Result<(), Fail
 #[test]
 fn standard_output_takes_a_piece(rt: HostRuntime) {
     let mut sink = OutSink::new(&rt);
-    assert_eq!(rt; sink.put(b"a piece on standard output\n"), Ok(()));
+    assert!(rt; sink.put(b"a piece on standard output\n").is_ok());
 }
 
 #[test]
@@ -96,10 +96,10 @@ fn a_put_that_fails_leaves_a_front(rt: HostRuntime) -> Result<(), Fail> {
     let mut fails = Numbers::new(rt.alloc());
     fails.push(1)?;
     let mut sink = MemSink::new(rt.alloc(), fails);
-    assert_eq!(rt; sink.put(b"one"), Ok(()));
-    assert_eq!(rt; sink.put(b"twos"), Err(SinkFault::Failed));
-    assert_eq!(rt; sink.put(b"!"), Ok(()));
-    assert_eq!(rt; sink.text().as_slice(), b"onetw!".as_slice());
-    assert_eq!(rt; sink.faults(), 1);
+    sink.put(b"one")?;
+    assert!(rt; matches!(sink.put(b"twos"), Err(SinkFault::Failed)));
+    sink.put(b"!")?;
+    assert!(rt; sink.text().as_slice() == b"onetw!".as_slice());
+    assert!(rt; sink.faults() == 1);
     Ok(())
 }

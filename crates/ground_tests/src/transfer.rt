@@ -62,7 +62,7 @@ fn a_text_longer_than_the_buffer_is_read_whole(rt: HostRuntime) -> Result<(), Fa
     let long = vec![in rt.alloc(); b'x'; 600_000]?;
     let mut reader = long.as_slice();
     let text = read_text(rt.alloc(), &mut reader, 600_000)?;
-    assert_eq!(rt; text.as_slice(), long.as_slice());
+    assert!(rt; text.as_slice() == long.as_slice());
     Ok(())
 }
 
@@ -89,14 +89,14 @@ fn a_read_that_fails_on_the_way_is_no_end(rt: HostRuntime) {
 fn a_writer_of_single_bytes_takes_all(rt: HostRuntime) {
     let mut writer = Slow::new(rt.alloc(), 4);
     assert!(rt; write_piece(&mut writer, b"abcd"));
-    assert_eq!(rt; writer.written.as_slice(), b"abcd".as_slice());
+    assert!(rt; writer.written.as_slice() == b"abcd".as_slice());
 }
 
 #[test]
 fn a_write_that_fails_on_the_way_leaves_a_front(rt: HostRuntime) {
     let mut writer = Slow::new(rt.alloc(), 2);
     assert!(rt; !write_piece(&mut writer, b"abcd"));
-    assert_eq!(rt; writer.written.as_slice(), b"ab".as_slice());
+    assert!(rt; writer.written.as_slice() == b"ab".as_slice());
 }
 
 #[test]
@@ -104,5 +104,5 @@ fn a_writer_that_takes_nothing_fails(rt: HostRuntime) {
     let mut room = [0u8; 2];
     let mut writer = room.as_mut_slice();
     assert!(rt; !write_piece(&mut writer, b"abc"));
-    assert_eq!(rt; room.as_slice(), b"ab".as_slice());
+    assert!(rt; room == [b'a', b'b']);
 }

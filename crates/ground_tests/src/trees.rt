@@ -42,6 +42,6 @@ fn a_tree_of_lists_and_boxes_is_read_by_recursion(rt: HostRuntime) -> Result<(),
     parts.push(Sum::Number(1))?;
     parts.push(twice(rt.alloc(), 20)?)?;
     parts.push(Sum::Each(Items::new(rt.alloc())))?;
-    assert_eq!(rt; value(&Sum::Each(parts)), 41);
+    assert!(rt; value(&Sum::Each(parts)) == 41);
     Ok(())
 }

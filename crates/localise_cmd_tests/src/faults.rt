@@ -1,9 +1,13 @@
 //! What is left where a call of the shelf or of the sink fails, for each call of each command in turn.
 
-use crate::runs::{Asked, NAMES, Ran, run, run_by, run_over, texts_with, words, written};
+use crate::runs::{
+    Asked, NAMES, Ran, printed, run, run_by, run_over, texts_with, words, written,
+};
+use crate::same::same;
 use io_ports::Texts;
 use loc_base::{Bytes, FreeGate};
 use std::alloc::Global;
+use std::process::Abort;
 use std::test::Fail;
 use std::thread::Threads;
 
@@ -106,7 +110,9 @@ const COUNTED: [Due<'static>; 6] = [
 ];
 
 /// Words, the calls that are due, and the status where none fails.
-const RUNS: [(&str, &[Due<'static>], u8); 7] = [
+type Row = (&'static str, &'static [Due<'static>], u8);
+
+const RUNS: [Row; 7] = [
     ("find m.v m t.vcd --waves w", &FOUND, 0),
     ("find m.v m t.vcd --sets 1", &FRONT, 1),
     ("make 0", &MADE, 0),
@@ -154,7 +160,7 @@ fn standing<'a>(whole: &'a [u8], dues: &[Due], name: &str) -> Option<&'a [u8]> {
 }
 
 /// What calls print.
-fn printed(alloc: Global, dues: &[Due]) -> Result<String, Fail> {
+fn lines_of(alloc: Global, dues: &[Due]) -> Result<String, Fail> {
     let mut text = String::new(alloc);
     for due in dues {
         if let Due::Print(lines) = *due {
@@ -185,9 +191,9 @@ struct Failing<'a> {
 
 impl Failing<'_> {
     fn run<R: Threads + Sync>(&self, rt: &R, alloc: Global, texts: Texts) -> Result<Ran, Fail> {
-        let printed = prints(self.before);
-        let sink = [printed];
-        let shelf = [(self.before.len() as u64).wrapping_sub(printed)];
+        let lines = prints(self.before);
+        let sink = [lines];
+        let shelf = [(self.before.len() as u64).wrapping_sub(lines)];
         let asked = match self.due {
             Due::Print(_lines) => Asked {
                 sink_fails: &sink,
@@ -229,7 +235,7 @@ impl Failing<'_> {
     /// Whether what is printed is what was printed before the failing call, and a front of what it was to print. A text that isn't
     /// loaded is named.
     fn is_printed(&self, alloc: Global, text: &[u8]) -> Result<bool, Fail> {
-        let before = printed(alloc, self.before)?;
+        let before = lines_of(alloc, self.before)?;
         match self.due {
             Due::Load(name) => {
                 let line = format!(in alloc; "read fault {name}\n")?;
@@ -251,34 +257,64 @@ impl Failing<'_> {
     }
 }
 
+/// What was found before, and what a run leaves in which no call fails.
+#[derive(Clone, Copy)]
+struct Beside<'a> {
+    found: &'a Ran,
+    whole: &'a Ran,
+}
+
+/// The call that fails is the last, and leaves a front of what was due.
+fn stops<R: Threads + Sync + Abort>(
+    rt: &R,
+    alloc: Global,
+    failing: &Failing,
+    beside: &Beside,
+) -> Result<(), Fail> {
+    let row = (failing.line, failing.before.len());
+    let texts = texts_with(alloc, beside.found, &["r", "l"])?;
+    let ran = failing.run(rt, alloc, texts)?;
+    same(rt, &row, &ran.status, &failing.status());
+    same(rt, &row, &failing.is_printed(alloc, printed(&ran))?, &true);
+    same(rt, &row, &failing.leaves_all(&ran, beside.whole), &true);
+    Ok(())
+}
+
+/// A run in which no call fails is what its row says, and so is each in which one does.
+fn each_stops<R: Threads + Sync + Abort>(
+    rt: &R,
+    alloc: Global,
+    found: &Ran,
+    row: &Row,
+) -> Result<(), Fail> {
+    let (line, dues, status) = *row;
+    let whole = run_over(rt, alloc, texts_with(alloc, found, &["r", "l"])?, line)?;
+    let lines = lines_of(alloc, dues)?;
+    same(rt, &line, &printed(&whole), &lines.as_bytes());
+    same(rt, &line, &whole.status, &status);
+    let beside = Beside {
+        found,
+        whole: &whole,
+    };
+    for place in 0..dues.len() {
+        let failing = Failing {
+            line,
+            before: &dues[..place],
+            due: dues[place],
+        };
+        stops(rt, alloc, &failing, &beside)?;
+    }
+    Ok(())
+}
+
 #[test]
 fn a_call_that_fails_is_the_last_and_leaves_a_front_of_what_was_due(
     rt: HostRuntime,
 ) -> Result<(), Fail> {
     let alloc = rt.alloc();
-    let line = "find m.v m t.vcd u.vcd --report r --log l";
-    let found = run(&rt, alloc, line)?;
-    for (line, dues, status) in RUNS {
-        let texts = texts_with(alloc, &found, &["r", "l"])?;
-        let whole = run_over(&rt, alloc, texts, line)?;
-        let all = printed(alloc, dues)?;
-        assert_eq!(rt; whole.out.text().as_slice(), all.as_bytes(), "{line}");
-        assert_eq!(rt; whole.status, status, "{line}");
-        for place in 0..dues.len() {
-            let failing = Failing {
-                line,
-                before: &dues[..place],
-                due: dues[place],
-            };
-            let texts = texts_with(alloc, &found, &["r", "l"])?;
-            let ran = failing.run(&rt, alloc, texts)?;
-            assert_eq!(rt; ran.status, failing.status(), "{line}: {place}");
-            assert!(rt;
-                failing.is_printed(alloc, ran.out.text().as_slice())?,
-                "{line}: {place}"
-            );
-            assert!(rt; failing.leaves_all(&ran, &whole), "{line}: {place}");
-        }
+    let found = run(&rt, alloc, "find m.v m t.vcd u.vcd --report r --log l")?;
+    for row in &RUNS {
+        each_stops(&rt, alloc, &found, row)?;
     }
     Ok(())
 }

@@ -1,6 +1,9 @@
 //! The work of several workers: each piece of it passes the gate, and where one is held the others go on.
 
-use crate::runs::{Ran, lines, run, run_by, run_over, texts_of, texts_with, words, written};
+use crate::runs::{
+    Ran, lines, printed, run, run_by, run_over, texts_of, texts_with, words, written,
+};
+use crate::same::same;
 use loc_base::Gate;
 use std::sync::atomic::{AtomicU32, Ordering};
 use std::test::Fail;
@@ -80,22 +83,25 @@ fn pieces_of(ran: &Ran, workers: usize) -> usize {
     portions(steps, portions(steps, workers))
 }
 
+/// Words, and how many workers they ask for.
+const LOGGED: [(&str, usize); 4] = [
+    ("find m.v m t.vcd", 1),
+    ("find m.v m t.vcd --workers 2", 2),
+    ("find m.v m t.vcd --workers 7", 7),
+    ("make 0 --workers 8", 8),
+];
+
 /// The log of a whole list is checked before the list is said to be complete.
 #[test]
 fn each_piece_of_the_log_of_a_whole_list_enters_once(rt: HostRuntime) -> Result<(), Fail> {
     let alloc = rt.alloc();
-    for (line, workers) in [
-        ("find m.v m t.vcd", 1usize),
-        ("find m.v m t.vcd --workers 2", 2),
-        ("find m.v m t.vcd --workers 7", 7),
-        ("make 0 --workers 8", 8),
-    ] {
+    for (line, workers) in &LOGGED {
         let gate = NotingGate::new(false);
-        let ran = run_by(&rt, alloc, texts_of(alloc)?, words(line), &gate)?;
-        assert_eq!(rt; ran.status, 0, "{line}");
-        let pieces = pieces_of(&ran, workers);
-        assert!(rt; workers == 1 || pieces > 1, "{line}");
-        assert!(rt; gate.is_entered_by(pieces), "{line}");
+        let ran = run_by(&rt, alloc, texts_of(alloc)?, words(*line), &gate)?;
+        same(&rt, line, &ran.status, &0);
+        let pieces = pieces_of(&ran, *workers);
+        same(&rt, line, &(pieces > 1), &(*workers > 1));
+        same(&rt, line, &gate.is_entered_by(pieces), &true);
     }
     Ok(())
 }
@@ -117,21 +123,16 @@ fn a_piece_that_is_held_holds_no_other_and_changes_nothing(rt: HostRuntime) -> R
     let alloc = rt.alloc();
     let line = "find m.v m t.vcd u.vcd --report r --log l";
     let found = run(&rt, alloc, line)?;
-    for (plain, line, times) in HELD {
-        let one = run_over(&rt, alloc, texts_with(alloc, &found, &["r", "l"])?, plain)?;
+    for (plain, line, times) in &HELD {
+        let one = run_over(&rt, alloc, texts_with(alloc, &found, &["r", "l"])?, *plain)?;
         let gate = NotingGate::new(true);
         let texts = texts_with(alloc, &found, &["r", "l"])?;
-        let more = run_by(&rt, alloc, texts, words(line), &gate)?;
-        assert_eq!(rt; gate.met.load(Ordering::SeqCst), times, "{line}");
-        assert_eq!(rt; more.status, 0, "{line}");
-        assert_eq!(rt; one.status, 0, "{line}");
-        assert_eq!(rt;
-            more.out.text().as_slice(),
-            one.out.text().as_slice(),
-            "{line}"
-        );
+        let more = run_by(&rt, alloc, texts, words(*line), &gate)?;
+        same(&rt, line, &gate.met.load(Ordering::SeqCst), times);
+        same(&rt, line, &(one.status, more.status), &(0, 0));
+        same(&rt, line, &printed(&more), &printed(&one));
         for name in ["localise.log", "localise.json"] {
-            assert_eq!(rt; written(&more, name), written(&one, name), "{line}");
+            same(&rt, line, &written(&more, name), &written(&one, name));
         }
     }
     Ok(())

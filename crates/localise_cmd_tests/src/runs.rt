@@ -117,15 +117,22 @@ pub(super) fn words(line: &str) -> Asked<'_> {
     }
 }
 
+/// Their names.
+const TEXTS: [(&str, &[u8]); 6] = [
+    ("m.v", OR_NOT),
+    ("t.vcd", OR_NOT_TRACE),
+    ("u.vcd", RIGHT_TRACE),
+    ("c.v", BY_TWO),
+    ("c.vcd", BY_TWO_TRACE),
+    ("d.v", SHOWN),
+];
+
 /// The texts above.
 pub(super) fn texts_of(alloc: Global) -> Result<Texts, Fail> {
     let mut texts = Texts::new(alloc);
-    texts.add("m.v", Bytes::copy_of(alloc, OR_NOT)?)?;
-    texts.add("t.vcd", Bytes::copy_of(alloc, OR_NOT_TRACE)?)?;
-    texts.add("u.vcd", Bytes::copy_of(alloc, RIGHT_TRACE)?)?;
-    texts.add("c.v", Bytes::copy_of(alloc, BY_TWO)?)?;
-    texts.add("c.vcd", Bytes::copy_of(alloc, BY_TWO_TRACE)?)?;
-    texts.add("d.v", Bytes::copy_of(alloc, SHOWN)?)?;
+    for (name, text) in &TEXTS {
+        texts.add(*name, Bytes::copy_of(alloc, *text)?)?;
+    }
     Ok(texts)
 }
 
@@ -181,11 +188,22 @@ pub(super) fn written<'a>(ran: &'a Ran, name: &str) -> &'a [u8] {
     }
 }
 
+/// What a run printed.
+pub(super) fn printed(ran: &Ran) -> &[u8] {
+    ran.out.text().as_slice()
+}
+
+/// Whether a text was begun under a name.
+pub(super) fn begun(ran: &Ran, name: &str) -> bool {
+    ran.shelf.text(name).is_some()
+}
+
 /// The texts above, and beside them those that a run wrote under names.
 pub(super) fn texts_with(alloc: Global, ran: &Ran, names: &[&str]) -> Result<Texts, Fail> {
     let mut texts = texts_of(alloc)?;
     for name in names {
-        texts.add(*name, Bytes::copy_of(alloc, written(ran, *name))?)?;
+        let text = Bytes::copy_of(alloc, written(ran, *name))?;
+        texts.add(*name, text)?;
     }
     Ok(texts)
 }

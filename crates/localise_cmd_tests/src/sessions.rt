@@ -1,6 +1,7 @@
 //! What `make` leaves, and what `check` says of it.
 
-use crate::runs::{Ran, lines, run, run_over, texts_with, written};
+use crate::runs::{Ran, lines, printed, run, run_over, texts_with, written};
+use crate::same::same;
 use io_ports::Texts;
 use loc_base::Bytes;
 use std::alloc::Global;
@@ -46,8 +47,8 @@ fn learned(log: &[u8]) -> u32 {
 #[test]
 fn a_budget_of_one_is_spent_on_one_learned_clause(rt: HostRuntime) -> Result<(), Fail> {
     let ran = run(&rt, rt.alloc(), "make 7 --budget 1")?;
-    assert_eq!(rt; ran.status, 1);
-    assert_eq!(rt; learned(written(&ran, "localise.log")), 1);
+    assert!(rt; ran.status == 1);
+    assert!(rt; learned(written(&ran, "localise.log")) == 1);
     Ok(())
 }
 
@@ -64,8 +65,8 @@ fn a_list_that_was_made_is_judged_by_each_literal(rt: HostRuntime) -> Result<(),
     let alloc = rt.alloc();
     let made = run(&rt, alloc, "make 7")?;
     let ran = run_over(&rt, alloc, texts_with(alloc, &made, &LEFT)?, CHECK)?;
-    assert_eq!(rt; ran.out.text().as_slice(), b"yes 3\n".as_slice());
-    assert_eq!(rt; ran.status, 0);
+    same(&rt, &"made", &printed(&ran), &b"yes 3\n".as_slice());
+    assert!(rt; ran.status == 0);
     let Some((head, rest)) = at_first_learned(written(&made, "localise.log")) else {
         return Err(Fail::new("no learned clause"));
     };
@@ -73,8 +74,8 @@ fn a_list_that_was_made_is_judged_by_each_literal(rt: HostRuntime) -> Result<(),
     changed.append(behind_space(rest))?;
     let step = lines(head).wrapping_sub(1);
     let ran = run_over(&rt, alloc, with_log(alloc, &made, changed)?, CHECK)?;
-    let printed = format!(in alloc; "no step {step}\n")?;
-    assert_eq!(rt; ran.out.text().as_slice(), printed.as_bytes());
-    assert_eq!(rt; ran.status, 8);
+    let wanted = format!(in alloc; "no step {step}\n")?;
+    same(&rt, &"changed", &printed(&ran), &wanted.as_bytes());
+    assert!(rt; ran.status == 8);
     Ok(())
 }

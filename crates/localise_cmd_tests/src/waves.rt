@@ -1,7 +1,7 @@
 //! The waves of `find`, byte for byte. What is chosen in them is what the outputs that are wanted leave no choice of.
 
-use crate::runs::run;
-use loc_base::Bytes;
+use crate::runs::{begun, run, written};
+use crate::same::same;
 use std::test::Fail;
 
 /// The first set of an inverted OR, by the trace that is wrong: the place of line 3 is chosen.
@@ -194,11 +194,12 @@ const RUNS: [(&str, &[(&str, Option<&str>)]); 5] = [
 
 #[test]
 fn each_set_and_trace_has_a_wave_and_nothing_else_has(rt: HostRuntime) -> Result<(), Fail> {
-    for (line, waves) in RUNS {
-        let ran = run(&rt, rt.alloc(), line)?;
-        for (name, text) in waves {
-            let written = ran.shelf.text(*name).map(Bytes::as_slice);
-            assert_eq!(rt; written, text.map(str::as_bytes), "{line}: {name}");
+    for (line, waves) in &RUNS {
+        let ran = run(&rt, rt.alloc(), *line)?;
+        for (name, text) in *waves {
+            let row = (*line, *name);
+            same(&rt, &row, &begun(&ran, *name), &text.is_some());
+            same(&rt, &row, &written(&ran, *name), &text.unwrap_or("").as_bytes());
         }
     }
     Ok(())

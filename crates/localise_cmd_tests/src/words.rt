@@ -1,7 +1,7 @@
 //! What each command prints for its words.
 
-use crate::runs::{run, written};
-use loc_base::Bytes;
+use crate::runs::{begun, printed, run, written};
+use crate::same::same;
 use std::test::Fail;
 
 const FOUND: &str = "set {1}\n  1 stmt 3 m\nset {2}\n  2 stmt 4 m\ncomplete 2\n";
@@ -113,10 +113,10 @@ made 9999 stages 12 width 32 cycles 16
 
 #[test]
 fn each_command_is_asked_for_by_its_words(rt: HostRuntime) -> Result<(), Fail> {
-    for (line, printed, status) in RUNS {
-        let ran = run(&rt, rt.alloc(), line)?;
-        assert_eq!(rt; ran.out.text().as_slice(), printed.as_bytes(), "{line}");
-        assert_eq!(rt; ran.status, status, "{line}");
+    for (line, wanted, status) in &RUNS {
+        let ran = run(&rt, rt.alloc(), *line)?;
+        same(&rt, line, &printed(&ran), &wanted.as_bytes());
+        same(&rt, line, &ran.status, status);
     }
     Ok(())
 }
@@ -124,12 +124,10 @@ fn each_command_is_asked_for_by_its_words(rt: HostRuntime) -> Result<(), Fail> {
 #[test]
 fn only_a_list_writes_its_log_and_its_report(rt: HostRuntime) -> Result<(), Fail> {
     let ran = run(&rt, rt.alloc(), "find m.v m t.vcd --report r --log l")?;
-    assert_eq!(rt; ran.shelf.text("r").map(Bytes::as_slice), Some(REPORT));
+    same(&rt, &"r", &written(&ran, "r"), &REPORT);
     assert!(rt; written(&ran, "l").starts_with(LOG_HEAD));
-    assert!(rt; ran.shelf.text("localise.json").is_none());
-    assert!(rt; ran.shelf.text("localise.log").is_none());
+    assert!(rt; !begun(&ran, "localise.json") && !begun(&ran, "localise.log"));
     let ran = run(&rt, rt.alloc(), "sim m.v m t.vcd")?;
-    assert!(rt; ran.shelf.text("localise.json").is_none());
-    assert!(rt; ran.shelf.text("localise.log").is_none());
+    assert!(rt; !begun(&ran, "localise.json") && !begun(&ran, "localise.log"));
     Ok(())
 }

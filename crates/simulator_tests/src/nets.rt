@@ -1,27 +1,33 @@
 //! Continuous assignments.
 
-use crate::build::{add_assign, binary, design_of, whole};
+use crate::build::{Example, Step};
 use crate::right::{Case, all_hold};
-use design_core::{BinaryOp, Design, SignalKind};
-use std::alloc::Global;
+use design_core::{BinaryOp, SignalKind};
 use std::test::Fail;
 
 /// `assign n = a; assign y = n | b; assign x = n;`
-fn fan_out(alloc: Global) -> Result<Design, Fail> {
-    let signals = [
+const FAN_OUT_DESIGN: Example<'static> = Example {
+    signals: &[
         ("a", 1, SignalKind::Input, 0),
         ("b", 1, SignalKind::Input, 0),
         ("y", 1, SignalKind::Net, 0),
         ("x", 1, SignalKind::Net, 0),
         ("n", 1, SignalKind::Net, 0),
-    ];
-    let mut design = design_of(alloc, &signals, &[(1, 4), (1, 2), (1, 3)], &[0, 1], &[2, 3])?;
-    add_assign(alloc, &mut design, Some(0), 4, whole(1, 0))?;
-    let either = binary(alloc, BinaryOp::Or, whole(1, 4), whole(1, 1))?;
-    add_assign(alloc, &mut design, Some(1), 2, either)?;
-    add_assign(alloc, &mut design, Some(2), 3, whole(1, 4))?;
-    Ok(design)
-}
+    ],
+    places: &[(1, 4), (1, 2), (1, 3)],
+    inputs: &[0, 1],
+    outputs: &[2, 3],
+    steps: &[
+        Step::Whole(1, 0),
+        Step::Assign(Some(0), 4),
+        Step::Whole(1, 4),
+        Step::Whole(1, 1),
+        Step::Binary(BinaryOp::Or),
+        Step::Assign(Some(1), 2),
+        Step::Whole(1, 4),
+        Step::Assign(Some(2), 3),
+    ],
+};
 
 /// With a and b at 0 and y expected to be 1, n or y explains it where x is not checked; where x is 1 too, n does, and y and
 /// x together do.
@@ -54,9 +60,7 @@ const FAN_OUT: [Case; 2] = [
 
 #[test]
 fn one_net_with_two_readers_explains_both(rt: HostRuntime) -> Result<(), Fail> {
-    let design = fan_out(rt.alloc())?;
-    assert!(rt; all_hold(rt.alloc(), &design, &FAN_OUT)?);
-    Ok(())
+    all_hold(rt.alloc(), &FAN_OUT_DESIGN, &FAN_OUT)
 }
 
 /// Where a driver is computed before one that it reads, what comes out is no cycle.
@@ -77,14 +81,12 @@ const ORDERS: [Case; 2] = [
 
 #[test]
 fn an_order_that_is_none_finds_no_cycle(rt: HostRuntime) -> Result<(), Fail> {
-    let design = fan_out(rt.alloc())?;
-    assert!(rt; all_hold(rt.alloc(), &design, &ORDERS)?);
-    Ok(())
+    all_hold(rt.alloc(), &FAN_OUT_DESIGN, &ORDERS)
 }
 
 /// Two instances of `assign o = i;`, one from a to y and one from b to x.
-fn two_instances(alloc: Global) -> Result<Design, Fail> {
-    let signals = [
+const TWO_INSTANCES_DESIGN: Example<'static> = Example {
+    signals: &[
         ("a", 1, SignalKind::Input, 0),
         ("b", 1, SignalKind::Input, 0),
         ("y", 1, SignalKind::Net, 0),
@@ -93,20 +95,25 @@ fn two_instances(alloc: Global) -> Result<Design, Fail> {
         ("u.o", 1, SignalKind::Net, 0),
         ("v.i", 1, SignalKind::Net, 0),
         ("v.o", 1, SignalKind::Net, 0),
-    ];
-    let mut design = design_of(alloc, &signals, &[(1, 5), (1, 7)], &[0, 1], &[2, 3])?;
-    for (place, to, from) in [
-        (None, 4, 0),
-        (None, 2, 5),
-        (None, 6, 1),
-        (None, 3, 7),
-        (Some(0), 5, 4),
-        (Some(1), 7, 6),
-    ] {
-        add_assign(alloc, &mut design, place, to, whole(1, from))?;
-    }
-    Ok(design)
-}
+    ],
+    places: &[(1, 5), (1, 7)],
+    inputs: &[0, 1],
+    outputs: &[2, 3],
+    steps: &[
+        Step::Whole(1, 0),
+        Step::Assign(None, 4),
+        Step::Whole(1, 5),
+        Step::Assign(None, 2),
+        Step::Whole(1, 1),
+        Step::Assign(None, 6),
+        Step::Whole(1, 7),
+        Step::Assign(None, 3),
+        Step::Whole(1, 4),
+        Step::Assign(Some(0), 5),
+        Step::Whole(1, 6),
+        Step::Assign(Some(1), 7),
+    ],
+};
 
 /// With a and b at 0 and both outputs expected to be 1, the places of the module's line in both instances explain it, and
 /// that of one alone does not.
@@ -123,7 +130,5 @@ const TWO_INSTANCES: [Case; 1] = [Case {
 
 #[test]
 fn two_instances_of_one_line_explain_together(rt: HostRuntime) -> Result<(), Fail> {
-    let design = two_instances(rt.alloc())?;
-    assert!(rt; all_hold(rt.alloc(), &design, &TWO_INSTANCES)?);
-    Ok(())
+    all_hold(rt.alloc(), &TWO_INSTANCES_DESIGN, &TWO_INSTANCES)
 }

@@ -1,25 +1,31 @@
 //! The design `wire n; assign n = a | b; assign y = ~n;` with the inputs a and b and the output y, and values of its places.
 
-use crate::build::{add_assign, binary, design_of, not, whole};
-use design_core::{BinaryOp, Design, Members, SetWithValues, SignalKind, Values};
+use crate::build::{Example, Step};
+use design_core::{BinaryOp, Members, SetWithValues, SignalKind, Values};
 use loc_base::Bits;
 use std::alloc::Global;
 use std::test::Fail;
 
-pub(super) fn or_not(alloc: Global) -> Result<Design, Fail> {
-    let signals = [
+pub(super) const OR_NOT: Example<'static> = Example {
+    signals: &[
         ("a", 1, SignalKind::Input, 0),
         ("b", 1, SignalKind::Input, 0),
         ("n", 1, SignalKind::Net, 0),
         ("y", 1, SignalKind::Net, 0),
-    ];
-    let mut design = design_of(alloc, &signals, &[(1, 2), (1, 3)], &[0, 1], &[3])?;
-    let either = binary(alloc, BinaryOp::Or, whole(1, 0), whole(1, 1))?;
-    add_assign(alloc, &mut design, Some(0), 2, either)?;
-    let inverse = not(alloc, whole(1, 2))?;
-    add_assign(alloc, &mut design, Some(1), 3, inverse)?;
-    Ok(design)
-}
+    ],
+    places: &[(1, 2), (1, 3)],
+    inputs: &[0, 1],
+    outputs: &[3],
+    steps: &[
+        Step::Whole(1, 0),
+        Step::Whole(1, 1),
+        Step::Binary(BinaryOp::Or),
+        Step::Assign(Some(0), 2),
+        Step::Whole(1, 2),
+        Step::Not,
+        Step::Assign(Some(1), 3),
+    ],
+};
 
 /// A set of one suspect, with values of its only place cycle by cycle.
 pub(super) fn set_of(

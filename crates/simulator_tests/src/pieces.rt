@@ -1,7 +1,7 @@
 //! Each public call by itself, on a register that toggles and has an asynchronous reset.
 
-use crate::build::bits;
-use crate::resets::toggle;
+use crate::build::{bits, design_of};
+use crate::resets::TOGGLE;
 use design_fits::{can_run, samples_fit};
 use plain_sim::{compute_cycle, is_cycle, start_words};
 use plain_values::run_statement;
@@ -11,7 +11,7 @@ use std::test::Fail;
 #[test]
 fn a_nonblocking_assignment_updates_later(rt: HostRuntime) -> Result<(), Fail> {
     let alloc = rt.alloc();
-    let design = toggle(alloc, true)?;
+    let design = design_of(alloc, &TOGGLE)?;
     assert!(rt; can_run(&design));
     assert!(rt; design.places.len() == 2);
     assert!(rt; design.clocked.len() == 1);
@@ -28,8 +28,8 @@ fn a_nonblocking_assignment_updates_later(rt: HostRuntime) -> Result<(), Fail> {
         body,
     );
     assert!(rt; now.len() == 3 && later.len() == 3);
-    assert_eq!(rt; now[2].value(), 1);
-    assert_eq!(rt; later[2].value(), 0);
+    assert!(rt; now[2].value() == 1);
+    assert!(rt; later[2].value() == 0);
     Ok(())
 }
 
@@ -38,7 +38,7 @@ fn a_nonblocking_assignment_updates_later(rt: HostRuntime) -> Result<(), Fail> {
 #[test]
 fn a_cycle_is_computed_and_recognized(rt: HostRuntime) -> Result<(), Fail> {
     let alloc = rt.alloc();
-    let design = toggle(alloc, true)?;
+    let design = design_of(alloc, &TOGGLE)?;
     let zero = bits(1, 0)?;
     let samples = [zero];
     let freed = [false, false];
@@ -51,8 +51,8 @@ fn a_cycle_is_computed_and_recognized(rt: HostRuntime) -> Result<(), Fail> {
         return Err(Fail::new("no cycle"));
     };
     assert!(rt; words.now.len() == 3 && words.next.len() == 3);
-    assert_eq!(rt; words.now[2].value(), 1);
-    assert_eq!(rt; words.next[2].value(), 0);
+    assert!(rt; words.now[2].value() == 1);
+    assert!(rt; words.next[2].value() == 0);
     assert!(rt;
         is_cycle(
             alloc,

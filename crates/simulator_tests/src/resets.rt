@@ -1,31 +1,49 @@
 //! A register with an asynchronous reset, of either level.
 
-use crate::build::{constant, design_of, not, set, whole};
+use crate::build::{Example, Step};
 use crate::right::{Case, all_hold};
-use design_core::{Clocked, Design, Part, Reset, SignalKind, Stmt};
-use loc_base::Items;
-use std::alloc::Global;
+use design_core::SignalKind;
 use std::test::Fail;
 
-/// `always @(posedge clk or posedge rst) if (rst) q <= 1'b0; else q <= ~q;`, q starting at 1; where `level` is false, with
-/// `negedge rst` and `!rst`.
-pub(super) fn toggle(alloc: Global, level: bool) -> Result<Design, Fail> {
-    let signals = [
+/// `always @(posedge clk or posedge rst) if (rst) q <= 1'b0; else q <= ~q;`, q starting at 1.
+pub(super) const TOGGLE: Example<'static> = Example {
+    signals: &[
         ("clk", 1, SignalKind::Input, 0),
         ("rst", 1, SignalKind::Input, 0),
         ("q", 1, SignalKind::Reg, 1),
-    ];
-    let mut design = design_of(alloc, &signals, &[(1, 2), (1, 2)], &[1], &[2])?;
-    let values = set(alloc, 0, Part::Whole(2), constant(1, 0)?, true)?;
-    let body = set(alloc, 1, Part::Whole(2), not(alloc, whole(1, 2))?, true)?;
-    let reset = Some(Reset {
-        signal: 1,
-        level,
-        values,
-    });
-    design.clocked.push(Clocked { reset, body })?;
-    Ok(design)
-}
+    ],
+    places: &[(1, 2), (1, 2)],
+    inputs: &[1],
+    outputs: &[2],
+    steps: &[
+        Step::Const(1, 0),
+        Step::Set(0, 2, true),
+        Step::Whole(1, 2),
+        Step::Not,
+        Step::Set(1, 2, true),
+        Step::Reset(1, true),
+    ],
+};
+
+/// The same with `negedge rst` and `!rst`.
+const LOW_TOGGLE: Example<'static> = Example {
+    signals: &[
+        ("clk", 1, SignalKind::Input, 0),
+        ("rst", 1, SignalKind::Input, 0),
+        ("q", 1, SignalKind::Reg, 1),
+    ],
+    places: &[(1, 2), (1, 2)],
+    inputs: &[1],
+    outputs: &[2],
+    steps: &[
+        Step::Const(1, 0),
+        Step::Set(0, 2, true),
+        Step::Whole(1, 2),
+        Step::Not,
+        Step::Set(1, 2, true),
+        Step::Reset(1, false),
+    ],
+};
 
 /// What q is where the reset is active in cycles 1 and 2, by a reset that is active at 1.
 const AT_ONE: [Case; 2] = [
@@ -62,10 +80,8 @@ const AT_ZERO: [Case; 2] = [
 /// q is 0 in each cycle in which the reset is active, and toggles in the others.
 #[test]
 fn a_reset_is_seen_in_its_own_cycle(rt: HostRuntime) -> Result<(), Fail> {
-    let alloc = rt.alloc();
-    assert!(rt; all_hold(alloc, &toggle(alloc, true)?, &AT_ONE)?);
-    assert!(rt; all_hold(alloc, &toggle(alloc, false)?, &AT_ZERO)?);
-    Ok(())
+    all_hold(rt.alloc(), &TOGGLE, &AT_ONE)?;
+    all_hold(rt.alloc(), &LOW_TOGGLE, &AT_ZERO)
 }
 
 /// With the place of the reset's value freed, the register takes the chosen one while the reset is active.
@@ -81,49 +97,34 @@ const FREED: [Case; 1] = [Case {
 
 #[test]
 fn a_freed_reset_takes_the_chosen_value(rt: HostRuntime) -> Result<(), Fail> {
-    let design = toggle(rt.alloc(), true)?;
-    assert!(rt; all_hold(rt.alloc(), &design, &FREED)?);
-    Ok(())
+    all_hold(rt.alloc(), &TOGGLE, &FREED)
 }
 
-/// The bit beyond the leftmost one of the first word of `reg mem [0:1]`: what `mem[2]` is assigned by.
-fn beyond(alloc: Global) -> Result<Part, Fail> {
-    let mut offsets = Items::new(alloc);
-    offsets.push(1)?;
-    Ok(Part::Pick {
-        signal: 1,
-        index: constant(32, 0)?,
-        offsets,
-    })
-}
-
-/// `for (i = 0; i <= 2; i = i + 1) mem[i] <= 1'b0;`, unrolled: one turn past the end of the array.
-fn clear_words(alloc: Global) -> Result<Stmt, Fail> {
-    let mut turns = Items::new(alloc);
-    turns.push(set(alloc, 0, Part::Whole(1), constant(1, 0)?, true)?)?;
-    turns.push(set(alloc, 1, Part::Whole(2), constant(1, 0)?, true)?)?;
-    turns.push(set(alloc, 2, beyond(alloc)?, constant(1, 0)?, true)?)?;
-    Ok(Stmt::Block(turns))
-}
-
-/// `always @(posedge clk or posedge rst) if (rst)` with that loop, both words of the array starting at 1.
-fn array(alloc: Global) -> Result<Design, Fail> {
-    let signals = [
+/// `reg mem [0:1]; always @(posedge clk or posedge rst) if (rst) for (i = 0; i <= 2; i = i + 1) mem[i] <= 1'b0;` with both words starting
+/// at 1. The loop is unrolled: its last turn goes past the end of the array, where what is assigned is the bit beyond the leftmost one of
+/// its first word.
+const ARRAY_DESIGN: Example<'static> = Example {
+    signals: &[
         ("rst", 1, SignalKind::Input, 0),
         ("mem[0]", 1, SignalKind::Reg, 1),
         ("mem[1]", 1, SignalKind::Reg, 1),
-    ];
-    let places = [(1, 1), (1, 2), (1, 1)];
-    let mut design = design_of(alloc, &signals, &places, &[0], &[1, 2])?;
-    let reset = Some(Reset {
-        signal: 0,
-        level: true,
-        values: clear_words(alloc)?,
-    });
-    let body = Stmt::Nothing;
-    design.clocked.push(Clocked { reset, body })?;
-    Ok(design)
-}
+    ],
+    places: &[(1, 1), (1, 2), (1, 1)],
+    inputs: &[0],
+    outputs: &[1, 2],
+    steps: &[
+        Step::Const(1, 0),
+        Step::Set(0, 1, true),
+        Step::Const(1, 0),
+        Step::Set(1, 2, true),
+        Step::Const(1, 0),
+        Step::Const(32, 0),
+        Step::SetBit(2, 1, 1, true),
+        Step::Block,
+        Step::Nothing,
+        Step::Reset(0, true),
+    ],
+};
 
 /// A turn past the array's end stores nothing, whatever is chosen for its place, and the words have their reset values.
 const ARRAY: [Case; 1] = [Case {
@@ -139,7 +140,5 @@ const ARRAY: [Case; 1] = [Case {
 
 #[test]
 fn a_reset_loop_may_go_past_the_end_of_an_array(rt: HostRuntime) -> Result<(), Fail> {
-    let design = array(rt.alloc())?;
-    assert!(rt; all_hold(rt.alloc(), &design, &ARRAY)?);
-    Ok(())
+    all_hold(rt.alloc(), &ARRAY_DESIGN, &ARRAY)
 }

@@ -1,6 +1,6 @@
 //! Whether chosen values make traces of a design right, as the plain program computes it.
 
-use crate::build::{bits, samples_of, width_at};
+use crate::build::{Example, bits, design_of, samples_of, width_at};
 use design_core::{Checked, Design, Trace};
 use design_fits::{are_chosen, can_run, is_trace_of};
 use loc_base::Bits;
@@ -94,22 +94,23 @@ fn is_right(alloc: Global, design: &Design, case: &Case, choice: &Choice) -> Res
     Ok(meets(alloc, design, case.order, &trace, freed, &chosen)?)
 }
 
-/// Whether each choice of a case is right, or is not, as it says.
-fn holds(alloc: Global, design: &Design, case: &Case) -> Result<bool, Fail> {
+/// Each choice of a case is right, or is not, as it says.
+fn holds(alloc: Global, design: &Design, case: &Case) -> Result<(), Fail> {
     for choice in case.choices {
         if is_right(alloc, design, case, choice)? != choice.2 {
-            return Ok(false);
+            let (freed, numbers, wanted) = *choice;
+            let why = format_args!("{numbers:?} at {freed:?} was to be {wanted}");
+            return Err(Fail::new(why));
         }
     }
-    Ok(true)
+    Ok(())
 }
 
-/// Whether all cases of a design are as they say.
-pub(super) fn all_hold(alloc: Global, design: &Design, cases: &[Case]) -> Result<bool, Fail> {
+/// All cases of an example are as they say.
+pub(super) fn all_hold(alloc: Global, example: &Example, cases: &[Case]) -> Result<(), Fail> {
+    let design = design_of(alloc, example)?;
     for case in cases {
-        if !holds(alloc, design, case)? {
-            return Ok(false);
-        }
+        holds(alloc, &design, case)?;
     }
-    Ok(true)
+    Ok(())
 }

@@ -1,8 +1,8 @@
 //! A replay whose conditions are tested first.
 
-use crate::build::in_order;
+use crate::build::{design_of, in_order};
 use crate::fitting::{are_traces_of, have_values};
-use crate::or_not::or_not;
+use crate::or_not::OR_NOT;
 use cycle_sim::{Miss, can_simulate};
 use design_core::{SetWithValues, Trace};
 use loc_base::Gate;
@@ -20,7 +20,7 @@ pub(super) fn tried<R: Threads + Sync, G: Gate + Sync>(
     workers: u32,
     gate: &G,
 ) -> Result<Option<(u32, Miss)>, Fail> {
-    let design = or_not(alloc)?;
+    let design = design_of(alloc, &OR_NOT)?;
     let order = in_order(alloc, &design)?;
     if !can_simulate(&design, &order) || design.outputs.len() > 1 {
         return Err(Fail::new("the design does not fit"));

@@ -1,6 +1,7 @@
 //! The answer is the same for each number of workers.
 
-use crate::or_not::{or_not, set_of};
+use crate::build::design_of;
+use crate::or_not::{OR_NOT, set_of};
 use crate::right::trace_of;
 use crate::tried::tried;
 use cycle_sim::Miss;
@@ -10,12 +11,15 @@ use std::alloc::Global;
 use std::test::Fail;
 use std::thread::Threads;
 
+const SAMPLES: [u128; 8] = [0, 0, 0, 1, 1, 0, 1, 1];
+
+const EXPECTED: [Option<u128>; 4] = [Some(1), Some(1), Some(1), Some(0)];
+
 /// The trace with a b y: 001, 011, 101, 110, in which y is wrong in the second and third cycles.
 pub(super) fn wrong_twice(alloc: Global) -> Result<Vec<Trace>, Fail> {
-    let design = or_not(alloc)?;
-    let expected = [Some(1), Some(1), Some(1), Some(0)];
+    let design = design_of(alloc, &OR_NOT)?;
     let mut traces = Vec::new(alloc);
-    traces.push(trace_of(alloc, &design, &[0, 0, 0, 1, 1, 0, 1, 1], &expected)?)?;
+    traces.push(trace_of(alloc, &design, &SAMPLES, &EXPECTED)?)?;
     Ok(traces)
 }
 
@@ -35,8 +39,8 @@ fn expect<R: Threads + Sync>(
     wanted: Option<(u32, Miss)>,
 ) -> Result<(), Fail> {
     let traces = wrong_twice(alloc)?;
-    for workers in [1, 2, 3, 7, 64] {
-        if tried(rt, alloc, &traces, sets, workers, &FreeGate)? != wanted {
+    for workers in &[1, 2, 3, 7, 64] {
+        if tried(rt, alloc, &traces, sets, *workers, &FreeGate)? != wanted {
             return Err(Fail::new("another answer"));
         }
     }
