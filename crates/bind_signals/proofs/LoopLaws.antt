@@ -150,6 +150,13 @@ used-without q name seen (x ∷ xs) before =
         (used-push q seen x before ∙ ap (λ b. is_used q seen before || (b && seen x.site.token)) same ∙ or-false (is_used q seen before))
 
 -- ---- what items make
+-- of a scope inside, by what is so of its items
+of-block : (q : List ℕ) (seen : ℕ → Bool) (path : List ℕ) (entries : List Entry) (copies : Copies) (before : Listed)
+    → is_used q (seen_in q entries seen) (with_copies copies []) ≡ is_looped q (seen_in q entries seen) copies
+    → is_used q seen (with_block (scope path entries copies) before) ≡ (is_used q seen before || is_looped q (seen_in q entries seen) copies)
+of-block q seen path entries copies before is =
+    used-unhidden q seen entries (with_copies copies []) before ∙ ap (λ b. is_used q seen before || b) is
+
 mutual
   on_copies : (q : List ℕ) (seen : ℕ → Bool) (cs : Copies) (before : Listed) → is_used q seen (with_copies cs before) ≡ (is_used q seen before || is_looped q seen cs)
   on_copies q seen no_copy before = sym (or-false (is_used q seen before))
@@ -161,16 +168,12 @@ mutual
   on_copied q seen (written item) before = sym (or-false (is_used q seen before))
   on_copied q seen (always s events body) before = on_loops q seen body before
   on_copied q seen (child s c) before = sym (or-false (is_used q seen before))
-  on_copied q seen (inner (scope path entries copies)) before = on_block q seen path entries copies before
+  on_copied q seen (inner (scope path entries copies)) before =
+      of-block q seen path entries copies before (on_copies q (seen_in q entries seen) copies [])
   on_copied q seen (items.turn variable value (scope path entries copies)) before =
       used-without q variable.name seen (with_block (scope path entries copies) []) before
-      ∙ ap (λ b. is_used q seen before || (not (same_name variable.name q) && b)) (on_block q seen path entries copies [])
-
-  on_block : (q : List ℕ) (seen : ℕ → Bool) (path : List ℕ) (entries : List Entry) (copies : Copies) (before : Listed)
-      → is_used q seen (with_block (scope path entries copies) before) ≡ (is_used q seen before || is_looped q (seen_in q entries seen) copies)
-  on_block q seen path entries copies before =
-      used-unhidden q seen entries (with_copies copies []) before
-      ∙ ap (λ b. is_used q seen before || b) (on_copies q (seen_in q entries seen) copies [])
+      ∙ ap (λ b. is_used q seen before || (not (same_name variable.name q) && b))
+      (of-block q seen path entries copies [] (on_copies q (seen_in q entries seen) copies []))
 
 pub among_loops : (v : Identifier) (found : Bool) (cs : Copies) → found ≡ is_used v.name (nat_lt v.site.token) (with_copies cs []) → found ≡ is_loop_variable v cs
 among_loops v found cs is = is ∙ on_copies v.name (nat_lt v.site.token) cs []

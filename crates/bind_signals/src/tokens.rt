@@ -29,7 +29,8 @@ fn insert<'t>(variable: &'t Identifier, table: &mut Places<'t>) -> Result<(), No
 {
     let name = variable.name.as_bytes();
     let last = last_with(variable.site.token as usize, table.find(name));
-    table.put(name, last)
+    table.put(name, last)?;
+    Ok(())
 }
 
 /// The last token of each name among variables of loops.
@@ -58,10 +59,7 @@ fn declare<'t>(entry: &Entry<'t>, table: &mut Places<'t>) -> Result<(), NoMemory
 }
 
 /// The token with which each name of a scope is first declared.
-pub(crate) fn firsts_of<'t>(
-    alloc: Global,
-    entries: &[Entry<'t>],
-) -> Result<Places<'t>, NoMemory>
+pub(crate) fn firsts_of<'t>(alloc: Global, entries: &[Entry<'t>]) -> Result<Places<'t>, NoMemory>
     ensures { IfOk result (λ table. HasFirsts table (map entry_of entries.now)) }
 {
     let mut table = Places::new(alloc);
