@@ -15,4 +15,6 @@ mod reading;
 #[cfg(test)]
 mod report;
 #[cfg(test)]
+mod same;
+#[cfg(test)]
 mod writes;

@@ -4,6 +4,7 @@ ghost use Rattle.std.specs.Prelude.{◌↔◌, IsTrue, All};
 ghost use Rattle.report_doc.specs.Lines.{IsMemberOf};
 
 use crate::made::{Suspect, are_within, groups, places};
+use crate::same::same;
 use design_core::{SetWithValues, Values};
 use loc_base::{Bytes, Items};
 use report_doc::set_lines;
@@ -73,22 +74,24 @@ fn lines_of(alloc: Global, members: &[u32]) -> Result<Bytes, Fail> {
     Ok(set_lines(alloc, &set, &groups, &places)?)
 }
 
+/// The members of a set, and its lines.
+const SETS: [(&[u32], &str); 6] = [
+    (&[], "set {}\n"),
+    (&[1], "set {1}\n  1 stmt 3 m\n"),
+    (&[5], "set {5}\n  5 module 4294967295 m\n"),
+    (&[6], "set {6}\n  6 all 0 \\a\"b\n"),
+    (&[2, 3], "set {2,3}\n  2 instance 5 m.u\n  3 gate 6 m.g1\n"),
+    (
+        &[1, 4, 6],
+        "set {1,4,6}\n  1 stmt 3 m\n  4 block 5 div3\n  6 all 0 \\a\"b\n",
+    ),
+];
+
 #[test]
 fn a_set_has_a_line_and_one_for_each_member(rt: HostRuntime) -> Result<(), Fail> {
-    let none: [u32; 0] = [];
-    for (members, want) in [
-        (none.as_slice(), "set {}\n"),
-        (&[1], "set {1}\n  1 stmt 3 m\n"),
-        (&[5], "set {5}\n  5 module 4294967295 m\n"),
-        (&[6], "set {6}\n  6 all 0 \\a\"b\n"),
-        (&[2, 3], "set {2,3}\n  2 instance 5 m.u\n  3 gate 6 m.g1\n"),
-        (
-            &[1, 4, 6],
-            "set {1,4,6}\n  1 stmt 3 m\n  4 block 5 div3\n  6 all 0 \\a\"b\n",
-        ),
-    ] {
-        let lines = lines_of(rt.alloc(), members)?;
-        assert_eq!(rt; lines.as_slice(), want.as_bytes());
+    for (members, want) in &SETS {
+        let lines = lines_of(rt.alloc(), *members)?;
+        same(&rt, members, &lines.as_slice(), &want.as_bytes());
     }
     Ok(())
 }

@@ -1,10 +1,12 @@
 //! Reports that are read.
 
+use crate::same::same;
 use loc_base::Bytes;
 use report_doc::report_text;
 use report_doc::types::ReportErr;
 use report_reading::read_report;
 use std::alloc::Global;
+use std::process::Abort;
 use std::test::Fail;
 
 /// The members of a report, as they stand in its text: one statement of a counter is wrong.
@@ -103,10 +105,10 @@ const WRITTEN: [(&str, &str); 16] = [
 #[test]
 fn what_is_written_is_read_back(rt: HostRuntime) -> Result<(), Fail> {
     let alloc = rt.alloc();
-    for change in WRITTEN {
-        let text = text_with(alloc, change)?;
+    for change in &WRITTEN {
+        let text = text_with(alloc, *change)?;
         let again = written_again(alloc, text.as_str())?;
-        assert_eq!(rt; again.as_slice(), text.as_str().as_bytes());
+        same(&rt, change, &again.as_slice(), &text.as_bytes());
     }
     Ok(())
 }
@@ -136,10 +138,10 @@ const SAME: [(&str, &str); 8] = [
 fn other_texts_of_a_value_are_read_as_it(rt: HostRuntime) -> Result<(), Fail> {
     let alloc = rt.alloc();
     let plain = text_with(alloc, NO_CHANGE)?;
-    for change in SAME {
-        let text = text_with(alloc, change)?;
+    for change in &SAME {
+        let text = text_with(alloc, *change)?;
         let again = written_again(alloc, text.as_str())?;
-        assert_eq!(rt; again.as_slice(), plain.as_str().as_bytes());
+        same(&rt, change, &again.as_slice(), &plain.as_bytes());
     }
     Ok(())
 }
@@ -148,10 +150,25 @@ fn refusal(alloc: Global, text: &[u8]) -> Option<ReportErr> {
     read_report(alloc, text).err()
 }
 
-/// Whether the counter's text with this change is refused for that.
-fn is_refused(alloc: Global, change: (&str, &str), want: ReportErr) -> Result<bool, Fail> {
-    let text = text_with(alloc, change)?;
-    Ok(refusal(alloc, text.as_str().as_bytes()) == Some(want))
+/// Each of these texts is refused for that.
+fn are_refused(rt: &impl Abort, alloc: Global, texts: &[&[u8]], want: ReportErr) {
+    for text in texts {
+        same(rt, text, &refusal(alloc, *text), &Some(want));
+    }
+}
+
+/// The counter's text with each of these changes is refused for that.
+fn changes_are_refused(
+    rt: &impl Abort,
+    alloc: Global,
+    changes: &[(&str, &str)],
+    want: ReportErr,
+) -> Result<(), Fail> {
+    for change in changes {
+        let text = text_with(alloc, *change)?;
+        same(rt, change, &refusal(alloc, text.as_bytes()), &Some(want));
+    }
+    Ok(())
 }
 
 const NO_JSON: [(&str, &str); 12] = [
@@ -169,25 +186,21 @@ const NO_JSON: [(&str, &str); 12] = [
     ("more", "}"),
 ];
 
+const NO_JSON_TEXTS: [&[u8]; 8] = [
+    b"",
+    b"{",
+    b"[1,]",
+    b"{,}",
+    b"{\"version\":1,}",
+    b"{}{}",
+    b"\"\xff\"",
+    b"nul",
+];
+
 #[test]
 fn a_text_that_is_no_json_is_refused_as_that(rt: HostRuntime) -> Result<(), Fail> {
-    let alloc = rt.alloc();
-    for change in NO_JSON {
-        assert!(rt; is_refused(alloc, change, ReportErr::Syntax)?, "{change:?}");
-    }
-    for text in [
-        b"".as_slice(),
-        b"{",
-        b"[1,]",
-        b"{,}",
-        b"{\"version\":1,}",
-        b"{}{}",
-        b"\"\xff\"",
-        b"nul",
-    ] {
-        assert_eq!(rt; refusal(alloc, text), Some(ReportErr::Syntax));
-    }
-    Ok(())
+    are_refused(&rt, rt.alloc(), &NO_JSON_TEXTS, ReportErr::Syntax);
+    changes_are_refused(&rt, rt.alloc(), &NO_JSON, ReportErr::Syntax)
 }
 
 #[test]
@@ -197,7 +210,8 @@ fn a_text_that_is_cut_is_no_json(rt: HostRuntime) -> Result<(), Fail> {
     let bytes = text.as_str().as_bytes();
     // The last byte is a newline, which a text may lack.
     for length in 0..bytes.len().saturating_sub(1) {
-        assert_eq!(rt; refusal(alloc, &bytes[..length]), Some(ReportErr::Syntax));
+        let found = refusal(alloc, &bytes[..length]);
+        same(&rt, &length, &found, &Some(ReportErr::Syntax));
     }
     Ok(())
 }
@@ -214,16 +228,18 @@ fn nested(alloc: Global, depth: usize) -> Result<Vec<u8>, Fail> {
     Ok(text)
 }
 
+const DEPTHS: [(usize, ReportErr); 3] = [
+    (127, ReportErr::Shape),
+    (128, ReportErr::Syntax),
+    (100_000, ReportErr::Syntax),
+];
+
 #[test]
 fn lists_nest_127_deep(rt: HostRuntime) -> Result<(), Fail> {
     let alloc = rt.alloc();
-    for (depth, want) in [
-        (127, ReportErr::Shape),
-        (128, ReportErr::Syntax),
-        (100_000, ReportErr::Syntax),
-    ] {
-        let text = nested(alloc, depth)?;
-        assert_eq!(rt; refusal(alloc, &text), Some(want));
+    for (depth, want) in &DEPTHS {
+        let text = nested(alloc, *depth)?;
+        same(&rt, depth, &refusal(alloc, &text), &Some(*want));
     }
     Ok(())
 }
@@ -285,23 +301,19 @@ const OTHER_SHAPE: [(&str, &str); 42] = [
     ("more", ",\"a\":0"),
 ];
 
+const OTHER_SHAPE_TEXTS: [&[u8]; 8] = [
+    b"[]",
+    b"null",
+    b"1",
+    b"1.0",
+    b"1e2",
+    b"{}",
+    b"{\"version\":1,\"version\":1}",
+    b"\"m\"",
+];
+
 #[test]
 fn json_of_another_shape_is_refused_as_that(rt: HostRuntime) -> Result<(), Fail> {
-    let alloc = rt.alloc();
-    for change in OTHER_SHAPE {
-        assert!(rt; is_refused(alloc, change, ReportErr::Shape)?, "{change:?}");
-    }
-    for text in [
-        b"[]".as_slice(),
-        b"null",
-        b"1",
-        b"1.0",
-        b"1e2",
-        b"{}",
-        b"{\"version\":1,\"version\":1}",
-        b"\"m\"",
-    ] {
-        assert_eq!(rt; refusal(alloc, text), Some(ReportErr::Shape));
-    }
-    Ok(())
+    are_refused(&rt, rt.alloc(), &OTHER_SHAPE_TEXTS, ReportErr::Shape);
+    changes_are_refused(&rt, rt.alloc(), &OTHER_SHAPE, ReportErr::Shape)
 }

@@ -1,8 +1,9 @@
 //! Writes one after another, where a call of the shelf or of the sink fails.
 
+use crate::same::same;
 use io_ports::{MemShelf, MemSink, Numbers, Shelf, Sink, Texts};
-use loc_base::Bytes;
 use std::alloc::Global;
+use std::process::Abort;
 use std::test::Fail;
 use write_order::{WriteErr, begin_text, print_piece, put_piece};
 
@@ -44,78 +45,92 @@ fn left_by(alloc: Global, shelf_fails: &[u64], sink_fails: &[u64]) -> Result<Out
     Ok(Outputs { answer, shelf, out })
 }
 
-/// Whether these texts stand, and these lines are printed.
-fn stand(written: &Outputs, log: Option<&str>, report: Option<&str>, printed: &str) -> bool {
-    written.shelf.text("log").map(Bytes::as_slice) == log.map(|text: &str| text.as_bytes())
-        && written.shelf.text("report").map(Bytes::as_slice)
-            == report.map(|text: &str| text.as_bytes())
-        && written.out.text().as_slice() == printed.as_bytes()
+/// Whether such a text stands under a name.
+fn stands(shelf: &MemShelf, name: &str, wanted: Option<&str>) -> bool {
+    match (shelf.text(name), wanted) {
+        (Some(text), Some(wanted)) => text.as_slice() == wanted.as_bytes(),
+        (None, None) => true,
+        _ => false,
+    }
 }
 
-const LOG: &str = "head\nb -1\nb -2\nd : 9\n";
+/// The calls that fail, of the shelf and of the sink, whether that is answered, the log and the report, if they are begun, and what is
+/// printed.
+type Row = (
+    &'static [u64],
+    &'static [u64],
+    bool,
+    Option<&'static str>,
+    Option<&'static str>,
+    &'static str,
+);
+
+/// Each row's texts stand, and its lines are printed.
+fn are_left(rt: &impl Abort, alloc: Global, rows: &[Row]) -> Result<(), Fail> {
+    for row in rows {
+        let (shelf_fails, sink_fails, has_failed, log, report, printed) = *row;
+        let left = left_by(alloc, shelf_fails, sink_fails)?;
+        let answer = matches!(left.answer, Err(WriteErr::Failed));
+        same(rt, row, &(answer, left.answer.is_err()), &(has_failed, has_failed));
+        same(rt, row, &stands(&left.shelf, "log", log), &true);
+        same(rt, row, &stands(&left.shelf, "report", report), &true);
+        same(rt, row, &left.out.text().as_slice(), &printed.as_bytes());
+        let faults = (left.shelf.faults(), left.out.faults());
+        let wanted = (shelf_fails.len() as u64, sink_fails.len() as u64);
+        same(rt, row, &faults, &wanted);
+    }
+    Ok(())
+}
+
+const LOG: Option<&str> = Some("head\nb -1\nb -2\nd : 9\n");
+
+const REPORT: Option<&str> = Some("{}\n");
+
+const ALL: [Row; 1] = [(
+    &[],
+    &[],
+    false,
+    LOG,
+    REPORT,
+    "set {1}\nset {2}\ncomplete 2\n",
+)];
 
 #[test]
 fn all_is_written_where_no_call_fails(rt: HostRuntime) -> Result<(), Fail> {
-    let written = left_by(rt.alloc(), &[], &[])?;
-    assert_eq!(rt; written.answer, Ok(()));
-    assert!(rt;
-        stand(
-            &written,
-            Some(LOG),
-            Some("{}\n"),
-            "set {1}\nset {2}\ncomplete 2\n"
-        )
-    );
-    assert_eq!(rt; written.shelf.faults(), 0);
-    assert_eq!(rt; written.out.faults(), 0);
-    Ok(())
+    are_left(&rt, rt.alloc(), &ALL)
 }
+
+const TWO: &str = "set {1}\nset {2}\n";
+
+const SHELF_FAILS: [Row; 7] = [
+    (&[0], &[], true, None, None, ""),
+    (&[1], &[], true, Some("he"), None, ""),
+    (&[2], &[], true, Some("head\nb "), None, ""),
+    (&[3], &[], true, Some("head\nb -1\nb "), None, "set {1}\n"),
+    (&[4], &[], true, Some("head\nb -1\nb -2\nd :"), None, TWO),
+    (&[5], &[], true, LOG, None, TWO),
+    (&[6], &[], true, LOG, Some("{"), TWO),
+];
 
 #[test]
 fn a_call_of_the_shelf_that_fails_ends_the_writes(rt: HostRuntime) -> Result<(), Fail> {
-    let two = "set {1}\nset {2}\n";
-    for (fails, log, report, printed) in [
-        (0, None, None, ""),
-        (1, Some("he"), None, ""),
-        (2, Some("head\nb "), None, ""),
-        (3, Some("head\nb -1\nb "), None, "set {1}\n"),
-        (4, Some("head\nb -1\nb -2\nd :"), None, two),
-        (5, Some(LOG), None, two),
-        (6, Some(LOG), Some("{"), two),
-    ] {
-        let written = left_by(rt.alloc(), &[fails], &[])?;
-        assert_eq!(rt;
-            written.answer,
-            Err(WriteErr::Failed),
-            "where call {fails} fails"
-        );
-        assert!(rt;
-            stand(&written, log, report, printed),
-            "where call {fails} fails"
-        );
-        assert_eq!(rt; written.shelf.faults(), 1, "where call {fails} fails");
-    }
-    Ok(())
+    are_left(&rt, rt.alloc(), &SHELF_FAILS)
 }
+
+const SINK_FAILS: [Row; 3] = [
+    (&[], &[0], true, Some("head\nb -1\n"), None, "set "),
+    (
+        &[],
+        &[1],
+        true,
+        Some("head\nb -1\nb -2\n"),
+        None,
+        "set {1}\nset ",
+    ),
+    (&[], &[2], true, LOG, REPORT, "set {1}\nset {2}\ncompl"),
+];
 
 #[test]
 fn a_call_of_the_sink_that_fails_ends_the_writes(rt: HostRuntime) -> Result<(), Fail> {
-    for (fails, log, report, printed) in [
-        (0, "head\nb -1\n", None, "set "),
-        (1, "head\nb -1\nb -2\n", None, "set {1}\nset "),
-        (2, LOG, Some("{}\n"), "set {1}\nset {2}\ncompl"),
-    ] {
-        let written = left_by(rt.alloc(), &[], &[fails])?;
-        assert_eq!(rt;
-            written.answer,
-            Err(WriteErr::Failed),
-            "where call {fails} fails"
-        );
-        assert!(rt;
-            stand(&written, Some(log), report, printed),
-            "where call {fails} fails"
-        );
-        assert_eq!(rt; written.out.faults(), 1, "where call {fails} fails");
-    }
-    Ok(())
+    are_left(&rt, rt.alloc(), &SINK_FAILS)
 }
