@@ -263,3 +263,108 @@ fn a_case_with_two_items_chooses_for_the_last_one_first(rt: HostRuntime) -> Resu
     )];
     check(&rt, rt.alloc(), &rows)
 }
+
+/// A sum makes no last carry, a product each row before its sum, and `>` and `>=` are a `<` the other way and its negation.
+#[test]
+fn sums_products_shifts_and_comparisons_of_two_bits(rt: HostRuntime) -> Result<(), Fail> {
+    let rows = [
+        (
+            "module m(input clk, input [1:0] a, input [1:0] b, output [1:0] y); assign y = a + b; endmodule",
+            "0: input 0 0  1: input 0 1  2: input 1 0  3: input 1 1
+            4: and 0 -2  5: and -0 2  6: and -4 -5
+            7: and 0 2
+            8: and 1 -3  9: and -1 3  10: and -8 -9
+            11: and -10 -7  12: and 10 7  13: and -11 -12
+            14: free 0 0 -6  15: free 0 1 -13
+            output: 14 15",
+        ),
+        (
+            "module m(input clk, input [1:0] a, output [1:0] y); assign y = -a; endmodule",
+            "0: input 0 0  1: input 0 1
+            2: and -1 0  3: and 1 -0  4: and -2 -3
+            5: free 0 0 0  6: free 0 1 -4
+            output: 5 6",
+        ),
+        (
+            "module m(input clk, input [1:0] a, input [1:0] b, output [1:0] y); assign y = a * b; endmodule",
+            "0: input 0 0  1: input 0 1  2: input 1 0  3: input 1 1
+            4: and 0 2  5: and 1 2
+            6: and 0 3
+            7: and 5 -6  8: and -5 6  9: and -7 -8
+            10: free 0 0 4  11: free 0 1 -9
+            output: 10 11",
+        ),
+        (
+            "module m(input clk, input [1:0] a, input [1:0] b, output [1:0] y); assign y = a << b; endmodule",
+            "0: input 0 0  1: input 0 1  2: input 1 0  3: input 1 1
+            4: and -2 0
+            5: and 2 0  6: and -2 1  7: and -5 -6
+            8: and -3 4  9: and -3 -7
+            10: free 0 0 8  11: free 0 1 9
+            output: 10 11",
+        ),
+        (
+            "module m(input clk, input [1:0] a, input [1:0] b, output y, output z); assign y = a > b; assign z = a >= b; endmodule",
+            "0: input 0 0  1: input 0 1  2: input 1 0  3: input 1 1
+            4: and 2 0  5: and -2 -0  6: and -4 -5
+            7: and 2 -0  8: and -7 6
+            9: and 3 1  10: and -3 -1  11: and -9 -10
+            12: and 3 -1  13: and -8 -11  14: and -12 -13
+            15: free 0 0 14
+            16: and 0 2  17: and -0 -2  18: and -16 -17
+            19: and 0 -2  20: and -19 18
+            21: and 1 3  22: and -1 -3  23: and -21 -22
+            24: and 1 -3  25: and -20 -23  26: and -24 -25
+            27: free 1 0 -26
+            output: 15  output: 27",
+        ),
+        (
+            "module m(input clk, input [1:0] a, input [1:0] b, output [1:0] y, output [1:0] z); assign y = a ^ b; assign z = a ~^ b; endmodule",
+            "0: input 0 0  1: input 0 1  2: input 1 0  3: input 1 1
+            4: and 0 -2  5: and -0 2  6: and -4 -5
+            7: and 1 -3  8: and -1 3  9: and -7 -8
+            10: free 0 0 -6  11: free 0 1 -9
+            12: and 0 -2  13: and -0 2  14: and -12 -13
+            15: and 1 -3  16: and -1 3  17: and -15 -16
+            18: free 1 0 14  19: free 1 1 17
+            output: 10 11  output: 18 19",
+        ),
+    ];
+    check(&rt, rt.alloc(), &rows)
+}
+
+/// Each bit of a part has its own matches, and a number that the index can't mean has none; so has an address of an array.
+#[test]
+fn parts_by_a_variable_index_and_addresses_that_it_cannot_mean(
+    rt: HostRuntime,
+) -> Result<(), Fail> {
+    let rows = [
+        (
+            "module m(input clk, input [2:0] a, input i, output [1:0] y); assign y = a[i +: 2]; endmodule",
+            "0: input 0 0  1: input 0 1  2: input 0 2  3: input 1 0
+            4: and 0 -3  5: and 1 3  6: and -4 -5
+            7: and 1 -3  8: and 2 3  9: and -7 -8
+            10: free 0 0 -6  11: free 0 1 -9
+            output: 10 11",
+        ),
+        (
+            "module m(input clk, input i, input [1:0] v, output reg [2:0] q); always @(posedge clk) q[i +: 2] <= v; endmodule",
+            "0: input 0 0  1: input 1 0  2: input 1 1  3: state 0 0  4: state 0 1  5: state 0 2
+            6: free 0 0 1  7: free 0 1 2
+            8: and -0 6  9: and 0 3  10: and -8 -9
+            11: and 0 6  12: and -0 4  13: and -11 -12
+            14: and -0 7  15: and 0 -13  16: and -14 -15
+            17: and 0 7  18: and -0 5  19: and -17 -18
+            output: 3 4 5  next: -10 -16 -19",
+        ),
+        (
+            "module m(input clk, input i, output y); reg mem [0:2]; assign y = mem[i]; endmodule",
+            "0: input 0 0  1: state 0 0  2: state 1 0  3: state 2 0
+            4: and -0 1
+            5: and 0 2  6: and -0 4  7: and -5 -6
+            8: free 0 0 -7
+            output: 8  next: 1  next: 2  next: 3",
+        ),
+    ];
+    check(&rt, rt.alloc(), &rows)
+}
