@@ -177,7 +177,12 @@ fn each_put_on_the_sink_that_fails_leaves_a_front_of_what_was_due(
         let report = if *is_reported { whole.report } else { b"" };
         same(&rt, put, &(ran.status, is_front), &(6, true));
         same(&rt, put, &(text.len() < after.len()), &true);
-        same(&rt, put, &written(&ran, "localise.log"), &whole.log_to(*logged));
+        same(
+            &rt,
+            put,
+            &written(&ran, "localise.log"),
+            &whole.log_to(*logged),
+        );
         same(&rt, put, &written(&ran, "localise.json"), &report);
     }
     Ok(())

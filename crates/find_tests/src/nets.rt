@@ -93,7 +93,12 @@ const PASSING_LOG: &[u8] =
 #[test]
 fn what_is_right_already_is_logged_in_two_lines(rt: HostRuntime) -> Result<(), Fail> {
     let ran = run_line(&rt, rt.alloc(), &OR_NOT, "find m.v m t2.vcd")?;
-    same(&rt, &"localise.log", &written(&ran, "localise.log"), &PASSING_LOG);
+    same(
+        &rt,
+        &"localise.log",
+        &written(&ran, "localise.log"),
+        &PASSING_LOG,
+    );
     Ok(())
 }
 
@@ -156,7 +161,8 @@ const FAN_OUT: Example<'static> = Example {
 
 const FIRST: &str = "set {1}\n  1 stmt 3 m\ncomplete 1\n";
 
-const WITH_PAIR: &str = "set {1}\n  1 stmt 3 m\nset {2,3}\n  2 stmt 4 m\n  3 stmt 5 m\ncomplete 2\n";
+const WITH_PAIR: &str =
+    "set {1}\n  1 stmt 3 m\nset {2,3}\n  2 stmt 4 m\n  3 stmt 5 m\ncomplete 2\n";
 
 const FAN_OUT_RUNS: [Row<'static>; 8] = [
     ("find m.v m t1.vcd --size 1", EITHER, 0),

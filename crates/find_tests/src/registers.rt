@@ -74,12 +74,7 @@ const BY_TWO_RUNS: [(&str, &str, u8, &[u8]); 3] = [
         0,
         b"\"values\":[[[\"1\"],[\"2\"],[\"",
     ),
-    (
-        "find m.v m cut.vcd --clock clk",
-        "input T1 1 188\n",
-        3,
-        b"",
-    ),
+    ("find m.v m cut.vcd --clock clk", "input T1 1 188\n", 3, b""),
     (
         "find m.v m t.vcd cut.vcd --clock=clk",
         "input T1 2 188\n",

@@ -38,7 +38,13 @@ fn nested(
 }
 
 /// So many modules, so many times what opens and what closes, and how many modules are read, or the span that is too deep.
-type Row = (u32, u32, &'static [u8], &'static [u8], Result<usize, (u32, u32)>);
+type Row = (
+    u32,
+    u32,
+    &'static [u8],
+    &'static [u8],
+    Result<usize, (u32, u32)>,
+);
 
 /// Each text has as many modules as its row says, or is refused where it nests too deep.
 fn all_are_counted(rt: &impl Abort, alloc: Global, table: &[Row]) -> Result<(), Fail> {

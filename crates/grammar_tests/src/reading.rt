@@ -47,7 +47,12 @@ pub fn all_are_refused(
     table: &[(&[u8], Refusal)],
 ) -> Result<(), Fail> {
     for (text, refusal) in table {
-        same(rt, text, &read(alloc, text)?.err(), &Some(error_of(*refusal)));
+        same(
+            rt,
+            text,
+            &read(alloc, text)?.err(),
+            &Some(error_of(*refusal)),
+        );
     }
     Ok(())
 }

@@ -83,7 +83,12 @@ fn a_statement_ends_at_its_last_token(rt: HostRuntime) -> Result<(), Fail> {
 #[test]
 fn the_first_token_without_a_place_is_named(rt: HostRuntime) -> Result<(), Fail> {
     for (text, refusal) in &REFUSED {
-        same(&rt, text, &taken(rt.alloc(), *text)?, &Err(error_of(*refusal)));
+        same(
+            &rt,
+            text,
+            &taken(rt.alloc(), *text)?,
+            &Err(error_of(*refusal)),
+        );
     }
     Ok(())
 }
@@ -116,7 +121,12 @@ fn statements_nest_256_deep(rt: HostRuntime) -> Result<(), Fail> {
 fn what_is_open_in_a_statement_counts_in_its_expressions(rt: HostRuntime) -> Result<(), Fail> {
     let deep = repeated(rt.alloc(), b"#1 ", 256, b"a = (b);")?;
     let named = ParseErr::Deep(Span { from: 772, to: 773 });
-    same(&rt, &"deep", &taken(rt.alloc(), deep.as_slice())?, &Err(named));
+    same(
+        &rt,
+        &"deep",
+        &taken(rt.alloc(), deep.as_slice())?,
+        &Err(named),
+    );
     Ok(())
 }
 

@@ -214,7 +214,12 @@ const OF_MACRO: [(TokenKind, Span, u32); 4] = [
 
 #[test]
 fn a_macro_stands_for_its_tokens_with_the_span_of_its_use(rt: HostRuntime) -> Result<(), Fail> {
-    stands(&rt, rt.alloc(), "`define V w 1\n`define W `V\n[`W]", &OF_MACRO)
+    stands(
+        &rt,
+        rt.alloc(),
+        "`define V w 1\n`define W `V\n[`W]",
+        &OF_MACRO,
+    )
 }
 
 const PIECES: [(&str, &str); 6] = [

@@ -1,8 +1,6 @@
 //! What is left where a call of the shelf or of the sink fails, for each call of each command in turn.
 
-use crate::runs::{
-    Asked, NAMES, Ran, printed, run, run_by, run_over, texts_with, words, written,
-};
+use crate::runs::{Asked, NAMES, Ran, printed, run, run_by, run_over, texts_with, words, written};
 use crate::same::same;
 use io_ports::Texts;
 use loc_base::{Bytes, FreeGate};

@@ -199,7 +199,12 @@ fn each_set_and_trace_has_a_wave_and_nothing_else_has(rt: HostRuntime) -> Result
         for (name, text) in *waves {
             let row = (*line, *name);
             same(&rt, &row, &begun(&ran, *name), &text.is_some());
-            same(&rt, &row, &written(&ran, *name), &text.unwrap_or("").as_bytes());
+            same(
+                &rt,
+                &row,
+                &written(&ran, *name),
+                &text.unwrap_or("").as_bytes(),
+            );
         }
     }
     Ok(())

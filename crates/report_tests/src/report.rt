@@ -169,7 +169,11 @@ const COUNTER: Run = Run {
 fn one_statement_of_a_counter(rt: HostRuntime) -> Result<(), Fail> {
     let want =
         "{\"clock\":\"clk\",\"ending\":\"complete\",\"inputs\":\"ba7816bf8f01cfea414140de5dae2223b00361a396177a9cb410ff61f20015ad\",\"kinds\":[\"stmt\"],\"sets\":[{\"members\":[1],\"values\":[[[\"1\"],[\"2\"],[\"0\"]]]}],\"size\":2,\"suspects\":[{\"kind\":\"stmt\",\"label\":\"m\",\"line\":3}],\"top\":\"m\",\"version\":1}\n";
-    reads(&rt, &text_with(rt.alloc(), &COUNTER, Ending::Complete)?, want);
+    reads(
+        &rt,
+        &text_with(rt.alloc(), &COUNTER, Ending::Complete)?,
+        want,
+    );
     Ok(())
 }
 
@@ -281,6 +285,10 @@ const NOTHING: Run = Run {
 fn no_set_and_no_suspect(rt: HostRuntime) -> Result<(), Fail> {
     let want =
         "{\"clock\":\"\",\"ending\":\"complete\",\"inputs\":\"ba7816bf8f01cfea414140de5dae2223b00361a396177a9cb410ff61f20015ad\",\"kinds\":[\"gate\"],\"sets\":[],\"size\":0,\"suspects\":[],\"top\":\"m\",\"version\":1}\n";
-    reads(&rt, &text_with(rt.alloc(), &NOTHING, Ending::Complete)?, want);
+    reads(
+        &rt,
+        &text_with(rt.alloc(), &NOTHING, Ending::Complete)?,
+        want,
+    );
     Ok(())
 }

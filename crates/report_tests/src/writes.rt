@@ -71,7 +71,12 @@ fn are_left(rt: &impl Abort, alloc: Global, rows: &[Row]) -> Result<(), Fail> {
         let (shelf_fails, sink_fails, has_failed, log, report, printed) = *row;
         let left = left_by(alloc, shelf_fails, sink_fails)?;
         let answer = matches!(left.answer, Err(WriteErr::Failed));
-        same(rt, row, &(answer, left.answer.is_err()), &(has_failed, has_failed));
+        same(
+            rt,
+            row,
+            &(answer, left.answer.is_err()),
+            &(has_failed, has_failed),
+        );
         same(rt, row, &stands(&left.shelf, "log", log), &true);
         same(rt, row, &stands(&left.shelf, "report", report), &true);
         same(rt, row, &left.out.text().as_slice(), &printed.as_bytes());
