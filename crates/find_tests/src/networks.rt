@@ -98,10 +98,18 @@ fn slices<'a>(alloc: Global, rows: &'a [String]) -> Result<Vec<&'a str>, Fail> {
     Ok(slices)
 }
 
+/// A list of one dump.
+fn only<'a>(alloc: Global, rows: &'a [&'a str]) -> Result<Vec<&'a [&'a str]>, Fail> {
+    let mut dumps = Vec::new(alloc);
+    dumps.push(rows)?;
+    Ok(dumps)
+}
+
 /// What a plain trial lists for a design and a dump's rows.
 fn plain(alloc: Global, design: &str, rows: &[&str]) -> Result<String, Fail> {
     let ordered = network(alloc, design.as_bytes())?;
-    let traces = traces(alloc, &ordered.design, &[rows])?;
+    let dumps = only(alloc, rows)?;
+    let traces = traces(alloc, &ordered.design, &dumps)?;
     let search = tried(alloc, &ordered, &traces)?;
     list_lines(alloc, search.found())
 }
@@ -113,10 +121,11 @@ fn found<R: Threads + Sync>(
     design: &str,
     rows: &[&str],
 ) -> Result<Ran, Fail> {
+    let dumps = only(alloc, rows)?;
     let example = Example {
         design,
         ports: PORTS,
-        dumps: &[rows],
+        dumps: &dumps,
     };
     run_line(rt, alloc, &example, "find m.v m t1.vcd")
 }
