@@ -44,13 +44,16 @@ fn without_a_clock_and_traces(rt: HostRuntime) -> Result<(), Fail> {
     let alloc = rt.alloc();
     let top = name(alloc, b"m")?;
     let kinds = [name(alloc, b"stmt")?];
+    let clock: Option<Name> = None;
+    let by_reference = clock.as_ref();
+    let traces: [Digest; 0] = [];
     let of = Inputs {
         top: &top,
-        clock: None,
+        clock: by_reference,
         kinds: kinds.as_slice(),
         size: 2,
         design: text_digest(b"abc"),
-        traces: &[],
+        traces: traces.as_slice(),
     };
     has_digits(
         alloc,
