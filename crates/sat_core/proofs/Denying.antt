@@ -16,7 +16,7 @@ use Rattle.trail_core.specs.Values.{IsVariable, IsTrueIn, IsFalseIn, IsFalsified
 use Rattle.trail_core.specs.TrailState.{TrailState, IsTrail, IsNumber, entry_of, values_of, reason_in}
 use Rattle.trail_core.proofs.Truth.{IsMapped, mapped}
 use Rattle.trail_core.proofs.Looks.{has_at}
-use Rattle.sat_core.specs.Derivation.{is_false, marked, set_of, opposites_of, IsPast, Starts, IsDenied, Denies, Refutes, IsForced, IsClean, MarksOthers}
+use Rattle.sat_core.specs.Derivation.{is_false, marked, set_of, opposites_of, IsPast, Starts, IsDenied, IsDeniedBefore, RestsBefore, Denies, Refutes, IsForced, IsClean, MarksOthers}
 use Rattle.sat_core.proofs.Sets.{Gives-same, clashes_same, is_false-true, is_false_from, falsified_set, not_both}
 use Rattle.sat_core.proofs.Tracking.{IsEntryAt, entry_at, entries_differ, distinct_push}
 use Rattle.sat_core.proofs.Resolving.{no_entry, true_at, valued_variable, forced_at, reason_before}
@@ -221,6 +221,7 @@ Denies-from t head literals marks after chain next h s r e =
       distinct = ap (λ es. has_distinct_variables (head ++ opposites_of after es)) (sym (take_all (length t.entries) t.entries (omega arith))) ∙ distinct_to t head after (length t.entries) h s.distinct past (omega arith);
       within = λ i d k. inside (get_or whole i d) (has_at whole i d k);
       denied = λ l p. ⊎_elim (λ q. inl q) (λ q. inr (denied (collected after t.entries l q))) (split l p);
+      before = λ x p. rests x (past x p);
     })
   where
     whole : List Lit
@@ -243,6 +244,22 @@ Denies-from t head literals marks after chain next h s r e =
 
     denied : {l : Lit} → IsCollected after t.entries l → IsDenied t l
     denied c = record { place = c.place; within = c.within; decision = λ d. r.above c.place d (omega arith) c.within (c.is_marked d); is = c.is }
+
+    -- what was collected stands before an entry from which on nothing is marked
+    denied_before : (x l : Lit) (p : IsPast t after x.var) → IsCollected after t.entries l → IsDeniedBefore t p.place l
+    denied_before x l p c = record { place = c.place; within = early (cases_lt c.place p.place); decision = λ d. r.above c.place d (omega arith) c.within (c.is_marked d); is = c.is }
+      where
+        early : (c.place < p.place) ⊎ (p.place ≤ c.place) → c.place < p.place
+        early (inl b) = b
+        early (inr b) = absurd (both_ways (marked after (get_or t.entries c.place no_entry).lit.var) (p.unmarked c.place no_entry b c.within) (c.is_marked no_entry))
+
+    rests : (x : Lit) → IsPast t after x.var → RestsBefore t head whole x.var
+    rests x p = record {
+      place = p.place;
+      within = p.within;
+      variable = p.variable;
+      denied = λ l q. ⊎_elim (λ z. inl z) (λ z. inr (denied_before x l p (collected after t.entries l z))) (split l q);
+    }
 
     inside : (l : Lit) → has whole l ≡ true → (1 ≤ l.var) × (l.var ≤ t.vars)
     inside l p = ⊎_elim

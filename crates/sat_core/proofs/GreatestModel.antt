@@ -33,7 +33,7 @@ sign_true false b e = e
 no_value : (o : Option Bool) (b : Bool) → o ≡ None → o ≡ Some b → ⊥
 no_value o b p q = let e : None ≡ Some b = sym p ∙ q in cc
 
-pub complete_model : (e : Engine) (model : List Bool) (log : List Step) (assume : List Lit) → IsUnderWay e log assume → IsWithin e.trail.vars assume → AllRest e.trail.clauses (values_of e.trail.entries) → PassedTo e.trail assume e.preferred.items (end_of assume e.preferred.items) → AllValued e.trail → IsModelOf e.trail model → IsGreatestModel (record { vars = e.trail.vars; form = form_of e; preferred = e.preferred.items; log = log; model = model }) assume
+pub complete_model : (e : Engine) (model : List Bool) (log : List Step) (assume : List Lit) → IsUnderWay e log assume → IsWithin e.trail.vars assume → AllRest e.trail.clauses (values_of e.trail.entries) → PassedTo e.trail assume e.preferred.items (end_of assume e.preferred.items) → AllValued e.trail → IsModelOf e.trail model → IsGreatestModel (record { vars = e.trail.vars; form = form_of e; preferred = e.preferred.items; log = log; model = model; told = None }) assume
 complete_model e model log assume u within rest passed valued m = record {
   satisfies = subst (Satisfies (assignment_of model)) (whole_clauses e log assume u) (λ i d k. clause_at i d k);
   assumed = λ i d k. assumed_at i d k;

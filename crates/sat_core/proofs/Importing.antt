@@ -1,9 +1,9 @@
 -- Steps of an accepted log that a solver takes over.
-use Rattle.std.proofs.Common.{◌≡◌, ℕ, ◌+◌, ◌-◌, ◌<◌, true, false, List, [], ◌∷◌, ◌++◌, map, length, take, Result, Ok, Err, refl, sym, ap, ◌∙◌, subst, arith}
+use Rattle.std.proofs.Common.{◌≡◌, ℕ, ◌+◌, ◌-◌, ◌<◌, true, false, List, [], ◌∷◌, ◌++◌, map, length, take, Option, None, Result, Ok, Err, refl, sym, ap, ◌∙◌, subst, arith}
 use Rattle.std.specs.Result.{OnOk, OnErr}
 use Rattle.std.proofs.Math.Seq.{take-append-add}
 use Rattle.std.proofs.lemmas.Bool.{false≢true}
-use Rattle.std.proofs.lemmas.List.{get_or-append_right, length-append, length-map, get_or-map, append-nil, drop_at}
+use Rattle.std.proofs.lemmas.List.{take_more, append_assoc, get_or-append_right, length-append, length-map, get_or-map, append-nil, drop_at}
 use Rattle.std.proofs.lemmas.List.Elements.{All-get_or, All-drop}
 use Rattle.loc_base.specs.declared.memory.NoMemory.{NoMemory}
 use Rattle.clause_base.specs.declared.literal.Lit.{Lit}
@@ -15,7 +15,7 @@ use Rattle.clause_base.specs.Steps.{step_at, no_step}
 use Rattle.clause_base.specs.Acceptance.{clauses_of, is_block, is_block_kind, IsAccepted, IsAcceptedAs, IsAcceptedStep}
 use Rattle.sat_core.specs.declared.engine.Engine.{Engine}
 use Rattle.sat_core.specs.SolverState.{SolverState, IsSolver, blocks_of}
-use Rattle.sat_core.specs.Calls.{MayFollow, with_steps}
+use Rattle.sat_core.specs.Calls.{MayFollow, told_after, with_steps}
 use Rattle.sat_core.specs.Searching.{form_of, state_of, IsReady}
 use Rattle.sat_core.proofs.Growing.{IsLogged, logged, IsLogged-push, IsLogged-block}
 use Rattle.sat_core.proofs.SearchLemmas.{StaysFit, IsReady-same, IsReady-pushed}
@@ -47,7 +47,20 @@ step_is s k clause chain a b d = rw a (rw b (rw d refl))
 
 -- no step more
 pub with_none : (s : SolverState) → s ≡ with_steps s []
-with_none s = ap (λ (steps : List Step). record { vars = s.vars; form = s.form; preferred = s.preferred; log = steps; model = s.model }) (sym (append-nil s.log))
+with_none s = ap (λ (steps : List Step). record { vars = s.vars; form = s.form; preferred = s.preferred; log = steps; model = s.model; told = s.told }) (sym (append-nil s.log))
+
+none_told : (steps : List Step) (s : Step) (told : Option (List Lit)) → told_after (steps ++ s ∷ []) told ≡ None
+none_told [] s told = refl
+none_told (x ∷ xs) s told = refl
+
+-- one step more
+pub with_more : (s now next : SolverState) (steps : List Step) (place : ℕ) → place < length steps → now ≡ with_steps s (take place steps) → next ≡ with_steps now (step_at steps place ∷ []) → next ≡ with_steps s (take (place + 1) steps)
+with_more s now next steps place l a b =
+    let x : Step = step_at steps place in
+    b ∙ (ap (λ o. with_steps o (x ∷ [])) a
+    ∙ (ap (λ ls. record s { log = ls; told = None }) (append_assoc s.log (take place steps) (x ∷ []))
+    ∙ (ap (λ o. record s { log = s.log ++ (take place steps ++ x ∷ []); told = o }) (sym (none_told (take place steps) x s.told))
+    ∙ ap (with_steps s) (sym (take_more steps place no_step l)))))
 
 stays : (e : Engine) (log : List Step) → IsReady e log → StaysFit e e
 stays e log r = record { fit = r.fit; vars = refl; size = refl; preferred = refl; model = refl }

@@ -23,3 +23,4 @@ pub mod Assumptions
 pub mod SolverLemmas
 pub mod FreshBound
 pub mod Importing
+mod Explaining

@@ -1,8 +1,9 @@
 -- A solver's engine and log as its calls make them.
-use Rattle.std.proofs.Common.{◌≡◌, ℕ, ◌^◌, ◌<◌, ◌≤◌, true, List, [], ◌∷◌, ◌++◌, length, take, Result, Ok, Err, refl, sym, ap, ◌∙◌, subst, arith}
+use Rattle.std.proofs.Common.{◌≡◌, ℕ, ◌^◌, ◌<◌, ◌≤◌, Bool, true, false, cond, eqb, List, [], ◌∷◌, ◌++◌, length, take, Option, Some, None, Result, Ok, Err, refl, sym, ap, ◌∙◌, subst, arith}
 use Rattle.std.specs.List.{All}
 use Rattle.std.specs.Result.{OnOk, OnErr}
-use Rattle.std.proofs.lemmas.List.{take_all, append-nil}
+use Rattle.std.proofs.lemmas.Bool.{ne_eqb, eq-eqb}
+use Rattle.std.proofs.lemmas.List.{take_all, append-nil, length_push}
 use Rattle.loc_base.specs.declared.memory.NoMemory.{NoMemory}
 use Rattle.clause_base.specs.declared.literal.Lit.{Lit}
 use Rattle.clause_base.specs.declared.log.Step.{Step}
@@ -11,11 +12,14 @@ use Rattle.clause_base.specs.Literal.{has_distinct_variables, IsWithin, AreWithi
 use Rattle.clause_base.specs.Acceptance.{clauses_of}
 use Rattle.trail_core.specs.TrailState.{TrailState, IsTrail}
 use Rattle.sat_core.specs.declared.engine.Engine.{Engine}
-use Rattle.sat_core.specs.SolverState.{IsSolver}
-use Rattle.sat_core.specs.Outcome.{Searches, Grows}
+use Rattle.sat_core.specs.declared.verdict.Verdict.{Verdict}
+use Rattle.sat_core.specs.declared.verdict.Verdict.TheVariants as verdict
+use Rattle.sat_core.specs.SolverState.{SolverState, IsSolver}
+use Rattle.sat_core.specs.Outcome.{Searches, Grows, LearnedBeforeLast, Says, told_by}
+use Rattle.sat_core.specs.Calls.{with_steps}
 use Rattle.sat_core.specs.Analyses.{IsEmpty}
-use Rattle.sat_core.specs.Searching.{form_of, state_of, IsReady, Keeps}
-use Rattle.sat_core.proofs.Growing.{IsLogged, logged, solver_from, IsLogged-block}
+use Rattle.sat_core.specs.Searching.{form_of, state_of, seen_of, IsReady, Keeps, StandsBy, StandsTold}
+use Rattle.sat_core.proofs.Growing.{IsLogged, logged, solver_from, IsLogged-block, Grows-none}
 use Rattle.sat_core.proofs.SearchLemmas.{StaysFit, IsReady-same, IsReady-pushed}
 
 stays : (e : Engine) (log : List Step) → IsReady e log → StaysFit e e
@@ -62,13 +66,59 @@ IsReady-begins e log vars form preferred t h a m n k p o l w d q f = record {
     none = ap (take e.known) l ∙ take_all e.known [] (omega arith)
 
 -- what a search changes, as contracts see it
-pub Searches-from : (old new : Engine) (log after : List Step) (budget left derived : ℕ) → Keeps old new → Grows (form_of old) log after budget left derived → Searches (state_of old log) (state_of new after) budget left derived
-Searches-from old new log after budget left derived k g = record {
+pub Searches-from : (old new : Engine) (log after : List Step) (before told : Option (List Lit)) (budget left derived : ℕ) → Keeps old new → Grows (form_of old) log after budget left derived → Searches (seen_of old log before) (seen_of new after told) budget left derived
+Searches-from old new log after before told budget left derived k g = record {
   vars = k.vars;
   form = k.form;
   preferred = k.preferred;
   grows = g;
 }
 
-pub solver_of : (e : Engine) (log : List Step) → IsReady e log → IsSolver (state_of e log)
-solver_of e log r = r.solver
+pub solver_of : (e : Engine) (log : List Step) (told : Option (List Lit)) → IsReady e log → IsSolver (seen_of e log told)
+solver_of e log told r = record { small = r.solver.small; accepted = r.solver.accepted; within = r.solver.within; distinct = r.solver.distinct }
+
+none_either : (b : Bool) (told : Option (List Lit)) → told ≡ None → cond b told None ≡ None
+none_either true told q = q
+none_either false told q = refl
+
+-- where nothing is told, nothing is seen of it
+pub none_seen : (e : Engine) (log : List Step) → (seen_of e log None).told ≡ None
+none_seen e log = none_either (eqb e.known (length log)) None refl
+
+-- a call that fails before its search changes nothing that counts
+pub searches_none : (e : Engine) (log : List Step) (told : Option (List Lit)) (old : SolverState) (left : ℕ) → seen_of e log told ≡ old → Searches old (seen_of e log None) left left 0
+searches_none e log told old left q = subst (λ o. Searches o (seen_of e log None) left left 0) q record { vars = refl; form = refl; preferred = refl; grows = Grows-none (form_of e) log left }
+
+pub learned_none : (e : Engine) (log : List Step) (told : Option (List Lit)) (old : SolverState) → seen_of e log told ≡ old → LearnedBeforeLast old.log log
+learned_none e log told old q = subst (λ o. LearnedBeforeLast o.log log) q (λ place low high. absurd (omega (arith, low, high)))
+
+-- after one step more nothing is told
+pub seen_pushed : (e : Engine) (log after : List Step) (told : Option (List Lit)) (s : Step) (old : SolverState) → IsReady e log → seen_of e log told ≡ old → after ≡ log ++ s ∷ [] → seen_of e after told ≡ with_steps old (s ∷ [])
+seen_pushed e log after told s old r q p =
+    let later : eqb e.known (length (log ++ s ∷ [])) ≡ false = ne_eqb e.known (length (log ++ s ∷ [])) (λ z. absurd (omega (arith, z, length_push log s, r.known))) in
+    subst (λ o. seen_of e after told ≡ with_steps o (s ∷ [])) q
+    (ap (λ steps. seen_of e steps told) p ∙ ap (λ b. record (state_of e (log ++ s ∷ [])) { told = cond b told None }) later)
+
+-- what a verdict says is said of what is seen
+pub says_seen : (e : Engine) (log : List Step) (told : Option (List Lit)) (assume : List Lit) (left : ℕ) (v : Verdict) → Says (state_of e log) assume left v → Says (seen_of e log told) assume left v
+says_seen e log told assume left verdict.Model h = (h.0, record { satisfies = h.1.satisfies; assumed = h.1.assumed; greatest = h.1.greatest })
+says_seen e log told assume left (verdict.Closed number) h = h
+says_seen e log told assume left verdict.Spent h = h
+
+-- what is told after a verdict is seen
+pub told_seen : (e : Engine) (log : List Step) (told : Option (List Lit)) (assume : List Lit) (v : Verdict) → StandsBy e log assume v → told ≡ told_by assume (Ok v) → (seen_of e log told).told ≡ told_by assume (Ok v)
+told_seen e log told assume v h q = ap (λ o. cond (eqb e.known (length log)) o None) q ∙ at v h
+  where
+    at : (w : Verdict) → StandsBy e log assume w → cond (eqb e.known (length log)) (told_by assume (Ok w)) None ≡ told_by assume (Ok w)
+    at verdict.Model s = ap (λ b. cond b (Some assume) None) (eq-eqb e.known (length log) s.0)
+    at (verdict.Closed number) s = none_either (eqb e.known (length log)) None refl
+    at verdict.Spent s = none_either (eqb e.known (length log)) None refl
+
+-- what is told after a verdict stands
+pub stands_told : (e : Engine) (log : List Step) (told : Option (List Lit)) (assume : List Lit) (v : Verdict) → StandsBy e log assume v → told ≡ told_by assume (Ok v) → StandsTold e told
+stands_told e log told assume v h q = subst (StandsTold e) (sym q) (at v h)
+  where
+    at : (w : Verdict) → StandsBy e log assume w → StandsTold e (told_by assume (Ok w))
+    at verdict.Model s = s.1
+    at (verdict.Closed number) s = tt
+    at verdict.Spent s = tt

@@ -1,5 +1,5 @@
 -- What a solver begins with, what blocking a clause makes of it, and which steps it may take over.
-use Rattle.std.specs.Prelude.{◌≡◌, ℕ, ◌≤◌, false, List, [], ◌∷◌, ◌++◌, length, take, map, replicate}
+use Rattle.std.specs.Prelude.{◌≡◌, ℕ, ◌≤◌, false, Option, None, List, [], ◌∷◌, ◌++◌, length, take, map, replicate}
 use Rattle.clause_base.specs.declared.literal.Lit.{Lit}
 use Rattle.clause_base.specs.declared.log.Step.{Step}
 use Rattle.clause_base.specs.declared.log.StepKind.TheVariants.{Block}
@@ -15,13 +15,18 @@ pub record Begins (vars : ℕ) (form : List (List Lit)) (preferred : List ℕ) (
   pub no_step : s.log ≡ []
   pub all_false : s.model ≡ replicate vars false
 
+-- what stays told where steps are added
+abbrev pub told_after : List Step → Option (List Lit) → Option (List Lit)
+told_after [] told = told
+told_after (step ∷ steps) told = None
+
 -- the solver with one block more
 abbrev pub with_block : SolverState → List Lit → SolverState
-with_block s block = record { vars = s.vars; form = s.form; preferred = s.preferred; log = s.log ++ record { kind = Block; clause = block; chain = [] } ∷ []; model = s.model }
+with_block s block = record { vars = s.vars; form = s.form; preferred = s.preferred; log = s.log ++ record { kind = Block; clause = block; chain = [] } ∷ []; model = s.model; told = None }
 
 -- the solver with these steps more
 abbrev pub with_steps : SolverState → List Step → SolverState
-with_steps s steps = record { vars = s.vars; form = s.form; preferred = s.preferred; log = s.log ++ steps; model = s.model }
+with_steps s steps = record { vars = s.vars; form = s.form; preferred = s.preferred; log = s.log ++ steps; model = s.model; told = told_after steps s.told }
 
 -- the steps may follow those that are there: with them the log is accepted, and their clauses are over the solver's variables
 pub record MayFollow (s : SolverState) (steps : List Step) : Type 0 where

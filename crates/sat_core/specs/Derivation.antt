@@ -173,12 +173,23 @@ pub record Starts (t : TrailState) (head : List Lit) (marks : List Bool) (chain 
   pub past : (l : Lit) → has head l ≡ true → IsPast t marks l.var
   pub distinct : has_distinct_variables head ≡ true
 
--- the literal is the opposite of a decision
-pub record IsDenied (t : TrailState) (l : Lit) : Type 0 where
+-- the literal is the opposite of a decision among the first n entries
+pub record IsDeniedBefore (t : TrailState) (n : ℕ) (l : Lit) : Type 0 where
   pub place : ℕ
-  pub within : place < length t.entries
+  pub within : place < n
   pub decision : (d : Entry) → is_decision (slice_index_or t.entries place d) ≡ true
   pub is : (d : Entry) → opposite (slice_index_or t.entries place d).lit ≡ l
+
+-- the literal is the opposite of a decision
+abbrev pub IsDenied : TrailState → Lit → Type 0
+IsDenied t l = IsDeniedBefore t (length t.entries) l
+
+-- the variable's entry, such that the literals but for the head's are opposites of decisions before it
+pub record RestsBefore (t : TrailState) (head literals : List Lit) (v : ℕ) : Type 0 where
+  pub place : ℕ
+  pub within : place < length t.entries
+  pub variable : (d : Entry) → (slice_index_or t.entries place d).lit.var ≡ v
+  pub denied : (l : Lit) → has literals l ≡ true → (has head l ≡ true) ⊎ IsDeniedBefore t place l
 
 -- the chain gives the clause, whose literals but for the head's are opposites of decisions
 pub record Denies (t : TrailState) (head literals : List Lit) (chain : List ℕ) : Type 0 where
@@ -186,3 +197,4 @@ pub record Denies (t : TrailState) (head literals : List Lit) (chain : List ℕ)
   pub distinct : has_distinct_variables literals ≡ true
   pub within : IsWithin t.vars literals
   pub denied : (l : Lit) → has literals l ≡ true → (has head l ≡ true) ⊎ IsDenied t l
+  pub before : (x : Lit) → has head x ≡ true → RestsBefore t head literals x.var

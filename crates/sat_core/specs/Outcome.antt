@@ -1,5 +1,5 @@
 -- What a call of `solve` answers, and what it adds to the log.
-use Rattle.std.specs.Prelude.{◌≡◌, ℕ, ◌+◌, ◌-◌, ◌<◌, ◌≤◌, Bool, true, false, List, length, take, drop, count_by, Result, Ok, Err}
+use Rattle.std.specs.Prelude.{◌≡◌, ℕ, ◌+◌, ◌-◌, ◌<◌, ◌≤◌, Bool, true, false, Option, Some, None, List, length, take, drop, count_by, Result, Ok, Err}
 use Rattle.clause_base.specs.declared.literal.Lit.{Lit}
 use Rattle.clause_base.specs.declared.log.Step.{Step}
 use Rattle.clause_base.specs.declared.log.StepKind.{StepKind}
@@ -67,6 +67,13 @@ abbrev pub Says : SolverState → List Lit → ℕ → Verdict → Type 0
 Says s assume left verdict.Model = (0 < left) × IsGreatestModel s assume
 Says s assume left (verdict.Closed step) = (0 < left) × IsRefuted s.log step assume
 Says s assume left verdict.Spent = left ≡ 0
+
+-- the assumptions that are told after an answer: those of a model
+abbrev pub told_by : List Lit → Result Verdict NoMemory → Option (List Lit)
+told_by assume (Ok verdict.Model) = Some assume
+told_by assume (Ok (verdict.Closed step)) = None
+told_by assume (Ok verdict.Spent) = None
+told_by assume (Err e) = None
 
 abbrev pub closings_of : Verdict → ℕ
 closings_of verdict.Model = 0

@@ -1,5 +1,5 @@
 -- A search under way, and what its steps leave.
-use Rattle.std.specs.Prelude.{◌≡◌, ℕ, ◌+◌, ◌-◌, ◌*◌, ◌^◌, ◌<◌, ◌≤◌, Bool, List, [], ◌∷◌, ◌++◌, length, take, Option, Some, None, Result, Ok, Err, All}
+use Rattle.std.specs.Prelude.{◌≡◌, ℕ, ◌+◌, ◌-◌, ◌*◌, ◌^◌, ◌<◌, ◌≤◌, ◌==◌, if◌then◌else◌, ⊤, Bool, List, [], ◌∷◌, ◌++◌, length, take, Option, Some, None, Result, Ok, Err, All}
 use Rattle.loc_base.specs.declared.memory.NoMemory.{NoMemory}
 use Rattle.clause_base.specs.declared.literal.Lit.{Lit}
 use Rattle.clause_base.specs.declared.log.Step.{Step}
@@ -13,16 +13,20 @@ use Rattle.sat_core.specs.declared.verdict.Verdict.TheVariants as verdict
 use Rattle.sat_core.specs.SolverState.{SolverState, IsSolver, IsGreatestModel, assignment_of}
 use Rattle.sat_core.specs.Outcome.{IsRefuted, Says, closings_of}
 use Rattle.sat_core.specs.Derivation.{Denies}
-use Rattle.sat_core.specs.Choices.{AreChosen}
+use Rattle.sat_core.specs.Choices.{AreChosen, AllValued}
 use Rattle.sat_core.specs.Engines.{IsFit}
 
 -- the clauses of the form, which are the trail's first
 abbrev pub form_of : Engine → List (List Lit)
 form_of e = take e.form_len e.trail.clauses
 
--- what contracts see of an engine and its log
+-- what contracts see of an engine and its log, but for what is told
 abbrev pub state_of : Engine → List Step → SolverState
-state_of e log = record { vars = e.trail.vars; form = form_of e; preferred = e.preferred.items; log = log; model = e.model.items }
+state_of e log = record { vars = e.trail.vars; form = form_of e; preferred = e.preferred.items; log = log; model = e.model.items; told = None }
+
+-- what contracts see of a solver: its engine and its log, and the assumptions of its last model while the engine knows all steps
+abbrev pub seen_of : Engine → List Step → Option (List Lit) → SolverState
+seen_of e log told = record (state_of e log) { told = if e.known == length log then told else None }
 
 -- an engine and its log between two calls: the trail has the clauses of the form and of as many steps as are known
 pub record IsReady (e : Engine) (log : List Step) : Type 0 where
@@ -65,6 +69,28 @@ pub record DerivesStep (t : TrailState) (head : List Lit) (old new : List Step) 
 pub record IsModelOf (t : TrailState) (model : List Bool) : Type 0 where
   pub size : length model ≡ t.vars
   pub values : (v : ℕ) (b : Bool) → IsVariable t.vars v → values_of t.entries v ≡ Some b → assignment_of model v ≡ b
+
+-- the trail is as the last model left it, which was found under these assumptions
+pub record Stands (e : Engine) (assume : List Lit) : Type 0 where
+  pub chosen : AreChosen e.trail assume e.preferred.items e.chosen.items
+  pub valued : AllValued e.trail
+  pub model : IsModelOf e.trail e.model.items
+
+-- after a model the trail stands, and has the clauses of all steps
+abbrev pub StandsBy : Engine → List Step → List Lit → Verdict → Type 0
+StandsBy e log assume verdict.Model = (e.known ≡ length log) × Stands e assume
+StandsBy e log assume (verdict.Closed step) = ⊤
+StandsBy e log assume verdict.Spent = ⊤
+
+-- the same after a step of the search, which may go on
+abbrev pub StandsAfter : Engine → List Step → List Lit → Option Verdict → Type 0
+StandsAfter e log assume None = ⊤
+StandsAfter e log assume (Some v) = StandsBy e log assume v
+
+-- the trail stands where assumptions are told
+abbrev pub StandsTold : Engine → Option (List Lit) → Type 0
+StandsTold e None = ⊤
+StandsTold e (Some assume) = Stands e assume
 
 -- what ends a search while units are left
 abbrev pub Ends : SolverState → List Lit → Verdict → Type 0

@@ -1,5 +1,5 @@
 -- What a solver knows: a form, the variables that are to be true where they can be, and a log of steps.
-use Rattle.std.specs.Prelude.{◌≡◌, ℕ, ◌-◌, ◌^◌, ◌<◌, Bool, true, false, List, map, filter, length, slice_index_or, IsTrue, All}
+use Rattle.std.specs.Prelude.{◌≡◌, ℕ, ◌-◌, ◌^◌, ◌<◌, Bool, true, false, Option, List, map, filter, length, slice_index_or, IsTrue, All}
 use Rattle.clause_base.specs.declared.literal.Lit.{Lit}
 use Rattle.clause_base.specs.declared.log.Step.{Step}
 use Rattle.clause_base.specs.Literal.{AllDistinct, AreWithin}
@@ -13,6 +13,8 @@ pub record SolverState : Type 0 where
   pub preferred : List ℕ
   pub log : List Step
   pub model : List Bool
+  -- the assumptions of the last answer, where it was a model and no step was added since
+  pub told : Option (List Lit)
 
 -- the clauses that were blocked, in order
 abbrev pub blocks_of : List Step → List (List Lit)

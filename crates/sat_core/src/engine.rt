@@ -41,7 +41,7 @@ impl Engine {
     ghost use Rattle.sat_core.specs.Outcome.{Grows, Says, closings};
     ghost use Rattle.sat_core.specs.Choices.{AreChosen, ChoiceGives, PassedTo, end_of};
     ghost use Rattle.sat_core.specs.Engines.{IsFit, Learned, KeptLog, KeepsPace};
-    ghost use Rattle.sat_core.specs.Searching.{form_of, state_of, IsReady, IsUnderWay, IsAtStart, Keeps, DerivesStep, ExtendGives, StepGives, closings_at};
+    ghost use Rattle.sat_core.specs.Searching.{form_of, state_of, IsReady, IsUnderWay, IsAtStart, Keeps, DerivesStep, ExtendGives, StepGives, StandsBy, StandsAfter, closings_at};
 
     /// Searches for a model under assumptions, or for a clause of negated assumptions, while units are left.
     pub(crate) fn search(
@@ -59,6 +59,7 @@ impl Engine {
         ensures keeps { Keeps self.old self.new }
         ensures grows { Grows (form_of self.old) log.old log.new budget.old budget.new (closings result) }
         ensures says { IfOk result (Says (state_of self.new log.new) assume.now budget.new) }
+        ensures stands { IfOk result (StandsBy self.new log.new assume.now) }
     {
         if budget.left() == 0 {
             return Ok(Verdict::Spent);
@@ -128,6 +129,7 @@ impl Engine {
         ensures keeps { Keeps self.old self.new }
         ensures grows { Grows (form_of self.old) log.old log.new budget.old budget.new (closings_at result) }
         ensures gives { IfOk result (StepGives self.old self.new log.new assume.now budget.old budget.new) }
+        ensures stands { IfOk result (StandsAfter self.new log.new assume.now) }
     {
         match self.trail.propagate() {
             Some(conflict) => self.meet(assume, log, budget, conflict),
@@ -152,6 +154,7 @@ impl Engine {
         ensures keeps { Keeps self.old self.new }
         ensures grows { Grows (form_of self.old) log.old log.new budget.old budget.new (closings_at result) }
         ensures gives { IfOk result (StepGives self.old self.new log.new assume.now budget.old budget.new) }
+        ensures stands { IfOk result (StandsAfter self.new log.new assume.now) }
     {
         if self.trail.level() == 0 {
             self.close(log, conflict)?;
@@ -178,6 +181,7 @@ impl Engine {
         ensures keeps { Keeps self.old self.new }
         ensures grows { Grows (form_of self.old) log.old log.new 0 0 (closings_at result) }
         ensures gives { IfOk result (ExtendGives self.old self.new log.new assume.now) }
+        ensures stands { IfOk result (StandsAfter self.new log.new assume.now) }
     {
         match self.next(assume) {
             Choice::Decide(place, l) => {
@@ -205,6 +209,7 @@ impl Engine {
         ensures keeps { Keeps self.old self.new }
         ensures grows { Grows (form_of self.old) log.now log.now 0 0 (closings_at result) }
         ensures gives { IfOk result (ExtendGives self.old self.new log.now assume.now) }
+        ensures stands { IfOk result (StandsAfter self.new log.now assume.now) }
     {
         let place = assume.len() + self.preferred.len();
         match self.ranking.choose(&self.trail) {

@@ -5,6 +5,7 @@
 mod analysis;
 mod budget;
 mod engine;
+mod explain;
 mod heap;
 mod laws;
 mod order;

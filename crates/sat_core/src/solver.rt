@@ -1,37 +1,42 @@
-ghost use Rattle.std.specs.Prelude.{◌≡◌, ◌+◌, ◌^◌, ◌<◌, ◌≤◌, false, length, IsTrue, IfOk, OnOk, OnErr, All, [], ◌∷◌};
+ghost use Rattle.std.specs.Prelude.{◌≡◌, ◌+◌, ◌^◌, ◌<◌, ◌≤◌, false, length, IsTrue, IfOk, OnOk, OnErr, All, [], ◌∷◌, Ok};
 ghost use Rattle.clause_base.specs.Literal.{IsWithin, AreWithin, has_distinct_variables};
 ghost use Rattle.trail_core.specs.TrailState.{IsTrail};
+ghost use Rattle.sat_core.specs.Outcome.{told_by};
 
 use crate::analysis::Analysis;
 use crate::budget::Budget;
 use crate::engine::Engine;
+use crate::explain::explain;
 use crate::ranking::Ranking;
 use crate::restarts::Restarts;
 use crate::verdict::Verdict;
-use clause_base::{Clause, Form, Lit, Log, StepKind};
-use loc_base::NoMemory;
+use clause_base::{Clause, Form, Lit, Log, Step, StepKind};
+use loc_base::{Items, NoMemory};
 use std::alloc::Global;
 use std::marker::Model;
 use trail_core::Trail;
 
 /// A clause solver under assumptions, which writes each step into a log.
 ///
-/// Contracts see it as its variables, its form, the variables that it prefers true, its log, and its last model.
+/// Contracts see it as its variables, its form, the variables that it prefers true, its log, its last model, and what it was
+/// found under.
 #[derive(Drop)]
 pub struct Solver {
     engine: Engine,
     log: Log,
+    /// The assumptions of the last answer, where it was a model. They hold for its trail while the engine knows all steps.
+    told: Option<Items<Lit>>,
 }
 
 impl Model for Solver {
     ghost use Rattle.sat_core.specs.SolverState.{SolverState};
-    ghost use Rattle.sat_core.specs.Searching.{state_of, IsReady};
+    ghost use Rattle.sat_core.specs.Searching.{seen_of, IsReady, StandsTold};
 
     ghost Value = { SolverState };
 
-    ghost view = { λ s. state_of s.engine s.log };
+    ghost view = { λ s. seen_of s.engine s.log s.told };
 
-    ghost invariant = { λ s. IsReady s.engine s.log };
+    ghost invariant = { λ s. IsReady s.engine s.log × StandsTold s.engine s.told };
 }
 
 impl Solver {
@@ -40,6 +45,7 @@ impl Solver {
     ghost use Rattle.sat_core.specs.SolverState.{IsSolver, blocks_of};
     ghost use Rattle.sat_core.specs.Outcome.{Searches, LearnedBeforeLast, Says, closings};
     ghost use Rattle.sat_core.specs.Calls.{Begins, MayFollow, TookOver, with_block, with_steps};
+    ghost use Rattle.sat_core.specs.Explaining.{MayExplain, Explains};
 
     /// A solver of a form, with an empty log. Of the preferred variables, which are to be true where they can be, the
     /// first counts most.
@@ -65,6 +71,7 @@ impl Solver {
         Ok(Solver {
             engine,
             log: Log::new(alloc),
+            told: None,
         })
     }
 
@@ -118,8 +125,25 @@ impl Solver {
         ensures solver { IsSolver self.new }
         ensures says { IfOk result (Says self.new assume.now budget.new) }
         ensures learned { LearnedBeforeLast self.old.log self.new.log }
+        ensures told { self.new.told ≡ told_by assume.now result }
     {
-        self.engine.search(assume, &mut self.log, budget)
+        let alloc = *self.engine.preferred.allocator();
+        self.told = None;
+        let told = Items::copy_of(alloc, assume)?;
+        let verdict = self.engine.search(assume, &mut self.log, budget)?;
+        self.told = if_model(verdict, told);
+        Ok(verdict)
+    }
+
+    /// Why a preferred variable is false in the last model: a step that derives its negation from assumptions and from true
+    /// variables that are preferred before it. It isn't appended.
+    pub fn explain(&self, var: u32) -> Result<Step, NoMemory>
+        requires may { MayExplain self.now var }
+        ensures explains { IfOk result (Explains self.now var) }
+    {
+        let alloc = *self.engine.preferred.allocator();
+        let denied = Lit { var, negated: true };
+        explain(alloc, &self.engine.trail, denied)
     }
 
     /// The values of the variables from 1 on: all are false in a new solver, and after `Model` they are the model's. No
@@ -137,6 +161,16 @@ impl Solver {
         ensures solver { IsSolver self.now }
     {
         &self.log
+    }
+}
+
+/// What is told after a verdict: the assumptions, where it is a model.
+fn if_model(verdict: Verdict, assume: Items<Lit>) -> Option<Items<Lit>>
+    ensures { result ≡ told_by assume (Ok verdict) }
+{
+    match verdict {
+        Verdict::Model => Some(assume),
+        Verdict::Closed { step: _ } | Verdict::Spent => None,
     }
 }
 

@@ -1,8 +1,11 @@
 //! Forms with known answers.
 
-ghost use Rattle.std.specs.Prelude.{◌≡◌, ◌↔◌, ◌≤◌, ◌<◌, IsTrue, IfOk, length, All};
+ghost use Rattle.std.specs.Prelude.{◌≡◌, ◌↔◌, ◌≤◌, ◌<◌, IsTrue, IfOk, length, All, []};
+ghost use Rattle.sat_core.specs.Outcome.{told_by};
 
 mod blocks;
+mod explained;
+mod imports;
 mod mixed;
 
 use crate::clauses::{clauses_of, lit, literals};
@@ -33,7 +36,11 @@ fn solver_of(
     form: &Form,
     preferred: &[u32],
 ) -> Result<Solver, NoMemory>
-    ensures { IfOk result (λ s. length s.form < 1000) }
+    ensures few { IfOk result (λ s. length s.form < 1000) }
+    ensures form { IfOk result (λ s. s.form ≡ form.now.clauses) }
+    ensures vars { IfOk result (λ s. s.vars ≡ form.now.vars) }
+    ensures no_step { IfOk result (λ s. s.log ≡ []) }
+    ensures preferred { IfOk result (λ s. s.preferred ≡ preferred.now) }
 {
     assert!(rt; are_within(&form.clauses, form.vars));
     assert!(rt; form.clauses.len() < 1000 && preferred.len() < 1000);
@@ -49,7 +56,10 @@ fn solve(
     units: u32,
 ) -> Result<Verdict, NoMemory>
     requires { length solver.old.form < 1000 }
-    ensures { solver.new.form ≡ solver.old.form }
+    ensures form { solver.new.form ≡ solver.old.form }
+    ensures vars { solver.new.vars ≡ solver.old.vars }
+    ensures preferred { solver.new.preferred ≡ solver.old.preferred }
+    ensures told { solver.new.told ≡ told_by assume.now result }
 {
     let vars = solver.model().len();
     assert!(rt; vars < 1000);

@@ -18,3 +18,9 @@ returns-in_ok-decide-in-Some-clause-gives c =
 pub returns-in-None-clause-gives : goal.returns-in-None-clause-gives
 returns-in-None-clause-gives c =
     complete_model c.args.self.now c.keep.new.model.items c.args.log.now c.args.assume.now c.requires.under_way c.requires.assume c.requires.rest c.requires.passed c.in-None.ensures.none c.keep.ensures
+
+pub returns-in-None-clause-stands : goal.returns-in-None-clause-stands
+returns-in-None-clause-stands c = (
+  c.requires.under_way.whole,
+  record { chosen = c.requires.under_way.chosen; valued = c.in-None.ensures.none; model = c.keep.ensures },
+)
