@@ -1,5 +1,5 @@
 -- Why a preferred variable is false in the model on which the trail stands.
-use Rattle.std.proofs.Common.{◌≡◌, ℕ, ◌+◌, ◌<◌, ◌≤◌, Bool, true, false, not, cond, eqb, List, [], ◌∷◌, length, get_or, take, Option, Some, None, Result, Ok, Err, refl, sym, ap, ◌∙◌, subst, arith, inl, inr, ⊎_elim}
+use Rattle.std.proofs.Common.{◌≡◌, ℕ, ◌<◌, ◌≤◌, Bool, true, false, not, cond, eqb, List, [], ◌∷◌, length, get_or, Option, Some, None, Result, Ok, Err, refl, sym, ap, ◌∙◌, subst, arith, ⊎_elim}
 use Rattle.std.specs.Prelude.{is_some, is_none, IsSome, Contains}
 use Rattle.std.specs.Result.{IfOk}
 use Rattle.std.specs.Option.{option_map, option_and_then}
@@ -12,13 +12,13 @@ use Rattle.clause_base.specs.declared.literal.Lit.{Lit}
 use Rattle.clause_base.specs.declared.log.Step.{Step}
 use Rattle.clause_base.specs.declared.log.StepKind.{StepKind}
 use Rattle.clause_base.specs.declared.log.StepKind.TheVariants.{Derived}
-use Rattle.clause_base.specs.Literal.{positive, negative, opposite, same_lit, has, has_variable}
+use Rattle.clause_base.specs.Literal.{negative, opposite, same_lit, has, has_variable}
 use Rattle.clause_base.specs.Acceptance.{clauses_of, IsAcceptedAs, IsAcceptedChain}
 use Rattle.clause_base.proofs.Sets.{same_lit-true, same_lit_itself, opposite-opposite, has_variable-has}
 use Rattle.trail_core.specs.declared.entry.Entry.{Entry}
 use Rattle.trail_core.specs.Values.{IsVariable}
 use Rattle.trail_core.specs.TrailState.{TrailState, IsTrail, entry_of, values_of, level_in, reason_in, is_decision}
-use Rattle.trail_core.proofs.Truth.{IsMapped, mapped}
+use Rattle.trail_core.proofs.Truth.{mapped}
 use Rattle.trail_core.proofs.Looks.{has_at}
 use Rattle.sat_core.specs.declared.engine.Engine.{Engine}
 use Rattle.sat_core.specs.SolverState.{SolverState, blocks_of, assignment_of}
@@ -26,8 +26,8 @@ use Rattle.sat_core.specs.Choices.{no_literal, AreChosen}
 use Rattle.sat_core.specs.Derivation.{Denies, IsDeniedBefore, RestsBefore}
 use Rattle.sat_core.specs.Explaining.{IsDecidedBefore, assumed, preferred_before, assumptions, MayExplain, MayStand, itself, of_assumption, of_earlier, Explains}
 use Rattle.sat_core.specs.Searching.{form_of, state_of, seen_of, IsReady, Stands, StandsTold}
-use Rattle.sat_core.proofs.Tracking.{IsEntryAt, entry_at}
-use Rattle.sat_core.proofs.Resolving.{no_entry, true_at, level_at, valued_variable}
+use Rattle.sat_core.proofs.Tracking.{entry_at}
+use Rattle.sat_core.proofs.Resolving.{no_entry, true_at, level_at}
 use Rattle.sat_core.proofs.Greatest.{decided_before}
 
 -- an engine and its log of which assumptions are told
