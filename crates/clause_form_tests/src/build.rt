@@ -39,6 +39,11 @@ pub fn circuit(
         next,
         start,
     };
+    circuit_of(rt, alloc, parts)
+}
+
+/// The circuit of a net.
+pub fn circuit_of(rt: &impl Abort, alloc: Global, parts: Parts) -> Result<Circuit, Fail> {
     match parts.into_net(alloc)? {
         Some(net) => match blast(alloc, &net) {
             Ok(circuit) => Ok(circuit),

@@ -142,13 +142,22 @@ fn what_is_read_of_a_form_are_its_literals(rt: HostRuntime) -> Result<(), Fail> 
     Ok(())
 }
 
-/// The clauses of y = 0 in a cycle with something expected.
+/// The clauses of y = 0 in a cycle with something expected. What is assigned is a place that no suspect holds.
 fn constant_output(
     rt: &impl Abort,
     alloc: Global,
     wanted: Checked,
 ) -> Result<clause_base::Form, Fail> {
-    let nodes = vec![in alloc; node(1, Operation::Const(0))]?;
+    let nodes = vec![in alloc;
+        node(1, Operation::Const(0)),
+        node(
+            1,
+            Operation::Free {
+                place: 0,
+                computed: word(0, 1)
+            }
+        ),
+    ]?;
     let circuit = circuit(rt, alloc, nodes, vec![in alloc]?, vec![in alloc]?)?;
     let traces = vec![in alloc;
         Trace {
