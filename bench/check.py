@@ -12,11 +12,13 @@ runs (3) each but for the first. They are the processor's, where it isn't said t
     form s     the circuit, the unrolling and the clauses: of a run of `print_form` (crates/print_form, built beside) the share that it says
     read s     reading the texts: `check` on the log of other inputs, which ends behind reading and the form, without the form
     sets s     simulating the sets: `check` on the log with a wrong first step, which ends at that step, without what stands before
+    log s      checking the log: what is left of `check 1`
     check 1    `check` with one worker
     x work     how many times that is read s and sets s together
     cpu 4      `check` with four workers, all threads together
     clock 1, 4 the clock's seconds with one worker and with four
     x four     how many times as fast four are by the clock, and in brackets without reading and the form, which one worker does
+    at most    how many times as fast four can be, by the processor's seconds: where sets s and log s come to a quarter, and the rest stays
     sim s      `sim` on the same design and dump, which reads both, simulates once, and prints a line a cycle
 
 and the most memory that `check` held with one worker, in MB. PROGRAM is crates/localise/out/localise where it isn't given. The status is
@@ -102,7 +104,8 @@ def times_of(check, form, room, runs):
     one, alone, processor, memory = least(check + ["--workers", "1"], room, runs)
     four, together, threads, _ = least(check + ["--workers", "4"], room, runs)
     times = "%.2f (%.2f)" % (alone / together, (alone - before) / max(together - before, 0.001))
-    parts = (read - form, simulated - read, processor, processor / (simulated - form), threads, alone, together, times)
+    most = processor / (read + (processor - read) / 4)
+    parts = (read - form, simulated - read, processor - simulated, processor, processor / (simulated - form), threads, alone, together, times, most)
     return parts, memory, [last_line(one), last_line(four)]
 
 
@@ -121,7 +124,7 @@ def row_of(asked, name, top, files, words, room):
     log = numbers_of(os.path.join(room, "localise.log"))
     sizes = [os.path.getsize(os.path.join(room, file)) for file in ("localise.log", "localise.json")]
     number = sum(sizes_of(printed).values())
-    print("%-12s %4d %7d %9d %9d %8d %8.3f %7.3f %7.3f %7.3f %7.3f %6.2f %7.3f %7.3f %7.3f %12s %7.3f %5.0f" % (
+    print("%-12s %4d %7d %9d %9d %8d %8.3f %7.3f %7.3f %7.3f %7.3f %7.3f %6.2f %7.3f %7.3f %7.3f %12s %7.2f %7.3f %5.0f" % (
         name, number, *log, *sizes, found, form, *parts, simulated, memory), flush=True)
     wanted = "yes %d" % number if ending[0].startswith("complete") else "no closing"
     if said != [wanted, wanted]:
@@ -139,9 +142,9 @@ def main():
     asked = parser.parse_args()
     asked.program, rights = os.path.abspath(asked.program), []
     size = ["--size", str(asked.size)]
-    print("%-12s %4s %7s %9s %9s %8s %8s %7s %7s %7s %7s %6s %7s %7s %7s %12s %7s %5s" % (
-        "list", "sets", "lines", "numbers", "log bytes", "report", "find s", "form s", "read s", "sets s", "check 1", "x work", "cpu 4",
-        "clock 1", "clock 4", "x four", "sim s", "MB"))
+    print("%-12s %4s %7s %9s %9s %8s %8s %7s %7s %7s %7s %7s %6s %7s %7s %7s %12s %7s %7s %5s" % (
+        "list", "sets", "lines", "numbers", "log bytes", "report", "find s", "form s", "read s", "sets s", "log s", "check 1", "x work", "cpu 4",
+        "clock 1", "clock 4", "x four", "at most", "sim s", "MB"))
     for number in [it for it in asked.made.split(",") if it]:
         with tempfile.TemporaryDirectory() as room:
             rights.append(row_of(asked, "made " + number, "made", ("made.v", "made.vcd"), ["make", number, *size], room))
