@@ -1,6 +1,7 @@
 -- Why one step of a check gives nothing, as a cause of the whole.
 use Rattle.std.proofs.Common.{ℕ, ◌≡◌, ◌≢◌, List, Result, Ok, Err, refl, sym, subst, ◌∙◌, arith, ◌⊎◌, inl, inr}
 use Rattle.std.specs.Prelude.{IfErr, IfOk, IsErrAnd}
+use Rattle.io_ports.specs.Faults.{FaultCounts}
 use Rattle.command_contract.specs.Contract.{IsInputRefusal}
 use Rattle.command_contract.proofs.Statuses.{input-range}
 use Rattle.list_inputs.specs.declared.refusal.Refusal.{Refusal}
@@ -34,7 +35,7 @@ pub low-status : (P : ℕ → List ℕ → Type 0) → AreLow P → (r : Refusal
 low-status P low (Line s l) holds = low-refusal s (low s l.items holds)
 low-status P low Memory holds = tt
 
-pub low-counts : (P : ℕ → List ℕ → Type 0) → AreLow P → (old new : ℕ) (r : Refusal) → HasCause P r → new ≡ old → RefusalCounts old new r
+pub low-counts : (P : ℕ → List ℕ → Type 0) → AreLow P → (old new : FaultCounts) (r : Refusal) → HasCause P r → new ≡ old → RefusalCounts old new r
 low-counts P low old new (Line s l) holds same = (λ five. absurd (low-no_five s (low s l.items holds) five), λ _. same)
 low-counts P low old new Memory holds same = tt
 
@@ -60,13 +61,13 @@ pub err-of : {X E : Type 0} (P Q : E → Type 0) (r : Result X E) → ((e : E) �
 err-of P Q (Ok x) f holds = tt
 err-of P Q (Err e) f holds = f e holds
 
-pub low-counts_of : {X : Type 0} (P : ℕ → List ℕ → Type 0) → AreLow P → (old new : ℕ) (r : Result X Refusal) → IfErr r (HasCause P)
+pub low-counts_of : {X : Type 0} (P : ℕ → List ℕ → Type 0) → AreLow P → (old new : FaultCounts) (r : Result X Refusal) → IfErr r (HasCause P)
     → new ≡ old → CountsOf old new r
 low-counts_of P low old new (Ok x) holds same = same
 low-counts_of P low old new (Err refusal) holds same = low-counts P low old new refusal holds same
 
 -- what is handed on keeps the counts
-pub counts-passed : {X : Type 0} (old new : ℕ) (r : Result X Refusal) (why : Refusal) → IsErrAnd r (λ y. y ≡ why)
+pub counts-passed : {X : Type 0} (old new : FaultCounts) (r : Result X Refusal) (why : Refusal) → IsErrAnd r (λ y. y ≡ why)
     → RefusalCounts old new why → CountsOf old new r
 counts-passed old new (Ok x) why same fact = absurd same
 counts-passed old new (Err y) why same fact = subst (RefusalCounts old new) (sym same) fact

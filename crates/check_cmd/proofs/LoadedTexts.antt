@@ -3,7 +3,7 @@ use Rattle.std.proofs.Common.{ℕ, suc, ◌+◌, ◌≡◌, ◌≢◌, ◌<◌, 
 use Rattle.std.specs.Prelude.{IsSomeAnd}
 use Rattle.std.specs.List.{flat_map}
 use Rattle.std.proofs.lemmas.List.{length-append, length-map}
-use Rattle.io_ports.specs.Faults.{Rose}
+use Rattle.io_ports.specs.Faults.{FaultCounts}
 use Rattle.command_contract.specs.Contract.{Texts}
 use Rattle.command_contract.proofs.Statuses.{input-range}
 use Rattle.run_inputs.specs.declared.faults.LoadFault.{LoadFault}
@@ -37,8 +37,8 @@ use Rattle.check_cmd.specs.Refusals.{LogRefused, ReportRefused, bad_line}
 use Rattle.check_cmd.proofs.Causes.{cause-of, memory-cause, no-memory, said}
 
 -- ---- a load
--- the shelf's count of faults, from that of the load to that of its refusal
-pub load-counts : (old new : ℕ) (why : LoadFault) (r : Refusal) (line : List ℕ) → LoadCounts {X = List ℕ} old new (Err why)
+-- the shelf's counts of faults, from those of the load to those of its refusal
+pub load-counts : (old new : FaultCounts) (why : LoadFault) (r : Refusal) (line : List ℕ) → LoadCounts {X = List ℕ} old new (Err why)
     → HasStatus r → Says r (load_status why) line → RefusalCounts old new r
 load-counts old new fault.Fault (Line s l) line rose has (e, f) = (λ _. rose, λ other. absurd (other e))
 load-counts old new fault.Size (Line s l) line same has (e, f) = (λ five. absurd (omega (arith, e, five)), λ _. same)

@@ -2,7 +2,7 @@
 -- the whole list; else the first condition that fails. Nothing is written, and one line is printed.
 use Rattle.std.specs.Prelude.{ℕ, ◌≡◌, ◌⊎◌, ◌++◌, List, length, None}
 use Rattle.loc_base.specs.declared.digest.Digest.{Digest}
-use Rattle.command_contract.specs.Contract.{Case, IsInputRefusal, NothingWritten, OneRose, Run, Texts}
+use Rattle.command_contract.specs.Contract.{Case, IsInputRefusal, NothingWritten, Run, Texts, WriteFailed}
 use Rattle.front_end.specs.Means.{Meaning, Refusing}
 use Rattle.report_doc.specs.declared.types.Report.{Report}
 use Rattle.proof_check.specs.declared.types.LogText.{LogText}
@@ -67,7 +67,7 @@ checking M R known S asked = record {
   Answered = λ run status. IsAnswered M known S asked run status;
   Refused = λ run. Refused M R known S asked run.texts;
   Stands = NothingWritten;
-  Stopped = λ run. OneRose run.counts × LineStops (IsDue M R known S asked run.texts) run;
+  Stopped = λ run. WriteFailed run.counts × LineStops (IsDue M R known S asked run.texts) run;
   Cut = λ run. LineCut run;
   Writes = λ name. ⊥;
   Ready = λ run. IsReady M known S asked run.texts;

@@ -1,7 +1,7 @@
 -- What a command promises of a run that ends with a status: one record, a field for each promise. What it is to print and to
 -- write, and when it is refused, is the command's own case.
 use Rattle.std.specs.Prelude.{ℕ, ◌≡◌, ◌≤◌, ◌⊎◌, ◌++◌, Bool, true, List, Option}
-use Rattle.io_ports.specs.Faults.{Rose}
+use Rattle.io_ports.specs.Faults.{FaultCounts, LoadRose, Rose, WriteRose}
 
 -- texts by their names
 abbrev pub Texts : Type 0
@@ -9,8 +9,8 @@ Texts = List ℕ → Option (List ℕ)
 
 -- the counts of faults of the shelf and of the sink, before a run and after it
 pub record Counts : Type 0 where
-  pub shelf : ℕ
-  pub now_shelf : ℕ
+  pub shelf : FaultCounts
+  pub now_shelf : FaultCounts
   pub sink : ℕ
   pub now_sink : ℕ
 
@@ -26,7 +26,7 @@ pub record Run : Type 0 where
   pub told : Bool
 
 -- the same, from what shelf and sink tell before a run and after it
-abbrev pub counts_of : ℕ → ℕ → ℕ → ℕ → Counts
+abbrev pub counts_of : FaultCounts → FaultCounts → ℕ → ℕ → Counts
 counts_of shelf now_shelf sink now_sink = record { shelf = shelf; now_shelf = now_shelf; sink = sink; now_sink = now_sink }
 
 abbrev pub run_of : Bool → Texts → Texts → Texts → List ℕ → List ℕ → Counts → Run
@@ -44,7 +44,15 @@ abbrev pub NoneRose : Counts → Type 0
 NoneRose counts = (counts.now_shelf ≡ counts.shelf) × (counts.now_sink ≡ counts.sink)
 
 abbrev pub OneRose : Counts → Type 0
-OneRose counts = Rose counts.shelf counts.now_shelf ⊎ Rose counts.sink counts.now_sink
+OneRose counts = Rose counts.shelf.all counts.now_shelf.all ⊎ Rose counts.sink counts.now_sink
+
+-- a write failed: a `begin` or a `put` of the shelf, or a `put` of the sink
+abbrev pub WriteFailed : Counts → Type 0
+WriteFailed counts = WriteRose counts.shelf counts.now_shelf ⊎ Rose counts.sink counts.now_sink
+
+-- a load failed, and no write
+abbrev pub LoadFailed : Counts → Type 0
+LoadFailed counts = LoadRose counts.shelf counts.now_shelf × (counts.now_sink ≡ counts.sink)
 
 -- nothing was written
 abbrev pub NothingWritten : Run → Type 0
@@ -62,7 +70,7 @@ pub record Case : Type 1 where
   pub Refused : Run → ℕ → List ℕ → Type 0
   -- what stands written of a run that is refused
   pub Stands : Run → Type 0
-  -- what a run leaves that a fault of writing ends, with the count that rose
+  -- what a run leaves that a fault of writing ends, with the count of writes that rose
   pub Stopped : Run → Type 0
   -- what a run leaves that want of memory ends
   pub Cut : Run → Type 0
@@ -91,12 +99,13 @@ pub record EndsRefused (c : Case) (run : Run) (status : ℕ) : Type 0 where
   pub printed : run.now_printed ≡ run.printed ++ line
   pub stands : c.Stands run
 
--- the counts of faults: none rose at an answer and at 2 to 4, the shelf's alone at 5, one at 6, and the sink's did not at 7
+-- the counts of faults: none rose at an answer and at 2 to 4, that of loads alone at 5, one of writes at 6, and the sink's did not
+-- at 7
 pub record Causes (c : Case) (counts : Counts) (status : ℕ) : Type 0 where
   pub answer : c.MayAnswer status → NoneRose counts
   pub none : status ≤ 4 → NoneRose counts
-  pub read : status ≡ 5 → Rose counts.shelf counts.now_shelf × (counts.now_sink ≡ counts.sink)
-  pub write : status ≡ 6 → OneRose counts
+  pub read : status ≡ 5 → LoadFailed counts
+  pub write : status ≡ 6 → WriteFailed counts
   pub memory : status ≡ 7 → counts.now_sink ≡ counts.sink
 
 pub record Keeps (c : Case) (run : Run) (status : ℕ) : Type 0 where

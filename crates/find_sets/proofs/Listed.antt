@@ -1,8 +1,10 @@
 -- The promises of the command, from how a listing ends.
 use Rattle.std.proofs.Common.{ℕ, ◌≡◌, ◌≢◌, ◌≤◌, true, List, ap, refl, sym, subst, ◌∙◌, arith, ◌⊎◌, inl, inr}
 use Rattle.command_contract.specs.Contract.{Causes, IsInputRefusal, IsStatus, Keeps, NoneRose, OneRose, Run, Texts, counts_of}
+use Rattle.io_ports.specs.Faults.{FaultCounts}
 use Rattle.std.proofs.Common.{length}
 use Rattle.std.proofs.lemmas.Slice.Zip.{AllZip-long}
+use Rattle.command_contract.proofs.Counting.{write-rose}
 use Rattle.command_contract.proofs.Statuses.{input-range, input-refusal}
 use Rattle.loc_base.specs.declared.digest.Digest.{Digest}
 use Rattle.front_end.specs.Means.{Meaning, Refusing}
@@ -121,7 +123,7 @@ module _ (M : Meaning) (R : Refusing) (S : Suspecting) (asked : Asked) (run : Ru
       → OutcomeCause run.counts o
       → ¬ OneRose run.counts → ((status_of o ≡ 0) ⊎ (status_of o ≡ 1)) ⊎ (status_of o ≡ 7)
   list-complete (Ended ending) cause none = inl (ending-range ending)
-  list-complete Failed cause none = absurd (none cause)
+  list-complete Failed cause none = absurd (none (write-rose run.counts cause))
   list-complete Memory cause none = inr refl
 
   -- ---- all of them
@@ -148,7 +150,7 @@ module _ (M : Meaning) (R : Refusing) (S : Suspecting) (asked : Asked) (run : Ru
 
 -- by what the listing's contract says: it begins where the reading ended
 pub listing-keeps : (M : Meaning) (R : Refusing) (S : Suspecting) (asked : Asked) (run : Run) (problem : Problem) (inputs : Digest)
-    (listing : Listing) (written : Texts) (shelf : ℕ) (o : Outcome) (status : ℕ)
+    (listing : Listing) (written : Texts) (shelf : FaultCounts) (o : Outcome) (status : ℕ)
     → listing ≡ listing_of asked problem inputs → written ≡ run.written → shelf ≡ run.counts.shelf → status ≡ status_of o
     → (run.told ≡ true → Means M S (wanted_of asked) run.texts problem) → (run.told ≡ true → IsDigestOf (wanted_of asked) run.texts inputs)
     → (run.told ≡ true → Leaves listing (record {

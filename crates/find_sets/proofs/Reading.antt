@@ -1,6 +1,7 @@
 -- What was read, and the promises of a run that goes on from there.
 use Rattle.std.proofs.Common.{ℕ, ◌≡◌, Bool, true, subst, sym, ◌∙◌, Result, Ok, Err}
 use Rattle.std.specs.Prelude.{IfOk, IfErr}
+use Rattle.io_ports.specs.Faults.{FaultCounts}
 use Rattle.command_contract.specs.Contract.{Keeps, Run, Texts}
 use Rattle.front_end.specs.Means.{Meaning, Refusing}
 use Rattle.debug_core.specs.declared.error.DebugErr.{DebugErr}
@@ -26,17 +27,17 @@ at-ok P read inputs is holds = let Q : Result Inputs Refusal → Type 0 = λ r. 
 pub at-err : (P : Refusal → Type 0) (read : Result Inputs Refusal) (refusal : Refusal) → read ≡ Err refusal → IfErr read P → P refusal
 at-err P read refusal is holds = let Q : Result Inputs Refusal → Type 0 = λ r. IfErr r P in subst Q is holds
 
-pub counts-ok : (old new : ℕ) (read : Result Inputs Refusal) (inputs : Inputs) → read ≡ Ok inputs → CountsOf old new read → new ≡ old
+pub counts-ok : (old new : FaultCounts) (read : Result Inputs Refusal) (inputs : Inputs) → read ≡ Ok inputs → CountsOf old new read → new ≡ old
 counts-ok old new read inputs is counts =
     let Q : Result Inputs Refusal → Type 0 = λ r. CountsOf old new r in subst Q is counts
 
-pub counts-err : (old new : ℕ) (read : Result Inputs Refusal) (refusal : Refusal) → read ≡ Err refusal → CountsOf old new read
+pub counts-err : (old new : FaultCounts) (read : Result Inputs Refusal) (refusal : Refusal) → read ≡ Err refusal → CountsOf old new read
     → RefusalCounts old new refusal
 counts-err old new read refusal is counts =
     let Q : Result Inputs Refusal → Type 0 = λ r. CountsOf old new r in subst Q is counts
 
 -- ---- a run that prints why nothing was read, or why there is no form of the problem
-module _ (M : Meaning) (R : Refusing) (S : Suspecting) (asked : Asked) (run : Run) (shelf : ℕ) (read : Result Inputs Refusal) where
+module _ (M : Meaning) (R : Refusing) (S : Suspecting) (asked : Asked) (run : Run) (shelf : FaultCounts) (read : Result Inputs Refusal) where
   abbrev Reads : Type 0
   Reads = IsRead M R S asked run.told run.texts run.counts.shelf shelf read
 
@@ -82,7 +83,7 @@ module _ (M : Meaning) (R : Refusing) (S : Suspecting) (asked : Asked) (run : Ru
 
 -- ---- what was read for a list, by what the reading promises of what was wanted
 pub read-wanted : (M : Meaning) (R : Refusing) (S : Suspecting) (asked : Asked) (wanted : Wanted) (told : Bool) (texts : Texts)
-    (old new : ℕ) (read : Result Inputs Refusal) → wanted ≡ wanted_of asked → CountsOf old new read
+    (old new : FaultCounts) (read : Result Inputs Refusal) → wanted ≡ wanted_of asked → CountsOf old new read
     → (told ≡ true → IfOk read (λ i. Means M S wanted texts (problem_in i wanted.size)))
     → (told ≡ true → IfOk read (λ i. IsDigestOf wanted texts i.digest))
     → (told ≡ true → IfErr read (HasCause (Refused M R S wanted texts)))

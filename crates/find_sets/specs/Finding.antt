@@ -3,7 +3,7 @@
 -- it is whole and the log is accepted and closing.
 use Rattle.std.specs.Prelude.{ℕ, ◌≡◌, ◌⊎◌, List, length}
 use Rattle.loc_base.specs.declared.digest.Digest.{Digest}
-use Rattle.command_contract.specs.Contract.{Case, IsInputRefusal, NoneRose, NothingWritten, OneRose, Run, Texts}
+use Rattle.command_contract.specs.Contract.{Case, IsInputRefusal, NoneRose, NothingWritten, Run, Texts, WriteFailed}
 use Rattle.front_end.specs.Means.{Meaning, Refusing}
 use Rattle.write_order.specs.Writes.{Outputs}
 use Rattle.debug_core.specs.Problems.{Problem}
@@ -51,7 +51,7 @@ finding M R S asked = record {
   Answered = λ run status. OfInputs M S asked run.texts (λ listing. IsListed listing (outputs_of run) status);
   Refused = λ run. Refused M R S (wanted_of asked) run.texts;
   Stands = NothingWritten;
-  Stopped = λ run. OneRose run.counts
+  Stopped = λ run. WriteFailed run.counts
       × (OfInputs M S asked run.texts (λ listing. IsStopped listing (outputs_of run))
       ⊎ LineStops (Refused M R S (wanted_of asked) run.texts) run);
   Cut = λ run. (NoneRose run.counts × OfInputs M S asked run.texts (λ listing. IsCut listing (outputs_of run))) ⊎ LineCut run;

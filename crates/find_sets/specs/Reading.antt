@@ -1,5 +1,6 @@
 -- What a list is made of: the inputs that were read of some texts, or why there are none.
-use Rattle.std.specs.Prelude.{ℕ, ◌≡◌, Bool, true, Result, Ok, Err, IfOk, IfErr}
+use Rattle.std.specs.Prelude.{◌≡◌, Bool, true, Result, Ok, Err, IfOk, IfErr}
+use Rattle.io_ports.specs.Faults.{FaultCounts}
 use Rattle.command_contract.specs.Contract.{Texts}
 use Rattle.front_end.specs.Means.{Meaning, Refusing}
 use Rattle.list_inputs.specs.declared.inputs.Inputs.{Inputs}
@@ -9,8 +10,8 @@ use Rattle.list_inputs.specs.Means.{IsDigestOf, Means, Suspecting}
 use Rattle.list_inputs.specs.Refusals.{IsReady, Refused}
 use Rattle.find_sets.specs.Asked.{Asked, wanted_of}
 
--- what was read of texts, where they are told, with the count of faults of their shelf before and behind it
-pub record IsRead (M : Meaning) (R : Refusing) (S : Suspecting) (asked : Asked) (told : Bool) (texts : Texts) (old new : ℕ)
+-- what was read of texts, where they are told, with the counts of faults of their shelf before and behind it
+pub record IsRead (M : Meaning) (R : Refusing) (S : Suspecting) (asked : Asked) (told : Bool) (texts : Texts) (old new : FaultCounts)
     (read : Result Inputs Refusal) : Type 0 where
   pub counts : CountsOf old new read
   pub means : told ≡ true → IfOk read (λ inputs. Means M S (wanted_of asked) texts (problem_in inputs asked.size))

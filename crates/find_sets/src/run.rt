@@ -1,6 +1,7 @@
 //! A run of the command.
-ghost use Rattle.std.specs.Prelude.{ℕ, ◌≡◌, ◌&&◌, Bool, true, IfErr, IfOk};
+ghost use Rattle.std.specs.Prelude.{◌≡◌, ◌&&◌, Bool, true, IfErr, IfOk};
 ghost use Rattle.suspect_map.specs.Choose.{joined};
+ghost use Rattle.io_ports.specs.Faults.{FaultCounts};
 ghost use Rattle.command_contract.specs.Contract.{Keeps, Texts, counts_of, run_of};
 ghost use Rattle.debug_core.specs.Problems.{IsProblem};
 ghost use Rattle.list_inputs.specs.Ends.{HasStatus, problem_in};
@@ -42,7 +43,7 @@ pub fn list_read<F: FrontEnd, R: Threads + Sync, G: Gate + Sync, S: Shelf, O: Si
     ensures fault { result ≡ 5 → IsReadFault read }
 
     // Of texts that stood anywhere: those that were read.
-    ensures keeps { (told : Bool) (texts : Texts) (faults : ℕ)
+    ensures keeps { (told : Bool) (texts : Texts) (faults : FaultCounts)
         → (told ≡ true → S.tells shelf.old ≡ true) → (told ≡ true → O.tells out.old ≡ true)
         → IsRead F.means F.refuses (joined (λ kind. called kind) (λ kind. lists kind) tools.now.kinds.now)
         (asked_of request.now) told texts faults (S.faults shelf.old) read

@@ -49,6 +49,7 @@ fn an_absent_name_fails_and_is_a_fault(rt: HostRuntime) -> Result<(), Fail> {
     let mut shelf = shelf(rt.alloc(), &[])?;
     assert!(rt; matches!(shelf.load(rt.alloc(), "c", 100), Err(LoadErr::Failed)));
     assert!(rt; shelf.faults() == 1);
+    assert!(rt; shelf.write_faults() == 0);
     Ok(())
 }
 
@@ -61,6 +62,7 @@ fn calls_fail_by_their_numbers(rt: HostRuntime) -> Result<(), Fail> {
     assert!(rt; matches!(shelf.begin("log"), Err(PutErr::Failed)));
     shelf.begin("log")?;
     assert!(rt; shelf.faults() == 2);
+    assert!(rt; shelf.write_faults() == 1);
     Ok(())
 }
 
@@ -85,5 +87,6 @@ fn a_put_that_fails_leaves_a_front(rt: HostRuntime) -> Result<(), Fail> {
     assert!(rt; matches!(shelf.put("log", b"twos"), Err(PutErr::Failed)));
     assert!(rt; has_text(&shelf, "log", b"onetw"));
     assert!(rt; shelf.faults() == 1);
+    assert!(rt; shelf.write_faults() == 1);
     Ok(())
 }

@@ -1,5 +1,5 @@
 -- Counts of faults and of calls. A count never falls, and one at its last value counts as having risen.
-use Rattle.std.specs.Prelude.{ℕ, ◌+◌, ◌<◌, ◌≤◌, min}
+use Rattle.std.specs.Prelude.{ℕ, ◌≡◌, ◌+◌, ◌<◌, ◌≤◌, min}
 
 -- the last value of a count
 abbrev pub last_count : ℕ
@@ -12,3 +12,20 @@ Rose old new = (old ≤ new) × (new < last_count → old < new)
 -- one more, but for the last value of a count
 abbrev pub one_more : ℕ → ℕ
 one_more count = min (count + 1) last_count
+
+-- ---- the faults of a shelf
+-- how many of its calls failed, and how many of those were writes, which are `begin` and `put`
+pub record FaultCounts : Type 0 where
+  pub all : ℕ
+  pub writes : ℕ
+
+abbrev pub fault_counts : ℕ → ℕ → FaultCounts
+fault_counts all writes = record { all = all; writes = writes }
+
+-- a load failed, and no write
+abbrev pub LoadRose : FaultCounts → FaultCounts → Type 0
+LoadRose old new = Rose old.all new.all × (new.writes ≡ old.writes)
+
+-- a write failed
+abbrev pub WriteRose : FaultCounts → FaultCounts → Type 0
+WriteRose old new = Rose old.all new.all × Rose old.writes new.writes

@@ -1,6 +1,6 @@
 -- What a shelf in memory holds: texts to be loaded, texts that are written, and the calls that are to fail.
 use Rattle.std.specs.Prelude.{◌≡◌, ℕ, List, Option, Contains}
-use Rattle.io_ports.specs.Faults.{one_more}
+use Rattle.io_ports.specs.Faults.{FaultCounts, fault_counts, one_more}
 use Rattle.io_ports.specs.Texts.{text_of}
 use Rattle.io_ports.specs.declared.mem_shelf.MemShelf.{MemShelf}
 
@@ -15,6 +15,14 @@ written_of shelf = text_of shelf.written
 -- how many calls failed
 abbrev pub faults_of : MemShelf → ℕ
 faults_of shelf = shelf.plan.faults
+
+-- how many writes failed
+abbrev pub write_faults_of : MemShelf → ℕ
+write_faults_of shelf = shelf.write_faults
+
+-- both
+abbrev pub fault_counts_of : MemShelf → FaultCounts
+fault_counts_of shelf = fault_counts (faults_of shelf) (write_faults_of shelf)
 
 -- how many calls were made, which is the number of the next one
 abbrev pub calls_of : MemShelf → ℕ

@@ -1,4 +1,5 @@
 ghost use Rattle.std.specs.Prelude.{◌≡◌, ◌≤◌, length, IfOk};
+ghost use Rattle.io_ports.specs.Faults.{fault_counts};
 ghost use Rattle.io_ports.specs.Shelf.{PutCause};
 
 use crate::errors::{LoadErr, PutErr};
@@ -10,7 +11,7 @@ use std::fs;
 use std::fs::OpenOptions;
 use std::rt::Files;
 
-/// The files of the system as a shelf. It tells no text, and counts its failures from 0.
+/// The files of the system as a shelf. It tells no text, and counts its failures from 0, all of them and those of writes.
 ///
 /// `load` reads the file of that name. `begin` makes that file or empties it, and keeps it open; `put` writes to its
 /// end. A text that was begun stays open until another one is begun or written, and closing it answers nothing: what
@@ -21,6 +22,7 @@ pub struct FileShelf<'a, R: Files> {
     alloc: Global,
     open: Option<OpenText<R::File>>,
     faults: u64,
+    write_faults: u64,
 }
 
 /// A file that is open for writing at its end.
@@ -33,13 +35,14 @@ struct OpenText<F> {
 impl<'a, R: Files> FileShelf<'a, R> {
     /// The shelf of the runtime's files. It takes no memory.
     pub fn new(rt: &'a R, alloc: Global) -> FileShelf<'a, R>
-        ensures { ⟦<FileShelf<'a, R> as Shelf>⟧.faults result ≡ 0 }
+        ensures { ⟦<FileShelf<'a, R> as Shelf>⟧.faults result ≡ fault_counts 0 0 }
     {
         FileShelf {
             rt,
             alloc,
             open: None,
             faults: 0,
+            write_faults: 0,
         }
     }
 }
@@ -72,7 +75,8 @@ fn open_text<R: Files>(
 impl<'a, R: Files> FileShelf<'a, R> {
     /// Empties the text under a name and keeps it open.
     fn empty(&mut self, name: &str) -> Result<(), PutErr>
-        ensures { self.new.faults ≡ self.old.faults }
+        ensures faults { self.new.faults ≡ self.old.faults }
+        ensures write_faults { self.new.write_faults ≡ self.old.write_faults }
     {
         let text = open_text(self.rt, self.alloc, name, true)?;
         self.open = Some(text);
@@ -81,7 +85,8 @@ impl<'a, R: Files> FileShelf<'a, R> {
 
     /// Writes a piece to the end of the text under a name.
     fn append(&mut self, name: &str, piece: &[u8]) -> Result<(), PutErr>
-        ensures { self.new.faults ≡ self.old.faults }
+        ensures faults { self.new.faults ≡ self.old.faults }
+        ensures write_faults { self.new.write_faults ≡ self.old.write_faults }
     {
         let mut text = match self.open.take() {
             Some(text) if text.name.as_str() == name => text,
@@ -95,10 +100,11 @@ impl<'a, R: Files> FileShelf<'a, R> {
     /// Counts a failed answer of `begin` or `put`.
     fn counted(&mut self, answer: Result<(), PutErr>) -> Result<(), PutErr>
         ensures same { result ≡ answer }
-        ensures cause { PutCause self.old.faults self.new.faults result }
+        ensures cause { PutCause (fault_counts self.old.faults self.old.write_faults) (fault_counts self.new.faults self.new.write_faults) result }
     {
         if answer == Err(PutErr::Failed) {
             self.faults = self.faults.saturating_add(1);
+            self.write_faults = self.write_faults.saturating_add(1);
         }
         answer
     }
@@ -113,7 +119,7 @@ impl<R: Files> Shelf for FileShelf<'_, R> {
 
     ghost written = { λ _ _. None };
 
-    ghost faults = { λ shelf. shelf.faults };
+    ghost faults = { λ shelf. fault_counts shelf.faults shelf.write_faults };
 
     fn load(&mut self, alloc: Global, name: &str, limit: u64) -> Result<Bytes, LoadErr> {
         let answer = load(self.rt, alloc, name, limit);

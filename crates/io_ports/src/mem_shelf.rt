@@ -1,5 +1,6 @@
-ghost use Rattle.std.specs.Prelude.{◌≡◌, ◌≢◌, ◌≤◌, ◌↔◌, ◌⊎◌, ℕ, List, length, None, IsSome, IfOk, IsErrOf, option_copied};
+ghost use Rattle.std.specs.Prelude.{◌≡◌, ◌≢◌, ◌≤◌, ◌↔◌, ◌⊎◌, ℕ, List, length, None, IsSome, IfOk, IsErrOf, IsTrue, false, option_copied};
 ghost use Rattle.std.specs.List.Sorted.{IsPermutation};
+ghost use Rattle.io_ports.specs.Faults.{WriteRose};
 ghost use Rattle.io_ports.specs.Shelf.{LoadCause, Loads, PutCause, Begins, Appends};
 ghost use Rattle.io_ports.specs.Texts.{text_of};
 
@@ -17,10 +18,11 @@ pub struct MemShelf {
     texts: Texts,
     written: Texts,
     plan: FaultPlan,
+    write_faults: u64,
 }
 
 impl MemShelf {
-    ghost use Rattle.io_ports.specs.MemShelf.{texts_of, written_of, faults_of, calls_of, failing_calls};
+    ghost use Rattle.io_ports.specs.MemShelf.{texts_of, written_of, faults_of, write_faults_of, fault_counts_of, calls_of, failing_calls, IsToFail, CountsCall};
 
     /// The shelf with these texts. The numbers name the calls that are to fail, counted from 0, in any order. It takes
     /// no memory.
@@ -30,11 +32,13 @@ impl MemShelf {
         ensures fails { IsPermutation fails (failing_calls result) }
         ensures calls { calls_of result ≡ 0 }
         ensures faults { faults_of result ≡ 0 }
+        ensures write_faults { write_faults_of result ≡ 0 }
     {
         MemShelf {
             texts,
             written: Texts::new(alloc),
             plan: FaultPlan::new(fails),
+            write_faults: 0,
         }
     }
 
@@ -51,11 +55,34 @@ impl MemShelf {
     {
         self.plan.faults()
     }
+
+    /// How many writes failed.
+    pub fn write_faults(&self) -> u64
+        ensures { result ≡ write_faults_of self.now }
+    {
+        self.write_faults
+    }
+
+    /// Counts one call of `begin` or `put`, and a fault where it is to fail, as the answer says.
+    fn write_fails(&mut self) -> bool
+        ensures texts { self.new.texts ≡ self.old.texts }
+        ensures written { self.new.written ≡ self.old.written }
+        ensures fails { IsTrue result ↔ IsToFail self.old }
+        ensures counted { CountsCall self.old self.new }
+        ensures fault { IsTrue result → WriteRose (fault_counts_of self.old) (fault_counts_of self.new) }
+        ensures none { result ≡ false → fault_counts_of self.new ≡ fault_counts_of self.old }
+    {
+        let fails = self.plan.call_fails();
+        if fails {
+            self.write_faults = self.write_faults.saturating_add(1);
+        }
+        fails
+    }
 }
 
 impl Shelf for MemShelf {
     ghost use Rattle.std.specs.Prelude.{true};
-    ghost use Rattle.io_ports.specs.MemShelf.{texts_of, written_of, faults_of, IsToFail, CountsCall};
+    ghost use Rattle.io_ports.specs.MemShelf.{texts_of, written_of, fault_counts_of, IsToFail, CountsCall};
 
     ghost tells = { λ _. true };
 
@@ -63,14 +90,14 @@ impl Shelf for MemShelf {
 
     ghost written = { written_of };
 
-    ghost faults = { faults_of };
+    ghost faults = { fault_counts_of };
 
     fn load(&mut self, alloc: Global, name: &str, limit: u64) -> Result<Bytes, LoadErr>
         ensures texts { texts_of self.new ≡ texts_of self.old }
         ensures written { written_of self.new ≡ written_of self.old }
         ensures text { Loads (texts_of self.old name.now) limit result }
         ensures limit { IfOk result (λ text. length text ≤ limit) }
-        ensures cause { LoadCause (faults_of self.old) (faults_of self.new) result }
+        ensures cause { LoadCause (fault_counts_of self.old) (fault_counts_of self.new) result }
 
         // It fails exactly where it was told to and at an absent name.
         ensures failed { IsErrOf result LoadErr.Failed ↔ (IsToFail self.old ⊎ (texts_of self.old name.now ≡ None)) }
@@ -94,13 +121,13 @@ impl Shelf for MemShelf {
         ensures texts { texts_of self.new ≡ texts_of self.old }
         ensures text { Begins (written_of self.old name.now) (written_of self.new name.now) result }
         ensures others { (other : List ℕ) → other ≢ name.now → written_of self.new other ≡ written_of self.old other }
-        ensures cause { PutCause (faults_of self.old) (faults_of self.new) result }
+        ensures cause { PutCause (fault_counts_of self.old) (fault_counts_of self.new) result }
 
         // It fails exactly where it was told to.
         ensures failed { IsErrOf result PutErr.Failed ↔ IsToFail self.old }
         ensures counted { CountsCall self.old self.new }
     {
-        if self.plan.call_fails() {
+        if self.write_fails() {
             return Err(PutErr::Failed);
         }
         self.written.clear(name)?;
@@ -113,13 +140,13 @@ impl Shelf for MemShelf {
         ensures texts { texts_of self.new ≡ texts_of self.old }
         ensures text { Appends piece.now (written_of self.old name.now) (written_of self.new name.now) result }
         ensures others { (other : List ℕ) → other ≢ name.now → written_of self.new other ≡ written_of self.old other }
-        ensures cause { PutCause (faults_of self.old) (faults_of self.new) result }
+        ensures cause { PutCause (fault_counts_of self.old) (fault_counts_of self.new) result }
 
         // It fails exactly where it was told to.
         ensures failed { IsErrOf result PutErr.Failed ↔ IsToFail self.old }
         ensures counted { CountsCall self.old self.new }
     {
-        if self.plan.call_fails() {
+        if self.write_fails() {
             let _ = self.written.append(name, &piece[..piece.len() / 2]);
             return Err(PutErr::Failed);
         }

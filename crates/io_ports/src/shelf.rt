@@ -1,4 +1,5 @@
 ghost use Rattle.std.specs.Prelude.{◌≡◌, ◌≢◌, ◌≤◌, ℕ, List, length, Bool, true, Option, IsSome, IfOk};
+ghost use Rattle.io_ports.specs.Faults.{FaultCounts};
 ghost use Rattle.io_ports.specs.Shelf.{LoadCause, Loads, PutCause, Begins, Appends};
 
 use crate::errors::{LoadErr, PutErr};
@@ -8,8 +9,8 @@ use std::alloc::Global;
 /// Texts by their names: some to be loaded, and some that are written.
 ///
 /// Its meaning: `texts` are those to be loaded, which no call changes; `written` are those that were begun; `faults`
-/// counts the failures. A shelf need not tell its texts: what the clauses say of them holds where `tells` is true. What
-/// they say of the faults holds always.
+/// counts the failures, all of them and those of writes, which are `begin` and `put`. A shelf need not tell its texts:
+/// what the clauses say of them holds where `tells` is true. What they say of the faults holds always.
 pub trait Shelf {
     ghost tells: { Self → Bool };
 
@@ -17,7 +18,7 @@ pub trait Shelf {
 
     ghost written: { Self → List ℕ → Option (List ℕ) };
 
-    ghost faults: { Self → ℕ };
+    ghost faults: { Self → FaultCounts };
 
     /// The text under a name, of at most `limit` bytes. `TooBig` comes exactly where the text has more and the call
     /// neither fails nor wants memory. An absent name is `Failed`.

@@ -1,5 +1,6 @@
 -- Why nothing is listed: from the fault of a text, of the number of suspects or of the form to the refusal that says so.
 use Rattle.std.proofs.Common.{ℕ, ◌+◌, ◌≡◌, ◌<◌, ◌≤◌, List, length, refl, sym, subst, ◌∙◌, arith, Some, ◌⊎◌, inl, inr}
+use Rattle.io_ports.specs.Faults.{FaultCounts}
 use Rattle.command_contract.specs.Contract.{Texts}
 use Rattle.command_contract.proofs.Statuses.{input-range}
 use Rattle.design_core.specs.declared.design.Design.{Design}
@@ -128,7 +129,7 @@ not-five Vars e = omega (arith, e)
 not-five Literals e = omega (arith, e)
 not-five NoMemory e = omega (arith, e)
 
-pub problem-counts : (old new : ℕ) (fault : DebugErr) (r : Refusal) → Says r (problem_status fault) (problem_line fault)
+pub problem-counts : (old new : FaultCounts) (fault : DebugErr) (r : Refusal) → Says r (problem_status fault) (problem_line fault)
     → new ≡ old → RefusalCounts old new r
 problem-counts old new fault (Line s l) (e, f) same = (λ five. absurd (not-five fault (sym e ∙ five)), λ _. same)
 problem-counts old new fault Memory says same = tt

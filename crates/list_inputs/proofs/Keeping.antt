@@ -1,7 +1,7 @@
 -- The promises of a command, where a run of it ends by the line of a refusal.
 use Rattle.std.proofs.Common.{ℕ, ◌≡◌, ◌≢◌, ◌≤◌, true, ap, refl, sym, subst, ◌∙◌, arith, inl, inr}
-use Rattle.io_ports.specs.Faults.{Rose}
-use Rattle.command_contract.specs.Contract.{Case, Causes, EndsRefused, IsInputRefusal, IsStatus, Keeps, NothingWritten, OneRose, Run}
+use Rattle.io_ports.specs.Faults.{LoadRose, Rose}
+use Rattle.command_contract.specs.Contract.{Case, Causes, EndsRefused, IsInputRefusal, IsStatus, Keeps, NothingWritten, OneRose, Run, WriteFailed}
 use Rattle.command_contract.proofs.Statuses.{input-range, input-refusal}
 use Rattle.refusal_lines.specs.Refusals.{memory_line}
 use Rattle.list_inputs.specs.declared.refusal.Refusal.{Refusal}
@@ -16,7 +16,7 @@ pub record EndsByLines (c : Case) (run : Run) : Type 0 where
   pub may_refuse : (s : ℕ) → IsInputRefusal s → c.MayRefuse s
   pub refuses : (s : ℕ) → c.MayRefuse s → IsInputRefusal s
   pub stands : NothingWritten run → c.Stands run
-  pub stops : OneRose run.counts → LineStops (c.Refused run) run → c.Stopped run
+  pub stops : WriteFailed run.counts → LineStops (c.Refused run) run → c.Stopped run
   pub cut : LineCut run → c.Cut run
 
 -- what is known of a run that prints a refusal's line, and ends with a status
@@ -129,7 +129,7 @@ module _ (c : Case) (run : Run) where
 
   shelf-rose : (refusal : Refusal) (status : ℕ) → RefusalCounts run.counts.shelf run.counts.now_shelf refusal
       → PrintCounts (status_of refusal) run.counts.sink run.counts.now_sink status → status ≡ 5
-      → Rose run.counts.shelf run.counts.now_shelf
+      → LoadRose run.counts.shelf run.counts.now_shelf
   shelf-rose refusal status shelf (inl (e, rose)) five = absurd (omega (arith, e, five))
   shelf-rose (Line s line) status shelf (inr (inl e, same)) five = shelf.0 (sym e ∙ five)
   shelf-rose Memory status shelf (inr (inl e, same)) five = absurd (omega (arith, e, five))
@@ -155,7 +155,7 @@ module _ (c : Case) (run : Run) where
       → RefusalCounts run.counts.shelf run.counts.now_shelf refusal
       → PrintCounts (status_of refusal) run.counts.sink run.counts.now_sink status → ¬ OneRose run.counts → status ≡ 7
   line-complete refusal status spared shelf (inl (e, rose)) none = absurd (none (inr rose))
-  line-complete (Line s line) status spared shelf (inr (inl e, same)) none = absurd (none (inl (shelf.0 spared)))
+  line-complete (Line s line) status spared shelf (inr (inl e, same)) none = absurd (none (inl (shelf.0 spared).0))
   line-complete Memory status spared shelf (inr (inl e, same)) none = e
   line-complete refusal status spared shelf (inr (inr e, same)) none = e
 

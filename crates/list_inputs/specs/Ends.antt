@@ -1,6 +1,6 @@
 -- What was read, why nothing was, and what the line that says so leaves.
 use Rattle.std.specs.Prelude.{ℕ, ◌≡◌, ◌≢◌, ◌<◌, ◌≤◌, ◌^◌, ◌⊎◌, List, ◌++◌, length, Result, Ok, Err}
-use Rattle.io_ports.specs.Faults.{Rose}
+use Rattle.io_ports.specs.Faults.{FaultCounts, LoadRose, Rose}
 use Rattle.io_ports.specs.Shelf.{AppendsFront}
 use Rattle.command_contract.specs.Contract.{IsInputRefusal}
 use Rattle.refusal_lines.specs.Refusals.{memory_line}
@@ -51,12 +51,12 @@ abbrev pub IsSpared : Refusal → Type 0
 IsSpared (Line status line) = status ≡ 5
 IsSpared Memory = Unit {0}
 
--- the shelf's count of faults rose at 5 and at no other status
-abbrev pub RefusalCounts : ℕ → ℕ → Refusal → Type 0
-RefusalCounts old new (Line status line) = (status ≡ 5 → Rose old new) × (status ≢ 5 → new ≡ old)
+-- a load of the shelf failed at 5, and at no other status one of its counts of faults rose
+abbrev pub RefusalCounts : FaultCounts → FaultCounts → Refusal → Type 0
+RefusalCounts old new (Line status line) = (status ≡ 5 → LoadRose old new) × (status ≢ 5 → new ≡ old)
 RefusalCounts old new Memory = Unit {0}
 
-abbrev pub CountsOf : {X : Type 0} → ℕ → ℕ → Result X Refusal → Type 0
+abbrev pub CountsOf : {X : Type 0} → FaultCounts → FaultCounts → Result X Refusal → Type 0
 CountsOf old new (Ok _) = new ≡ old
 CountsOf old new (Err refusal) = RefusalCounts old new refusal
 

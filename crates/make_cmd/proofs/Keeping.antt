@@ -2,10 +2,11 @@
 use Rattle.std.proofs.Common.{ℕ, zero, suc, ◌≡◌, ◌≢◌, ◌≤◌, true, List, [], ◌∷◌, ◌++◌, take, refl, sym, subst, ◌∙◌, arith}
 use Rattle.std.proofs.Common.{◌⊎◌, inl, inr, Some}
 use Rattle.std.proofs.Math.Path.{fun_ext}
-use Rattle.io_ports.specs.Faults.{Rose}
+use Rattle.io_ports.specs.Faults.{FaultCounts, Rose, WriteRose}
 use Rattle.io_ports.specs.Shelf.{AppendsFront}
 use Rattle.refusal_lines.specs.Refusals.{memory_line}
-use Rattle.command_contract.specs.Contract.{Causes, IsInputRefusal, IsRefusal, IsStatus, Keeps, NoneRose, OneRose, Run, Texts, counts_of}
+use Rattle.command_contract.specs.Contract.{Causes, IsInputRefusal, IsRefusal, IsStatus, Keeps, NoneRose, Run, Texts, WriteFailed, counts_of}
+use Rattle.command_contract.proofs.Counting.{write-rose}
 use Rattle.command_contract.proofs.Statuses.{input-refusal}
 use Rattle.front_end.specs.Means.{Meaning, Refusing}
 use Rattle.write_order.specs.Writes.{AreDone, StopsIn, on_shelf, print_piece}
@@ -75,7 +76,7 @@ module _ (M : Meaning) (R : Refusing) (S : Suspecting) (asked : Asked) (run : Ru
   made-status status other (inr (inr ends)) = inr (inr ends)
 
   -- ---- 6 and 7: the causes
-  causes-six : OneRose run.counts → Causes (making M R S asked) run.counts 6
+  causes-six : WriteFailed run.counts → Causes (making M R S asked) run.counts 6
   causes-six rose = record {
     answer = λ may. absurd (omega (arith, answer-low 6 may));
     none = λ low. absurd (omega (arith, low));
@@ -96,7 +97,7 @@ module _ (M : Meaning) (R : Refusing) (S : Suspecting) (asked : Asked) (run : Ru
   abbrev Others : Type 0
   Others = run.told ≡ true → (name : List ℕ) → ¬ (making M R S asked).Writes name → run.now_written name ≡ run.written name
 
-  six-keeps : OneRose run.counts → (run.told ≡ true → IsStopped M R S asked run) → Others → Keeps (making M R S asked) run 6
+  six-keeps : WriteFailed run.counts → (run.told ≡ true → IsStopped M R S asked run) → Others → Keeps (making M R S asked) run 6
   six-keeps rose stopped others = record {
     is_status = inr (inr (inl refl));
     refusals = refusal-made;
@@ -106,7 +107,7 @@ module _ (M : Meaning) (R : Refusing) (S : Suspecting) (asked : Asked) (run : Ru
     cut = λ told e. absurd (omega (arith, e));
     others = others;
     causes = causes-six rose;
-    complete = λ told ready none. absurd (none rose);
+    complete = λ told ready none. absurd (none (write-rose run.counts rose));
   }
 
   seven-keeps : run.counts.now_sink ≡ run.counts.sink → (run.told ≡ true → IsCut M R S asked run) → Others
@@ -126,7 +127,7 @@ module _ (M : Meaning) (R : Refusing) (S : Suspecting) (asked : Asked) (run : Ru
   -- ---- before the list
   -- one of the writes of the made texts failed
   pub failed-keeps : (run.told ≡ true → StopsIn (made_writes asked) (on_shelf run.written run.now_written run.printed))
-      → run.now_printed ≡ run.printed → Rose run.counts.shelf run.counts.now_shelf → Keeps (making M R S asked) run 6
+      → run.now_printed ≡ run.printed → WriteRose run.counts.shelf run.counts.now_shelf → Keeps (making M R S asked) run 6
   failed-keeps stops same rose =
       let stopped : run.told ≡ true → StopsIn (made_writes asked) (outputs_of run) =
       λ told. subst
@@ -213,7 +214,7 @@ module _ (M : Meaning) (R : Refusing) (S : Suspecting) (asked : Asked) (run : Ru
   }
 
   -- by what was asked of it, and what it read
-  pub ran-made : (list : Finding) (texts mid : Texts) (shelf : ℕ) (printed : List ℕ) (sink status : ℕ) → list ≡ finding_of asked
+  pub ran-made : (list : Finding) (texts mid : Texts) (shelf : FaultCounts) (printed : List ℕ) (sink status : ℕ) → list ≡ finding_of asked
       → texts ≡ made_texts asked → shelf ≡ run.counts.shelf
       → Keeps (finding M R S list) (record {
         texts = texts;

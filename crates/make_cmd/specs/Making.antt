@@ -4,7 +4,7 @@ use Rattle.std.specs.Prelude.{ℕ, ◌≡◌, ◌⊎◌, ◌++◌, if◌then◌e
 use Rattle.std.specs.Str.{bytes_eq}
 use Rattle.io_ports.specs.Shelf.{AppendsFront}
 use Rattle.refusal_lines.specs.Refusals.{memory_line}
-use Rattle.command_contract.specs.Contract.{Case, OneRose, Run, Texts}
+use Rattle.command_contract.specs.Contract.{Case, Run, Texts, WriteFailed}
 use Rattle.front_end.specs.Means.{Meaning, Refusing}
 use Rattle.write_order.specs.Writes.{AreDone, StopsIn, Write, begin_text, print_piece, put_piece, text_behind}
 use Rattle.made_input.specs.Made.{design_text, made_line, trace_text}
@@ -92,7 +92,7 @@ making M R S asked = record {
   Answered = IsMade M R S asked;
   Refused = λ run. Refused M R S (wanted_of (finding_of asked)) (made_texts asked);
   Stands = λ run. run.now_written ≡ made_written asked run.written;
-  Stopped = λ run. OneRose run.counts × IsStopped M R S asked run;
+  Stopped = λ run. WriteFailed run.counts × IsStopped M R S asked run;
   Cut = IsCut M R S asked;
   Writes = λ name. (name ≡ asked.design) ⊎ ((name ≡ asked.trace) ⊎ ((name ≡ asked.log) ⊎ (name ≡ asked.report)));
   Ready = λ run. IsReady M S (wanted_of (finding_of asked)) (made_texts asked);

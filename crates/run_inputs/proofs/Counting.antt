@@ -1,6 +1,6 @@
--- The shelf's count of faults, by the fault of a text.
+-- The shelf's counts of faults, by the fault of a text.
 use Rattle.std.proofs.Common.{◌≡◌, ◌≢◌, [], refl, arith}
-use Rattle.io_ports.specs.Faults.{Rose}
+use Rattle.io_ports.specs.Faults.{LoadRose}
 use Rattle.command_contract.specs.Contract.{Counts}
 use Rattle.refusal_lines.proofs.Statuses.{dump-known}
 use Rattle.front_end.specs.Refusals.{design_err_line, design_status}
@@ -13,7 +13,7 @@ use Rattle.run_inputs.specs.Refusals.{design_fault_status, trace_fault_status}
 use Rattle.run_inputs.specs.Loading.{DesignCounts, TraceCounts}
 use Rattle.run_inputs.proofs.Statuses.{design-known, known-not_five}
 
--- ---- the shelf's count rose at 5, and only there
+-- ---- the shelf's counts: a load failed at 5, and only there
 pub design-stays : (c : Counts) (why : DesignFault) → DesignCounts c.shelf c.now_shelf why → design_fault_status why ≢ 5
     → c.now_shelf ≡ c.shelf
 design-stays c (design.Load load.Fault) counts other = absurd (other refl)
@@ -22,7 +22,7 @@ design-stays c (design.Load load.NoMemory) counts other = counts
 design-stays c (design.Text why) counts other = counts
 
 pub design-rose : (c : Counts) (why : DesignFault) → DesignCounts c.shelf c.now_shelf why → design_fault_status why ≡ 5
-    → Rose c.shelf c.now_shelf
+    → LoadRose c.shelf c.now_shelf
 design-rose c (design.Load load.Fault) counts e = counts
 design-rose c (design.Load load.Size) counts e = absurd (omega (arith, e))
 design-rose c (design.Load load.NoMemory) counts e = absurd (omega (arith, e))
@@ -37,7 +37,7 @@ trace-stays c (trace.Load load.NoMemory) counts other = counts
 trace-stays c (trace.Text why) counts other = counts
 
 pub trace-rose : (c : Counts) (why : TraceFault) → TraceCounts c.shelf c.now_shelf why → trace_fault_status why ≡ 5
-    → Rose c.shelf c.now_shelf
+    → LoadRose c.shelf c.now_shelf
 trace-rose c (trace.Load load.Fault) counts e = counts
 trace-rose c (trace.Load load.Size) counts e = absurd (omega (arith, e))
 trace-rose c (trace.Load load.NoMemory) counts e = absurd (omega (arith, e))

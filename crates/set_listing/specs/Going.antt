@@ -14,7 +14,7 @@ use Rattle.write_order.specs.declared.write.WriteErr.{WriteErr}
 use Rattle.write_order.specs.declared.write.WriteErr.TheVariants as write
 use Rattle.report_doc.specs.declared.types.Ending.{Ending}
 use Rattle.report_doc.specs.declared.types.Ending.TheVariants.{Complete, Budget, Sets, Earlier}
-use Rattle.command_contract.specs.Contract.{Counts, NoneRose, OneRose}
+use Rattle.command_contract.specs.Contract.{Counts, NoneRose, WriteFailed}
 use Rattle.debug_core.specs.Problems.{IsFormFor}
 use Rattle.debug_core.specs.Debugging.{DebugState, FindsEnd, FindsNothing, FindsSet, IsDebugger, Searches}
 use Rattle.set_listing.specs.declared.stop.Stop.{Stop}
@@ -33,15 +33,15 @@ abbrev pub outputs : (List ℕ → Option (List ℕ)) → (List ℕ → Option (
 outputs written now_written printed now_printed =
     record { written = written; now_written = now_written; printed = printed; now_printed = now_printed }
 
--- the cause of an answer: one of the counts of faults rose where a write failed, and no other answer lets one rise
+-- the cause of an answer: a count of faults of writes rose where one failed, and no other answer lets a count rise
 abbrev pub WriteCauses : {X : Type 0} → Counts → Result X WriteErr → Type 0
 WriteCauses counts (Ok _) = NoneRose counts
-WriteCauses counts (Err write.Failed) = OneRose counts
+WriteCauses counts (Err write.Failed) = WriteFailed counts
 WriteCauses counts (Err write.NoMemory) = NoneRose counts
 
 abbrev pub StopCauses : {X : Type 0} → Counts → Result X Stop → Type 0
 StopCauses counts (Ok _) = NoneRose counts
-StopCauses counts (Err Failed) = OneRose counts
+StopCauses counts (Err Failed) = WriteFailed counts
 StopCauses counts (Err (Memory sets)) = NoneRose counts
 
 -- the writes of some sets

@@ -1,6 +1,6 @@
 -- How a listing ended: its status, what stands then, and which count of faults rose.
 use Rattle.std.specs.Prelude.{ℕ}
-use Rattle.command_contract.specs.Contract.{Counts, NoneRose, OneRose}
+use Rattle.command_contract.specs.Contract.{Counts, NoneRose, WriteFailed}
 use Rattle.write_order.specs.Writes.{Outputs}
 use Rattle.set_listing.specs.declared.outcome.Outcome.{Outcome}
 use Rattle.set_listing.specs.declared.outcome.Outcome.TheVariants.{Ended, Failed, Memory}
@@ -20,8 +20,8 @@ Leaves asked o (Ended ending) = IsListedTo asked o ending
 Leaves asked o Failed = IsStopped asked o
 Leaves asked o Memory = IsCut asked o
 
--- one of the counts of faults rose where a write failed, and no other outcome lets one rise
+-- a count of faults of writes rose where one failed, and no other outcome lets a count rise
 abbrev pub OutcomeCause : Counts → Outcome → Type 0
 OutcomeCause counts (Ended ending) = NoneRose counts
-OutcomeCause counts Failed = OneRose counts
+OutcomeCause counts Failed = WriteFailed counts
 OutcomeCause counts Memory = NoneRose counts

@@ -3,7 +3,7 @@ ghost use Rattle.std.specs.Prelude.{◌≡◌, ◌∷◌, [], ℕ, List, All, Op
 ghost use Rattle.log_portions.specs.Portions.{head_text, steps_text};
 ghost use Rattle.proof_check.specs.Text.{IsDigest};
 ghost use Rattle.report_doc.specs.Lines.{AreWithin, IsMemberOf};
-ghost use Rattle.write_order.specs.Writes.{Leaves, WriteCause, begin_text as begin_of, on_shelf, on_sink, print_piece, put_piece};
+ghost use Rattle.write_order.specs.Writes.{Leaves, PrintCause, WriteCause, begin_text as begin_of, on_shelf, on_sink, print_piece, put_piece};
 ghost use Rattle.set_listing.specs.Jobs.{asked_of};
 ghost use Rattle.set_listing.specs.Lines.{ending_line, memory_line};
 ghost use Rattle.set_listing.specs.Texts.{lines_of};
@@ -94,7 +94,7 @@ pub(crate) fn print_set<O: Sink>(
     ensures tells { O.tells out.new ≡ O.tells out.old }
     ensures left { O.tells out.old ≡ true → (written : List ℕ → Option (List ℕ))
         → Leaves (print_piece (lines_of (asked_of job.now) set.now) ∷ []) (on_sink written (O.written out.old) (O.written out.new)) result }
-    ensures cause { WriteCause (O.faults out.old) (O.faults out.new) result }
+    ensures cause { PrintCause (O.faults out.old) (O.faults out.new) result }
 {
     let question = &job.question;
     match set_lines(alloc, set, question.groups, &question.design.places) {
@@ -114,7 +114,7 @@ pub(crate) fn print_ending<O: Sink>(
     ensures tells { O.tells out.new ≡ O.tells out.old }
     ensures left { O.tells out.old ≡ true → (written : List ℕ → Option (List ℕ))
         → Leaves (print_piece (ending_line ending count) ∷ []) (on_sink written (O.written out.old) (O.written out.new)) result }
-    ensures cause { WriteCause (O.faults out.old) (O.faults out.new) result }
+    ensures cause { PrintCause (O.faults out.old) (O.faults out.new) result }
 {
     match ending_line(alloc, ending, count) {
         Ok(line) => print_piece(out, &line),
@@ -132,7 +132,7 @@ pub(crate) fn print_memory<O: Sink>(
     ensures tells { O.tells out.new ≡ O.tells out.old }
     ensures left { O.tells out.old ≡ true → (written : List ℕ → Option (List ℕ))
         → Leaves (print_piece (memory_line sets) ∷ []) (on_sink written (O.written out.old) (O.written out.new)) result }
-    ensures cause { WriteCause (O.faults out.old) (O.faults out.new) result }
+    ensures cause { PrintCause (O.faults out.old) (O.faults out.new) result }
 {
     match memory_line(alloc, sets) {
         Ok(line) => print_piece(out, &line),

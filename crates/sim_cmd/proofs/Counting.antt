@@ -24,7 +24,7 @@ trace-complete c why WriteFault spared shelf sink none = absurd (none (inr sink)
 trace-complete c why Memory spared shelf sink none = inr refl
 trace-complete c why Done spared shelf (e, same) none = absurd (cc)
 trace-complete c why (NoDesign other) spared shelf (e, same) none = absurd (cc)
-trace-complete c why (NoTrace other) (inl five) shelf (e, same) none = absurd (none (inl (trace-rose c why shelf five)))
+trace-complete c why (NoTrace other) (inl five) shelf (e, same) none = absurd (none (inl (trace-rose c why shelf five).0))
 trace-complete c why (NoTrace other) (inr seven) shelf (e, same) none =
     inr (ap trace_fault_status (no-trace_same other why e) ∙ seven)
 
@@ -38,6 +38,6 @@ design-complete c why WriteFault spared shelf sink none = absurd (none (inr sink
 design-complete c why Memory spared shelf sink none = inr refl
 design-complete c why Done spared shelf (e, same) none = absurd (cc)
 design-complete c why (NoTrace other) spared shelf (e, same) none = absurd (cc)
-design-complete c why (NoDesign other) (inl five) shelf (e, same) none = absurd (none (inl (design-rose c why shelf five)))
+design-complete c why (NoDesign other) (inl five) shelf (e, same) none = absurd (none (inl (design-rose c why shelf five).0))
 design-complete c why (NoDesign other) (inr seven) shelf (e, same) none =
     inr (ap design_fault_status (no-design_same other why e) ∙ seven)

@@ -4,7 +4,7 @@ use Rattle.std.specs.Prelude.{ℕ, ◌≡◌, ◌<◌, ◌⊎◌, if◌then◌el
 use Rattle.std.specs.Prelude.{Result, Ok, Err}
 use Rattle.std.specs.List.{flat_map}
 use Rattle.std.specs.Str.{bytes_eq}
-use Rattle.io_ports.specs.Faults.{Rose}
+use Rattle.io_ports.specs.Faults.{FaultCounts, Rose, WriteRose}
 use Rattle.write_order.specs.declared.write.WriteErr.{WriteErr}
 use Rattle.write_order.specs.declared.write.WriteErr.TheVariants.{Failed, NoMemory}
 
@@ -80,8 +80,14 @@ Leaves writes o (Ok _) = AreDone writes o
 Leaves writes o (Err Failed) = StopsIn writes o
 Leaves writes o (Err NoMemory) = AreBegun writes o
 
--- the cause of an answer: a count of faults rose where a write failed, and no other answer lets it rise
-abbrev pub WriteCause : {X : Type 0} → ℕ → ℕ → Result X WriteErr → Type 0
+-- the cause of an answer of a shelf: its counts of faults rose where a write failed, and no other answer lets one rise
+abbrev pub WriteCause : {X : Type 0} → FaultCounts → FaultCounts → Result X WriteErr → Type 0
 WriteCause old new (Ok _) = new ≡ old
-WriteCause old new (Err Failed) = Rose old new
+WriteCause old new (Err Failed) = WriteRose old new
 WriteCause old new (Err NoMemory) = new ≡ old
+
+-- and of a sink
+abbrev pub PrintCause : {X : Type 0} → ℕ → ℕ → Result X WriteErr → Type 0
+PrintCause old new (Ok _) = new ≡ old
+PrintCause old new (Err Failed) = Rose old new
+PrintCause old new (Err NoMemory) = new ≡ old

@@ -1,6 +1,6 @@
 //! The three writes.
 ghost use Rattle.std.specs.Prelude.{◌≡◌, [], ◌∷◌, ℕ, List, true, Option, IsSome, OnOk};
-ghost use Rattle.write_order.specs.Writes.{Leaves, WriteCause, begin_text, on_shelf, on_sink, print_piece, put_piece};
+ghost use Rattle.write_order.specs.Writes.{Leaves, PrintCause, WriteCause, begin_text, on_shelf, on_sink, print_piece, put_piece};
 
 use io_ports::{PutErr, Shelf, Sink, SinkFault};
 
@@ -54,7 +54,7 @@ pub fn print_piece<O: Sink>(out: &mut O, piece: &[u8]) -> Result<(), WriteErr>
     ensures tells { O.tells out.new ≡ O.tells out.old }
     ensures left { O.tells out.old ≡ true → (written : List ℕ → Option (List ℕ))
         → Leaves (print_piece piece.now ∷ []) (on_sink written (O.written out.old) (O.written out.new)) result }
-    ensures cause { WriteCause (O.faults out.old) (O.faults out.new) result }
+    ensures cause { PrintCause (O.faults out.old) (O.faults out.new) result }
 {
     match out.put(piece) {
         Ok(()) => Ok(()),

@@ -1,5 +1,6 @@
 use Rattle.std.proofs.Common.{◌∙◌, ℕ, List, subst, sym}
 use Rattle.std.specs.Prelude.{All, Some, slice_get, ◌≡◌}
+use Rattle.io_ports.specs.Faults.{FaultCounts}
 use Rattle.command_contract.specs.Contract.{Texts, counts_of}
 use Rattle.design_core.specs.declared.trace.Trace.{Trace}
 use Rattle.vcd_traces.proofs.PortLaws.{formed_has_ports}
@@ -75,7 +76,7 @@ returns-in-Err-load_traces-clause-complete g c = λ told ready none.
     (counts_of (g.S.Shelf.faults c.args.shelf.now) now_shelf (g.O.Sink.faults c.args.out.now)
     (g.O.Sink.faults c.refuse_trace.new.out))
     fault c.refuse_trace.result spared
-    (subst (λ (n : ℕ). TraceCounts n now_shelf fault) c.in-Ok.ensures.counts c.in-Err-load_traces.ensures.counts)
+    (subst (λ (n : FaultCounts). TraceCounts n now_shelf fault) c.in-Ok.ensures.counts c.in-Err-load_traces.ensures.counts)
     c.refuse_trace.ensures.counts none
 
 pub returns-clause-leaves : goal.returns-clause-leaves
