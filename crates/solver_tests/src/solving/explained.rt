@@ -106,18 +106,48 @@ fn ends_with(
     Ok(refused.is_none() && is_step(log, log.len() as u32, numbers))
 }
 
-/// Whether each step is accepted after the log, and of the literals that it is to have.
-fn explains(rt: &impl Abort, alloc: Global, row: &Explained<'_>) -> Result<bool, NoMemory> {
-    let form = form_of(rt, alloc, 5, CLAUSES)?;
-    let solver = solved(rt, alloc, &form, row.preferred)?;
+/// Whether the step for the preferred variable at a place is accepted after the log, and of the literals that it is to have.
+fn is_explained(
+    rt: &impl Abort,
+    alloc: Global,
+    form: &Form,
+    solver: &Solver,
+    preferred: &[u32],
+    place: usize,
+    numbers: &[i8],
+) -> Result<bool, NoMemory>
+    requires told { solver.now.told ≡ Some (positive 5 ∷ []) }
+    requires preferred { solver.now.preferred ≡ preferred.now }
+{
+    let step = explanation(rt, solver, preferred, place)?;
+    let log = log_with(alloc, solver.log(), &step)?;
+    ends_with(rt, alloc, form, &log, numbers)
+}
+
+/// Whether each step of the row is right.
+fn are_explained(
+    rt: &impl Abort,
+    alloc: Global,
+    form: &Form,
+    solver: &Solver,
+    row: &Explained<'_>,
+) -> Result<bool, NoMemory>
+    requires told { solver.now.told ≡ Some (positive 5 ∷ []) }
+    requires preferred { solver.now.preferred ≡ row.now.preferred.now }
+{
     for (place, numbers) in row.steps {
-        let step = explanation(rt, &solver, row.preferred, *place)?;
-        let log = log_with(alloc, solver.log(), &step)?;
-        if !ends_with(rt, alloc, &form, &log, numbers)? {
+        if !is_explained(rt, alloc, form, solver, row.preferred, *place, numbers)? {
             return Ok(false);
         }
     }
     Ok(true)
+}
+
+/// Whether each step is accepted after the log, and of the literals that it is to have.
+fn explains(rt: &impl Abort, alloc: Global, row: &Explained<'_>) -> Result<bool, NoMemory> {
+    let form = form_of(rt, alloc, 5, CLAUSES)?;
+    let solver = solved(rt, alloc, &form, row.preferred)?;
+    are_explained(rt, alloc, &form, &solver, row)
 }
 
 #[test]

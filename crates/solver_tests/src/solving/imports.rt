@@ -1,8 +1,9 @@
 //! A solver that takes over the log of another one.
 
-ghost use Rattle.std.specs.Prelude.{◌≡◌, OnOk, []};
+ghost use Rattle.std.specs.Prelude.{◌≡◌, ◌<◌, OnOk, IfOk, length, []};
 
-use super::{PIGEONS, Row, answers, form_of, solve, solver_of};
+use super::{Call, PIGEONS, Row, answers, form_of, solve, solver_of};
+use clause_base::Form;
 use loc_base::NoMemory;
 use sat_core::Solver;
 use std::alloc::Global;
@@ -19,6 +20,24 @@ fn take_over(solver: &mut Solver, other: &Solver) -> Result<(), NoMemory>
     solver.import(other.log())
 }
 
+/// A new solver with the log of another one of the form.
+fn successor(
+    rt: &impl Abort,
+    alloc: Global,
+    form: &Form,
+    row: &Row<'_>,
+    other: &Solver,
+) -> Result<Solver, NoMemory>
+    requires form { other.now.form ≡ form.now.clauses }
+    requires vars { other.now.vars ≡ form.now.vars }
+    ensures { IfOk result (λ s. length s.form < 1000) }
+{
+    let mut solver = solver_of(rt, alloc, form, row.preferred)?;
+    take_over(&mut solver, other)?;
+    assert!(rt; solver.log().len() == other.log().len());
+    Ok(solver)
+}
+
 /// Whether a solver that stopped after so many units, and a new one with its log, both answer the row's last call.
 fn both_answer(
     rt: &impl Abort,
@@ -29,15 +48,27 @@ fn both_answer(
     let form = form_of(rt, alloc, row.vars, row.clauses)?;
     let mut first = solver_of(rt, alloc, &form, row.preferred)?;
     solve(rt, &mut first, &[], units)?;
-    let mut second = solver_of(rt, alloc, &form, row.preferred)?;
-    take_over(&mut second, &first)?;
-    let same = second.log().len() == first.log().len();
-    match row.calls.last() {
-        Some(last) => Ok(
-            same && answers(rt, alloc, &mut first, last)? && answers(rt, alloc, &mut second, last)?,
-        ),
-        None => Ok(false),
+    let mut second = successor(rt, alloc, &form, row, &first)?;
+    assert!(rt; !row.calls.is_empty());
+    let last = &row.calls[row.calls.len() - 1];
+    answer_alike(rt, alloc, &mut first, &mut second, last)
+}
+
+/// Whether both answer the call as it is to be.
+fn answer_alike(
+    rt: &impl Abort,
+    alloc: Global,
+    first: &mut Solver,
+    second: &mut Solver,
+    call: &Call<'_>,
+) -> Result<bool, NoMemory>
+    requires first { length first.old.form < 1000 }
+    requires second { length second.old.form < 1000 }
+{
+    if !answers(rt, alloc, first, call)? {
+        return Ok(false);
     }
+    answers(rt, alloc, second, call)
 }
 
 #[test]
