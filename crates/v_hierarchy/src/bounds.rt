@@ -12,7 +12,7 @@ pub struct Bounds {
 }
 
 /// The number of indexes from one bound to another, at most 2^32.
-pub(crate) fn count_between(left: i32, right: i32) -> u64
+pub fn count_between(left: i32, right: i32) -> u64
     ensures { result ≡ count_between left right }
 {
     let left = i64::from(left);

@@ -2,8 +2,8 @@
 ghost use Rattle.std.specs.Prelude.{◌≡◌, Some, None, if◌then◌else◌};
 ghost use Rattle.v_hierarchy.specs.Constants.{integer, is_index};
 
+use v_sizes::Const;
 use v_sizes::numbers::{is_below_0, magnitude};
-use v_widths::Const;
 
 /// The whole number that a constant means, where it is an index: one of 32 bits.
 #[tactic(auto, using(crate::proofs::Indexes::index_laws))]

@@ -1,23 +1,18 @@
 //! The types of parameters, and values of a type (IEEE 1364-2005, 4.10 and 12.2).
-ghost use Rattle.std.specs.Prelude.{◌≡◌, ◌≤◌, Bool, Ok, IfOk, IfErr};
+ghost use Rattle.std.specs.Prelude.{◌≡◌, ◌≤◌, Bool};
 ghost use Rattle.loc_base.specs.Bits.{width_of};
 ghost use Rattle.v_tree.specs.ItemTree.{parameter_type_of};
 ghost use Rattle.v_sizes.specs.Context.{IsMeaning};
-ghost use Rattle.v_sizes.specs.Scopes.{look_of};
 ghost use Rattle.v_hierarchy.specs.Constants.{assigned, down_from, width};
 ghost use Rattle.v_hierarchy.specs.Names.{constant, meaning_of};
-ghost use Rattle.v_hierarchy.specs.Parameters.{kind_of, kind_at, is_written, context_of, valued};
+ghost use Rattle.v_hierarchy.specs.Parameters.{is_written, context_of, valued};
 ghost use Rattle.v_hierarchy.specs.Views.{standing_of};
-ghost use Rattle.v_hierarchy.specs.Frames.{Refuses};
-ghost use Rattle.v_hierarchy.specs.Stands.{IsKind, IsRange, IsRangeIf};
+ghost use Rattle.v_hierarchy.specs.Stands.{IsKind, IsRange};
 
 use crate::bounds::Bounds;
-use crate::error::ElabErr;
-use crate::ranges::bounds_if;
 use crate::standing::Standing;
-use std::alloc::Global;
+use v_sizes::Const;
 use v_tree::ParameterType;
-use v_widths::{Const, Scope};
 
 /// The type of a parameter.
 #[derive(Clone, Copy)]
@@ -29,36 +24,6 @@ pub enum Kind {
         signed: bool,
         bounds: Option<Bounds>,
     },
-}
-
-/// A sign and a range that are written, if any is.
-fn kind_of(signed: bool, bounds: Option<Bounds>) -> Kind
-    requires { IsRangeIf bounds }
-    ensures kind { result ≡ kind_of signed bounds }
-    ensures fits { IsKind result }
-{
-    if !signed && bounds.is_none() {
-        return Kind::AsValue;
-    }
-    Kind::Typed { signed, bounds }
-}
-
-/// The type that is written of a parameter.
-pub fn kind_at(alloc: Global, scope: &Scope<'_>, type_of: &ParameterType) -> Result<Kind, ElabErr>
-    ensures ok { IfOk result (λ kind. kind_at (look_of scope.now) (parameter_type_of type_of.now) ≡ Ok kind) }
-    ensures err { IfErr result (λ fault. Refuses (kind_at (look_of scope.now) (parameter_type_of type_of.now)) fault) }
-    ensures fits { IfOk result IsKind }
-{
-    match type_of {
-        ParameterType::Vector { signed, range } => {
-            let bounds = bounds_if(alloc, scope, range)?;
-            Ok(kind_of(*signed, bounds))
-        }
-        ParameterType::Integer => Ok(Kind::Typed {
-            signed: true,
-            bounds: Some(Bounds { left: 31, right: 0 }),
-        }),
-    }
 }
 
 /// Whether anything is written of a type.

@@ -2,12 +2,15 @@
 //! instances give (IEEE 1364-2005, clause 12).
 #![tactic(auto)]
 
+mod constants;
 mod given;
 mod header_parameters;
 mod headers;
+mod kinds;
 mod name_list;
 mod open_names;
 mod outward;
+mod ranges;
 mod scope_stack;
 mod scope_values;
 mod units;

@@ -26,7 +26,7 @@ impl<'t> Scopes<'t> {
         ensures ok { IfOk result (λ c. constant_at (look_in (frames_of self.now)) context (tree_of e.now) ≡ Ok c) }
         ensures err { IfErr result (λ fault. Refuses (constant_at (look_in (frames_of self.now)) context (tree_of e.now)) fault) }
     {
-        v_hierarchy::constant_at(self.allocator(), self.meanings(), context, e)
+        crate::constants::constant_at(self.allocator(), self.meanings(), context, e)
     }
 
     /// The bounds of a range that may be left out.
@@ -35,7 +35,7 @@ impl<'t> Scopes<'t> {
         ensures err { IfErr result (λ fault. Refuses (bounds_if (look_in (frames_of self.now)) (option_map range_of range.now)) fault) }
         ensures fits { IfOk result IsRangeIf }
     {
-        v_hierarchy::bounds_if(self.allocator(), self.meanings(), range)
+        crate::ranges::bounds_if(self.allocator(), self.meanings(), range)
     }
 
     /// The type that is written of a parameter.
@@ -44,7 +44,7 @@ impl<'t> Scopes<'t> {
         ensures err { IfErr result (λ fault. Refuses (kind_at (look_in (frames_of self.now)) (parameter_type_of type_of.now)) fault) }
         ensures fits { IfOk result IsKind }
     {
-        v_hierarchy::kind_at(self.allocator(), self.meanings(), type_of)
+        crate::kinds::kind_at(self.allocator(), self.meanings(), type_of)
     }
 
     /// A value of a loop's variable, which has 32 bits and a sign.

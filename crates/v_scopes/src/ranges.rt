@@ -3,35 +3,15 @@ ghost use Rattle.std.specs.Prelude.{◌≡◌, Ok, IfOk, IfErr, option_map};
 ghost use Rattle.v_tree.specs.Tree.{tree_of};
 ghost use Rattle.v_tree.specs.PartTree.{range_of};
 ghost use Rattle.v_sizes.specs.Scopes.{look_of};
-ghost use Rattle.v_hierarchy.specs.Constants.{site_of, index_at, bounds_at, bounds_if};
+ghost use Rattle.v_hierarchy.specs.Constants.{index_at, bounds_at, bounds_if};
 ghost use Rattle.v_hierarchy.specs.Frames.{Refuses};
 ghost use Rattle.v_hierarchy.specs.Stands.{IsRange, IsRangeIf};
 
-use crate::bounds::{Bounds, count_between};
 use crate::constants::constant_at;
-use crate::error::ElabErr;
-use crate::index::index_of;
 use std::alloc::Global;
-use v_tree::{Expr, Range, Site};
-use v_widths::Scope;
-
-/// Where an expression stands.
-pub fn site_of(e: &Expr) -> Site
-    ensures { result ≡ site_of (tree_of e.now) }
-{
-    match e {
-        Expr::Number { site, .. }
-        | Expr::Wild { site, .. }
-        | Expr::Name { site, .. }
-        | Expr::Parens { site, .. }
-        | Expr::Concat { site, .. }
-        | Expr::Repeat { site, .. }
-        | Expr::System { site, .. }
-        | Expr::Unary { site, .. }
-        | Expr::Binary { site, .. }
-        | Expr::Conditional { site, .. } => *site,
-    }
-}
+use v_hierarchy::{Bounds, ElabErr, count_between, index_of, site_of};
+use v_sizes::Scope;
+use v_tree::{Expr, Range};
 
 /// The index that an expression is.
 fn index_at(alloc: Global, scope: &Scope<'_>, e: &Expr) -> Result<i32, ElabErr>
@@ -46,7 +26,7 @@ fn index_at(alloc: Global, scope: &Scope<'_>, e: &Expr) -> Result<i32, ElabErr>
 }
 
 /// The bounds from the left, then 1 to 128 bits.
-#[tactic(auto, using(crate::proofs::RangeLaws::range_laws))]
+#[tactic(auto, using(v_hierarchy::proofs::RangeLaws::range_laws))]
 fn bounds_at(alloc: Global, scope: &Scope<'_>, range: &Range) -> Result<Bounds, ElabErr>
     ensures ok { IfOk result (λ b. bounds_at (look_of scope.now) (range_of range.now) ≡ Ok b) }
     ensures err { IfErr result (λ fault. Refuses (bounds_at (look_of scope.now) (range_of range.now)) fault) }
@@ -62,7 +42,7 @@ fn bounds_at(alloc: Global, scope: &Scope<'_>, range: &Range) -> Result<Bounds, 
 }
 
 /// The bounds of a range that may be left out.
-#[tactic(auto, using(crate::proofs::RangeLaws::scalar_range))]
+#[tactic(auto, using(v_hierarchy::proofs::RangeLaws::scalar_range))]
 pub fn bounds_if(
     alloc: Global,
     scope: &Scope<'_>,

@@ -5,10 +5,11 @@ ghost use Rattle.v_sizes.specs.Scopes.{look_of};
 ghost use Rattle.v_hierarchy.specs.Constants.{fault_of, constant_at};
 ghost use Rattle.v_hierarchy.specs.Frames.{Refuses};
 
-use crate::error::ElabErr;
 use std::alloc::Global;
+use v_hierarchy::ElabErr;
+use v_sizes::{Const, Scope, WidthErr};
 use v_tree::Expr;
-use v_widths::{Const, Scope, WidthErr, constant_in};
+use v_widths::constant_in;
 
 /// A refusal of an expression, as one of a text.
 fn fault_of(fault: WidthErr) -> ElabErr
