@@ -1,6 +1,6 @@
 -- The edges of an event list, one event more.
 use Rattle.std.proofs.Common.{◌≡◌, ℕ, List, [], ◌∷◌, ◌++◌, refl, ap}
-use Rattle.v_tree.specs.ItemTree.{PlainEvent, edge_event, change_event}
+use Rattle.v_syntax.specs.ItemTree.{PlainEvent, edge_event, change_event}
 use Rattle.v_binding.specs.Bound.{Root}
 use Rattle.v_binding.specs.Clocks.{waited, edges}
 use Rattle.v_binding.specs.Names.{Names}

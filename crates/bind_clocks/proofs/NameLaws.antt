@@ -2,10 +2,10 @@
 use Rattle.std.proofs.Common.{◌≡◌, ℕ, suc, zero, List, [], ◌∷◌, length, map, false, refl, arith}
 use Rattle.std.specs.Prelude.{◌==◌, ◌&&◌}
 use Rattle.loc_base.proofs.ShelfBools.{equal-false}
-use Rattle.v_tree.specs.declared.expression.Select.{Select}
-use Rattle.v_tree.specs.declared.site.Site.{Site}
-use Rattle.v_tree.specs.Tree.{Selections, no_select, select, selection_of, selections_of}
-use Rattle.v_tree.specs.Tree as written
+use Rattle.v_syntax.specs.declared.expression.Select.{Select}
+use Rattle.v_syntax.specs.declared.site.Site.{Site}
+use Rattle.v_syntax.specs.Tree.{Selections, no_select, select, selection_of, selections_of}
+use Rattle.v_syntax.specs.Tree as written
 use Rattle.v_hierarchy.specs.Names.{same_name}
 use Rattle.v_binding.specs.Clocks.{is_name}
 use Rattle.bind_clocks.specs.Conditions.{has_none}

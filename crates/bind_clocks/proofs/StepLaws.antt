@@ -1,12 +1,12 @@
 -- The condition of a block with two arms, by the forms of unrolled statements.
 use Rattle.std.proofs.Common.{◌≡◌, ◌≢◌, ℕ, List, [], ◌∷◌, length, get_or, map, Some, None, refl, sym, ap, ◌∙◌, arith}
 use Rattle.std.specs.Borrow.{Bor}
-use Rattle.v_tree.specs.declared.declaration.Identifier.{Identifier}
-use Rattle.v_tree.specs.declared.expression.Expr.{Expr}
-use Rattle.v_tree.specs.declared.statement.CaseKind.{CaseKind}
-use Rattle.v_tree.specs.declared.statement.Statement.{Statement}
-use Rattle.v_tree.specs.Tree.{tree_of}
-use Rattle.v_tree.specs.StatementTree.{statement_of}
+use Rattle.v_syntax.specs.declared.declaration.Identifier.{Identifier}
+use Rattle.v_syntax.specs.declared.expression.Expr.{Expr}
+use Rattle.v_syntax.specs.declared.statement.CaseKind.{CaseKind}
+use Rattle.v_syntax.specs.declared.statement.Statement.{Statement}
+use Rattle.v_syntax.specs.Tree.{tree_of}
+use Rattle.v_syntax.specs.StatementTree.{statement_of}
 use Rattle.v_hierarchy.specs.declared.steps.Arm.{Arm}
 use Rattle.v_hierarchy.specs.declared.steps.Arm.TheFolds.{fold-roll-Steps}
 use Rattle.v_hierarchy.specs.declared.steps.Arm.TheOpen.{Steps-F}

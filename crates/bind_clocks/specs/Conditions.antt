@@ -1,6 +1,6 @@
 -- The condition of a block with two arms, over lists, for what is private to this crate.
 use Rattle.std.specs.Prelude.{Bool, true, false, List, [], ◌∷◌, Option, Some, None}
-use Rattle.v_tree.specs.Tree.{Tree, Selections, no_select, select}
+use Rattle.v_syntax.specs.Tree.{Tree, Selections, no_select, select}
 use Rattle.v_hierarchy.specs.Unrolled.{Steps, branch}
 
 abbrev pub condition_here : Steps → Option Tree

@@ -1,7 +1,7 @@
 //! The condition of a block with a reset (IEEE 1364.1-2002, 5.2.2.1).
 ghost use Rattle.std.specs.Prelude.{◌≡◌, ◌&&◌, false, map, IfOk, option_map, if◌then◌else◌};
 ghost use Rattle.std.specs.Option.{option_map_or};
-ghost use Rattle.v_tree.specs.Tree.{tree_of, selection_of, selections_of};
+ghost use Rattle.v_syntax.specs.Tree.{tree_of, selection_of, selections_of};
 ghost use Rattle.v_hierarchy.specs.Views.{steps_of};
 ghost use Rattle.v_binding.specs.Clocks.{is_name, is_word_of, is_constant_of, is_active, condition_of};
 ghost use Rattle.bind_scopes.specs.Seen.{names_in};
@@ -14,7 +14,7 @@ use design_core::Node;
 use loc_base::{Name, NoMemory};
 use v_binding::BindErr;
 use v_hierarchy::Steps;
-use v_tree::{Binary, Expr, Select, Unary};
+use v_syntax::{Binary, Expr, Select, Unary};
 
 /// Whether there are no selects.
 #[tactic(auto, using(crate::proofs::NameLaws::alone))]

@@ -1,6 +1,6 @@
 //! The edges of an event list (IEEE 1364-2005, 9.7.2).
 ghost use Rattle.std.specs.Prelude.{◌≡◌, ◌++◌, [], map, IfOk, OnOk};
-ghost use Rattle.v_tree.specs.ItemTree.{event_of};
+ghost use Rattle.v_syntax.specs.ItemTree.{event_of};
 ghost use Rattle.v_binding.specs.Clocks.{is_rising, waited, edges, wait_for};
 ghost use Rattle.bind_scopes.specs.Seen.{names_in};
 ghost use Rattle.bind_clocks.specs.Waits.{waited_of, wait_of};
@@ -10,7 +10,7 @@ use crate::wait::{Wait, Waited, of_one, of_two};
 use bind_scopes::Names;
 use loc_base::{Items, NoMemory};
 use std::alloc::Global;
-use v_tree::{Edge, Event};
+use v_syntax::{Edge, Event};
 
 /// Whether an edge is a rising one.
 fn is_rising(edge: Edge) -> bool

@@ -5,8 +5,8 @@ use Rattle.std.proofs.lemmas.List.{length-map, length-take-le, map_more, get_or-
 use Rattle.std.specs.Option.{option_or}
 use Rattle.std.specs.Cmp.Lexicographic.{same_text}
 use Rattle.std.proofs.lemmas.Option.{none-some}
-use Rattle.v_tree.specs.declared.item.NamedConnection.{NamedConnection}
-use Rattle.v_tree.specs.ItemTree.{PlainConnection, connection_of}
+use Rattle.v_syntax.specs.declared.item.NamedConnection.{NamedConnection}
+use Rattle.v_syntax.specs.ItemTree.{PlainConnection, connection_of}
 use Rattle.v_hierarchy.specs.Names.{same_name}
 use Rattle.v_hierarchy.specs.Places.{with_place}
 use Rattle.v_binding.specs.Connections.{Wire, wire_of, wire_named}

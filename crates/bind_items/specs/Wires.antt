@@ -1,7 +1,7 @@
 -- What ports are connected to, as the code has it; only private contracts cite it.
 use Rattle.std.specs.Prelude.{ℕ, suc, if◌then◌else◌, List, [], ◌∷◌, Option, Some, None, option_map}
-use Rattle.v_tree.specs.Tree.{tree_of}
-use Rattle.v_tree.specs.ItemTree.{PlainConnection}
+use Rattle.v_syntax.specs.Tree.{tree_of}
+use Rattle.v_syntax.specs.ItemTree.{PlainConnection}
 use Rattle.v_hierarchy.specs.Names.{same_name}
 use Rattle.v_binding.specs.Connections as plain
 use Rattle.bind_items.specs.declared.wires.Wire.{Wire}

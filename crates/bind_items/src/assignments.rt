@@ -1,8 +1,8 @@
 //! Continuous assignments (IEEE 1364-2005, 6.1).
 ghost use Rattle.std.specs.Prelude.{◌≡◌, Ok, OnOk, IfErr};
-ghost use Rattle.v_tree.specs.Tree.{tree_of};
-ghost use Rattle.v_tree.specs.PartTree.{left_of};
-ghost use Rattle.v_tree.specs.ItemTree as tree;
+ghost use Rattle.v_syntax.specs.Tree.{tree_of};
+ghost use Rattle.v_syntax.specs.PartTree.{left_of};
+ghost use Rattle.v_syntax.specs.ItemTree as tree;
 ghost use Rattle.v_binding.specs.Assignments.{continuous, assignment_of};
 ghost use Rattle.bind_scopes.specs.Seen.{names_in};
 ghost use Rattle.bind_scopes.specs.Refuses.{Refuses};
@@ -14,7 +14,7 @@ use bind_scopes::Names;
 use bind_statements::{Start, target};
 use design_core::PlaceKind;
 use v_binding::BindErr;
-use v_tree::{Expr, Left, NetAssignment, Site};
+use v_syntax::{Expr, Left, NetAssignment, Site};
 
 /// A continuous assignment: where it begins, its left side and its right side.
 #[derive(Clone, Copy)]

@@ -1,7 +1,7 @@
 //! Bit 0 of an expression: of a name with its selects that bit alone is read.
 ghost use Rattle.std.specs.Prelude.{◌≡◌, option_map, IfOk};
 ghost use Rattle.loc_base.specs.Bits.{value_of};
-ghost use Rattle.v_tree.specs.Tree.{tree_of};
+ghost use Rattle.v_syntax.specs.Tree.{tree_of};
 ghost use Rattle.v_binding.specs.Gates.{is_named, first_offset, low_node, constant_in, constant_bit, cut, low_bit};
 ghost use Rattle.bind_items.specs.Parts.{last_low};
 
@@ -10,7 +10,7 @@ use loc_base::{Bits, Items, NoMemory};
 use std::alloc::Global;
 use v_selects::leaf::word_node;
 use v_selects::node::{sized, with_width};
-use v_tree::Expr;
+use v_syntax::Expr;
 
 /// Whether an expression is a name with its selects.
 fn is_named(e: &Expr) -> bool

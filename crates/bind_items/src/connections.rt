@@ -1,7 +1,7 @@
 //! The connections of a module instance, in the order of its ports (IEEE 1364-2005, 12.3.9).
 ghost use Rattle.std.specs.Prelude.{◌≡◌, map, option_map, Ok, OnOk, IfErr};
-ghost use Rattle.v_tree.specs.Tree.{tree_of};
-ghost use Rattle.v_tree.specs.ItemTree.{connection_of};
+ghost use Rattle.v_syntax.specs.Tree.{tree_of};
+ghost use Rattle.v_syntax.specs.ItemTree.{connection_of};
 ghost use Rattle.v_hierarchy.specs.Views as view;
 ghost use Rattle.v_binding.specs.Connections.{by_order, by_name, connected, child_of};
 ghost use Rattle.bind_scopes.specs.Seen.{names_in};
@@ -16,7 +16,7 @@ use bind_clocks::Bound;
 use bind_scopes::{Names, Socket};
 use v_binding::BindErr;
 use v_hierarchy::Child;
-use v_tree::{Connections, Expr, NamedConnection};
+use v_syntax::{Connections, Expr, NamedConnection};
 
 /// The ports of an instance with its connections by order, and its first place.
 #[derive(Clone, Copy)]

@@ -1,9 +1,9 @@
 //! Declarations (IEEE 1364-2005, 4.9, 6.1.1 and 6.2.1): the words of arrays, and values. That of a net is a continuous assignment,
 //! and that of a register its value at the start.
 ghost use Rattle.std.specs.Prelude.{◌≡◌, Ok, OnOk, IfOk, IfErr};
-ghost use Rattle.v_tree.specs.Tree.{tree_of, no_select};
-ghost use Rattle.v_tree.specs.PartTree.{left_of, name_left};
-ghost use Rattle.v_tree.specs.ItemTree as tree;
+ghost use Rattle.v_syntax.specs.Tree.{tree_of, no_select};
+ghost use Rattle.v_syntax.specs.PartTree.{left_of, name_left};
+ghost use Rattle.v_syntax.specs.ItemTree as tree;
 ghost use Rattle.v_binding.specs.Assignments.{array_of, value_at, declarator_of};
 ghost use Rattle.bind_scopes.specs.Seen.{names_in};
 ghost use Rattle.bind_scopes.specs.Refuses.{Refuses};
@@ -17,7 +17,7 @@ use bind_statements::{addresses_at, counted};
 use loc_base::NoMemory;
 use std::alloc::Global;
 use v_binding::BindErr;
-use v_tree::{Declarator, Expr, Identifier, Left, NetKind};
+use v_syntax::{Declarator, Expr, Identifier, Left, NetKind};
 
 /// The words of an array, where a declaration has a range of addresses.
 fn array_of(names: &Names<'_>, d: &Declarator, bound: &mut Bound) -> Result<(), BindErr>

@@ -1,7 +1,7 @@
 //! Gates (IEEE 1364-2005, 7.1 to 7.3): each output is a place.
 ghost use Rattle.std.specs.Prelude.{◌≡◌, Ok, IfOk, OnOk, IfErr};
 ghost use Rattle.std.specs.Option.{option_map_or};
-ghost use Rattle.v_tree.specs.ItemTree as tree;
+ghost use Rattle.v_syntax.specs.ItemTree as tree;
 ghost use Rattle.v_hierarchy.specs.Paths.{below, line_part};
 ghost use Rattle.v_binding.specs.Gates.{gate_of};
 ghost use Rattle.bind_scopes.specs.Seen.{names_in};
@@ -19,7 +19,7 @@ use loc_base::{Bytes, Name, NoMemory};
 use std::alloc::Global;
 use v_binding::BindErr;
 use v_hierarchy::below;
-use v_tree::{GateInstance, GateKind, Site};
+use v_syntax::{GateInstance, GateKind, Site};
 
 /// `@line`
 #[tactic(auto, using(v_hierarchy::proofs::PathNames::line_name))]

@@ -8,7 +8,7 @@ use crate::Scene;
 use bind_clocks::Frame;
 use bind_statements::Home;
 use loc_base::Name;
-use v_tree::Site;
+use v_syntax::Site;
 
 /// A scope: the signals and the clock of the design, the module of its text, and its path.
 #[derive(Clone, Copy)]

@@ -1,7 +1,7 @@
 //! Initial blocks (IEEE 1364-2005, 9.9.1): each assignment gives a register its value at the start.
 ghost use Rattle.std.specs.Prelude.{◌≡◌, map, Ok, OnOk, IfErr};
-ghost use Rattle.v_tree.specs.Tree.{tree_of};
-ghost use Rattle.v_tree.specs.StatementTree.{statement_of, statements_of};
+ghost use Rattle.v_syntax.specs.Tree.{tree_of};
+ghost use Rattle.v_syntax.specs.StatementTree.{statement_of, statements_of};
 ghost use Rattle.v_binding.specs.Assignments.{initial_fault, initial_at, initial_block, initial_all};
 ghost use Rattle.bind_scopes.specs.Seen.{names_in};
 ghost use Rattle.bind_scopes.specs.Refuses.{Refuses};
@@ -12,7 +12,7 @@ use bind_scopes::{Initial, Names, Start};
 use loc_base::{Name, Span};
 use v_binding::{BindErr, Use};
 use v_sizes::Meaning;
-use v_tree::{Expr, Left, Site, Statement};
+use v_syntax::{Expr, Left, Site, Statement};
 
 /// Why a name that stands for something, if it does, can't have a value at the start.
 fn initial_fault(span: Span, own: Option<Use>) -> Option<BindErr>

@@ -1,6 +1,6 @@
 //! Inputs of gates (IEEE 1364-2005, 7.1): bit 0 of each, together.
 ghost use Rattle.std.specs.Prelude.{◌≡◌, None, map, Ok, IfOk, IfErr};
-ghost use Rattle.v_tree.specs.Tree.{tree_of};
+ghost use Rattle.v_syntax.specs.Tree.{tree_of};
 ghost use Rattle.v_binding.specs.Steps.{each};
 ghost use Rattle.v_binding.specs.Gates.{input_at};
 ghost use Rattle.bind_scopes.specs.Seen.{names_in};
@@ -10,7 +10,7 @@ use crate::{joined, low_bit};
 use bind_scopes::Names;
 use design_core::Typed;
 use v_binding::BindErr;
-use v_tree::{Expr, GateKind};
+use v_syntax::{Expr, GateKind};
 
 /// The bits of inputs together, from the left; nothing where there are none.
 pub(crate) fn inputs_at(

@@ -10,7 +10,7 @@ use loc_base::{Boxed, NoMemory};
 use std::alloc::Global;
 use v_selects::leaf::word_node;
 use v_selects::node::{binary_node, sized, unary_node};
-use v_tree::GateKind;
+use v_syntax::GateKind;
 
 /// The operator between the inputs of a gate.
 fn joins(kind: GateKind) -> BinaryOp

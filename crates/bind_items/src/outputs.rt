@@ -1,6 +1,6 @@
 //! Outputs of gates (IEEE 1364-2005, 7.1): each is a left side, and a place.
 ghost use Rattle.std.specs.Prelude.{◌≡◌, [], ◌∷◌, map, Ok, OnOk, IfOk, IfErr};
-ghost use Rattle.v_tree.specs.Tree.{tree_of};
+ghost use Rattle.v_syntax.specs.Tree.{tree_of};
 ghost use Rattle.v_binding.specs.Steps.{each};
 ghost use Rattle.v_binding.specs.Gates.{output_at, outputs_driven};
 ghost use Rattle.bind_scopes.specs.Seen.{names_in};
@@ -18,7 +18,7 @@ use std::alloc::Global;
 use std::marker::Model;
 use v_binding::{BindErr, Left};
 use v_hierarchy::site_of;
-use v_tree::{Expr, Site};
+use v_syntax::{Expr, Site};
 
 /// An output of a gate: where it begins, and its left side. Contracts see it as the record of the definitions.
 pub(crate) struct Output {

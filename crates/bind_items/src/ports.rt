@@ -1,7 +1,7 @@
 //! One port of an instance, connected (IEEE 1364-2005, 12.3.9): an input is assigned an expression, and an output drives a left side,
 //! which is a place.
 ghost use Rattle.std.specs.Prelude.{◌≡◌, ◌∷◌, [], max, option_map, Ok, OnOk, IfOk, IfErr};
-ghost use Rattle.v_tree.specs.Tree.{tree_of};
+ghost use Rattle.v_syntax.specs.Tree.{tree_of};
 ghost use Rattle.design_core.specs.declared.statement.Part.TheVariants as part;
 ghost use Rattle.v_binding.specs.Connections.{plain_name, handed_on, input_of, output_value, output_of, connection};
 ghost use Rattle.bind_scopes.specs.Seen.{names_in};
@@ -20,7 +20,7 @@ use loc_base::{Items, Name, NoMemory};
 use std::alloc::Global;
 use v_binding::BindErr;
 use v_selects::node::{sized, with_width};
-use v_tree::Expr;
+use v_syntax::Expr;
 
 /// A port of an instance with what it is connected to, if it is, and the first place of the instance.
 #[derive(Clone, Copy)]

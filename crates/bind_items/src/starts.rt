@@ -1,6 +1,6 @@
 //! Start values of declarations (IEEE 1364-2005, 6.2.1): constants that are assigned to registers.
 ghost use Rattle.std.specs.Prelude.{◌≡◌, ◌≤◌, Ok, OnOk, IfErr};
-ghost use Rattle.v_tree.specs.Tree.{tree_of};
+ghost use Rattle.v_syntax.specs.Tree.{tree_of};
 ghost use Rattle.v_sizes.specs.Scopes.{look_of};
 ghost use Rattle.v_binding.specs.Names.{find};
 ghost use Rattle.v_binding.specs.Assignments.{width_of, number_of, start_at};
@@ -13,7 +13,7 @@ use bind_scopes::{Names, Start};
 use loc_base::Name;
 use v_binding::BindErr;
 use v_sizes::{Meaning, Scope};
-use v_tree::Expr;
+use v_syntax::Expr;
 
 /// A signal that has a value at the start, with its number of bits.
 #[derive(Clone, Copy)]

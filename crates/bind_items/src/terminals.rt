@@ -1,11 +1,11 @@
 //! The terminals of a gate: outputs, then inputs (IEEE 1364-2005, 7.1 to 7.3).
 ghost use Rattle.std.specs.Prelude.{◌≡◌, ◌-◌, if◌then◌else◌, min, map, Ok, Err, OnOk, IfErr};
-ghost use Rattle.v_tree.specs.Tree.{tree_of};
-ghost use Rattle.v_tree.specs.ItemTree.{gate_of};
+ghost use Rattle.v_syntax.specs.Tree.{tree_of};
+ghost use Rattle.v_syntax.specs.ItemTree.{gate_of};
 ghost use Rattle.v_binding.specs.Gates.{last_alone, outputs_of, inputs_of, terminals_fit};
 
 use v_binding::BindErr;
-use v_tree::{Expr, GateInstance, GateKind};
+use v_syntax::{Expr, GateInstance, GateKind};
 
 /// Whether the last terminal alone is an input, and not all but the first.
 fn last_alone(kind: GateKind) -> bool

@@ -1,9 +1,9 @@
 //! What the ports of an instance are connected to, by name (IEEE 1364-2005, 12.3.6).
 ghost use Rattle.std.specs.Prelude.{◌≡◌, ℕ, List, map, option_map, Some, None, if◌then◌else◌, IfOk, OnOk};
 ghost use Rattle.std.specs.Option.{option_or, option_map_or};
-ghost use Rattle.v_tree.specs.Tree.{tree_of};
+ghost use Rattle.v_syntax.specs.Tree.{tree_of};
 ghost use Rattle.v_hierarchy.specs.Names.{same_name};
-ghost use Rattle.v_tree.specs.ItemTree.{connection_of};
+ghost use Rattle.v_syntax.specs.ItemTree.{connection_of};
 ghost use Rattle.v_hierarchy.specs.Places.{place_in};
 ghost use Rattle.v_binding.specs.Connections.{wire_at, wire_of, wire_named};
 ghost use Rattle.bind_items.specs.Wires.{wire_in, first_named};
@@ -11,7 +11,7 @@ ghost use Rattle.bind_items.specs.Wires.{wire_in, first_named};
 use loc_base::{Name, NoMemory};
 use std::alloc::Global;
 use v_hierarchy::{Places, site_of};
-use v_tree::{Expr, NamedConnection, Site};
+use v_syntax::{Expr, NamedConnection, Site};
 
 /// What a port is connected to: where the connection stands, and its expression.
 #[derive(Clone, Copy)]

@@ -1,6 +1,6 @@
 //! Items as they are written (IEEE 1364-2005, clauses 6, 7 and 9.9.1).
 ghost use Rattle.std.specs.Prelude.{◌≡◌, map, Ok, OnOk, IfErr};
-ghost use Rattle.v_tree.specs.ItemTree as tree;
+ghost use Rattle.v_syntax.specs.ItemTree as tree;
 ghost use Rattle.v_binding.specs.Steps.{each};
 ghost use Rattle.v_binding.specs.Assignments.{declarator_of, assignment_of};
 ghost use Rattle.v_binding.specs.Gates.{gate_of};
@@ -17,7 +17,7 @@ use crate::{Scene, WrittenGate, assignment, gate};
 use bind_clocks::Bound;
 use bind_scopes::Names;
 use v_binding::BindErr;
-use v_tree::{Declarator, GateInstance, GateKind, Item, NetAssignment, NetKind};
+use v_syntax::{Declarator, GateInstance, GateKind, Item, NetAssignment, NetKind};
 
 /// The names of a declaration.
 #[derive(Clone, Copy)]

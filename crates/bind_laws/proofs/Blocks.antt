@@ -10,8 +10,8 @@ use Rattle.design_core.specs.declared.statement.Stmt.{Stmt, Row_of-Stmt, end_of-
 use Rattle.design_core.specs.declared.statement.Stmt.TheVariants as stmt
 use Rattle.design_core.specs.Valuation.{width_at}
 use Rattle.design_core.specs.WellFormed.{statement_fits, statements_fit, is_reset_values, times_in, times_in_all, times_in_clocked}
-use Rattle.v_tree.specs.declared.site.Site.{Site}
-use Rattle.v_tree.specs.ItemTree.{PlainEvent, edge_event, change_event, PlainSensitivity}
+use Rattle.v_syntax.specs.declared.site.Site.{Site}
+use Rattle.v_syntax.specs.ItemTree.{PlainEvent, edge_event, change_event, PlainSensitivity}
 use Rattle.v_hierarchy.specs.Unrolled.{Steps}
 use Rattle.v_binding.specs.Steps.{◌>>=◌, each}
 use Rattle.v_binding.specs.Names.{Names, find}

@@ -16,13 +16,13 @@ use Rattle.design_core.specs.declared.statement.Stmt.TheVariants as stmt
 use Rattle.design_core.specs.Store.{parts_width}
 use Rattle.design_core.specs.WellFormed.{is_width, typed_fits, label_fits, assignment_fits, place_fits, statement_fits, times_in}
 use Rattle.design_core.proofs.StatementSteps.{fits_if}
-use Rattle.v_tree.specs.declared.declaration.Identifier.{Identifier}
-use Rattle.v_tree.specs.declared.site.Site.{Site}
-use Rattle.v_tree.specs.declared.statement.AssignKind.{AssignKind}
-use Rattle.v_tree.specs.declared.statement.CaseKind.{CaseKind}
-use Rattle.v_tree.specs.Tree.{Tree}
-use Rattle.v_tree.specs.PartTree.{PlainLeft}
-use Rattle.v_tree.specs.StatementTree.{PlainStatement, empty, block, delayed, if_then, if_else, choice, loop, assignment}
+use Rattle.v_syntax.specs.declared.declaration.Identifier.{Identifier}
+use Rattle.v_syntax.specs.declared.site.Site.{Site}
+use Rattle.v_syntax.specs.declared.statement.AssignKind.{AssignKind}
+use Rattle.v_syntax.specs.declared.statement.CaseKind.{CaseKind}
+use Rattle.v_syntax.specs.Tree.{Tree}
+use Rattle.v_syntax.specs.PartTree.{PlainLeft}
+use Rattle.v_syntax.specs.StatementTree.{PlainStatement, empty, block, delayed, if_then, if_else, choice, loop, assignment}
 use Rattle.v_hierarchy.specs.Unrolled.{Steps, nothing, still, run, branch, choose, repeated, StepList, no_step, step, Arms, no_arm, arm, default_arm, Turns, no_turn, turn}
 use Rattle.v_sizes.proofs.Meant.{Within}
 use Rattle.v_binding.specs.declared.error.BindErr.{BindErr}

@@ -9,7 +9,7 @@ use Rattle.design_core.specs.declared.signal.Signal.{Signal}
 use Rattle.design_core.specs.declared.expression.Typed.{Typed}
 use Rattle.design_core.specs.declared.statement.Label.{Label}
 use Rattle.design_core.specs.WellFormed.{label_fits}
-use Rattle.v_tree.specs.Tree.{Tree}
+use Rattle.v_syntax.specs.Tree.{Tree}
 use Rattle.v_sizes.specs.Word.{word}
 use Rattle.v_sizes.specs.Sizing.{sizing}
 use Rattle.v_sizes.proofs.Meant.{Within}

@@ -3,12 +3,12 @@ use Rattle.std.proofs.Common.{◌≡◌, ℕ, ◌≤◌, Bool, true, false, List
 use Rattle.std.specs.Prelude.{ℤ, if◌then◌else◌}
 use Rattle.design_core.specs.declared.signal.SignalKind.TheVariants as kind
 use Rattle.design_core.specs.WellFormed.{signal_fits}
-use Rattle.v_tree.specs.declared.declaration.Identifier.{Identifier}
-use Rattle.v_tree.specs.declared.item.NetKind.{NetKind}
-use Rattle.v_tree.specs.declared.item.NetKind.TheVariants as net_kind
-use Rattle.v_tree.specs.Tree.{Tree}
-use Rattle.v_tree.specs.PartTree.{PlainRange}
-use Rattle.v_tree.specs.ItemTree.{PlainDeclarator}
+use Rattle.v_syntax.specs.declared.declaration.Identifier.{Identifier}
+use Rattle.v_syntax.specs.declared.item.NetKind.{NetKind}
+use Rattle.v_syntax.specs.declared.item.NetKind.TheVariants as net_kind
+use Rattle.v_syntax.specs.Tree.{Tree}
+use Rattle.v_syntax.specs.PartTree.{PlainRange}
+use Rattle.v_syntax.specs.ItemTree.{PlainDeclarator}
 use Rattle.v_sizes.specs.declared.meaning.Meaning.TheVariants as meaning
 use Rattle.v_hierarchy.specs.declared.signal.Signal.{Signal as Declared}
 use Rattle.v_hierarchy.specs.declared.bounds.Bounds.{Bounds}

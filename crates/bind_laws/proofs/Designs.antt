@@ -8,7 +8,7 @@ use Rattle.design_core.specs.declared.place.Place.{Place}
 use Rattle.design_core.specs.declared.design.Design.{Design}
 use Rattle.design_core.specs.Given.{CanRun}
 use Rattle.design_core.specs.WellFormed.{signal_fits, is_width, is_signal, input_fits, driver_fits, clocked_fits as design_clocked_fits, times_in_driver, times_in_clocked, IsWellFormed}
-use Rattle.v_tree.specs.Tree.{Tree}
+use Rattle.v_syntax.specs.Tree.{Tree}
 use Rattle.v_hierarchy.specs.Headers.{Port}
 use Rattle.v_hierarchy.specs.Items.{Block, scope}
 use Rattle.v_hierarchy.specs.Instances.{Instance}

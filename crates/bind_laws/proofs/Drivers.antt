@@ -7,14 +7,14 @@ use Rattle.design_core.specs.declared.signal.Signal.{Signal}
 use Rattle.design_core.specs.declared.expression.Typed.{Typed}
 use Rattle.design_core.specs.declared.place.PlaceKind.TheVariants as place_kind
 use Rattle.design_core.specs.Valuation.{width_at}
-use Rattle.v_tree.specs.declared.item.GateKind.{GateKind}
-use Rattle.v_tree.specs.declared.item.NetKind.{NetKind}
-use Rattle.v_tree.specs.declared.item.NetKind.TheVariants as net_kind
-use Rattle.v_tree.specs.declared.site.Site.{Site}
-use Rattle.v_tree.specs.Tree.{Tree, no_select}
-use Rattle.v_tree.specs.PartTree.{PlainRange, PlainLeft, name_left, concat_left}
-use Rattle.v_tree.specs.StatementTree.{PlainStatement, empty, block, delayed, if_then, if_else, choice, loop, assignment, Statements, no_statement, statement}
-use Rattle.v_tree.specs.ItemTree.{PlainDeclarator, PlainAssignment, PlainGate}
+use Rattle.v_syntax.specs.declared.item.GateKind.{GateKind}
+use Rattle.v_syntax.specs.declared.item.NetKind.{NetKind}
+use Rattle.v_syntax.specs.declared.item.NetKind.TheVariants as net_kind
+use Rattle.v_syntax.specs.declared.site.Site.{Site}
+use Rattle.v_syntax.specs.Tree.{Tree, no_select}
+use Rattle.v_syntax.specs.PartTree.{PlainRange, PlainLeft, name_left, concat_left}
+use Rattle.v_syntax.specs.StatementTree.{PlainStatement, empty, block, delayed, if_then, if_else, choice, loop, assignment, Statements, no_statement, statement}
+use Rattle.v_syntax.specs.ItemTree.{PlainDeclarator, PlainAssignment, PlainGate}
 use Rattle.v_sizes.specs.declared.meaning.Const.{Const}
 use Rattle.v_sizes.specs.declared.meaning.Meaning.TheVariants as meaning
 use Rattle.v_sizes.specs.Context.{IsThere}

@@ -5,7 +5,7 @@ use Rattle.std.proofs.Math.Nat.{max-le, le-max_left, le-max_right}
 use Rattle.design_core.specs.declared.signal.Signal.{Signal}
 use Rattle.design_core.specs.declared.expression.Typed.{Typed}
 use Rattle.design_core.specs.WellFormed.{typed_fits}
-use Rattle.v_tree.specs.Tree.{Tree}
+use Rattle.v_syntax.specs.Tree.{Tree}
 use Rattle.v_sizes.specs.declared.error.WidthErr.{WidthErr}
 use Rattle.v_sizes.specs.Look.{Look}
 use Rattle.v_sizes.specs.Sizing.{sizing}

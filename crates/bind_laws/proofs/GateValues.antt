@@ -14,10 +14,10 @@ use Rattle.design_core.specs.Operator as operator
 use Rattle.design_core.specs.Valuation.{width_at}
 use Rattle.design_core.specs.WellFormed.{slice_fits, binary_fits, signs_fit, node_fits, parts_fit, typed_fits}
 use Rattle.design_core.proofs.ExpressionSteps.{fits_pick, fits_word, fits_unary, fits_binary, fits_resize}
-use Rattle.v_tree.specs.declared.item.GateKind.{GateKind}
-use Rattle.v_tree.specs.declared.item.GateKind.TheVariants as gate
-use Rattle.v_tree.specs.Tree.{Tree}
-use Rattle.v_tree.specs.Tree as written
+use Rattle.v_syntax.specs.declared.item.GateKind.{GateKind}
+use Rattle.v_syntax.specs.declared.item.GateKind.TheVariants as gate
+use Rattle.v_syntax.specs.Tree.{Tree}
+use Rattle.v_syntax.specs.Tree as written
 use Rattle.v_sizes.specs.Sized.{sized, constant, with_width}
 use Rattle.v_sizes.proofs.Meant.{Within, is-width}
 use Rattle.v_binding.specs.Steps.{each}

@@ -11,7 +11,7 @@ use Rattle.design_core.specs.declared.driver.Driver.TheVariants as driver
 use Rattle.design_core.specs.declared.driver.Clocked.{Clocked}
 use Rattle.design_core.specs.declared.expression.Typed.{Typed}
 use Rattle.design_core.specs.WellFormed.{is_width, driver_fits, times_in_driver, times_in_clocked}
-use Rattle.v_tree.specs.declared.site.Site.{Site}
+use Rattle.v_syntax.specs.declared.site.Site.{Site}
 use Rattle.v_binding.specs.declared.left.Left.{Left}
 use Rattle.v_binding.specs.Places.{Home, place}
 use Rattle.v_binding.specs.Starts.{Start, Initial}

@@ -16,10 +16,10 @@ use Rattle.design_core.specs.declared.statement.Part.{Part}
 use Rattle.design_core.specs.Valuation.{width_at}
 use Rattle.design_core.specs.Store.{part_width, parts_width}
 use Rattle.design_core.specs.WellFormed.{is_width, is_signal, node_fits, parts_fit, typed_fits, part_fits, joined_width}
-use Rattle.v_tree.specs.declared.site.Site.{Site}
-use Rattle.v_tree.specs.Tree.{Selections}
-use Rattle.v_tree.specs.Tree as written
-use Rattle.v_tree.specs.PartTree.{PlainLeft, name_left, concat_left, Lefts, no_left, left}
+use Rattle.v_syntax.specs.declared.site.Site.{Site}
+use Rattle.v_syntax.specs.Tree.{Selections}
+use Rattle.v_syntax.specs.Tree as written
+use Rattle.v_syntax.specs.PartTree.{PlainLeft, name_left, concat_left, Lefts, no_left, left}
 use Rattle.v_sizes.specs.declared.meaning.Meaning.TheVariants as meaning
 use Rattle.v_sizes.specs.Word.{word}
 use Rattle.v_sizes.specs.Operations.{word_of, is_below_0, magnitude}

@@ -11,9 +11,9 @@ use Rattle.design_core.specs.declared.expression.Node.TheVariants as node
 use Rattle.design_core.specs.declared.expression.Node.TheBlock.{hidden-the_row-Typed-1}
 use Rattle.design_core.specs.Constant.{zeros}
 use Rattle.design_core.specs.Valuation.{distance_of, word_at}
-use Rattle.v_tree.specs.declared.site.Site.{Site}
-use Rattle.v_tree.specs.Tree.{Selections}
-use Rattle.v_tree.specs.Tree as written
+use Rattle.v_syntax.specs.declared.site.Site.{Site}
+use Rattle.v_syntax.specs.Tree.{Selections}
+use Rattle.v_syntax.specs.Tree as written
 use Rattle.v_sizes.specs.declared.meaning.Meaning.{Meaning}
 use Rattle.v_sizes.specs.declared.meaning.Meaning.TheVariants as meaning
 use Rattle.v_sizes.specs.Look.{Look}

@@ -1,9 +1,9 @@
 -- Numbering a scope: what its names stand for, and what binding asks of its items and of the scopes inside.
 use Rattle.std.proofs.Common.{◌≡◌, ℕ, Bool, true, false, List, [], ◌∷◌, ◌++◌, Option, Some, None, refl, sym, ◌∙◌, ap, subst, lit≤}
 use Rattle.std.specs.Prelude.{⊤, if◌then◌else◌}
-use Rattle.v_tree.specs.declared.declaration.Identifier.{Identifier}
-use Rattle.v_tree.specs.declared.item.NetKind.{NetKind}
-use Rattle.v_tree.specs.ItemTree.{PlainDeclarator, PlainItem, port_item, net_item, integer_item, genvar_item, parameter_item, assign_item, gate_item, always_item, initial_item, instance_item, generate_item, loop_item, if_item, if_else_item}
+use Rattle.v_syntax.specs.declared.declaration.Identifier.{Identifier}
+use Rattle.v_syntax.specs.declared.item.NetKind.{NetKind}
+use Rattle.v_syntax.specs.ItemTree.{PlainDeclarator, PlainItem, port_item, net_item, integer_item, genvar_item, parameter_item, assign_item, gate_item, always_item, initial_item, instance_item, generate_item, loop_item, if_item, if_else_item}
 use Rattle.v_hierarchy.specs.Names.{Entry, Standing, signal, array, integer, genvar, constant, bounds_of, meaning_of}
 use Rattle.v_hierarchy.specs.Names as declared
 use Rattle.v_hierarchy.specs.Parameters.{is_among}

@@ -5,8 +5,8 @@ use Rattle.std.proofs.lemmas.Bool.{and_from, eq-eqb}
 use Rattle.design_core.specs.declared.signal.Signal.{Signal}
 use Rattle.design_core.specs.declared.signal.SignalKind.{SignalKind}
 use Rattle.design_core.specs.WellFormed.{signal_fits}
-use Rattle.v_tree.specs.PartTree.{PlainRange}
-use Rattle.v_tree.specs.ItemTree.{PlainDeclarator}
+use Rattle.v_syntax.specs.PartTree.{PlainRange}
+use Rattle.v_syntax.specs.ItemTree.{PlainDeclarator}
 use Rattle.v_sizes.specs.Selected.{count_between}
 use Rattle.v_sizes.specs.Context.{IsOf, IsThere}
 use Rattle.v_sizes.proofs.Meant.{Within, is-width}

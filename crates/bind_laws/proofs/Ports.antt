@@ -16,9 +16,9 @@ use Rattle.design_core.specs.declared.statement.Part.TheVariants as part
 use Rattle.design_core.specs.Valuation.{width_at}
 use Rattle.design_core.specs.WellFormed.{is_signal, typed_fits, driver_fits}
 use Rattle.design_core.proofs.ExpressionSteps.{fits_resize}
-use Rattle.v_tree.specs.Tree.{Tree}
-use Rattle.v_tree.specs.PartTree.{PlainLeft}
-use Rattle.v_tree.specs.ItemTree.{PlainConnection, PlainConnections, ordered, named}
+use Rattle.v_syntax.specs.Tree.{Tree}
+use Rattle.v_syntax.specs.PartTree.{PlainLeft}
+use Rattle.v_syntax.specs.ItemTree.{PlainConnection, PlainConnections, ordered, named}
 use Rattle.v_sizes.specs.Sized.{sized}
 use Rattle.v_sizes.proofs.Meant.{Within, is-width}
 use Rattle.v_hierarchy.specs.Constants.{site_of}

@@ -7,7 +7,7 @@ use Rattle.design_core.specs.declared.place.Place.{Place}
 use Rattle.design_core.specs.Store.{parts_width}
 use Rattle.design_core.specs.declared.statement.Stmt.{Stmt}
 use Rattle.design_core.specs.WellFormed.{is_width, part_fits, statement_fits, times_in}
-use Rattle.v_tree.specs.PartTree.{PlainLeft}
+use Rattle.v_syntax.specs.PartTree.{PlainLeft}
 use Rattle.v_hierarchy.specs.Unrolled.{Steps, nothing, still, run, branch, choose, repeated, StepList, no_step, step, Arms, no_arm, arm, default_arm, Turns, no_turn, turn}
 use Rattle.v_sizes.specs.Context.{IsMeaning, IsAmong}
 use Rattle.v_binding.specs.declared.known.Use.{Use}

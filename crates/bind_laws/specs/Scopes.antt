@@ -2,9 +2,9 @@
 use Rattle.std.specs.Prelude.{⊤, ℕ, ◌≡◌, ◌≤◌, Bool, ℤ, List, Option, Some}
 use Rattle.loc_base.specs.Bits.{width_of}
 use Rattle.design_core.specs.declared.signal.Signal.{Signal}
-use Rattle.v_tree.specs.declared.item.NetKind.{NetKind}
-use Rattle.v_tree.specs.declared.item.NetKind.TheVariants as net_kind
-use Rattle.v_tree.specs.ItemTree.{PlainDeclarator, PlainItem, net_item}
+use Rattle.v_syntax.specs.declared.item.NetKind.{NetKind}
+use Rattle.v_syntax.specs.declared.item.NetKind.TheVariants as net_kind
+use Rattle.v_syntax.specs.ItemTree.{PlainDeclarator, PlainItem, net_item}
 use Rattle.v_sizes.specs.declared.meaning.Meaning.TheVariants as meaning
 use Rattle.v_sizes.specs.Context.{IsThere}
 use Rattle.v_hierarchy.specs.Items.{written, always, child, inner, turn, Block, scope, Copies, no_copy, copy}

@@ -1,7 +1,7 @@
 -- A sized expression has the width of its context.
 use Rattle.std.proofs.Common.{◌≡◌, ℕ, ◌≤◌, Bool, false, None, sym, ap, ◌∙◌, subst, arith, lit≤}
 use Rattle.std.proofs.Math.Nat.{le-max_right, max-le}
-use Rattle.v_tree.specs.Tree.{Tree}
+use Rattle.v_syntax.specs.Tree.{Tree}
 use Rattle.design_core.specs.declared.expression.Typed.{Typed}
 use Rattle.v_sizes.specs.declared.scope.Scope.{Scope}
 use Rattle.v_sizes.specs.Look.{Look}

@@ -1,7 +1,7 @@
 -- A name that is refused as unknown, by what it is found to stand for.
 use Rattle.std.proofs.Common.{◌≡◌, ℕ, Bool, false, ◌&&◌, not, List, Option, Some, None, sym, ap, ◌∙◌}
 use Rattle.std.specs.Prelude.{if◌then◌else◌}
-use Rattle.v_tree.specs.Tree.{Selections}
+use Rattle.v_syntax.specs.Tree.{Selections}
 use Rattle.v_sizes.specs.declared.meaning.Meaning.{Meaning}
 use Rattle.v_sizes.specs.Look.{Look}
 use Rattle.v_binding.specs.Names.{Names, find, look_in}

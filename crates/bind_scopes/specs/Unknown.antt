@@ -1,7 +1,7 @@
 -- Which name of a select is refused as unknown, one select of a list at a time.
 use Rattle.std.specs.Prelude.{Bool, Option}
-use Rattle.v_tree.specs.Tree.{Selection}
-use Rattle.v_tree.specs.Tree as written
+use Rattle.v_syntax.specs.Tree.{Selection}
+use Rattle.v_syntax.specs.Tree as written
 use Rattle.v_binding.specs.Names.{Names}
 use Rattle.v_binding.specs.Unknown.{unknown_in}
 

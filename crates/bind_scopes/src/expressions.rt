@@ -1,7 +1,7 @@
 //! Expressions and constants where they stand (IEEE 1364-2005, clause 5).
 ghost use Rattle.std.specs.Prelude.{◌≡◌, ◌≤◌, map, Ok, IfOk, IfErr};
-ghost use Rattle.v_tree.specs.Tree.{tree_of, selection_of, selections_of};
-ghost use Rattle.v_tree.specs.Tree as written;
+ghost use Rattle.v_syntax.specs.Tree.{tree_of, selection_of, selections_of};
+ghost use Rattle.v_syntax.specs.Tree as written;
 ghost use Rattle.v_sizes.specs.Sizing.{sizing};
 ghost use Rattle.v_binding.specs.Names.{look_in};
 ghost use Rattle.v_binding.specs.Expressions.{sized_in, assigned, by_itself, constant_at, index_at};
@@ -15,7 +15,7 @@ use loc_base::{Name, NoMemory};
 use v_binding::BindErr;
 use v_hierarchy::{index_of, site_of};
 use v_sizes::Const;
-use v_tree::{Expr, Select, Site};
+use v_syntax::{Expr, Select, Site};
 use v_widths::{Size, constant_in, own_size, typed, typed_name};
 
 impl<'t> Names<'t> {

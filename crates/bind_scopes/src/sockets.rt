@@ -18,7 +18,7 @@ use std::alloc::Global;
 use v_binding::{Known, Use};
 use v_hierarchy::{Instance, Instances, Port};
 use v_sizes::Meaning;
-use v_tree::Direction;
+use v_syntax::Direction;
 
 /// Whether a port is an input.
 pub fn is_input(direction: Option<Direction>) -> bool

@@ -1,9 +1,9 @@
 //! Which name of an expression is refused as unknown, and why an expression is refused (IEEE 1364-2005, clause 5 and 12.7).
 ghost use Rattle.std.specs.Prelude.{◌≡◌, ◌&&◌, not, false, if◌then◌else◌, map, Some, None};
 ghost use Rattle.std.specs.Option.{option_or};
-ghost use Rattle.v_tree.specs.Tree.{tree_of, trees_of, selection_of, selections_of};
-ghost use Rattle.v_tree.specs.Tree as written;
-ghost use Rattle.v_tree.specs.declared.site.Site.{Site};
+ghost use Rattle.v_syntax.specs.Tree.{tree_of, trees_of, selection_of, selections_of};
+ghost use Rattle.v_syntax.specs.Tree as written;
+ghost use Rattle.v_syntax.specs.declared.site.Site.{Site};
 ghost use Rattle.v_binding.specs.Names.{find};
 ghost use Rattle.v_binding.specs.Unknown.{has_two, is_misused, is_outside, unknown_name, unknown_in, unknown_parts, unknown_selects, name_fault, fault_in};
 ghost use Rattle.bind_scopes.specs.Seen.{names_in};
@@ -13,7 +13,7 @@ use crate::names::Names;
 use loc_base::{Name, Span};
 use v_binding::{BindErr, Use};
 use v_sizes::{Meaning, WidthErr};
-use v_tree::{Expr, Select};
+use v_syntax::{Expr, Select};
 
 /// Whether there are two selects or more.
 #[tactic(auto, using(crate::proofs::Selects::two_selects))]

@@ -2,8 +2,8 @@
 use Rattle.std.proofs.Common.{◌≡◌, ℕ, ◌≤◌, Bool, true, false, List, length, refl, sym, ap, ◌∙◌, subst, arith}
 use Rattle.std.specs.Prelude.{if◌then◌else◌, nat_le, ℤ, Result, Ok, Err}
 use Rattle.loc_base.specs.declared.span.Span.{Span}
-use Rattle.v_tree.specs.PartTree.{PlainRange}
-use Rattle.v_tree.specs.ItemTree.{PlainDeclarator}
+use Rattle.v_syntax.specs.PartTree.{PlainRange}
+use Rattle.v_syntax.specs.ItemTree.{PlainDeclarator}
 use Rattle.v_sizes.specs.Selected.{count_between}
 use Rattle.v_binding.specs.declared.error.BindErr.{BindErr}
 use Rattle.v_binding.specs.declared.error.BindErr.TheVariants as fault
@@ -11,7 +11,7 @@ use Rattle.v_binding.specs.Steps.{◌>>=◌}
 use Rattle.v_binding.specs.Names.{Names}
 use Rattle.v_binding.specs.Expressions.{index_at}
 use Rattle.v_binding.specs.Addresses.{Addresses, addresses_between, addresses_at}
-use Rattle.v_tree.specs.declared.declaration.Identifier.{Identifier}
+use Rattle.v_syntax.specs.declared.declaration.Identifier.{Identifier}
 use Rattle.v_sizes.specs.declared.meaning.Meaning.TheVariants as meaning
 use Rattle.v_hierarchy.specs.declared.bounds.Bounds.{Bounds}
 use Rattle.v_hierarchy.specs.declared.signal.Signal.{Signal as Declared}

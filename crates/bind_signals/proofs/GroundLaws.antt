@@ -1,8 +1,8 @@
 -- Names get the same numbers where of each name that a scope declares the first entry alone is kept.
 use Rattle.std.proofs.Common.{◌≡◌, ℕ, List, [], ◌∷◌, map, Option, Some, None, refl, ap, ◌∙◌}
 use Rattle.std.specs.Prelude.{if◌then◌else◌, Bool, option_map}
-use Rattle.v_tree.specs.declared.declaration.Identifier.{Identifier}
-use Rattle.v_tree.specs.ItemTree.{PlainDeclarator, PlainItem, port_item, net_item, integer_item, genvar_item, parameter_item, assign_item, gate_item, always_item, initial_item, instance_item, generate_item, loop_item, if_item, if_else_item}
+use Rattle.v_syntax.specs.declared.declaration.Identifier.{Identifier}
+use Rattle.v_syntax.specs.ItemTree.{PlainDeclarator, PlainItem, port_item, net_item, integer_item, genvar_item, parameter_item, assign_item, gate_item, always_item, initial_item, instance_item, generate_item, loop_item, if_item, if_else_item}
 use Rattle.v_hierarchy.specs.Frames.{names_of}
 use Rattle.v_hierarchy.specs.Headers.{Port}
 use Rattle.v_hierarchy.specs.Names.{Entry, Standing, signal, array, integer, genvar, constant, find}
@@ -11,7 +11,7 @@ use Rattle.v_hierarchy.specs.Items.{Copied, written, always, child, inner, Block
 use Rattle.v_hierarchy.specs.Items as items
 use Rattle.v_hierarchy.specs.declared.instance.Instance.{Instance as Held-instance}
 use Rattle.v_sizes.specs.declared.meaning.Const.{Const}
-use Rattle.v_tree.specs.ModuleTree.{module_of}
+use Rattle.v_syntax.specs.ModuleTree.{module_of}
 use Rattle.v_hierarchy.specs.Views.{entry_of, port_of, connections_if, instance_of, copied_of, copies_of}
 use Rattle.bind_scopes.proofs.CopiedViews.{block_of_block}
 use Rattle.v_binding.specs.Names as plain

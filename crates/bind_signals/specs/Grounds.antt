@@ -2,7 +2,7 @@
 use Rattle.std.specs.Prelude.{ℕ, if◌then◌else◌, List, [], map, Option, Some, None, option_map}
 use Rattle.v_binding.specs.Names as plain
 use Rattle.v_binding.specs.Signals as signals
-use Rattle.v_tree.specs.ItemTree.{PlainItem}
+use Rattle.v_syntax.specs.ItemTree.{PlainItem}
 use Rattle.v_hierarchy.specs.Items.{written, inner, Block, no_copy}
 use Rattle.v_hierarchy.specs.Frames as frame
 use Rattle.v_hierarchy.specs.declared.instance.Instance.{Instance}

@@ -10,7 +10,7 @@ use crate::tokens::{firsts_of, hides, is_behind, last_of_each};
 use loc_base::{Items, Name, NoMemory};
 use std::alloc::Global;
 use v_hierarchy::{Arm, Block, Copied, Places, Steps, Turn};
-use v_tree::Identifier;
+use v_syntax::Identifier;
 
 /// The variables of the loops of a statement, behind those before.
 #[cycle(loops)]

@@ -1,7 +1,7 @@
 //! Declarations where they stand, and the scopes inside (IEEE 1364-2005, 4.2, 4.9, 12.4 and 12.5).
 ghost use Rattle.std.specs.Prelude.{◌≡◌, ◌≤◌, map, OnOk, IfOk};
-ghost use Rattle.v_tree.specs.PartTree.{range_of};
-ghost use Rattle.v_tree.specs.ItemTree.{declarator_of, item_of};
+ghost use Rattle.v_syntax.specs.PartTree.{range_of};
+ghost use Rattle.v_syntax.specs.ItemTree.{declarator_of, item_of};
 ghost use Rattle.v_sizes.specs.declared.meaning.Meaning.TheVariants as meaning;
 ghost use Rattle.v_hierarchy.specs.Constants.{width};
 ghost use Rattle.v_hierarchy.specs.Names.{bounds_of};
@@ -25,7 +25,7 @@ use loc_base::NoMemory;
 use v_binding::{BindErr, Known, Use};
 use v_hierarchy::{Block, Bounds, Copied, Signal, Standing};
 use v_sizes::Meaning;
-use v_tree::{Declarator, Identifier, Item, NetKind, Range};
+use v_syntax::{Declarator, Identifier, Item, NetKind, Range};
 
 /// A name that is declared a port, a net or a register.
 #[derive(Clone, Copy)]

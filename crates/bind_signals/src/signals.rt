@@ -11,7 +11,7 @@ use itoa::Buffer;
 use loc_base::{Bits, Bytes, Name, NoMemory};
 use std::alloc::Global;
 use v_hierarchy::{Bounds, Signal as Declared, below};
-use v_tree::NetKind;
+use v_syntax::NetKind;
 
 /// A variable where `reg` says so, else a net.
 fn kind_in(kind: Option<NetKind>) -> SignalKind

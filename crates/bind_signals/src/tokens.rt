@@ -11,7 +11,7 @@ ghost use Rattle.bind_signals.specs.LoopNames.{listed, is_used};
 use loc_base::NoMemory;
 use std::alloc::Global;
 use v_hierarchy::{Entry, Places};
-use v_tree::Identifier;
+use v_syntax::Identifier;
 
 /// The greater one of a token and one that is there before.
 fn last_with(token: usize, before: Option<usize>) -> usize

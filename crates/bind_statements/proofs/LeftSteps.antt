@@ -2,14 +2,14 @@
 use Rattle.std.proofs.Common.{◌≡◌, ℕ, List, map, sym, ap, ◌∙◌}
 use Rattle.std.specs.declared.vec.Vec.{Vec}
 use Rattle.std.specs.declared.alloc.Global.{Global}
-use Rattle.v_tree.specs.declared.site.Site.{Site}
-use Rattle.v_tree.specs.declared.expression.Select.{Select}
-use Rattle.v_tree.specs.declared.declaration.Left.{Left}
-use Rattle.v_tree.specs.declared.declaration.Left.TheVariants as variant
-use Rattle.v_tree.specs.declared.declaration.Left.TheFolds.{fold-roll-Left}
-use Rattle.v_tree.specs.declared.declaration.Left.TheOpen.{Left-F}
-use Rattle.v_tree.specs.Tree.{selection_of, selections_of}
-use Rattle.v_tree.specs.PartTree.{PlainLeft, name_left, concat_left, lefts_of, left_of, left_step}
+use Rattle.v_syntax.specs.declared.site.Site.{Site}
+use Rattle.v_syntax.specs.declared.expression.Select.{Select}
+use Rattle.v_syntax.specs.declared.declaration.Left.{Left}
+use Rattle.v_syntax.specs.declared.declaration.Left.TheVariants as variant
+use Rattle.v_syntax.specs.declared.declaration.Left.TheFolds.{fold-roll-Left}
+use Rattle.v_syntax.specs.declared.declaration.Left.TheOpen.{Left-F}
+use Rattle.v_syntax.specs.Tree.{selection_of, selections_of}
+use Rattle.v_syntax.specs.PartTree.{PlainLeft, name_left, concat_left, lefts_of, left_of, left_step}
 
 pub left_of_name : (s : Site) (text : List ℕ) (selects : Vec Select Global)
     → left_of (variant.Name s text selects) ≡ name_left s text (selections_of (map selection_of selects.items))

@@ -3,12 +3,12 @@ use Rattle.std.proofs.Common.{◌≡◌, List, map, sym, ap, ◌∙◌}
 use Rattle.std.specs.Borrow.{Bor}
 use Rattle.std.specs.declared.vec.Vec.{Vec}
 use Rattle.std.specs.declared.alloc.Global.{Global}
-use Rattle.v_tree.specs.declared.declaration.Identifier.{Identifier}
-use Rattle.v_tree.specs.declared.expression.Expr.{Expr}
-use Rattle.v_tree.specs.declared.statement.CaseKind.{CaseKind}
-use Rattle.v_tree.specs.declared.statement.Statement.{Statement}
-use Rattle.v_tree.specs.Tree.{tree_of}
-use Rattle.v_tree.specs.StatementTree.{statement_of}
+use Rattle.v_syntax.specs.declared.declaration.Identifier.{Identifier}
+use Rattle.v_syntax.specs.declared.expression.Expr.{Expr}
+use Rattle.v_syntax.specs.declared.statement.CaseKind.{CaseKind}
+use Rattle.v_syntax.specs.declared.statement.Statement.{Statement}
+use Rattle.v_syntax.specs.Tree.{tree_of}
+use Rattle.v_syntax.specs.StatementTree.{statement_of}
 use Rattle.v_hierarchy.specs.declared.steps.Arm.{Arm}
 use Rattle.v_hierarchy.specs.declared.steps.Arm.TheFolds.{fold-roll-Arm, fold-roll-Steps, fold_out-Turn}
 use Rattle.v_hierarchy.specs.declared.steps.Arm.TheOpen.{Arm-F, Steps-F}

@@ -3,8 +3,8 @@ use Rattle.std.proofs.Common.{◌≡◌, ℕ, ◌+◌, ◌-◌, ◌*◌, ◌%◌
 use Rattle.std.proofs.lemmas.Nat.{mul-mod_first}
 use Rattle.std.proofs.Math.Nat.{mod-mod, add-mod, mod-eq_of_lt}
 use Rattle.std.proofs.lemmas.List.{drop_all}
-use Rattle.v_lexer.specs.Numbers.{is_hexadecimal, is_wild}
-use Rattle.v_lexer.proofs.Fronts.{drop_at}
+use Rattle.v_syntax.specs.Numbers.{is_hexadecimal, is_wild}
+use Rattle.v_syntax.proofs.Digits.{drop_at}
 use Rattle.v_binding.specs.Cases.{wild_from}
 use Rattle.bind_statements.specs.WildDigits.{next_wild}
 

@@ -3,11 +3,11 @@ use Rattle.std.proofs.Common.{◌≡◌, ℕ, ◌+◌, ◌<◌, Bool, true, fals
 use Rattle.std.proofs.lemmas.List.{at_drop_more}
 use Rattle.std.specs.Prelude.{is_some, Result, Ok, Err}
 use Rattle.std.specs.Option.{option_map_or}
-use Rattle.v_tree.specs.declared.site.Site.{Site}
-use Rattle.v_tree.specs.declared.expression.Expr.{Expr}
-use Rattle.v_tree.specs.Tree.{Tree, Trees, no_tree, tree, tree_of, trees_of}
-use Rattle.v_tree.specs.Tree as written
-use Rattle.v_tree.specs.PartTree.{PlainLeft, name_left, concat_left, Lefts, no_left, left}
+use Rattle.v_syntax.specs.declared.site.Site.{Site}
+use Rattle.v_syntax.specs.declared.expression.Expr.{Expr}
+use Rattle.v_syntax.specs.Tree.{Tree, Trees, no_tree, tree, tree_of, trees_of}
+use Rattle.v_syntax.specs.Tree as written
+use Rattle.v_syntax.specs.PartTree.{PlainLeft, name_left, concat_left, Lefts, no_left, left}
 use Rattle.v_hierarchy.specs.Constants.{site_of}
 use Rattle.v_binding.specs.declared.error.BindErr.{BindErr}
 use Rattle.v_binding.specs.declared.error.BindErr.TheVariants as fault

@@ -1,7 +1,7 @@
 -- The left side that a tree is, without the question whether it can be one. What only private contracts cite.
 use Rattle.std.specs.Prelude.{Result, Ok}
-use Rattle.v_tree.specs.Tree.{Tree, Trees, no_tree, tree}
-use Rattle.v_tree.specs.Tree as written
+use Rattle.v_syntax.specs.Tree.{Tree, Trees, no_tree, tree}
+use Rattle.v_syntax.specs.Tree as written
 use Rattle.v_binding.specs.declared.error.BindErr.{BindErr}
 use Rattle.v_binding.specs.declared.left.Left.{Left}
 use Rattle.v_binding.specs.Steps.{◌>>=◌}

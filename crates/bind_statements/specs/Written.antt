@@ -1,6 +1,6 @@
 -- Expressions that can be left sides (IEEE 1364-2005, 7.2, 12.3.9.2), where they are bound.
 use Rattle.std.specs.Prelude.{Option, Some, None, Result, Ok, Err}
-use Rattle.v_tree.specs.Tree.{Tree}
+use Rattle.v_syntax.specs.Tree.{Tree}
 use Rattle.v_hierarchy.specs.Constants.{site_of}
 use Rattle.v_binding.specs.declared.error.BindErr.{BindErr}
 use Rattle.v_binding.specs.declared.error.BindErr.TheVariants as fault

@@ -1,6 +1,6 @@
 //! The addresses of an array (IEEE 1364-2005, 4.9).
 ghost use Rattle.std.specs.Prelude.{◌≡◌, ◌≤◌, if◌then◌else◌, int_lt, Ok, IfOk, IfErr};
-ghost use Rattle.v_tree.specs.PartTree.{range_of};
+ghost use Rattle.v_syntax.specs.PartTree.{range_of};
 ghost use Rattle.v_sizes.specs.Selected.{count_between};
 ghost use Rattle.v_binding.specs.Addresses.{addresses_at, counted};
 ghost use Rattle.bind_scopes.specs.Refuses.{Refuses};
@@ -10,7 +10,7 @@ ghost use Rattle.bind_statements.specs.Addressed.{addresses_of};
 use bind_scopes::Names;
 use loc_base::Span;
 use v_binding::BindErr;
-use v_tree::Range;
+use v_syntax::Range;
 
 /// The words of an array: one for each address from the least one on.
 #[derive(Clone, Copy, Debug, PartialEq, Eq)]

@@ -1,8 +1,8 @@
 //! Procedural assignments (IEEE 1364-2005, 9.2).
 ghost use Rattle.std.specs.Prelude.{◌≡◌, length, Ok, IfOk, IfErr, OnOk, OnErr};
-ghost use Rattle.v_tree.specs.Tree.{tree_of};
-ghost use Rattle.v_tree.specs.PartTree.{left_of};
-ghost use Rattle.v_tree.specs.StatementTree.{statement_of};
+ghost use Rattle.v_syntax.specs.Tree.{tree_of};
+ghost use Rattle.v_syntax.specs.PartTree.{left_of};
+ghost use Rattle.v_syntax.specs.StatementTree.{statement_of};
 ghost use Rattle.v_binding.specs.Places.{placed};
 ghost use Rattle.v_binding.specs.Statements.{is_later, set, set_of};
 ghost use Rattle.bind_scopes.specs.Refuses.{Refuses};
@@ -15,7 +15,7 @@ use design_core::{Place, PlaceKind, Stmt, Target};
 use loc_base::{Items, NoMemory};
 use std::mem;
 use v_binding::BindErr;
-use v_tree::{AssignKind, Expr, Left, Site, Statement};
+use v_syntax::{AssignKind, Expr, Left, Site, Statement};
 
 /// Whether what is assigned is stored later.
 fn is_later(kind: AssignKind) -> bool

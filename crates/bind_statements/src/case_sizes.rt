@@ -1,6 +1,6 @@
 //! The context of a case's expressions (IEEE 1364-2005, 9.5): the widest width, signed only where all are.
 ghost use Rattle.std.specs.Prelude.{◌≡◌, map, IfOk};
-ghost use Rattle.v_tree.specs.Tree.{tree_of};
+ghost use Rattle.v_syntax.specs.Tree.{tree_of};
 ghost use Rattle.v_hierarchy.specs.Views.{arm_of, arms_of};
 ghost use Rattle.v_sizes.specs.Sizing.{sizing};
 ghost use Rattle.v_binding.specs.Names.{look_in};
@@ -13,7 +13,7 @@ use crate::case_context::CaseContext;
 use bind_scopes::Names;
 use loc_base::NoMemory;
 use v_hierarchy::Arm;
-use v_tree::Expr;
+use v_syntax::Expr;
 
 /// The context of one expression.
 fn context_alone(names: &Names<'_>, e: &Expr) -> Result<CaseContext, NoMemory>

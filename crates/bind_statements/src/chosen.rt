@@ -8,7 +8,7 @@ ghost use Rattle.bind_statements.specs.Arms.{chosen_of, is_nothing, chosen_with}
 use design_core::{CaseItem, Stmt, Typed};
 use loc_base::{Boxed, Items, NoMemory};
 use std::alloc::Global;
-use v_tree::CaseKind;
+use v_syntax::CaseKind;
 
 /// What an arm of a case is.
 #[derive(Drop)]

@@ -1,6 +1,6 @@
 //! Expressions that can be left sides: a terminal of a gate, or what an output is connected to (IEEE 1364-2005, 7.2, 12.3.9.2).
 ghost use Rattle.std.specs.Prelude.{◌≡◌, ◌≤◌, map, true, is_some, Ok, IfOk, IfErr};
-ghost use Rattle.v_tree.specs.Tree.{tree_of, trees_of};
+ghost use Rattle.v_syntax.specs.Tree.{tree_of, trees_of};
 ghost use Rattle.v_binding.specs.Lefts.{nothing_named, as_left, as_lefts};
 ghost use Rattle.bind_scopes.specs.Refuses.{Refuses};
 ghost use Rattle.bind_scopes.specs.Seen.{names_in};
@@ -12,7 +12,7 @@ use crate::named::name_target;
 use bind_scopes::Names;
 use v_binding::{BindErr, Left};
 use v_hierarchy::site_of;
-use v_tree::Expr;
+use v_syntax::Expr;
 
 /// Whether all expressions of a list can be left sides.
 #[cycle(left_form)]

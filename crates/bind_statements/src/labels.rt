@@ -1,6 +1,6 @@
 //! The labels of a case's arm (IEEE 1364-2005, 9.5).
 ghost use Rattle.std.specs.Prelude.{◌≡◌, [], map, Ok, IfOk, IfErr, OnOk};
-ghost use Rattle.v_tree.specs.Tree.{tree_of};
+ghost use Rattle.v_syntax.specs.Tree.{tree_of};
 ghost use Rattle.v_binding.specs.Steps.{each};
 ghost use Rattle.v_binding.specs.Cases.{label_at};
 ghost use Rattle.bind_scopes.specs.Refuses.{Refuses};
@@ -13,7 +13,7 @@ use bind_scopes::Names;
 use design_core::Label;
 use loc_base::Items;
 use v_binding::BindErr;
-use v_tree::Expr;
+use v_syntax::Expr;
 
 /// One label more.
 fn push_label(

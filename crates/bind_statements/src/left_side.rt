@@ -1,6 +1,6 @@
 //! Left sides (IEEE 1364-2005, 6.1, 9.2.1 and 9.2.2).
 ghost use Rattle.std.specs.Prelude.{◌≡◌, ◌≤◌, map, true, Ok, IfOk, IfErr};
-ghost use Rattle.v_tree.specs.PartTree.{left_of, lefts_of};
+ghost use Rattle.v_syntax.specs.PartTree.{left_of, lefts_of};
 ghost use Rattle.v_binding.specs.Lefts.{nothing_named, beside, of_width, target, targets};
 ghost use Rattle.bind_scopes.specs.Refuses.{Refuses};
 ghost use Rattle.bind_scopes.specs.Seen.{names_in};
@@ -11,7 +11,7 @@ use loc_base::{Items, NoMemory, Span};
 use std::alloc::Global;
 use std::mem;
 use v_binding::{BindErr, Left};
-use v_tree::Left as WrittenLeft;
+use v_syntax::Left as WrittenLeft;
 
 /// The left side of no parts. It takes no memory.
 pub(crate) fn nothing_named(alloc: Global) -> Left

@@ -1,7 +1,7 @@
 //! What a name with its selects is assigned by, or why it can't be a left side (IEEE 1364-2005, 6.1 and 9.2.1).
 ghost use Rattle.std.specs.Prelude.{◌≡◌, ◌≤◌, map, Some, Ok, IfOk, IfErr, OnOk};
 ghost use Rattle.std.specs.Option.{option_and_then};
-ghost use Rattle.v_tree.specs.Tree.{tree_of, selection_of, selections_of};
+ghost use Rattle.v_syntax.specs.Tree.{tree_of, selection_of, selections_of};
 ghost use Rattle.v_sizes.specs.Refusals.{is_bound};
 ghost use Rattle.v_binding.specs.Uses.{meaning_of};
 ghost use Rattle.v_binding.specs.Lefts.{is_constant, number_at, indexes_at, index_of, no_left_side, part_of, parts_of, name_target};
@@ -15,7 +15,7 @@ use loc_base::{Items, Name, NoMemory, Span};
 use std::alloc::Global;
 use v_binding::{BindErr, Left, Ranged, Use};
 use v_sizes::Meaning;
-use v_tree::{Expr, PartKind, Select, Site};
+use v_syntax::{Expr, PartKind, Select, Site};
 
 /// Whether what a name stands for is a constant.
 fn is_constant_meaning(meaning: Option<Meaning>) -> bool

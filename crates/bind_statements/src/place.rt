@@ -7,7 +7,7 @@ use design_core::{Place, PlaceKind};
 use loc_base::{Name, NoMemory};
 use std::alloc::Global;
 use v_binding::Left;
-use v_tree::Site;
+use v_syntax::Site;
 
 /// Where an assignment stands.
 #[derive(Clone, Copy)]

@@ -25,7 +25,7 @@ use design_core::{CaseItem, Place, Stmt};
 use loc_base::Items;
 use v_binding::{BindErr, Known, Use};
 use v_hierarchy::{Arm, Steps, Turn};
-use v_tree::Identifier;
+use v_syntax::Identifier;
 
 /// Where a loop stands, and its variable.
 #[derive(Clone, Copy)]

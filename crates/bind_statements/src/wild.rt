@@ -1,14 +1,14 @@
 //! The wild bits of the labels of `casez` (IEEE 1364-2005, 3.5.1 and 9.5.1).
 ghost use Rattle.std.specs.Prelude.{◌≡◌, ◌≤◌, ◌%◌, ◌^◌, ◌-◌, length, IfSome};
 ghost use Rattle.std.specs.List.{prefix_len};
-ghost use Rattle.v_lexer.specs.Bytes as class;
-ghost use Rattle.v_lexer.specs.Numbers as shape;
-ghost use Rattle.v_lexer.specs.Literals as lexed;
+ghost use Rattle.v_syntax.specs.Bytes as class;
+ghost use Rattle.v_syntax.specs.Numbers as shape;
+ghost use Rattle.v_syntax.specs.Literals as lexed;
 ghost use Rattle.loc_base.specs.Bits.{width_of, value_of};
 ghost use Rattle.loc_base.specs.Word.{extended};
 ghost use Rattle.v_sizes.specs.Literal.{quote_in, literal_width};
 ghost use Rattle.v_sizes.specs.Word.{word};
-ghost use Rattle.v_tree.specs.Tree.{tree_of};
+ghost use Rattle.v_syntax.specs.Tree.{tree_of};
 ghost use Rattle.v_binding.specs.Cases.{wild_from, wild_of_digits, wild_in_base, wild_behind, wild_number, wild_bits};
 ghost use Rattle.bind_statements.specs.WildDigits.{next_wild};
 ghost use Rattle.bind_statements.specs.Contexts.{context_of};
@@ -17,30 +17,30 @@ use crate::case_context::CaseContext;
 use loc_base::Bits;
 use v_sizes::literal::literal_width;
 use v_sizes::numbers::low_bits;
-use v_tree::Expr;
+use v_syntax::Expr;
 
-#[tactic(auto, unfolding(v_lexer::specs::Bytes::is_white))]
+#[tactic(auto, unfolding(v_syntax::specs::Bytes::is_white))]
 fn is_white(byte: u8) -> bool
     ensures { result ≡ class.is_white byte }
 {
     matches!(byte, b' ' | 9..=10 | 12..=13)
 }
 
-#[tactic(auto, unfolding(v_lexer::specs::Numbers::is_sign))]
+#[tactic(auto, unfolding(v_syntax::specs::Numbers::is_sign))]
 fn is_sign(byte: u8) -> bool
     ensures { result ≡ shape.is_sign byte }
 {
     matches!(byte, b's' | b'S')
 }
 
-#[tactic(auto, unfolding(v_lexer::specs::Numbers::is_wild))]
+#[tactic(auto, unfolding(v_syntax::specs::Numbers::is_wild))]
 fn is_wild(byte: u8) -> bool
     ensures { result ≡ shape.is_wild byte }
 {
     matches!(byte, b'z' | b'Z' | b'?')
 }
 
-#[tactic(auto, unfolding(v_lexer::specs::Numbers::is_hexadecimal, v_lexer::specs::Bytes::is_decimal))]
+#[tactic(auto, unfolding(v_syntax::specs::Numbers::is_hexadecimal, v_syntax::specs::Bytes::is_decimal))]
 fn is_hexadecimal(byte: u8) -> bool
     ensures { result ≡ shape.is_hexadecimal byte }
 {
@@ -48,7 +48,7 @@ fn is_hexadecimal(byte: u8) -> bool
 }
 
 /// The number that a base letter names.
-#[tactic(auto, unfolding(v_lexer::specs::Literals::base_of))]
+#[tactic(auto, unfolding(v_syntax::specs::Literals::base_of))]
 fn base_of(byte: u8) -> Option<u128>
     ensures is { result ≡ lexed.base_of byte }
     ensures least { IfSome result (λ base. 1 ≤ base) }

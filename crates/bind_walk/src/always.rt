@@ -1,6 +1,6 @@
 //! Always blocks (IEEE 1364-2005, 9.7.5 and 9.9).
 ghost use Rattle.std.specs.Prelude.{◌≡◌, Ok, IfErr, OnOk};
-ghost use Rattle.v_tree.specs.ItemTree.{sensitivity_of};
+ghost use Rattle.v_syntax.specs.ItemTree.{sensitivity_of};
 ghost use Rattle.v_hierarchy.specs.Views.{steps_of};
 ghost use Rattle.v_binding.specs.Blocks.{combinational, clocked, block_of, events_of, always_block};
 ghost use Rattle.bind_scopes.specs.Refuses.{Refuses};
@@ -17,7 +17,7 @@ use loc_base::NoMemory;
 use std::mem;
 use v_binding::BindErr;
 use v_hierarchy::Steps;
-use v_tree::{Sensitivity, Site};
+use v_syntax::{Sensitivity, Site};
 
 /// An always block with its loops unrolled.
 #[derive(Clone, Copy)]

@@ -1,7 +1,7 @@
 //! The events of an always block (IEEE 1364-2005, 9.7.2).
 ghost use Rattle.std.specs.Prelude.{◌≡◌, map, Ok, IfErr, OnOk, option_map};
-ghost use Rattle.v_tree.specs.Tree.{selection_of, selections_of};
-ghost use Rattle.v_tree.specs.ItemTree.{event_of, sensitivity_of};
+ghost use Rattle.v_syntax.specs.Tree.{selection_of, selections_of};
+ghost use Rattle.v_syntax.specs.ItemTree.{event_of, sensitivity_of};
 ghost use Rattle.v_binding.specs.Blocks.{one_select, event_at, is_edge, has_edge, events_of};
 ghost use Rattle.v_binding.specs.Steps.{each};
 ghost use Rattle.bind_scopes.specs.Refuses.{Refuses};
@@ -10,7 +10,7 @@ ghost use Rattle.bind_scopes.specs.Seen.{names_in};
 use bind_scopes::Names;
 use std::slice;
 use v_binding::BindErr;
-use v_tree::{Event, Select, Sensitivity};
+use v_syntax::{Event, Select, Sensitivity};
 
 /// At most one select, as a slice.
 fn selects_of(select: &Option<Select>) -> &[Select]

@@ -22,7 +22,7 @@ use loc_base::{Items, NoMemory};
 use v_binding::{BindErr, Known, Use};
 use v_hierarchy::{Block, Child, Copied};
 use v_sizes::Const;
-use v_tree::Identifier;
+use v_syntax::Identifier;
 
 /// The names that are seen, the ports of the children with how many of them had their turn, and what is bound so far.
 pub(crate) struct Walk<'t, 'a> {

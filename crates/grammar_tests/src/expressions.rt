@@ -7,7 +7,8 @@ use std::alloc::Global;
 use std::process::Abort;
 use std::test::Fail;
 use v_lexer::tokens;
-use v_tree::{Binary, Expr, ParseErr, Unary, expr};
+use v_syntax::{Binary, Expr, Unary};
+use v_tree::{ParseErr, expr};
 
 fn unary_text(operator: Unary) -> &'static [u8] {
     match operator {

@@ -5,7 +5,7 @@ use crate::reading::{Refusal, all_are_refused, read};
 use crate::same::same;
 use loc_base::Span;
 use std::test::Fail;
-use v_tree::{GenerateBlock, Item, Site, SourceTree};
+use v_syntax::{GenerateBlock, Item, Site, SourceTree};
 
 const COUNTED: [(&[u8], usize); 10] = [
     (b"", 0),

@@ -6,7 +6,8 @@ use std::process::Abort;
 use std::test::Fail;
 use v_lexer::{few_tokens, tokens};
 use v_parser::source;
-use v_tree::{ParseErr, SourceTree};
+use v_syntax::SourceTree;
+use v_tree::ParseErr;
 
 /// The refusal of a text: from which byte up to which the token that it names stands.
 #[derive(Clone, Copy, Debug, PartialEq, Eq)]

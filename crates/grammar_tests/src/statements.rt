@@ -7,7 +7,8 @@ use std::alloc::Global;
 use std::test::Fail;
 use v_lexer::{few_tokens, tokens};
 use v_parser::{initial_statement, statement};
-use v_tree::{ParseErr, Statement};
+use v_syntax::Statement;
+use v_tree::ParseErr;
 
 const READ: [(&[u8], usize); 15] = [
     (b";", 1),

@@ -2,10 +2,10 @@
 use Rattle.std.proofs.Common.{◌≡◌, Bool, true, false, List, [], ◌∷◌, ◌++◌, Option, Some, None, refl, sym, ◌∙◌, arith}
 use Rattle.std.specs.Prelude.{if◌then◌else◌, ℤ, pos, nat_le, Result, Ok, Err}
 use Rattle.std.proofs.lemmas.Bool.{leb-true}
-use Rattle.v_tree.specs.declared.declaration.Identifier.{Identifier}
-use Rattle.v_tree.specs.Tree.{Tree}
-use Rattle.v_tree.specs.PartTree.{PlainRange}
-use Rattle.v_tree.specs.ItemTree.{PlainParameterType, vector_type, integer_type}
+use Rattle.v_syntax.specs.declared.declaration.Identifier.{Identifier}
+use Rattle.v_syntax.specs.Tree.{Tree}
+use Rattle.v_syntax.specs.PartTree.{PlainRange}
+use Rattle.v_syntax.specs.ItemTree.{PlainParameterType, vector_type, integer_type}
 use Rattle.v_sizes.specs.Look.{Look}
 use Rattle.v_sizes.specs.Selected.{count_between}
 use Rattle.v_sizes.specs.Context.{IsMeaning}

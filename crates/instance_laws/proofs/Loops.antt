@@ -3,9 +3,9 @@ use Rattle.std.proofs.Common.{◌≡◌, Bool, true, List}
 use Rattle.std.specs.Prelude.{Result, Ok}
 use Rattle.loc_base.specs.declared.span.Span.{Span}
 use Rattle.loc_base.specs.Bits.{width_of}
-use Rattle.v_tree.specs.declared.declaration.Identifier.{Identifier}
-use Rattle.v_tree.specs.Tree.{Tree}
-use Rattle.v_tree.specs.StatementTree.{PlainHead, PlainStatement, empty, block, delayed, if_then, if_else, choice, loop, assignment, Statements, no_statement, statement, labelled, otherwise, CaseItems, no_item, item}
+use Rattle.v_syntax.specs.declared.declaration.Identifier.{Identifier}
+use Rattle.v_syntax.specs.Tree.{Tree}
+use Rattle.v_syntax.specs.StatementTree.{PlainHead, PlainStatement, empty, block, delayed, if_then, if_else, choice, loop, assignment, Statements, no_statement, statement, labelled, otherwise, CaseItems, no_item, item}
 use Rattle.v_sizes.specs.declared.meaning.Const.{Const}
 use Rattle.v_hierarchy.specs.declared.error.ElabErr.{ElabErr}
 use Rattle.v_hierarchy.specs.declared.left.Left.{Left}

@@ -2,9 +2,9 @@
 use Rattle.std.proofs.Common.{◌≡◌, ℕ, zero, suc, true, false, List, [], ◌∷◌, ◌++◌, length, Option, Some, None, refl, sym, ◌∙◌, ap, subst}
 use Rattle.std.specs.Prelude.{map, Result, Ok, Err}
 use Rattle.std.specs.List.{list_any}
-use Rattle.v_tree.specs.declared.declaration.Identifier.{Identifier}
-use Rattle.v_tree.specs.ItemTree.{items_of}
-use Rattle.v_tree.specs.ModuleTree.{PlainPorts, no_ports, name_ports, declared_ports, PlainHeaderParameter, PlainModule}
+use Rattle.v_syntax.specs.declared.declaration.Identifier.{Identifier}
+use Rattle.v_syntax.specs.ItemTree.{items_of}
+use Rattle.v_syntax.specs.ModuleTree.{PlainPorts, no_ports, name_ports, declared_ports, PlainHeaderParameter, PlainModule}
 use Rattle.v_hierarchy.specs.declared.error.ElabErr.{ElabErr}
 use Rattle.v_hierarchy.specs.declared.error.ElabErr.TheVariants as fault
 use Rattle.v_hierarchy.specs.declared.left.Left.{Left}

@@ -1,10 +1,10 @@
 -- The list of instances.
 use Rattle.std.proofs.Common.{◌≡◌, ℕ, zero, suc, Bool, true, false, List, [], ◌∷◌, ◌++◌, length, Option, Some, None}
 use Rattle.std.specs.Prelude.{◌||◌, if◌then◌else◌, map, Result, Ok}
-use Rattle.v_tree.specs.declared.declaration.Identifier.{Identifier}
-use Rattle.v_tree.specs.Tree.{Tree}
-use Rattle.v_tree.specs.ItemTree.{items_of}
-use Rattle.v_tree.specs.ModuleTree.{PlainPort, declared_port, same_port, PlainPorts, no_ports, name_ports, declared_ports, PlainHeaderParameter, PlainModule}
+use Rattle.v_syntax.specs.declared.declaration.Identifier.{Identifier}
+use Rattle.v_syntax.specs.Tree.{Tree}
+use Rattle.v_syntax.specs.ItemTree.{items_of}
+use Rattle.v_syntax.specs.ModuleTree.{PlainPort, declared_port, same_port, PlainPorts, no_ports, name_ports, declared_ports, PlainHeaderParameter, PlainModule}
 use Rattle.v_sizes.specs.Context.{IsMeaning}
 use Rattle.v_hierarchy.specs.declared.error.ElabErr.{ElabErr}
 use Rattle.v_hierarchy.specs.declared.left.Left.{Left}

@@ -1,9 +1,9 @@
 -- Instances as a text means them, beside that their names stand for something: what is declared once, and what the grammar has no
 -- other way of writing.
 use Rattle.std.specs.Prelude.{⊤, ℕ, ◌≡◌, Bool, true, false, List, [], ◌∷◌, Some, None}
-use Rattle.v_tree.specs.declared.item.NetKind.{NetKind}
-use Rattle.v_tree.specs.declared.item.NetKind.TheVariants as net_kind
-use Rattle.v_tree.specs.ItemTree.{PlainDeclarator, PlainItem, net_item, integer_item}
+use Rattle.v_syntax.specs.declared.item.NetKind.{NetKind}
+use Rattle.v_syntax.specs.declared.item.NetKind.TheVariants as net_kind
+use Rattle.v_syntax.specs.ItemTree.{PlainDeclarator, PlainItem, net_item, integer_item}
 use Rattle.v_hierarchy.specs.declared.signal.Signal.{Signal}
 use Rattle.v_hierarchy.specs.Names.{Entry, signal, integer, same_name, find}
 use Rattle.v_hierarchy.specs.Headers.{Port}

@@ -1,8 +1,8 @@
 -- What the grammar gives of the modules of a text, beside what their trees show.
 use Rattle.std.specs.Prelude.{⊤, ◌≡◌, Bool, true, false, ◌∷◌, None}
-use Rattle.v_tree.specs.StatementTree.{PlainStatement, empty, block, delayed, if_then, if_else, choice, loop, assignment, Statements, no_statement, statement, labelled, otherwise, CaseItems, no_item, item}
-use Rattle.v_tree.specs.ItemTree.{PlainDeclarator, PlainItem, net_item, always_item, generate_item, loop_item, if_item, if_else_item, PlainBlock, single, several, Items, no_items, more_items, items_of}
-use Rattle.v_tree.specs.ModuleTree.{same_port, PlainPorts, declared_ports, PlainModule}
+use Rattle.v_syntax.specs.StatementTree.{PlainStatement, empty, block, delayed, if_then, if_else, choice, loop, assignment, Statements, no_statement, statement, labelled, otherwise, CaseItems, no_item, item}
+use Rattle.v_syntax.specs.ItemTree.{PlainDeclarator, PlainItem, net_item, always_item, generate_item, loop_item, if_item, if_else_item, PlainBlock, single, several, Items, no_items, more_items, items_of}
+use Rattle.v_syntax.specs.ModuleTree.{same_port, PlainPorts, declared_ports, PlainModule}
 use Rattle.instance_laws.specs.Every.{Every, IfGiven}
 
 -- ---- a case has one default at most (IEEE 1364-2005, A.6.7)

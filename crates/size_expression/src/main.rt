@@ -17,7 +17,8 @@ use std::io::Read;
 use std::process::ExitCode;
 use std::time::Instant;
 use v_lexer::tokens;
-use v_tree::{Expr, expr};
+use v_syntax::Expr;
+use v_tree::expr;
 use v_widths::{Scope, Size, WidthErr, constant, typed};
 
 /// What is asked of the expression.

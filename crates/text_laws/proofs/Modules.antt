@@ -2,7 +2,7 @@
 use Rattle.std.proofs.Common.{◌≡◌, ℕ, true, List, [], ◌∷◌, refl, sym, ap, ◌∙◌, subst, inl, inr}
 use Rattle.v_lexer.specs.Lexeme.{Lexeme}
 use Rattle.v_lexer.specs.declared.types.terminal.Terminal.TheVariants.{Endmodule}
-use Rattle.v_tree.specs.ModuleTree.{PlainPort, PlainPorts, declared_ports, PlainModule}
+use Rattle.v_syntax.specs.ModuleTree.{PlainPort, PlainPorts, declared_ports, PlainModule}
 use Rattle.v_declarations.specs.Headers.{IsDeclaredPort, IsHeaderPorts}
 use Rattle.v_parser.specs.Items.{IsItem}
 use Rattle.v_parser.specs.Modules.{IsModule, AreModules, IsSource}

@@ -4,10 +4,10 @@ use Rattle.std.specs.Prelude.{◌||◌}
 use Rattle.loc_base.proofs.ShelfBools.{or-false, or-true}
 use Rattle.v_lexer.specs.Lexeme.{Lexeme}
 use Rattle.v_lexer.specs.declared.types.terminal.Terminal.TheVariants.{End, Endcase}
-use Rattle.v_tree.specs.declared.statement.CaseKind.{CaseKind}
-use Rattle.v_tree.specs.declared.statement.CaseKind.TheVariants as kinds
-use Rattle.v_tree.specs.Tree.{Tree}
-use Rattle.v_tree.specs.StatementTree.{PlainStatement, statements_of, PlainCaseItem, item, case_items_of, is_default}
+use Rattle.v_syntax.specs.declared.statement.CaseKind.{CaseKind}
+use Rattle.v_syntax.specs.declared.statement.CaseKind.TheVariants as kinds
+use Rattle.v_syntax.specs.Tree.{Tree}
+use Rattle.v_syntax.specs.StatementTree.{PlainStatement, statements_of, PlainCaseItem, item, case_items_of, is_default}
 use Rattle.v_parts.specs.Productions.{AreRun}
 use Rattle.v_statements.specs.Statements.{Nested, IsBlock, IsElse, IsCaseItem, IsCase, IsStatementWith, IsStatement}
 use Rattle.instance_laws.specs.Every.{Every}

@@ -1,15 +1,15 @@
 -- Worked examples of the definitions: wild bits, left sides, places and signals by number, and why a text is refused.
 use Rattle.std.proofs.Common.{◌≡◌, ℕ, ◌+◌, List, [], ◌∷◌, refl}
 use Rattle.std.specs.Prelude.{false, pos, None, Result, Ok, Err, codes, map}
-use Rattle.v_lexer.specs.Bytes.{is_decimal, is_white}
-use Rattle.v_lexer.specs.Numbers.{is_sign, is_wild, is_hexadecimal}
-use Rattle.v_lexer.specs.Literals.{digit_value, base_of}
-use Rattle.v_tree.specs.declared.site.Site.{Site}
-use Rattle.v_tree.specs.declared.statement.AssignKind.TheVariants as assign_kind
-use Rattle.v_tree.specs.Tree.{Tree, no_select}
-use Rattle.v_tree.specs.Tree as written
-use Rattle.v_tree.specs.PartTree.{PlainLeft, name_left, concat_left, no_left, left}
-use Rattle.v_tree.specs.StatementTree.{assignment}
+use Rattle.v_syntax.specs.Bytes.{is_decimal, is_white}
+use Rattle.v_syntax.specs.Numbers.{is_sign, is_wild, is_hexadecimal}
+use Rattle.v_syntax.specs.Literals.{digit_value, base_of}
+use Rattle.v_syntax.specs.declared.site.Site.{Site}
+use Rattle.v_syntax.specs.declared.statement.AssignKind.TheVariants as assign_kind
+use Rattle.v_syntax.specs.Tree.{Tree, no_select}
+use Rattle.v_syntax.specs.Tree as written
+use Rattle.v_syntax.specs.PartTree.{PlainLeft, name_left, concat_left, no_left, left}
+use Rattle.v_syntax.specs.StatementTree.{assignment}
 use Rattle.design_core.specs.declared.statement.Part.TheVariants as part
 use Rattle.design_core.specs.declared.statement.Stmt.{Stmt}
 use Rattle.v_sizes.specs.declared.meaning.Meaning.TheVariants as meaning

@@ -1,7 +1,7 @@
 -- The addresses of an array (IEEE 1364-2005, 4.9): 1 to 1,024 words, one for each, and 65,536 in all arrays of a design.
 use Rattle.std.specs.Prelude.{ℕ, ◌+◌, if◌then◌else◌, nat_le, int_lt, ℤ, Result, Ok, Err}
 use Rattle.loc_base.specs.declared.span.Span.{Span}
-use Rattle.v_tree.specs.PartTree.{PlainRange}
+use Rattle.v_syntax.specs.PartTree.{PlainRange}
 use Rattle.v_sizes.specs.Selected.{count_between}
 use Rattle.v_binding.specs.declared.error.BindErr.{BindErr}
 use Rattle.v_binding.specs.declared.error.BindErr.TheVariants as fault

@@ -1,13 +1,13 @@
 -- Continuous assignments, values of declarations, and initial blocks (IEEE 1364-2005, 6.1, 6.2.1 and 9.9.1).
 use Rattle.std.specs.Prelude.{ℕ, List, [], ◌∷◌, ◌++◌, length, Option, Some, None, Result, Ok, Err}
 use Rattle.loc_base.specs.declared.span.Span.{Span}
-use Rattle.v_tree.specs.declared.site.Site.{Site}
-use Rattle.v_tree.specs.declared.item.NetKind.{NetKind}
-use Rattle.v_tree.specs.declared.item.NetKind.TheVariants as net_kind
-use Rattle.v_tree.specs.Tree.{Tree, no_select}
-use Rattle.v_tree.specs.PartTree.{PlainLeft, name_left}
-use Rattle.v_tree.specs.StatementTree.{PlainStatement, block, assignment, Statements, no_statement, statement}
-use Rattle.v_tree.specs.ItemTree.{PlainDeclarator, PlainAssignment}
+use Rattle.v_syntax.specs.declared.site.Site.{Site}
+use Rattle.v_syntax.specs.declared.item.NetKind.{NetKind}
+use Rattle.v_syntax.specs.declared.item.NetKind.TheVariants as net_kind
+use Rattle.v_syntax.specs.Tree.{Tree, no_select}
+use Rattle.v_syntax.specs.PartTree.{PlainLeft, name_left}
+use Rattle.v_syntax.specs.StatementTree.{PlainStatement, block, assignment, Statements, no_statement, statement}
+use Rattle.v_syntax.specs.ItemTree.{PlainDeclarator, PlainAssignment}
 use Rattle.design_core.specs.declared.driver.Driver.{Driver}
 use Rattle.design_core.specs.declared.driver.Driver.TheVariants as driver
 use Rattle.design_core.specs.declared.expression.Typed.{Typed}

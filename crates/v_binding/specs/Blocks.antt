@@ -1,9 +1,9 @@
 -- Always blocks (IEEE 1364-2005, 9.7.5 and 9.9): one that waits for edges is clocked, any other combinational.
 use Rattle.std.specs.Prelude.{⊤, ℕ, Bool, true, false, ◌||◌, List, [], ◌∷◌, Option, Some, None, Result, Ok}
-use Rattle.v_tree.specs.declared.site.Site.{Site}
-use Rattle.v_tree.specs.Tree.{Selection, Selections, no_select, select}
-use Rattle.v_tree.specs.Tree as written
-use Rattle.v_tree.specs.ItemTree.{PlainEvent, edge_event, change_event, PlainSensitivity, all_events, listed}
+use Rattle.v_syntax.specs.declared.site.Site.{Site}
+use Rattle.v_syntax.specs.Tree.{Selection, Selections, no_select, select}
+use Rattle.v_syntax.specs.Tree as written
+use Rattle.v_syntax.specs.ItemTree.{PlainEvent, edge_event, change_event, PlainSensitivity, all_events, listed}
 use Rattle.design_core.specs.declared.signal.Signal.{Signal}
 use Rattle.design_core.specs.declared.driver.Driver.TheVariants as driver
 use Rattle.design_core.specs.declared.statement.Stmt.{Stmt}

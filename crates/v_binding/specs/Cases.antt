@@ -2,12 +2,12 @@
 -- bits of a label of `casez` (3.5.1, 9.5.1) are not compared.
 use Rattle.std.specs.Prelude.{ℕ, ◌+◌, ◌-◌, ◌*◌, ◌%◌, ◌^◌, Bool, true, false, not, ◌&&◌, if◌then◌else◌, max, List, [], ◌∷◌, ◌++◌, drop, Result, Ok}
 use Rattle.std.specs.Option.{option_map_or}
-use Rattle.v_lexer.specs.Numbers.{is_sign, is_wild, is_hexadecimal}
-use Rattle.v_lexer.specs.Literals.{base_of, skip_white}
-use Rattle.v_tree.specs.declared.statement.CaseKind.{CaseKind}
-use Rattle.v_tree.specs.declared.statement.CaseKind.TheVariants as case_kind
-use Rattle.v_tree.specs.Tree.{Tree}
-use Rattle.v_tree.specs.Tree as written
+use Rattle.v_syntax.specs.Numbers.{is_sign, is_wild, is_hexadecimal}
+use Rattle.v_syntax.specs.Literals.{base_of, skip_white}
+use Rattle.v_syntax.specs.declared.statement.CaseKind.{CaseKind}
+use Rattle.v_syntax.specs.declared.statement.CaseKind.TheVariants as case_kind
+use Rattle.v_syntax.specs.Tree.{Tree}
+use Rattle.v_syntax.specs.Tree as written
 use Rattle.design_core.specs.declared.statement.Label.{Label}
 use Rattle.loc_base.specs.Word.{extended}
 use Rattle.v_sizes.specs.Word.{word}

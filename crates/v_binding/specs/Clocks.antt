@@ -4,13 +4,13 @@ use Rattle.std.specs.Prelude.{ℕ, ◌==◌, Bool, true, false, not, ◌&&◌, i
 use Rattle.std.specs.Option.{option_map_or, option_and_then}
 use Rattle.std.specs.List.{list_any}
 use Rattle.loc_base.specs.Bits.{value_of}
-use Rattle.v_tree.specs.declared.statement.Edge.{Edge}
-use Rattle.v_tree.specs.declared.statement.Edge.TheVariants as edge
-use Rattle.v_tree.specs.declared.operator.Unary.TheVariants as unary_word
-use Rattle.v_tree.specs.declared.operator.Binary.TheVariants as binary_word
-use Rattle.v_tree.specs.Tree.{Tree, no_select}
-use Rattle.v_tree.specs.Tree as written
-use Rattle.v_tree.specs.ItemTree.{PlainEvent, edge_event, change_event}
+use Rattle.v_syntax.specs.declared.statement.Edge.{Edge}
+use Rattle.v_syntax.specs.declared.statement.Edge.TheVariants as edge
+use Rattle.v_syntax.specs.declared.operator.Unary.TheVariants as unary_word
+use Rattle.v_syntax.specs.declared.operator.Binary.TheVariants as binary_word
+use Rattle.v_syntax.specs.Tree.{Tree, no_select}
+use Rattle.v_syntax.specs.Tree as written
+use Rattle.v_syntax.specs.ItemTree.{PlainEvent, edge_event, change_event}
 use Rattle.design_core.specs.declared.expression.Node.{Node}
 use Rattle.design_core.specs.declared.expression.Node.TheVariants as node
 use Rattle.design_core.specs.declared.driver.Driver.{Driver}

@@ -2,10 +2,10 @@
 -- output to a left side, which is a place. They come in the order of the ports.
 use Rattle.std.specs.Prelude.{ℕ, ◌==◌, Bool, if◌then◌else◌, max, List, [], ◌∷◌, map, length, Option, Some, None, Result, Ok, Err}
 use Rattle.std.specs.Option.{option_map_or}
-use Rattle.v_tree.specs.declared.site.Site.{Site}
-use Rattle.v_tree.specs.Tree.{Tree, no_select}
-use Rattle.v_tree.specs.Tree as written
-use Rattle.v_tree.specs.ItemTree.{PlainConnection, PlainConnections, ordered, named}
+use Rattle.v_syntax.specs.declared.site.Site.{Site}
+use Rattle.v_syntax.specs.Tree.{Tree, no_select}
+use Rattle.v_syntax.specs.Tree as written
+use Rattle.v_syntax.specs.ItemTree.{PlainConnection, PlainConnections, ordered, named}
 use Rattle.design_core.specs.declared.driver.Driver.TheVariants as driver
 use Rattle.design_core.specs.declared.expression.Typed.{Typed}
 use Rattle.design_core.specs.declared.expression.Node.TheVariants as node

@@ -1,6 +1,6 @@
 -- Expressions and constants where they stand (IEEE 1364-2005, clause 5), or why they are refused.
 use Rattle.std.specs.Prelude.{ℕ, Bool, false, if◌then◌else◌, ℤ, Some, None, Result, Ok, Err}
-use Rattle.v_tree.specs.Tree.{Tree}
+use Rattle.v_syntax.specs.Tree.{Tree}
 use Rattle.design_core.specs.declared.expression.Typed.{Typed}
 use Rattle.v_sizes.specs.declared.meaning.Const.{Const}
 use Rattle.v_sizes.specs.Context.{typed_in, refusal_in, constant_of, constant_refusal_in}

@@ -3,12 +3,12 @@ use Rattle.std.specs.Prelude.{⊤, ℕ, ◌-◌, Bool, true, false, ◌||◌, if
 use Rattle.std.specs.Option.{option_map_or}
 use Rattle.loc_base.specs.declared.span.Span.{Span}
 use Rattle.loc_base.specs.Bits.{value_of}
-use Rattle.v_tree.specs.declared.site.Site.{Site}
-use Rattle.v_tree.specs.declared.item.GateKind.{GateKind}
-use Rattle.v_tree.specs.declared.item.GateKind.TheVariants as gate
-use Rattle.v_tree.specs.Tree.{Tree}
-use Rattle.v_tree.specs.Tree as written
-use Rattle.v_tree.specs.ItemTree.{PlainGate}
+use Rattle.v_syntax.specs.declared.site.Site.{Site}
+use Rattle.v_syntax.specs.declared.item.GateKind.{GateKind}
+use Rattle.v_syntax.specs.declared.item.GateKind.TheVariants as gate
+use Rattle.v_syntax.specs.Tree.{Tree}
+use Rattle.v_syntax.specs.Tree as written
+use Rattle.v_syntax.specs.ItemTree.{PlainGate}
 use Rattle.design_core.specs.declared.expression.Typed.{Typed}
 use Rattle.design_core.specs.declared.expression.Node.{Node, Row_of-Typed, end_of-Typed, more_of-Typed}
 use Rattle.design_core.specs.declared.expression.Node.TheVariants as node

@@ -1,7 +1,7 @@
 -- The items of an instance in the order of the text (IEEE 1364-2005, 12.1 to 12.4), each with what it adds to the design.
 use Rattle.std.specs.Prelude.{ℕ, List, [], ◌∷◌, Result, Ok}
-use Rattle.v_tree.specs.declared.site.Site.{Site}
-use Rattle.v_tree.specs.ItemTree.{PlainItem, net_item, assign_item, gate_item, initial_item}
+use Rattle.v_syntax.specs.declared.site.Site.{Site}
+use Rattle.v_syntax.specs.ItemTree.{PlainItem, net_item, assign_item, gate_item, initial_item}
 use Rattle.v_hierarchy.specs.Items.{written, always, child, inner, turn, Block, scope, Copies, no_copy, copy}
 use Rattle.v_binding.specs.declared.error.BindErr.{BindErr}
 use Rattle.v_binding.specs.Steps.{◌>>=◌, each}

@@ -4,10 +4,10 @@ use Rattle.std.specs.Prelude.{⊤, ℕ, ◌+◌, Bool, true, false, ◌||◌, if
 use Rattle.std.specs.Option.{option_map_or}
 use Rattle.loc_base.specs.Bits.{width_of}
 use Rattle.loc_base.specs.declared.span.Span.{Span}
-use Rattle.v_tree.specs.declared.site.Site.{Site}
-use Rattle.v_tree.specs.Tree.{Tree, Selection, Selections, no_select, select, no_tree, tree, Trees}
-use Rattle.v_tree.specs.Tree as written
-use Rattle.v_tree.specs.PartTree.{PlainLeft, name_left, concat_left, Lefts, no_left, left}
+use Rattle.v_syntax.specs.declared.site.Site.{Site}
+use Rattle.v_syntax.specs.Tree.{Tree, Selection, Selections, no_select, select, no_tree, tree, Trees}
+use Rattle.v_syntax.specs.Tree as written
+use Rattle.v_syntax.specs.PartTree.{PlainLeft, name_left, concat_left, Lefts, no_left, left}
 use Rattle.design_core.specs.declared.expression.Typed.{Typed}
 use Rattle.design_core.specs.declared.expression.Node.{Node, Row_of-Typed, end_of-Typed, more_of-Typed}
 use Rattle.design_core.specs.declared.expression.Node.TheVariants as node

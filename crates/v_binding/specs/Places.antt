@@ -1,7 +1,7 @@
 -- Places: the assignments of a design (IEEE 1364-2005, 6.1, 7.2, 9.2 and 12.3.9). The number of a place is the length of the list
 -- of those before it.
 use Rattle.std.specs.Prelude.{ℕ, List}
-use Rattle.v_tree.specs.declared.site.Site.{Site}
+use Rattle.v_syntax.specs.declared.site.Site.{Site}
 use Rattle.design_core.specs.declared.place.Place.{Place}
 use Rattle.design_core.specs.declared.place.PlaceKind.{PlaceKind}
 use Rattle.v_binding.specs.declared.left.Left.{Left}

@@ -5,13 +5,13 @@ use Rattle.std.specs.Prelude.{ℕ, zero, suc, Bool, true, false, not, ◌&&◌, 
 use Rattle.std.specs.Option.{option_map_or}
 use Rattle.std.specs.Fmt.{signed_decimal}
 use Rattle.loc_base.specs.declared.span.Span.{Span}
-use Rattle.v_tree.specs.declared.declaration.Identifier.{Identifier}
-use Rattle.v_tree.specs.declared.item.Direction.{Direction}
-use Rattle.v_tree.specs.declared.item.Direction.TheVariants as direction
-use Rattle.v_tree.specs.declared.item.NetKind.{NetKind}
-use Rattle.v_tree.specs.declared.item.NetKind.TheVariants as net_kind
-use Rattle.v_tree.specs.PartTree.{PlainRange}
-use Rattle.v_tree.specs.ItemTree.{PlainDeclarator, net_item, integer_item}
+use Rattle.v_syntax.specs.declared.declaration.Identifier.{Identifier}
+use Rattle.v_syntax.specs.declared.item.Direction.{Direction}
+use Rattle.v_syntax.specs.declared.item.Direction.TheVariants as direction
+use Rattle.v_syntax.specs.declared.item.NetKind.{NetKind}
+use Rattle.v_syntax.specs.declared.item.NetKind.TheVariants as net_kind
+use Rattle.v_syntax.specs.PartTree.{PlainRange}
+use Rattle.v_syntax.specs.ItemTree.{PlainDeclarator, net_item, integer_item}
 use Rattle.design_core.specs.declared.signal.Signal.{Signal}
 use Rattle.design_core.specs.declared.signal.SignalKind.{SignalKind}
 use Rattle.design_core.specs.declared.signal.SignalKind.TheVariants as kind

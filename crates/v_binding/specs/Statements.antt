@@ -1,13 +1,13 @@
 -- Procedural statements (IEEE 1364-2005, 9.2, 9.4, 9.5, 9.8), with loops unrolled: each assignment is a place. Parts are met from
 -- the left: a left side before its right side, a condition before what it guards.
 use Rattle.std.specs.Prelude.{Bool, true, false, not, List, [], ◌∷◌, ◌++◌, length, Result, Ok}
-use Rattle.v_tree.specs.declared.declaration.Identifier.{Identifier}
-use Rattle.v_tree.specs.declared.site.Site.{Site}
-use Rattle.v_tree.specs.declared.statement.AssignKind.{AssignKind}
-use Rattle.v_tree.specs.declared.statement.AssignKind.TheVariants as assign_kind
-use Rattle.v_tree.specs.Tree.{Tree}
-use Rattle.v_tree.specs.PartTree.{PlainLeft}
-use Rattle.v_tree.specs.StatementTree.{PlainStatement, assignment}
+use Rattle.v_syntax.specs.declared.declaration.Identifier.{Identifier}
+use Rattle.v_syntax.specs.declared.site.Site.{Site}
+use Rattle.v_syntax.specs.declared.statement.AssignKind.{AssignKind}
+use Rattle.v_syntax.specs.declared.statement.AssignKind.TheVariants as assign_kind
+use Rattle.v_syntax.specs.Tree.{Tree}
+use Rattle.v_syntax.specs.PartTree.{PlainLeft}
+use Rattle.v_syntax.specs.StatementTree.{PlainStatement, assignment}
 use Rattle.design_core.specs.declared.place.Place.{Place}
 use Rattle.design_core.specs.declared.place.PlaceKind.TheVariants as place_kind
 use Rattle.design_core.specs.declared.statement.CaseItem.{CaseItem}

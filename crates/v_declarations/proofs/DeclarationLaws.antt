@@ -4,10 +4,10 @@ use Rattle.v_lexer.specs.Lexeme.{Lexeme}
 use Rattle.v_lexer.specs.declared.types.terminal.Terminal.{Terminal}
 use Rattle.v_lexer.specs.declared.types.terminal.Terminal.TheVariants as marks
 use Rattle.v_tree.specs.declared.fault.Fault.TheVariants.{Unsupported}
-use Rattle.v_tree.specs.declared.declaration.Identifier.{Identifier}
-use Rattle.v_tree.specs.declared.item.NetKind.{NetKind}
-use Rattle.v_tree.specs.declared.item.NetKind.TheVariants as nets
-use Rattle.v_tree.specs.declared.item.ParameterKind.TheVariants as kinds
+use Rattle.v_syntax.specs.declared.declaration.Identifier.{Identifier}
+use Rattle.v_syntax.specs.declared.item.NetKind.{NetKind}
+use Rattle.v_syntax.specs.declared.item.NetKind.TheVariants as nets
+use Rattle.v_syntax.specs.declared.item.ParameterKind.TheVariants as kinds
 use Rattle.v_tree.specs.Marks.{mark_at, same}
 use Rattle.v_tree.specs.Sites.{site}
 use Rattle.v_tree.specs.Faults.{no_place}
@@ -16,7 +16,7 @@ use Rattle.v_tree.proofs.BindLemmas.{bad, bad_good, true_false}
 use Rattle.v_tree.proofs.SteadyLemmas.{not_by}
 use Rattle.v_parts.specs.Reading.{optional_at, list_at, name_at, identifier_at, equals_at, range_at, delay_at, named_value_at, unless_at}
 use Rattle.v_parts.specs.Productions.{IsOptional, AreListed, IsName, IsIdentifier, IsEquals, IsRange, IsDelay, IsNamedValue}
-use Rattle.v_tree.specs.ItemTree.{PlainItem, port_item, net_item, integer_item, genvar_item, parameter_item}
+use Rattle.v_syntax.specs.ItemTree.{PlainItem, port_item, net_item, integer_item, genvar_item, parameter_item}
 use Rattle.v_declarations.specs.Types.{is_direction, is_output_reg, IsDirection, IsNetIf, IsSignedIf, IsRangeIf, IsParameterType}
 use Rattle.v_declarations.specs.TypeReading.{direction_at, net_if_at, signed_if_at, range_if_at, parameter_type_at}
 use Rattle.v_declarations.specs.Declarations.{AreNames, IsPorts, IsIntegers, IsGenvars, IsNet, IsArray, IsScalar, IsDeclarator, IsNets, IsParameterKind, IsParameters, IsDeclaration}

@@ -1,15 +1,15 @@
 -- The readers of a module's header read what their productions have.
 use Rattle.std.proofs.Common.{◌≡◌, ◌≢◌, ℕ, ◌+◌, ◌≤◌, ◌⊎◌, inl, inr, Bool, true, false, List, [], ◌∷◌, length, None, sym, ap, ◌∙◌, refl, arith}
 use Rattle.v_lexer.specs.Lexeme.{Lexeme}
-use Rattle.v_tree.specs.declared.item.Direction.{Direction}
+use Rattle.v_syntax.specs.declared.item.Direction.{Direction}
 use Rattle.v_lexer.specs.declared.types.terminal.Terminal.{Terminal}
 use Rattle.v_lexer.specs.declared.types.terminal.Terminal.TheVariants as marks
-use Rattle.v_tree.specs.declared.declaration.Identifier.{Identifier}
+use Rattle.v_syntax.specs.declared.declaration.Identifier.{Identifier}
 use Rattle.v_tree.specs.Marks.{mark_at}
 use Rattle.v_tree.specs.Reading.{◌>>=◌, expect}
 use Rattle.v_tree.proofs.BindLemmas.{good, true_false}
 use Rattle.v_tree.proofs.SteadyLemmas.{not_by}
-use Rattle.v_tree.specs.ModuleTree.{PlainHeaderParameter, PlainPort, declared_port, same_port, PlainPorts, no_ports, name_ports, declared_ports}
+use Rattle.v_syntax.specs.ModuleTree.{PlainHeaderParameter, PlainPort, declared_port, same_port, PlainPorts, no_ports, name_ports, declared_ports}
 use Rattle.v_parts.specs.Reading.{list_at, run_at, name_at, identifier_at, value_at, equals_at}
 use Rattle.v_parts.specs.Productions.{AreListed, AreRun, IsName, IsIdentifier, IsValue, IsEquals}
 use Rattle.v_declarations.specs.Types.{IsDirection, is_direction, IsNetIf, is_output_reg, IsSignedIf, IsRangeIf, IsParameterType}

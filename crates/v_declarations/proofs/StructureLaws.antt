@@ -1,17 +1,17 @@
 -- The readers of assignments, gates and instances read what their productions have.
 use Rattle.std.proofs.Common.{◌≡◌, ◌≢◌, ℕ, ◌+◌, ◌≤◌, ◌⊎◌, inl, inr, true, false, if◌then◌else◌, List, [], length, Some, None, Option, is_some, sym, ap, ◌∙◌, subst, refl, arith}
 use Rattle.v_lexer.specs.Lexeme.{Lexeme}
-use Rattle.v_tree.specs.declared.item.GateKind.{GateKind}
+use Rattle.v_syntax.specs.declared.item.GateKind.{GateKind}
 use Rattle.v_lexer.specs.declared.types.terminal.Terminal.{Terminal}
 use Rattle.v_lexer.specs.declared.types.terminal.Terminal.TheVariants as marks
 use Rattle.v_tree.specs.Marks.{mark_at}
-use Rattle.v_tree.specs.Tree.{Tree}
+use Rattle.v_syntax.specs.Tree.{Tree}
 use Rattle.v_tree.specs.Faults.{no_place}
 use Rattle.v_tree.proofs.BindLemmas.{good, bad_good, ok-one}
 use Rattle.v_tree.proofs.SteadyLemmas.{Steady, st_look, st_ok, st_no_place, not_by}
 use Rattle.v_parts.specs.Reading.{optional_at, list_at, name_at, identifier_at, value_at, delay_at, left_at}
 use Rattle.v_parts.specs.Productions.{IsOptional, AreListed, IsName, IsIdentifier, IsValue, IsDelay, IsLeft}
-use Rattle.v_tree.specs.ItemTree.{PlainItem, assign_item, gate_item, instance_item, PlainConnections, ordered, named}
+use Rattle.v_syntax.specs.ItemTree.{PlainItem, assign_item, gate_item, instance_item, PlainConnections, ordered, named}
 use Rattle.v_declarations.specs.Structures.{IsAssignment, IsAssigns, gate_kind, IsGateWord, IsGate, AreGates, ends_connection, IsConnection, IsNamedConnection, IsUnconnected, IsByName, IsByOrder, AreConnections, AreInParens, AreOverrides, IsInstance, AreInstances, IsStructure}
 use Rattle.v_declarations.specs.StructureReading.{assignment_at, assigns_at, kind_found, gate_word_at, gate_at, gates_at, connection_at, named_connection_at, by_name_at, by_order_at, connections_at, connected_at, overrides_at, instance_at, instances_at, is_gate, structure_at}
 use Rattle.v_declarations.proofs.StructureSteps.{gate_inside}

@@ -1,7 +1,7 @@
 -- The steps of reading gates, as facts.
 use Rattle.std.proofs.Common.{◌≡◌, ◌≢◌, ℕ, ◌<◌, List, length, Some, sym, ap, ◌∙◌}
 use Rattle.v_lexer.specs.Lexeme.{Lexeme}
-use Rattle.v_tree.specs.declared.item.GateKind.{GateKind}
+use Rattle.v_syntax.specs.declared.item.GateKind.{GateKind}
 use Rattle.v_lexer.specs.declared.types.terminal.Terminal.{Terminal}
 use Rattle.v_lexer.specs.declared.types.terminal.Terminal.TheVariants.{Nothing}
 use Rattle.v_tree.specs.Marks.{mark_at}

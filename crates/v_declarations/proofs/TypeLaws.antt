@@ -1,14 +1,14 @@
 -- The readers of the words and the types of declarations read what their productions have.
 use Rattle.std.proofs.Common.{◌≡◌, ◌≢◌, ℕ, ◌+◌, ◌<◌, ◌⊎◌, inl, inr, true, false, List, [], ◌∷◌, Some, None, length, sym, ◌∙◌, refl, arith}
 use Rattle.v_lexer.specs.Lexeme.{Lexeme}
-use Rattle.v_tree.specs.declared.item.Direction.TheVariants as direction
-use Rattle.v_tree.specs.declared.item.NetKind.TheVariants as net
+use Rattle.v_syntax.specs.declared.item.Direction.TheVariants as direction
+use Rattle.v_syntax.specs.declared.item.NetKind.TheVariants as net
 use Rattle.v_lexer.specs.declared.types.terminal.Terminal.{Terminal}
 use Rattle.v_lexer.specs.declared.types.terminal.Terminal.TheVariants as marks
 use Rattle.v_tree.specs.Marks.{mark_at}
 use Rattle.v_tree.proofs.BindLemmas.{good}
 use Rattle.v_tree.proofs.SteadyLemmas.{not_by}
-use Rattle.v_tree.specs.ItemTree.{vector_type, integer_type}
+use Rattle.v_syntax.specs.ItemTree.{vector_type, integer_type}
 use Rattle.v_parts.specs.Reading.{range_at}
 use Rattle.v_parts.specs.Productions.{IsRange}
 use Rattle.v_declarations.specs.Types.{IsDirection, IsNetIf, IsSignedIf, IsRangeIf, IsVectorType, IsParameterType}

@@ -2,19 +2,19 @@
 -- to another one spell, where `nesting_left` levels of nesting are left. Each production stands as its comment, as in Productions.
 use Rattle.std.specs.Prelude.{◌≡◌, ◌≢◌, ℕ, ◌+◌, ◌⊎◌, Bool, List, Option, Some, None}
 use Rattle.v_lexer.specs.Lexeme.{Lexeme}
-use Rattle.v_tree.specs.declared.declaration.Identifier.{Identifier}
-use Rattle.v_tree.specs.declared.item.Direction.{Direction}
-use Rattle.v_tree.specs.declared.item.NetKind.{NetKind}
-use Rattle.v_tree.specs.declared.item.NetKind.TheVariants as nets
-use Rattle.v_tree.specs.declared.item.ParameterKind.{ParameterKind}
-use Rattle.v_tree.specs.declared.item.ParameterKind.TheVariants as kinds
+use Rattle.v_syntax.specs.declared.declaration.Identifier.{Identifier}
+use Rattle.v_syntax.specs.declared.item.Direction.{Direction}
+use Rattle.v_syntax.specs.declared.item.NetKind.{NetKind}
+use Rattle.v_syntax.specs.declared.item.NetKind.TheVariants as nets
+use Rattle.v_syntax.specs.declared.item.ParameterKind.{ParameterKind}
+use Rattle.v_syntax.specs.declared.item.ParameterKind.TheVariants as kinds
 use Rattle.v_lexer.specs.declared.types.terminal.Terminal.TheVariants.{OpenBracket, Semicolon, Equals, Hash, Genvar, Integer, Localparam, Parameter, Reg, Wire}
 use Rattle.v_tree.specs.Marks.{mark_at}
 use Rattle.v_tree.specs.Sites.{site}
-use Rattle.v_tree.specs.Tree.{Tree}
-use Rattle.v_tree.specs.PartTree.{PlainRange, PlainNamed, PlainDelay}
+use Rattle.v_syntax.specs.Tree.{Tree}
+use Rattle.v_syntax.specs.PartTree.{PlainRange, PlainNamed, PlainDelay}
 use Rattle.v_parts.specs.Productions.{IsOptional, AreListed, IsName, IsIdentifier, IsEquals, IsRange, IsDelay, IsNamedValue}
-use Rattle.v_tree.specs.ItemTree.{PlainParameterType, PlainDeclarator, PlainItem, port_item, net_item, integer_item, genvar_item, parameter_item}
+use Rattle.v_syntax.specs.ItemTree.{PlainParameterType, PlainDeclarator, PlainItem, port_item, net_item, integer_item, genvar_item, parameter_item}
 use Rattle.v_declarations.specs.Types.{IsDirection, IsNetIf, IsSignedIf, IsRangeIf, IsParameterType}
 
 -- NAME,+ ';'

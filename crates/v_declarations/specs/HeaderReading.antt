@@ -1,16 +1,16 @@
 -- How the code reads the header of a module: the function on lists that each reader is. No public clause speaks of it.
 use Rattle.std.specs.Prelude.{ℕ, ◌+◌, List, [], ◌∷◌, length, Option, None, Ok, Err, if◌then◌else◌, Bool, true, false}
 use Rattle.v_lexer.specs.Lexeme.{Lexeme}
-use Rattle.v_tree.specs.declared.item.Direction.{Direction}
-use Rattle.v_tree.specs.declared.item.NetKind.{NetKind}
+use Rattle.v_syntax.specs.declared.item.Direction.{Direction}
+use Rattle.v_syntax.specs.declared.item.NetKind.{NetKind}
 use Rattle.v_lexer.specs.declared.types.terminal.Terminal.TheVariants as mark
 use Rattle.v_tree.specs.Marks.{mark_at, same}
 use Rattle.v_tree.specs.Sites.{site}
 use Rattle.v_tree.specs.Faults.{no_place}
-use Rattle.v_tree.specs.Tree.{Tree}
+use Rattle.v_syntax.specs.Tree.{Tree}
 use Rattle.v_tree.specs.Reading.{Read, ◌>>=◌, expect}
-use Rattle.v_tree.specs.PartTree.{PlainRange}
-use Rattle.v_tree.specs.ModuleTree.{PlainHeaderParameter, PlainPort, declared_port, same_port, PlainPorts, no_ports, name_ports, declared_ports}
+use Rattle.v_syntax.specs.PartTree.{PlainRange}
+use Rattle.v_syntax.specs.ModuleTree.{PlainHeaderParameter, PlainPort, declared_port, same_port, PlainPorts, no_ports, name_ports, declared_ports}
 use Rattle.v_parts.specs.Reading.{optional_at, list_at, run_at, name_at, identifier_at, value_at, equals_at, unless_at}
 use Rattle.v_declarations.specs.Types.{is_direction, is_output_reg}
 use Rattle.v_declarations.specs.TypeReading.{direction_at, net_if_at, signed_if_at, range_if_at, parameter_type_at}

@@ -2,9 +2,9 @@
 use Rattle.std.specs.Prelude.{ℕ, List, map}
 use Rattle.std.specs.declared.vec.Vec.{Vec}
 use Rattle.std.specs.declared.alloc.Global.{Global}
-use Rattle.v_tree.specs.declared.module.HeaderParameter.{HeaderParameter}
-use Rattle.v_tree.specs.declared.module.Port.{Port}
-use Rattle.v_tree.specs.ModuleTree.{PlainHeaderParameter, header_parameter_of, PlainPort, port_of}
+use Rattle.v_syntax.specs.declared.module.HeaderParameter.{HeaderParameter}
+use Rattle.v_syntax.specs.declared.module.Port.{Port}
+use Rattle.v_syntax.specs.ModuleTree.{PlainHeaderParameter, header_parameter_of, PlainPort, port_of}
 
 abbrev pub seen_header_parameter : HeaderParameter × ℕ → PlainHeaderParameter × ℕ
 seen_header_parameter x = (header_parameter_of x.0, x.1)

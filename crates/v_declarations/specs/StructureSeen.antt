@@ -1,11 +1,11 @@
 -- What contracts see of the parts of assignments, gates and instances that a reader found.
 use Rattle.std.specs.Prelude.{ℕ, Option, option_map}
-use Rattle.v_tree.specs.declared.item.NetAssignment.{NetAssignment}
-use Rattle.v_tree.specs.declared.item.GateInstance.{GateInstance}
-use Rattle.v_tree.specs.declared.item.NamedConnection.{NamedConnection}
-use Rattle.v_tree.specs.declared.item.Connections.{Connections}
-use Rattle.v_tree.specs.declared.item.Instance.{Instance}
-use Rattle.v_tree.specs.ItemTree.{PlainAssignment, assignment_of, PlainGate, gate_of, PlainConnection, connection_of, PlainConnections, connections_of, PlainInstance, instance_of}
+use Rattle.v_syntax.specs.declared.item.NetAssignment.{NetAssignment}
+use Rattle.v_syntax.specs.declared.item.GateInstance.{GateInstance}
+use Rattle.v_syntax.specs.declared.item.NamedConnection.{NamedConnection}
+use Rattle.v_syntax.specs.declared.item.Connections.{Connections}
+use Rattle.v_syntax.specs.declared.item.Instance.{Instance}
+use Rattle.v_syntax.specs.ItemTree.{PlainAssignment, assignment_of, PlainGate, gate_of, PlainConnection, connection_of, PlainConnections, connections_of, PlainInstance, instance_of}
 
 abbrev pub seen_assignment : NetAssignment × ℕ → PlainAssignment × ℕ
 seen_assignment x = (assignment_of x.0, x.1)

@@ -3,17 +3,17 @@
 -- Productions.
 use Rattle.std.specs.Prelude.{◌≡◌, ◌≢◌, ℕ, ◌+◌, ◌⊎◌, Bool, true, false, List, [], Option, Some, None}
 use Rattle.v_lexer.specs.Lexeme.{Lexeme}
-use Rattle.v_tree.specs.declared.declaration.Identifier.{Identifier}
-use Rattle.v_tree.specs.declared.item.GateKind.{GateKind}
-use Rattle.v_tree.specs.declared.item.GateKind.TheVariants as gates
+use Rattle.v_syntax.specs.declared.declaration.Identifier.{Identifier}
+use Rattle.v_syntax.specs.declared.item.GateKind.{GateKind}
+use Rattle.v_syntax.specs.declared.item.GateKind.TheVariants as gates
 use Rattle.v_lexer.specs.declared.types.terminal.Terminal.{Terminal}
 use Rattle.v_lexer.specs.declared.types.terminal.Terminal.TheVariants as mark
 use Rattle.v_tree.specs.Marks.{mark_at}
 use Rattle.v_tree.specs.Sites.{site}
-use Rattle.v_tree.specs.Tree.{Tree}
-use Rattle.v_tree.specs.PartTree.{PlainDelay, PlainLeft}
+use Rattle.v_syntax.specs.Tree.{Tree}
+use Rattle.v_syntax.specs.PartTree.{PlainDelay, PlainLeft}
 use Rattle.v_parts.specs.Productions.{IsOptional, AreListed, IsName, IsIdentifier, IsValue, IsDelay, IsLeft}
-use Rattle.v_tree.specs.ItemTree.{PlainItem, assign_item, gate_item, instance_item, PlainAssignment, PlainGate, PlainConnection, PlainConnections, ordered, named, PlainInstance}
+use Rattle.v_syntax.specs.ItemTree.{PlainItem, assign_item, gate_item, instance_item, PlainAssignment, PlainGate, PlainConnection, PlainConnections, ordered, named, PlainInstance}
 
 -- left '=' expr
 abbrev pub IsAssignment : List Lexeme → ℕ → PlainAssignment → ℕ → ℕ → Type 0

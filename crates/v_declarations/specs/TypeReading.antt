@@ -2,16 +2,16 @@
 -- of it.
 use Rattle.std.specs.Prelude.{ℕ, ◌+◌, List, Option, Some, None, Ok, Err, if◌then◌else◌, Bool, true, false}
 use Rattle.v_lexer.specs.Lexeme.{Lexeme}
-use Rattle.v_tree.specs.declared.item.Direction.{Direction}
-use Rattle.v_tree.specs.declared.item.Direction.TheVariants as direction
-use Rattle.v_tree.specs.declared.item.NetKind.{NetKind}
-use Rattle.v_tree.specs.declared.item.NetKind.TheVariants as net
+use Rattle.v_syntax.specs.declared.item.Direction.{Direction}
+use Rattle.v_syntax.specs.declared.item.Direction.TheVariants as direction
+use Rattle.v_syntax.specs.declared.item.NetKind.{NetKind}
+use Rattle.v_syntax.specs.declared.item.NetKind.TheVariants as net
 use Rattle.v_lexer.specs.declared.types.terminal.Terminal.TheVariants as mark
 use Rattle.v_tree.specs.Marks.{mark_at, same}
 use Rattle.v_tree.specs.Faults.{no_place}
 use Rattle.v_tree.specs.Reading.{Read, ◌>>=◌}
-use Rattle.v_tree.specs.PartTree.{PlainRange}
-use Rattle.v_tree.specs.ItemTree.{PlainParameterType, vector_type, integer_type}
+use Rattle.v_syntax.specs.PartTree.{PlainRange}
+use Rattle.v_syntax.specs.ItemTree.{PlainParameterType, vector_type, integer_type}
 use Rattle.v_parts.specs.Reading.{optional_at, range_at}
 
 unfoldable pub direction_at : List Lexeme → ℕ → Read Direction

@@ -1,7 +1,7 @@
 //! Continuous assignments (IEEE 1364-2005, 6.1 and A.6.1).
 ghost use Rattle.std.specs.Prelude.{◌<◌, ◌≤◌, ◌^◌, length, IfOk};
 ghost use Rattle.v_tree.specs.Faults.{Gives};
-ghost use Rattle.v_tree.specs.ItemTree.{PlainAssignment, assignment_of};
+ghost use Rattle.v_syntax.specs.ItemTree.{PlainAssignment, assignment_of};
 ghost use Rattle.v_parts.specs.Seen.{Inside};
 ghost use Rattle.v_parts.specs.ItemSeen.{seen_item};
 ghost use Rattle.v_declarations.specs.StructureReading.{assignment_at, assigns_at};
@@ -11,7 +11,8 @@ use crate::structure_nodes as nodes;
 use std::alloc::Global;
 use v_lexer::types::Token;
 use v_parts::{PartReader, Read, delay_if, left, listed, value};
-use v_tree::{Item, NetAssignment, Terminal, expect, site_of, stands};
+use v_syntax::{Item, NetAssignment};
+use v_tree::{Terminal, expect, site_of, stands};
 
 /// `left '=' expr`
 #[tactic(auto, unfolding(crate::specs::StructureReading::assignment_at))]

@@ -1,10 +1,10 @@
 //! The nodes of declarations, once their parts are read.
 ghost use Rattle.std.specs.Prelude.{◌≡◌, map, option_map};
-ghost use Rattle.v_tree.specs.PartTree.{range_of, delay_of, named_of};
-ghost use Rattle.v_tree.specs.ItemTree as tree;
-ghost use Rattle.v_tree.specs.ItemTree.{item_of, declarator_of, parameter_type_of};
+ghost use Rattle.v_syntax.specs.PartTree.{range_of, delay_of, named_of};
+ghost use Rattle.v_syntax.specs.ItemTree as tree;
+ghost use Rattle.v_syntax.specs.ItemTree.{item_of, declarator_of, parameter_type_of};
 
-use v_tree::{
+use v_syntax::{
     Declarator, Delay, Direction, Identifier, Item, NamedValue, NetKind, ParameterKind,
     ParameterType, Range, Site,
 };

@@ -1,8 +1,8 @@
 //! Declarations of ports, nets, registers and parameters (IEEE 1364-2005, clause 4 and A.2).
 ghost use Rattle.std.specs.Prelude.{◌≡◌, ◌+◌, ◌<◌, ◌≤◌, ◌^◌, length, option_map, IfOk};
 ghost use Rattle.v_tree.specs.Faults.{Gives};
-ghost use Rattle.v_tree.specs.PartTree.{range_of};
-ghost use Rattle.v_tree.specs.ItemTree.{PlainDeclarator, declarator_of};
+ghost use Rattle.v_syntax.specs.PartTree.{range_of};
+ghost use Rattle.v_syntax.specs.ItemTree.{PlainDeclarator, declarator_of};
 ghost use Rattle.v_parts.specs.Seen.{as_is, seen_identifiers, Inside};
 ghost use Rattle.v_parts.specs.ItemSeen.{seen_item};
 ghost use Rattle.v_declarations.specs.DeclarationSeen.{seen_declarator};
@@ -18,10 +18,8 @@ use v_parts::{
     PartReader, Read, delay_if, identifier, identifiers, listed, named_values, range, range_if,
     value_if,
 };
-use v_tree::{
-    Declarator, Fault, Identifier, Item, NetKind, ParameterKind, Range, Stop, Terminal, expect,
-    mark_at, no_place, site_of, stands,
-};
+use v_syntax::{Declarator, Identifier, Item, NetKind, ParameterKind, Range};
+use v_tree::{Fault, Stop, Terminal, expect, mark_at, no_place, site_of, stands};
 
 /// `';'` behind names, where a bracket and, with `plain`, an equals sign are of forms that are left out.
 #[tactic(auto, unfolding(crate::specs::DeclarationReading::close_names_at))]

@@ -1,7 +1,7 @@
 //! Gates (IEEE 1364-2005, 7.1 to 7.3 and A.3).
 ghost use Rattle.std.specs.Prelude.{◌≡◌, ◌<◌, ◌≤◌, ◌^◌, length, IfOk};
 ghost use Rattle.v_tree.specs.Faults.{Gives};
-ghost use Rattle.v_tree.specs.ItemTree.{PlainGate, gate_of};
+ghost use Rattle.v_syntax.specs.ItemTree.{PlainGate, gate_of};
 ghost use Rattle.v_lexer.specs.declared.types.terminal.Terminal.TheVariants as marks;
 ghost use Rattle.v_parts.specs.Seen.{as_is, Inside};
 ghost use Rattle.v_parts.specs.ItemSeen.{seen_item};
@@ -15,9 +15,8 @@ use loc_base::Name;
 use std::alloc::Global;
 use v_lexer::types::Token;
 use v_parts::{PartReader, Read, delay_if, listed, name, values};
-use v_tree::{
-    GateInstance, GateKind, Item, Stop, Terminal, expect, mark_at, no_place, site_of, stands,
-};
+use v_syntax::{GateInstance, GateKind, Item};
+use v_tree::{Stop, Terminal, expect, mark_at, no_place, site_of, stands};
 
 /// The gate that a word names.
 fn gate_kind(mark: Terminal) -> Option<GateKind>

@@ -1,13 +1,13 @@
 //! The nodes of a module's header, once what stands in it is read.
 ghost use Rattle.std.specs.Prelude.{◌≡◌, map, option_map};
-ghost use Rattle.v_tree.specs.Tree.{tree_of};
-ghost use Rattle.v_tree.specs.PartTree.{range_of};
+ghost use Rattle.v_syntax.specs.Tree.{tree_of};
+ghost use Rattle.v_syntax.specs.PartTree.{range_of};
 ghost use Rattle.v_declarations.specs.Headers.{is_reg};
-ghost use Rattle.v_tree.specs.ModuleTree as tree;
-ghost use Rattle.v_tree.specs.ModuleTree.{port_of, ports_of};
+ghost use Rattle.v_syntax.specs.ModuleTree as tree;
+ghost use Rattle.v_syntax.specs.ModuleTree.{port_of, ports_of};
 
 use crate::types::is_output_reg;
-use v_tree::{Direction, Expr, Identifier, NetKind, Port, Ports, Range, Site};
+use v_syntax::{Direction, Expr, Identifier, NetKind, Port, Ports, Range, Site};
 
 pub fn declared_port(
     site: Site,

@@ -1,10 +1,10 @@
 //! The header of a module (IEEE 1364-2005, 12.2, 12.3 and A.1.2 to A.1.3).
 ghost use Rattle.std.specs.Prelude.{◌+◌, ◌<◌, ◌≤◌, ◌^◌, length, option_map, IfOk};
 ghost use Rattle.v_tree.specs.Faults.{Gives};
-ghost use Rattle.v_tree.specs.PartTree.{range_of};
+ghost use Rattle.v_syntax.specs.PartTree.{range_of};
 ghost use Rattle.v_parts.specs.Seen.{as_is, seen_value_if, Inside};
 ghost use Rattle.v_parts.specs.ItemSeen.{seen_header_parameters, seen_ports};
-ghost use Rattle.v_tree.specs.ModuleTree.{PlainHeaderParameter, header_parameter_of, port_of};
+ghost use Rattle.v_syntax.specs.ModuleTree.{PlainHeaderParameter, header_parameter_of, port_of};
 ghost use Rattle.v_declarations.specs.HeaderSeen.{seen_header_parameter, seen_port, seen_port_list};
 ghost use Rattle.v_declarations.specs.HeaderReading.{parameter_word_at, header_parameter_at, closed_parameters_at, parameters_behind_at, parameters_at, header_parameters_at, value_of_at, port_value_at, port_name_at, declared_port_at, same_port_at, port_at, next_port_at, ports_at, port_list_at, name_list_at, some_ports_at, ports_behind_at, ports_in_parens_at, header_ports_at};
 
@@ -15,10 +15,8 @@ use crate::types::{
 use std::alloc::Global;
 use v_lexer::types::Token;
 use v_parts::{PartReader, Read, identifier, identifiers, listed, range_if, value, value_if};
-use v_tree::{
-    Expr, Fault, HeaderParameter, Port, Ports, Stop, Terminal, expect, mark_at, no_place, site_of,
-    stands,
-};
+use v_syntax::{Expr, HeaderParameter, Port, Ports};
+use v_tree::{Fault, Stop, Terminal, expect, mark_at, no_place, site_of, stands};
 
 /// `'parameter'?`
 #[tactic(auto, unfolding(crate::specs::HeaderReading::parameter_word_at))]

@@ -5,8 +5,8 @@ ghost use Rattle.v_lexer.specs.declared.types.terminal.Terminal.TheVariants as m
 ghost use Rattle.v_parts.specs.Seen.{seen_value_if, Inside};
 ghost use Rattle.v_parts.specs.ItemSeen.{seen_item};
 ghost use Rattle.v_parts.specs.Reading.{optional_at};
-ghost use Rattle.v_tree.specs.ItemTree.{PlainConnection, PlainInstance, connection_of, connections_of, instance_of, ordered};
-ghost use Rattle.v_tree.specs.Tree.{Tree, tree_of};
+ghost use Rattle.v_syntax.specs.ItemTree.{PlainConnection, PlainInstance, connection_of, connections_of, instance_of, ordered};
+ghost use Rattle.v_syntax.specs.Tree.{Tree, tree_of};
 ghost use Rattle.v_declarations.specs.Structures.{ends_connection};
 ghost use Rattle.v_declarations.specs.StructureReading.{connection_at, named_connection_at, by_name_at, by_order_at, connections_at, connected_at, overrides_at, instance_at, instances_at};
 ghost use Rattle.v_declarations.specs.StructureSeen.{seen_connection, seen_connections, seen_connections_if, seen_instance};
@@ -15,9 +15,8 @@ use crate::structure_nodes as nodes;
 use std::alloc::Global;
 use v_lexer::types::Token;
 use v_parts::{PartReader, Read, identifier, listed, value};
-use v_tree::{
-    Connections, Expr, Instance, Item, NamedConnection, Terminal, expect, mark_at, site_of, stands,
-};
+use v_syntax::{Connections, Expr, Instance, Item, NamedConnection};
+use v_tree::{Terminal, expect, mark_at, site_of, stands};
 
 /// What stands behind a connection, and where one is left out.
 fn ends_connection(mark: Terminal) -> bool

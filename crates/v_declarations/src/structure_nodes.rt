@@ -1,9 +1,9 @@
 //! The nodes of assignments, gates and instances.
 ghost use Rattle.std.specs.Prelude.{◌≡◌, map, option_map};
-ghost use Rattle.v_tree.specs.PartTree.{delay_of};
-ghost use Rattle.v_tree.specs.ItemTree.{item_of, assign_item, gate_item, instance_item, assignment_of, gate_of, connections_of, instance_of};
+ghost use Rattle.v_syntax.specs.PartTree.{delay_of};
+ghost use Rattle.v_syntax.specs.ItemTree.{item_of, assign_item, gate_item, instance_item, assignment_of, gate_of, connections_of, instance_of};
 
-use v_tree::{
+use v_syntax::{
     Connections, Delay, GateInstance, GateKind, Identifier, Instance, Item, NetAssignment, Site,
 };
 

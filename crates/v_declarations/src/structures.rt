@@ -11,7 +11,8 @@ use crate::instances::instances;
 use std::alloc::Global;
 use v_lexer::types::Token;
 use v_parts::Read;
-use v_tree::{Item, Terminal, mark_at, stands};
+use v_syntax::Item;
+use v_tree::{Terminal, mark_at, stands};
 
 /// A continuous assignment, gates or module instances. Another token has no place.
 #[tactic(auto, unfolding(crate::specs::StructureReading::structure_at))]

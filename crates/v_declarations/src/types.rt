@@ -9,7 +9,8 @@ ghost use Rattle.v_declarations.specs.TypeReading.{direction_at, net_if_at, sign
 use std::alloc::Global;
 use v_lexer::types::Token;
 use v_parts::{Read, range_if};
-use v_tree::{Direction, NetKind, ParameterType, Range, Stop, Terminal, no_place, stands};
+use v_syntax::{Direction, NetKind, ParameterType, Range};
+use v_tree::{Stop, Terminal, no_place, stands};
 
 /// The words and the range of a port, or of ports, that begin at `from`.
 pub struct PortWords {

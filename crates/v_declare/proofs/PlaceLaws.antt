@@ -1,7 +1,7 @@
 -- The value that is given to a parameter from outside doesn't depend on the scopes around a place.
 use Rattle.std.proofs.Common.{◌≡◌, ℕ, List, refl}
-use Rattle.v_tree.specs.declared.item.ParameterKind.{ParameterKind}
-use Rattle.v_tree.specs.declared.item.ParameterKind.TheVariants as parameter_kind
+use Rattle.v_syntax.specs.declared.item.ParameterKind.{ParameterKind}
+use Rattle.v_syntax.specs.declared.item.ParameterKind.TheVariants as parameter_kind
 use Rattle.v_hierarchy.specs.Names.{Entry}
 use Rattle.v_hierarchy.specs.Items.{outside_value}
 use Rattle.v_declare.specs.declared.place.Place.{Place}

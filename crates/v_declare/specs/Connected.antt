@@ -1,8 +1,8 @@
 -- The parts of the connections of an instance, as private contracts cite them.
 use Rattle.std.specs.Prelude.{⊤, ℕ, List, [], Option, Some, None, Result, Ok, Err}
 use Rattle.loc_base.specs.declared.span.Span.{Span}
-use Rattle.v_tree.specs.Tree.{Tree}
-use Rattle.v_tree.specs.ItemTree.{PlainConnection}
+use Rattle.v_syntax.specs.Tree.{Tree}
+use Rattle.v_syntax.specs.ItemTree.{PlainConnection}
 use Rattle.v_hierarchy.specs.declared.error.ElabErr.{ElabErr}
 use Rattle.v_hierarchy.specs.declared.error.ElabErr.TheVariants as fault
 use Rattle.v_hierarchy.specs.Constants.{site_of}

@@ -1,9 +1,9 @@
 -- The names that the declarations of one item add (IEEE 1364-2005, 4.2, 4.10 and 12.3.3): the range or the type first, then each name.
 use Rattle.std.specs.Prelude.{List, ◌∷◌, Option, Result}
-use Rattle.v_tree.specs.declared.declaration.Identifier.{Identifier}
-use Rattle.v_tree.specs.declared.item.ParameterKind.{ParameterKind}
-use Rattle.v_tree.specs.PartTree.{PlainRange, PlainNamed}
-use Rattle.v_tree.specs.ItemTree.{PlainDeclarator, PlainParameterType}
+use Rattle.v_syntax.specs.declared.declaration.Identifier.{Identifier}
+use Rattle.v_syntax.specs.declared.item.ParameterKind.{ParameterKind}
+use Rattle.v_syntax.specs.PartTree.{PlainRange, PlainNamed}
+use Rattle.v_syntax.specs.ItemTree.{PlainDeclarator, PlainParameterType}
 use Rattle.v_hierarchy.specs.declared.bounds.Bounds.{Bounds}
 use Rattle.v_hierarchy.specs.declared.error.ElabErr.{ElabErr}
 use Rattle.v_hierarchy.specs.declared.signal.Signal.{Signal}

@@ -1,9 +1,9 @@
 -- Where items stand, as contracts see it.
 use Rattle.std.specs.Prelude.{ℕ, List, [], Option, Some, None, option_map}
 use Rattle.std.specs.Option.{option_map_or}
-use Rattle.v_tree.specs.declared.item.ParameterKind.{ParameterKind}
-use Rattle.v_tree.specs.declared.item.ParameterKind.TheVariants as parameter_kind
-use Rattle.v_tree.specs.ModuleTree.{PlainPorts}
+use Rattle.v_syntax.specs.declared.item.ParameterKind.{ParameterKind}
+use Rattle.v_syntax.specs.declared.item.ParameterKind.TheVariants as parameter_kind
+use Rattle.v_syntax.specs.ModuleTree.{PlainPorts}
 use Rattle.v_sizes.specs.declared.meaning.Const.{Const}
 use Rattle.v_hierarchy.specs.Headers.{port_names}
 use Rattle.v_hierarchy.specs.Names.{Entry}

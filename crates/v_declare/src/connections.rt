@@ -1,9 +1,9 @@
 //! What the ports of an instance are connected to (IEEE 1364-2005, 12.3.5 and 12.3.6).
 ghost use Rattle.std.specs.Prelude.{◌≡◌, length, map, option_map, slice_get, Ok, IfErr, OnOk};
 ghost use Rattle.std.specs.Option.{option_copied};
-ghost use Rattle.v_tree.specs.Tree.{tree_of};
-ghost use Rattle.v_tree.specs.ItemTree.{connection_of, connections_of};
-ghost use Rattle.v_tree.specs.ModuleTree.{module_of, ports_of};
+ghost use Rattle.v_syntax.specs.Tree.{tree_of};
+ghost use Rattle.v_syntax.specs.ItemTree.{connection_of, connections_of};
+ghost use Rattle.v_syntax.specs.ModuleTree.{module_of, ports_of};
 ghost use Rattle.v_hierarchy.specs.Frames.{Refuses};
 ghost use Rattle.v_hierarchy.specs.Headers.{port_names};
 ghost use Rattle.v_hierarchy.specs.Items.{few, connected, connections_fit};
@@ -14,7 +14,7 @@ use loc_base::Span;
 use std::alloc::Global;
 use v_hierarchy::{ElabErr, site_of};
 use v_scopes::{NameList, port_names};
-use v_tree::{Connections, Expr, Module, NamedConnection, Ports};
+use v_syntax::{Connections, Expr, Module, NamedConnection, Ports};
 
 /// How many ports a header has.
 fn port_count(ports: &Ports) -> usize

@@ -2,8 +2,8 @@
 ghost use Rattle.std.specs.Prelude.{◌≡◌, map, option_map, Ok, IfErr, OnOk};
 ghost use Rattle.std.specs.Option.{option_map_or};
 ghost use Rattle.v_sizes.specs.Context.{IsMeaning};
-ghost use Rattle.v_tree.specs.PartTree.{range_of, named_of};
-ghost use Rattle.v_tree.specs.ItemTree.{declarator_of, parameter_type_of};
+ghost use Rattle.v_syntax.specs.PartTree.{range_of, named_of};
+ghost use Rattle.v_syntax.specs.ItemTree.{declarator_of, parameter_type_of};
 ghost use Rattle.v_hierarchy.specs.Frames.{Refuses};
 ghost use Rattle.v_hierarchy.specs.Items.{direction_of, net_of, named_as, parameter_of};
 ghost use Rattle.v_hierarchy.specs.Names.{signal as signal_standing, array as array_standing, meaning_of};
@@ -20,7 +20,7 @@ use loc_base::Name;
 use v_hierarchy::{Bounds, ElabErr, Entry, Kind, Signal, Standing};
 use v_scopes::Scopes;
 use v_sizes::Const;
-use v_tree::{Declarator, Identifier, NamedValue, ParameterKind, ParameterType, Range};
+use v_syntax::{Declarator, Identifier, NamedValue, ParameterKind, ParameterType, Range};
 
 /// What a name of a declaration of nets or registers is declared as: with a range of its own an array.
 fn net_standing<'t>(signal: Signal, range: &'t Option<Range>) -> Standing<'t>

@@ -1,6 +1,6 @@
 //! Where the items of a scope stand.
 ghost use Rattle.std.specs.Prelude.{◌≡◌, map, IfOk};
-ghost use Rattle.v_tree.specs.ModuleTree.{ports_of};
+ghost use Rattle.v_syntax.specs.ModuleTree.{ports_of};
 ghost use Rattle.v_hierarchy.specs.Headers.{port_names};
 ghost use Rattle.v_hierarchy.specs.Views.{given_of};
 ghost use Rattle.v_scopes.specs.Listed.{listed};
@@ -10,7 +10,7 @@ use loc_base::{Name, NoMemory};
 use std::alloc::Global;
 use v_hierarchy::Given;
 use v_scopes::{NameList, Units, Values, port_names};
-use v_tree::Ports;
+use v_syntax::Ports;
 
 /// The header of a module: its ports, and the values that an instance gives to its parameters.
 pub struct Header<'t> {

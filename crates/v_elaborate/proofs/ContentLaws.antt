@@ -2,10 +2,10 @@
 use Rattle.std.proofs.Common.{◌≡◌, ℕ, zero, suc, ◌+◌, List, [], ◌∷◌, ◌++◌, length, refl, sym, ap, ◌∙◌, subst, arith, length-append, append_assoc, append-nil}
 use Rattle.std.specs.Prelude.{⊤, Result, Ok, Err}
 use Rattle.loc_base.specs.declared.span.Span.{Span}
-use Rattle.v_tree.specs.declared.site.Site.{Site}
-use Rattle.v_tree.specs.StatementTree.{PlainStatement}
-use Rattle.v_tree.specs.ItemTree.{PlainSensitivity, PlainItem, items_of}
-use Rattle.v_tree.specs.ModuleTree.{PlainModule}
+use Rattle.v_syntax.specs.declared.site.Site.{Site}
+use Rattle.v_syntax.specs.StatementTree.{PlainStatement}
+use Rattle.v_syntax.specs.ItemTree.{PlainSensitivity, PlainItem, items_of}
+use Rattle.v_syntax.specs.ModuleTree.{PlainModule}
 use Rattle.v_hierarchy.specs.declared.error.ElabErr.{ElabErr}
 use Rattle.v_hierarchy.specs.declared.left.Left.{Left}
 use Rattle.v_hierarchy.specs.Steps.{◌>>=◌, less_of, turned, placed}

@@ -1,11 +1,11 @@
 -- The plain data of each form of what items make, and one more of them at the end.
 use Rattle.std.proofs.Common.{◌≡◌, List, [], ◌∷◌, ◌++◌, map, sym, ap, ◌∙◌, refl}
 use Rattle.std.specs.Borrow.{Bor}
-use Rattle.v_tree.specs.declared.site.Site.{Site}
-use Rattle.v_tree.specs.declared.declaration.Identifier.{Identifier}
-use Rattle.v_tree.specs.declared.item.Item.{Item}
-use Rattle.v_tree.specs.declared.statement.Sensitivity.{Sensitivity}
-use Rattle.v_tree.specs.ItemTree.{sensitivity_of, item_of}
+use Rattle.v_syntax.specs.declared.site.Site.{Site}
+use Rattle.v_syntax.specs.declared.declaration.Identifier.{Identifier}
+use Rattle.v_syntax.specs.declared.item.Item.{Item}
+use Rattle.v_syntax.specs.declared.statement.Sensitivity.{Sensitivity}
+use Rattle.v_syntax.specs.ItemTree.{sensitivity_of, item_of}
 use Rattle.v_sizes.specs.declared.meaning.Const.{Const}
 use Rattle.v_hierarchy.specs.declared.instance.Block.{Block}
 use Rattle.v_hierarchy.specs.declared.instance.Child.{Child}

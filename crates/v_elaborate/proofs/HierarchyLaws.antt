@@ -2,7 +2,7 @@
 use Rattle.std.proofs.Common.{◌≡◌, ℕ, zero, suc, ◌+◌, ◌<◌, ◌≤◌, List, [], ◌∷◌, ◌++◌, length, Option, Some, None, refl, sym, ap, ◌∙◌, subst, arith, ◌⊎◌, inl, inr, length-append, append_assoc, append-nil}
 use Rattle.std.specs.Prelude.{⊤, slice_get, Result, Ok, Err}
 use Rattle.std.proofs.lemmas.Option.{none-some}
-use Rattle.v_tree.specs.ModuleTree.{PlainModule}
+use Rattle.v_syntax.specs.ModuleTree.{PlainModule}
 use Rattle.v_hierarchy.specs.declared.error.ElabErr.{ElabErr}
 use Rattle.v_hierarchy.specs.Steps.{◌>>=◌, each}
 use Rattle.v_hierarchy.specs.Items.{Child, Met}

@@ -3,33 +3,33 @@ use Rattle.std.proofs.Common.{◌≡◌, List, ◌∷◌, map, Option, Some, Non
 use Rattle.std.specs.Prelude.{⊤, Result, Ok, Err, OnOk, IfErr, option_map}
 use Rattle.std.specs.declared.vec.Vec.{Vec}
 use Rattle.std.specs.declared.alloc.Global.{Global}
-use Rattle.v_tree.specs.declared.site.Site.{Site}
-use Rattle.v_tree.specs.declared.declaration.Identifier.{Identifier}
-use Rattle.v_tree.specs.declared.declaration.Range.{Range}
-use Rattle.v_tree.specs.declared.declaration.Delay.{Delay}
-use Rattle.v_tree.specs.declared.declaration.LoopHead.{LoopHead}
-use Rattle.v_tree.specs.declared.declaration.NamedValue.{NamedValue}
-use Rattle.v_tree.specs.declared.expression.Expr.{Expr}
-use Rattle.v_tree.specs.declared.statement.Statement.{Statement}
-use Rattle.v_tree.specs.declared.statement.Sensitivity.{Sensitivity}
-use Rattle.v_tree.specs.declared.item.Direction.{Direction}
-use Rattle.v_tree.specs.declared.item.NetKind.{NetKind}
-use Rattle.v_tree.specs.declared.item.ParameterKind.{ParameterKind}
-use Rattle.v_tree.specs.declared.item.ParameterType.{ParameterType}
-use Rattle.v_tree.specs.declared.item.GateKind.{GateKind}
-use Rattle.v_tree.specs.declared.item.Declarator.{Declarator}
-use Rattle.v_tree.specs.declared.item.NetAssignment.{NetAssignment}
-use Rattle.v_tree.specs.declared.item.GateInstance.{GateInstance}
-use Rattle.v_tree.specs.declared.item.Connections.{Connections}
-use Rattle.v_tree.specs.declared.item.Instance.{Instance}
-use Rattle.v_tree.specs.declared.item.Item.{Item}
-use Rattle.v_tree.specs.declared.item.Item.TheVariants as made
-use Rattle.v_tree.specs.declared.item.GenerateBlock.{GenerateBlock}
-use Rattle.v_tree.specs.Tree.{tree_of}
-use Rattle.v_tree.specs.PartTree.{PlainRange, PlainNamed, PlainDelay, range_of, named_of, delay_of}
-use Rattle.v_tree.specs.StatementTree.{head_of, statement_of}
-use Rattle.v_tree.specs.ItemTree.{PlainDeclarator, PlainParameterType, PlainConnections, PlainInstance, PlainItem, port_item, net_item, parameter_item, instance_item, item_of, items_of, block_of, declarator_of, parameter_type_of, sensitivity_of, connections_of, instance_of as plain_instance}
-use Rattle.v_tree.specs.ModuleTree.{PlainModule}
+use Rattle.v_syntax.specs.declared.site.Site.{Site}
+use Rattle.v_syntax.specs.declared.declaration.Identifier.{Identifier}
+use Rattle.v_syntax.specs.declared.declaration.Range.{Range}
+use Rattle.v_syntax.specs.declared.declaration.Delay.{Delay}
+use Rattle.v_syntax.specs.declared.declaration.LoopHead.{LoopHead}
+use Rattle.v_syntax.specs.declared.declaration.NamedValue.{NamedValue}
+use Rattle.v_syntax.specs.declared.expression.Expr.{Expr}
+use Rattle.v_syntax.specs.declared.statement.Statement.{Statement}
+use Rattle.v_syntax.specs.declared.statement.Sensitivity.{Sensitivity}
+use Rattle.v_syntax.specs.declared.item.Direction.{Direction}
+use Rattle.v_syntax.specs.declared.item.NetKind.{NetKind}
+use Rattle.v_syntax.specs.declared.item.ParameterKind.{ParameterKind}
+use Rattle.v_syntax.specs.declared.item.ParameterType.{ParameterType}
+use Rattle.v_syntax.specs.declared.item.GateKind.{GateKind}
+use Rattle.v_syntax.specs.declared.item.Declarator.{Declarator}
+use Rattle.v_syntax.specs.declared.item.NetAssignment.{NetAssignment}
+use Rattle.v_syntax.specs.declared.item.GateInstance.{GateInstance}
+use Rattle.v_syntax.specs.declared.item.Connections.{Connections}
+use Rattle.v_syntax.specs.declared.item.Instance.{Instance}
+use Rattle.v_syntax.specs.declared.item.Item.{Item}
+use Rattle.v_syntax.specs.declared.item.Item.TheVariants as made
+use Rattle.v_syntax.specs.declared.item.GenerateBlock.{GenerateBlock}
+use Rattle.v_syntax.specs.Tree.{tree_of}
+use Rattle.v_syntax.specs.PartTree.{PlainRange, PlainNamed, PlainDelay, range_of, named_of, delay_of}
+use Rattle.v_syntax.specs.StatementTree.{head_of, statement_of}
+use Rattle.v_syntax.specs.ItemTree.{PlainDeclarator, PlainParameterType, PlainConnections, PlainInstance, PlainItem, port_item, net_item, parameter_item, instance_item, item_of, items_of, block_of, declarator_of, parameter_type_of, sensitivity_of, connections_of, instance_of as plain_instance}
+use Rattle.v_syntax.specs.ModuleTree.{PlainModule}
 use Rattle.v_hierarchy.specs.declared.error.ElabErr.{ElabErr}
 use Rattle.v_hierarchy.specs.declared.signal.Signal.{Signal}
 use Rattle.v_hierarchy.specs.Constants.{bounds_if}

@@ -3,11 +3,11 @@
 use Rattle.std.proofs.Common.{◌≡◌, ℕ, Bool, true, false, List, [], ◌∷◌, refl, sym, subst}
 use Rattle.std.specs.Prelude.{⊤, Option, Some, None, Result, Ok, Err}
 use Rattle.loc_base.specs.declared.span.Span.{Span}
-use Rattle.v_tree.specs.declared.site.Site.{Site}
-use Rattle.v_tree.specs.declared.declaration.Identifier.{Identifier}
-use Rattle.v_tree.specs.ItemTree.{PlainSensitivity, PlainInstance, PlainItem, port_item, net_item, integer_item, genvar_item, parameter_item, assign_item, gate_item, always_item, initial_item, instance_item, generate_item, loop_item, if_item, if_else_item, PlainBlock, single, several, Items, no_items, more_items}
-use Rattle.v_tree.specs.StatementTree.{PlainStatement}
-use Rattle.v_tree.specs.ModuleTree.{PlainModule}
+use Rattle.v_syntax.specs.declared.site.Site.{Site}
+use Rattle.v_syntax.specs.declared.declaration.Identifier.{Identifier}
+use Rattle.v_syntax.specs.ItemTree.{PlainSensitivity, PlainInstance, PlainItem, port_item, net_item, integer_item, genvar_item, parameter_item, assign_item, gate_item, always_item, initial_item, instance_item, generate_item, loop_item, if_item, if_else_item, PlainBlock, single, several, Items, no_items, more_items}
+use Rattle.v_syntax.specs.StatementTree.{PlainStatement}
+use Rattle.v_syntax.specs.ModuleTree.{PlainModule}
 use Rattle.v_sizes.specs.declared.meaning.Const.{Const}
 use Rattle.v_hierarchy.specs.declared.error.ElabErr.{ElabErr}
 use Rattle.v_hierarchy.specs.declared.left.Left.{Left}

@@ -3,7 +3,7 @@ use Rattle.std.proofs.Common.{◌≡◌, ◌≢◌, ℕ, zero, suc, ◌-◌, Opt
 use Rattle.std.specs.Prelude.{⊤, [], None, Result, Ok, Err}
 use Rattle.std.proofs.lemmas.List.{drop_all}
 use Rattle.loc_base.proofs.ShelfLists.{drop-at}
-use Rattle.v_tree.specs.ModuleTree.{PlainModule}
+use Rattle.v_syntax.specs.ModuleTree.{PlainModule}
 use Rattle.v_hierarchy.specs.declared.instance.Child.{Child as MadeChild}
 use Rattle.v_hierarchy.specs.Views.{child_of}
 use Rattle.v_hierarchy.specs.declared.error.ElabErr.{ElabErr}

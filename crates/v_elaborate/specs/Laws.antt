@@ -1,6 +1,6 @@
 -- What the laws of a design's instances are said of, and what they say (IEEE 1364-2005, clause 12).
 use Rattle.std.specs.Prelude.{◌≡◌, ℕ, suc, ◌+◌, List, [], ◌∷◌, slice_get, Option, Some}
-use Rattle.v_tree.specs.ModuleTree.{PlainModule}
+use Rattle.v_syntax.specs.ModuleTree.{PlainModule}
 use Rattle.v_hierarchy.specs.Unrolled.{Steps, nothing, still, run, branch, choose, repeated, StepList, no_step, step, Arms, no_arm, arm, default_arm, Turns, no_turn}
 use Rattle.v_hierarchy.specs.Unrolled as Unrolled
 use Rattle.v_hierarchy.specs.Items.{Child, Copied, written, always, child, inner, Block, scope, Copies, no_copy, copy, Met}

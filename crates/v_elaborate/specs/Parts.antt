@@ -1,13 +1,13 @@
 -- The parts of items, as private contracts cite them.
 use Rattle.std.specs.Prelude.{ℕ, List, ◌∷◌, Bool, Option, Some, None, Result, Ok, Err}
 use Rattle.loc_base.specs.declared.span.Span.{Span}
-use Rattle.v_tree.specs.declared.site.Site.{Site}
-use Rattle.v_tree.specs.declared.declaration.Identifier.{Identifier}
-use Rattle.v_tree.specs.declared.item.ParameterKind.{ParameterKind}
-use Rattle.v_tree.specs.PartTree.{PlainRange, PlainNamed}
-use Rattle.v_tree.specs.StatementTree.{PlainHead, PlainStatement}
-use Rattle.v_tree.specs.ModuleTree.{PlainModule}
-use Rattle.v_tree.specs.ItemTree.{PlainSensitivity, PlainDeclarator, PlainParameterType, PlainConnections, PlainInstance, PlainItem, PlainBlock}
+use Rattle.v_syntax.specs.declared.site.Site.{Site}
+use Rattle.v_syntax.specs.declared.declaration.Identifier.{Identifier}
+use Rattle.v_syntax.specs.declared.item.ParameterKind.{ParameterKind}
+use Rattle.v_syntax.specs.PartTree.{PlainRange, PlainNamed}
+use Rattle.v_syntax.specs.StatementTree.{PlainHead, PlainStatement}
+use Rattle.v_syntax.specs.ModuleTree.{PlainModule}
+use Rattle.v_syntax.specs.ItemTree.{PlainSensitivity, PlainDeclarator, PlainParameterType, PlainConnections, PlainInstance, PlainItem, PlainBlock}
 use Rattle.v_sizes.specs.declared.meaning.Const.{Const}
 use Rattle.v_hierarchy.specs.declared.error.ElabErr.{ElabErr}
 use Rattle.v_hierarchy.specs.declared.error.ElabErr.TheVariants as fault

@@ -1,6 +1,6 @@
 -- The parts of the walk, as private contracts cite them.
 use Rattle.std.specs.Prelude.{⊤, List, [], None, Result, Ok, map}
-use Rattle.v_tree.specs.ModuleTree.{PlainModule}
+use Rattle.v_syntax.specs.ModuleTree.{PlainModule}
 use Rattle.v_hierarchy.specs.declared.error.ElabErr.{ElabErr}
 use Rattle.v_hierarchy.specs.Headers.{header_ports}
 use Rattle.v_hierarchy.specs.Instances.{Instance, Found, unit_name, most_left, walked}

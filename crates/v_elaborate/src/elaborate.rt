@@ -1,6 +1,6 @@
 //! The instances of a design.
 ghost use Rattle.std.specs.Prelude.{◌≡◌, map, Ok, IfOk, IfErr, OnOk};
-ghost use Rattle.v_tree.specs.ModuleTree.{module_of, source_of};
+ghost use Rattle.v_syntax.specs.ModuleTree.{module_of, source_of};
 ghost use Rattle.v_hierarchy.specs.Frames.{Refuses};
 ghost use Rattle.v_hierarchy.specs.Instances.{instances, top_child};
 ghost use Rattle.v_hierarchy.specs.Views.{child_of, instance_of, instances_of};
@@ -12,7 +12,7 @@ use loc_base::{Items, Name, NoMemory};
 use std::alloc::Global;
 use v_hierarchy::{Child, ElabErr, Instance, Instances, Left};
 use v_scopes::{NameList, Units};
-use v_tree::{Module, SourceTree};
+use v_syntax::{Module, SourceTree};
 
 /// How many levels of instances stand below the top at most.
 const LEVELS: u32 = 64;

@@ -1,7 +1,7 @@
 //! What the items of a module make, with generates expanded where they stand (IEEE 1364-2005, 12.1 to 12.4).
 ghost use Rattle.std.specs.Prelude.{◌≡◌, [], map, Ok, IfOk, IfErr, OnOk};
-ghost use Rattle.v_tree.specs.StatementTree.{head_of};
-ghost use Rattle.v_tree.specs.ItemTree.{item_of, items_of, block_of as plain_block};
+ghost use Rattle.v_syntax.specs.StatementTree.{head_of};
+ghost use Rattle.v_syntax.specs.ItemTree.{item_of, items_of, block_of as plain_block};
 ghost use Rattle.v_hierarchy.specs.Frames.{Refuses};
 ghost use Rattle.v_hierarchy.specs.Items.{within, begins, item as item_met, items as items_met, body_of};
 ghost use Rattle.v_hierarchy.specs.Paths.{below};
@@ -16,7 +16,7 @@ use std::mem;
 use v_declare::Place;
 use v_hierarchy::{Block, Copied, ElabErr, Signal, below, block_part, turn_part};
 use v_sizes::Const;
-use v_tree::{GenerateBlock, Item, LoopHead};
+use v_syntax::{GenerateBlock, Item, LoopHead};
 use v_unroll::{MOST_TURNS, Turning, begun, loop_genvar, number_of, stepped};
 
 /// A generate loop: where it stands, and its head.

@@ -1,6 +1,6 @@
 //! What is met of a scope so far.
 ghost use Rattle.std.specs.Prelude.{◌≡◌, IfErr, OnOk};
-ghost use Rattle.v_tree.specs.ItemTree.{item_of};
+ghost use Rattle.v_syntax.specs.ItemTree.{item_of};
 ghost use Rattle.v_hierarchy.specs.declared.error.ElabErr.TheVariants.{NoMemory as OutOfMemory};
 ghost use Rattle.v_hierarchy.specs.Items.{with_copy, written};
 ghost use Rattle.v_hierarchy.specs.Views.{copied_of};
@@ -8,7 +8,7 @@ ghost use Rattle.v_elaborate.specs.Met.{met_of, outer_at};
 
 use loc_base::{Items, NoMemory};
 use v_hierarchy::{Copied, ElabErr};
-use v_tree::Item;
+use v_syntax::Item;
 use v_unroll::Position;
 
 /// What is met of a scope: its names, which stand innermost in the scopes of its position, and what its items made.

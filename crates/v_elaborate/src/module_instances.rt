@@ -1,7 +1,7 @@
 //! Module instances (IEEE 1364-2005, 12.1.2).
 ghost use Rattle.std.specs.Prelude.{◌≡◌, map, option_map, Ok, Err, IfOk, IfErr, OnOk};
-ghost use Rattle.v_tree.specs.ItemTree.{connections_of, instance_of as plain_instance};
-ghost use Rattle.v_tree.specs.ModuleTree.{module_of};
+ghost use Rattle.v_syntax.specs.ItemTree.{connections_of, instance_of as plain_instance};
+ghost use Rattle.v_syntax.specs.ModuleTree.{module_of};
 ghost use Rattle.v_hierarchy.specs.Frames.{Refuses};
 ghost use Rattle.v_hierarchy.specs.Items.{not_deeper, instance_of};
 ghost use Rattle.v_hierarchy.specs.Steps.{each};
@@ -17,7 +17,7 @@ use std::alloc::Global;
 use v_declare::{Place, connections_fit};
 use v_hierarchy::{Child, Copied, ElabErr, Given, below};
 use v_scopes::Units;
-use v_tree::{Connections, Identifier, Instance, Module, Site};
+use v_syntax::{Connections, Identifier, Instance, Module, Site};
 
 /// What the instances of one item have in common: where the item stands, the module, and the values that they give it.
 #[derive(Drop)]

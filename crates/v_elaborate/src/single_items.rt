@@ -1,9 +1,9 @@
 //! Items without items inside: declarations, always blocks, module instances, and those that stay as they are written (IEEE
 //! 1364-2005, 12.1 to 12.3).
 ghost use Rattle.std.specs.Prelude.{◌≡◌, map, option_map, Ok, IfErr, OnOk};
-ghost use Rattle.v_tree.specs.PartTree.{range_of, named_of};
-ghost use Rattle.v_tree.specs.StatementTree.{statement_of};
-ghost use Rattle.v_tree.specs.ItemTree.{sensitivity_of, item_of, declarator_of, parameter_type_of};
+ghost use Rattle.v_syntax.specs.PartTree.{range_of, named_of};
+ghost use Rattle.v_syntax.specs.StatementTree.{statement_of};
+ghost use Rattle.v_syntax.specs.ItemTree.{sensitivity_of, item_of, declarator_of, parameter_type_of};
 ghost use Rattle.v_hierarchy.specs.Frames.{Refuses};
 ghost use Rattle.v_hierarchy.specs.Names.{integer as integer_standing, genvar as genvar_standing};
 ghost use Rattle.v_declare.specs.Places.{place_of};
@@ -13,7 +13,7 @@ ghost use Rattle.v_elaborate.specs.Met.{met_of, outer_at};
 use crate::met::Met;
 use v_declare::{Place, declare_names, declare_nets};
 use v_hierarchy::{Copied, ElabErr, Signal, Standing};
-use v_tree::{
+use v_syntax::{
     Declarator, Identifier, Item, NamedValue, ParameterKind, ParameterType, Range, Sensitivity,
     Site, Statement,
 };

@@ -1,6 +1,6 @@
 //! The walk from the top: an instance, then all that stands below it (IEEE 1364-2005, clause 12).
 ghost use Rattle.std.specs.Prelude.{◌≡◌, [], map, Ok, IfOk, IfErr, OnOk};
-ghost use Rattle.v_tree.specs.ModuleTree.{module_of, ports_of};
+ghost use Rattle.v_syntax.specs.ModuleTree.{module_of, ports_of};
 ghost use Rattle.v_hierarchy.specs.Frames.{Refuses};
 ghost use Rattle.v_hierarchy.specs.Instances.{contents, instance, with_instance, walked};
 ghost use Rattle.v_hierarchy.specs.Views.{given_of, child_of, instance_of};

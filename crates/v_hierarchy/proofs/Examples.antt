@@ -1,18 +1,18 @@
 -- Worked examples of the definitions: which instances a text makes, under which parameters, and why one is refused.
 use Rattle.std.proofs.Common.{◌≡◌, ℕ, ◌+◌, List, [], ◌∷◌, refl}
 use Rattle.std.specs.Prelude.{true, false, pos, Option, Some, None, Result, Ok, Err, codes, map}
-use Rattle.v_lexer.specs.Bytes.{is_decimal}
-use Rattle.v_lexer.specs.Numbers.{is_sign, is_wild, is_hexadecimal}
-use Rattle.v_lexer.specs.Literals.{digit_value, base_of}
-use Rattle.v_tree.specs.declared.site.Site.{Site}
-use Rattle.v_tree.specs.declared.declaration.Identifier.{Identifier}
-use Rattle.v_tree.specs.declared.item.Direction.TheVariants as direction
-use Rattle.v_tree.specs.declared.operator.Binary.TheVariants as binary
-use Rattle.v_tree.specs.Tree.{Tree, no_select}
-use Rattle.v_tree.specs.Tree as written
-use Rattle.v_tree.specs.StatementTree.{PlainHead}
-use Rattle.v_tree.specs.ItemTree.{PlainItem, genvar_item, instance_item, generate_item, loop_item, vector_type, several, no_items, more_items, named, ordered}
-use Rattle.v_tree.specs.ModuleTree.{PlainModule, declared_port, no_ports, declared_ports}
+use Rattle.v_syntax.specs.Bytes.{is_decimal}
+use Rattle.v_syntax.specs.Numbers.{is_sign, is_wild, is_hexadecimal}
+use Rattle.v_syntax.specs.Literals.{digit_value, base_of}
+use Rattle.v_syntax.specs.declared.site.Site.{Site}
+use Rattle.v_syntax.specs.declared.declaration.Identifier.{Identifier}
+use Rattle.v_syntax.specs.declared.item.Direction.TheVariants as direction
+use Rattle.v_syntax.specs.declared.operator.Binary.TheVariants as binary
+use Rattle.v_syntax.specs.Tree.{Tree, no_select}
+use Rattle.v_syntax.specs.Tree as written
+use Rattle.v_syntax.specs.StatementTree.{PlainHead}
+use Rattle.v_syntax.specs.ItemTree.{PlainItem, genvar_item, instance_item, generate_item, loop_item, vector_type, several, no_items, more_items, named, ordered}
+use Rattle.v_syntax.specs.ModuleTree.{PlainModule, declared_port, no_ports, declared_ports}
 use Rattle.std.specs.Fmt.{digits}
 use Rattle.design_core.specs.Valuation.{number}
 use Rattle.v_sizes.specs.Word.{word}

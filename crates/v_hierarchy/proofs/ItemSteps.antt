@@ -4,35 +4,35 @@ use Rattle.std.specs.Prelude.{option_map}
 use Rattle.std.specs.declared.boxed.Box.{Box}
 use Rattle.std.specs.declared.vec.Vec.{Vec}
 use Rattle.std.specs.declared.alloc.Global.{Global}
-use Rattle.v_tree.specs.declared.site.Site.{Site}
-use Rattle.v_tree.specs.declared.expression.Expr.{Expr}
-use Rattle.v_tree.specs.declared.declaration.Identifier.{Identifier}
-use Rattle.v_tree.specs.declared.declaration.Range.{Range}
-use Rattle.v_tree.specs.declared.declaration.Delay.{Delay}
-use Rattle.v_tree.specs.declared.declaration.LoopHead.{LoopHead}
-use Rattle.v_tree.specs.declared.declaration.NamedValue.{NamedValue}
-use Rattle.v_tree.specs.declared.statement.Statement.{Statement}
-use Rattle.v_tree.specs.declared.statement.Sensitivity.{Sensitivity}
-use Rattle.v_tree.specs.declared.item.Direction.{Direction}
-use Rattle.v_tree.specs.declared.item.NetKind.{NetKind}
-use Rattle.v_tree.specs.declared.item.ParameterKind.{ParameterKind}
-use Rattle.v_tree.specs.declared.item.ParameterType.{ParameterType}
-use Rattle.v_tree.specs.declared.item.GateKind.{GateKind}
-use Rattle.v_tree.specs.declared.item.Declarator.{Declarator}
-use Rattle.v_tree.specs.declared.item.NetAssignment.{NetAssignment}
-use Rattle.v_tree.specs.declared.item.GateInstance.{GateInstance}
-use Rattle.v_tree.specs.declared.item.Connections.{Connections}
-use Rattle.v_tree.specs.declared.item.Instance.{Instance}
-use Rattle.v_tree.specs.declared.item.Item.{Item}
-use Rattle.v_tree.specs.declared.item.Item.TheVariants as item
-use Rattle.v_tree.specs.declared.item.GenerateBlock.{GenerateBlock}
-use Rattle.v_tree.specs.declared.item.GenerateBlock.TheVariants as block
-use Rattle.v_tree.specs.declared.item.GenerateBlock.TheFolds.{fold-roll-GenerateBlock, fold-roll-Item}
-use Rattle.v_tree.specs.declared.item.GenerateBlock.TheOpen.{GenerateBlock-F, Item-F}
-use Rattle.v_tree.specs.Tree.{tree_of}
-use Rattle.v_tree.specs.PartTree.{range_of, named_of, delay_of}
-use Rattle.v_tree.specs.StatementTree.{head_of, statement_of}
-use Rattle.v_tree.specs.ItemTree.{PlainItem, PlainBlock, single, several, items_of, item_of, block_of, item_step, block_step, port_item, net_item, integer_item, genvar_item, parameter_item, assign_item, gate_item, always_item, initial_item, instance_item, generate_item, loop_item, if_item, if_else_item, parameter_type_of, declarator_of, assignment_of, gate_of, sensitivity_of, connections_of, instance_of}
+use Rattle.v_syntax.specs.declared.site.Site.{Site}
+use Rattle.v_syntax.specs.declared.expression.Expr.{Expr}
+use Rattle.v_syntax.specs.declared.declaration.Identifier.{Identifier}
+use Rattle.v_syntax.specs.declared.declaration.Range.{Range}
+use Rattle.v_syntax.specs.declared.declaration.Delay.{Delay}
+use Rattle.v_syntax.specs.declared.declaration.LoopHead.{LoopHead}
+use Rattle.v_syntax.specs.declared.declaration.NamedValue.{NamedValue}
+use Rattle.v_syntax.specs.declared.statement.Statement.{Statement}
+use Rattle.v_syntax.specs.declared.statement.Sensitivity.{Sensitivity}
+use Rattle.v_syntax.specs.declared.item.Direction.{Direction}
+use Rattle.v_syntax.specs.declared.item.NetKind.{NetKind}
+use Rattle.v_syntax.specs.declared.item.ParameterKind.{ParameterKind}
+use Rattle.v_syntax.specs.declared.item.ParameterType.{ParameterType}
+use Rattle.v_syntax.specs.declared.item.GateKind.{GateKind}
+use Rattle.v_syntax.specs.declared.item.Declarator.{Declarator}
+use Rattle.v_syntax.specs.declared.item.NetAssignment.{NetAssignment}
+use Rattle.v_syntax.specs.declared.item.GateInstance.{GateInstance}
+use Rattle.v_syntax.specs.declared.item.Connections.{Connections}
+use Rattle.v_syntax.specs.declared.item.Instance.{Instance}
+use Rattle.v_syntax.specs.declared.item.Item.{Item}
+use Rattle.v_syntax.specs.declared.item.Item.TheVariants as item
+use Rattle.v_syntax.specs.declared.item.GenerateBlock.{GenerateBlock}
+use Rattle.v_syntax.specs.declared.item.GenerateBlock.TheVariants as block
+use Rattle.v_syntax.specs.declared.item.GenerateBlock.TheFolds.{fold-roll-GenerateBlock, fold-roll-Item}
+use Rattle.v_syntax.specs.declared.item.GenerateBlock.TheOpen.{GenerateBlock-F, Item-F}
+use Rattle.v_syntax.specs.Tree.{tree_of}
+use Rattle.v_syntax.specs.PartTree.{range_of, named_of, delay_of}
+use Rattle.v_syntax.specs.StatementTree.{head_of, statement_of}
+use Rattle.v_syntax.specs.ItemTree.{PlainItem, PlainBlock, single, several, items_of, item_of, block_of, item_step, block_step, port_item, net_item, integer_item, genvar_item, parameter_item, assign_item, gate_item, always_item, initial_item, instance_item, generate_item, loop_item, if_item, if_else_item, parameter_type_of, declarator_of, assignment_of, gate_of, sensitivity_of, connections_of, instance_of}
 
 pub block_of_item : (s : Site) (item : Box Item Global) → block_of (block.Item s item) ≡ single s (item_of item.value)
 block_of_item s item = ap block_of (sym (block.rolls-Item s item)) ∙ fold-roll-GenerateBlock PlainBlock PlainItem block_step item_step (GenerateBlock-F.Item s item)

@@ -2,10 +2,10 @@
 use Rattle.std.specs.Prelude.{ℕ, Bool, not, ◌&&◌, if◌then◌else◌, nat_le, int_lt, max, ℤ, pos, negsuc, ◌-ℤ◌, Option, Some, None, Result, Ok, Err}
 use Rattle.loc_base.specs.Bits.{width_of, value_of}
 use Rattle.loc_base.specs.Word.{extended}
-use Rattle.v_tree.specs.declared.site.Site.{Site}
-use Rattle.v_tree.specs.Tree.{Tree}
-use Rattle.v_tree.specs.Tree as written
-use Rattle.v_tree.specs.PartTree.{PlainRange}
+use Rattle.v_syntax.specs.declared.site.Site.{Site}
+use Rattle.v_syntax.specs.Tree.{Tree}
+use Rattle.v_syntax.specs.Tree as written
+use Rattle.v_syntax.specs.PartTree.{PlainRange}
 use Rattle.design_core.specs.Operator.{integer_of}
 use Rattle.v_sizes.specs.declared.error.WidthErr.{WidthErr}
 use Rattle.v_sizes.specs.declared.error.WidthErr.TheVariants as width_fault

@@ -2,10 +2,10 @@
 -- declare.
 use Rattle.std.specs.Prelude.{⊤, ℕ, false, if◌then◌else◌, List, [], ◌∷◌, ◌++◌, map, Option, Some, None, Result, Ok, Err}
 use Rattle.std.specs.List.{list_any}
-use Rattle.v_tree.specs.declared.declaration.Identifier.{Identifier}
-use Rattle.v_tree.specs.Tree.{Tree}
-use Rattle.v_tree.specs.ItemTree.{PlainItem, port_item, generate_item, Items, no_items, more_items, items_of}
-use Rattle.v_tree.specs.ModuleTree.{PlainPort, declared_port, same_port, PlainPorts, no_ports, name_ports, declared_ports, PlainModule}
+use Rattle.v_syntax.specs.declared.declaration.Identifier.{Identifier}
+use Rattle.v_syntax.specs.Tree.{Tree}
+use Rattle.v_syntax.specs.ItemTree.{PlainItem, port_item, generate_item, Items, no_items, more_items, items_of}
+use Rattle.v_syntax.specs.ModuleTree.{PlainPort, declared_port, same_port, PlainPorts, no_ports, name_ports, declared_ports, PlainModule}
 use Rattle.v_hierarchy.specs.declared.error.ElabErr.{ElabErr}
 use Rattle.v_hierarchy.specs.declared.error.ElabErr.TheVariants as fault
 use Rattle.v_hierarchy.specs.Steps.{◌>>=◌, each}

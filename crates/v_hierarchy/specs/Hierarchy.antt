@@ -1,7 +1,7 @@
 -- The hierarchy of a design, apart from how it is walked (IEEE 1364-2005, 12.1): the least set of places that has the top and,
 -- with each instance, every child that its text makes under its parameters.
 use Rattle.std.specs.Prelude.{◌≡◌, ℕ, List, [], ◌∷◌, slice_get, Some, Ok}
-use Rattle.v_tree.specs.ModuleTree.{PlainModule}
+use Rattle.v_syntax.specs.ModuleTree.{PlainModule}
 use Rattle.v_hierarchy.specs.declared.left.Left.{Left}
 use Rattle.v_hierarchy.specs.Items.{Child, Met}
 use Rattle.v_hierarchy.specs.Instances.{contents, children}

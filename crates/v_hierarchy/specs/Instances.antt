@@ -1,8 +1,8 @@
 -- The instances of a design (IEEE 1364-2005, clause 12): the top, then the children that each makes, depth first, in the order of
 -- their items.
 use Rattle.std.specs.Prelude.{ℕ, zero, suc, if◌then◌else◌, List, [], ◌∷◌, ◌++◌, length, Option, Some, None, Result, Ok, Err}
-use Rattle.v_tree.specs.ItemTree.{PlainConnections, ordered, items_of}
-use Rattle.v_tree.specs.ModuleTree.{PlainModule}
+use Rattle.v_syntax.specs.ItemTree.{PlainConnections, ordered, items_of}
+use Rattle.v_syntax.specs.ModuleTree.{PlainModule}
 use Rattle.v_hierarchy.specs.declared.error.ElabErr.{ElabErr}
 use Rattle.v_hierarchy.specs.declared.error.ElabErr.TheVariants as fault
 use Rattle.v_hierarchy.specs.declared.left.Left.{Left}

@@ -3,14 +3,14 @@
 use Rattle.std.specs.Prelude.{⊤, ℕ, zero, suc, Bool, if◌then◌else◌, List, [], ◌∷◌, ◌++◌, Option, Some, None, Result, Ok, Err}
 use Rattle.std.specs.Option.{option_map_or}
 use Rattle.loc_base.specs.declared.span.Span.{Span}
-use Rattle.v_tree.specs.declared.site.Site.{Site}
-use Rattle.v_tree.specs.declared.declaration.Identifier.{Identifier}
-use Rattle.v_tree.specs.declared.item.ParameterKind.{ParameterKind}
-use Rattle.v_tree.specs.declared.item.ParameterKind.TheVariants as parameter_kind
-use Rattle.v_tree.specs.Tree.{Tree}
-use Rattle.v_tree.specs.PartTree.{PlainNamed}
-use Rattle.v_tree.specs.ItemTree.{PlainSensitivity, PlainDeclarator, PlainConnection, PlainConnections, ordered, named, PlainInstance, PlainItem, port_item, net_item, integer_item, genvar_item, parameter_item, assign_item, gate_item, always_item, initial_item, instance_item, generate_item, loop_item, if_item, if_else_item, PlainBlock, single, several, Items, no_items, more_items}
-use Rattle.v_tree.specs.ModuleTree.{PlainModule, PlainPorts}
+use Rattle.v_syntax.specs.declared.site.Site.{Site}
+use Rattle.v_syntax.specs.declared.declaration.Identifier.{Identifier}
+use Rattle.v_syntax.specs.declared.item.ParameterKind.{ParameterKind}
+use Rattle.v_syntax.specs.declared.item.ParameterKind.TheVariants as parameter_kind
+use Rattle.v_syntax.specs.Tree.{Tree}
+use Rattle.v_syntax.specs.PartTree.{PlainNamed}
+use Rattle.v_syntax.specs.ItemTree.{PlainSensitivity, PlainDeclarator, PlainConnection, PlainConnections, ordered, named, PlainInstance, PlainItem, port_item, net_item, integer_item, genvar_item, parameter_item, assign_item, gate_item, always_item, initial_item, instance_item, generate_item, loop_item, if_item, if_else_item, PlainBlock, single, several, Items, no_items, more_items}
+use Rattle.v_syntax.specs.ModuleTree.{PlainModule, PlainPorts}
 use Rattle.v_sizes.specs.declared.meaning.Const.{Const}
 use Rattle.v_hierarchy.specs.declared.error.ElabErr.{ElabErr}
 use Rattle.v_hierarchy.specs.declared.error.ElabErr.TheVariants as fault

@@ -2,13 +2,13 @@
 use Rattle.std.specs.Prelude.{⊤, ℕ, Bool, true, false, not, ◌&&◌, ◌||◌, if◌then◌else◌, pos, is_some, List, [], ◌∷◌, ◌++◌, Option, Some, None, Result, Ok, Err}
 use Rattle.std.specs.List.{list_any}
 use Rattle.loc_base.specs.Bits.{width_of}
-use Rattle.v_tree.specs.declared.declaration.Identifier.{Identifier}
-use Rattle.v_tree.specs.declared.item.ParameterKind.{ParameterKind}
-use Rattle.v_tree.specs.declared.item.ParameterKind.TheVariants as parameter_kind
-use Rattle.v_tree.specs.Tree.{Tree}
-use Rattle.v_tree.specs.PartTree.{PlainNamed}
-use Rattle.v_tree.specs.ItemTree.{PlainParameterType, vector_type, integer_type, PlainConnection, PlainConnections, ordered, named, PlainItem, parameter_item, generate_item, Items, no_items, more_items, items_of}
-use Rattle.v_tree.specs.ModuleTree.{PlainHeaderParameter, PlainModule}
+use Rattle.v_syntax.specs.declared.declaration.Identifier.{Identifier}
+use Rattle.v_syntax.specs.declared.item.ParameterKind.{ParameterKind}
+use Rattle.v_syntax.specs.declared.item.ParameterKind.TheVariants as parameter_kind
+use Rattle.v_syntax.specs.Tree.{Tree}
+use Rattle.v_syntax.specs.PartTree.{PlainNamed}
+use Rattle.v_syntax.specs.ItemTree.{PlainParameterType, vector_type, integer_type, PlainConnection, PlainConnections, ordered, named, PlainItem, parameter_item, generate_item, Items, no_items, more_items, items_of}
+use Rattle.v_syntax.specs.ModuleTree.{PlainHeaderParameter, PlainModule}
 use Rattle.v_sizes.specs.declared.meaning.Const.{Const}
 use Rattle.v_sizes.specs.Look.{Look}
 use Rattle.v_hierarchy.specs.declared.error.ElabErr.{ElabErr}

@@ -2,8 +2,8 @@
 -- and a turn of a loop its variable's value in brackets.
 use Rattle.std.specs.Prelude.{ℕ, ℤ, List, [], ◌∷◌, ◌++◌, Some, None, decimal}
 use Rattle.std.specs.Fmt.{signed_decimal}
-use Rattle.v_tree.specs.declared.site.Site.{Site}
-use Rattle.v_tree.specs.ItemTree.{PlainBlock, single, several}
+use Rattle.v_syntax.specs.declared.site.Site.{Site}
+use Rattle.v_syntax.specs.ItemTree.{PlainBlock, single, several}
 
 -- path.part
 abbrev pub below : List ℕ → List ℕ → List ℕ

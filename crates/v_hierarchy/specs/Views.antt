@@ -1,13 +1,13 @@
 -- What is elaborated, as the code has it, without where it lies in memory.
 use Rattle.std.specs.Prelude.{List, [], ◌∷◌, map, Option, Some, None, option_map}
 use Rattle.std.specs.Borrow.{Bor}
-use Rattle.v_tree.specs.Tree.{Tree, tree_of}
-use Rattle.v_tree.specs.PartTree.{range_of}
-use Rattle.v_tree.specs.StatementTree.{statement_of}
-use Rattle.v_tree.specs.ItemTree.{PlainConnections, ordered, connections_of, sensitivity_of, item_of}
-use Rattle.v_tree.specs.ModuleTree.{module_of}
+use Rattle.v_syntax.specs.Tree.{Tree, tree_of}
+use Rattle.v_syntax.specs.PartTree.{range_of}
+use Rattle.v_syntax.specs.StatementTree.{statement_of}
+use Rattle.v_syntax.specs.ItemTree.{PlainConnections, ordered, connections_of, sensitivity_of, item_of}
+use Rattle.v_syntax.specs.ModuleTree.{module_of}
 use Rattle.v_sizes.specs.declared.meaning.Const.{Const}
-use Rattle.v_tree.specs.declared.item.Connections.{Connections}
+use Rattle.v_syntax.specs.declared.item.Connections.{Connections}
 use Rattle.v_hierarchy.specs.declared.standing.Standing.{Standing}
 use Rattle.v_hierarchy.specs.declared.standing.Standing.TheVariants as standing_kind
 use Rattle.v_hierarchy.specs.declared.standing.Entry.{Entry}

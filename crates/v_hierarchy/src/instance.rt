@@ -8,7 +8,7 @@ use crate::steps::Steps;
 use loc_base::{Items, Name, NoMemory};
 use std::alloc::Global;
 use v_sizes::Const;
-use v_tree::{Connections, Expr, Identifier, Item, Module, Sensitivity, Site};
+use v_syntax::{Connections, Expr, Identifier, Item, Module, Sensitivity, Site};
 
 /// A value that an instance gives to a parameter.
 #[derive(Clone, Copy)]

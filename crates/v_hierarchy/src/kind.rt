@@ -1,7 +1,7 @@
 //! The types of parameters, and values of a type (IEEE 1364-2005, 4.10 and 12.2).
 ghost use Rattle.std.specs.Prelude.{◌≡◌, ◌≤◌, Bool};
 ghost use Rattle.loc_base.specs.Bits.{width_of};
-ghost use Rattle.v_tree.specs.ItemTree.{parameter_type_of};
+ghost use Rattle.v_syntax.specs.ItemTree.{parameter_type_of};
 ghost use Rattle.v_sizes.specs.Context.{IsMeaning};
 ghost use Rattle.v_hierarchy.specs.Constants.{assigned, down_from, width};
 ghost use Rattle.v_hierarchy.specs.Names.{constant, meaning_of};
@@ -12,7 +12,7 @@ ghost use Rattle.v_hierarchy.specs.Stands.{IsKind, IsRange};
 use crate::bounds::Bounds;
 use crate::standing::Standing;
 use v_sizes::Const;
-use v_tree::ParameterType;
+use v_syntax::ParameterType;
 
 /// The type of a parameter.
 #[derive(Clone, Copy)]

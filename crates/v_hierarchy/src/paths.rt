@@ -1,13 +1,13 @@
 //! The paths of scopes and instances (IEEE 1364-2005, 12.5): parts joined by dots.
 ghost use Rattle.std.specs.Prelude.{◌≡◌, IfOk};
 ghost use Rattle.loc_base.specs.Name.{IsName};
-ghost use Rattle.v_tree.specs.ItemTree.{block_of};
+ghost use Rattle.v_syntax.specs.ItemTree.{block_of};
 ghost use Rattle.v_hierarchy.specs.Paths.{below, line_part, block_part, turn_part};
 
 use itoa::Buffer;
 use loc_base::{Bytes, Name, NoMemory};
 use std::alloc::Global;
-use v_tree::{GenerateBlock, Site};
+use v_syntax::{GenerateBlock, Site};
 
 /// The name of these bytes.
 fn name_of(alloc: Global, text: &[u8]) -> Result<Name, NoMemory>

@@ -3,7 +3,7 @@ ghost use Rattle.std.specs.Prelude.{◌≡◌};
 ghost use Rattle.v_hierarchy.specs.Names.{bounds_of, may_join, joined};
 
 use crate::bounds::{Bounds, agree};
-use v_tree::{Direction, NetKind};
+use v_syntax::{Direction, NetKind};
 
 /// A port, a net or a register: what its declarations say of it together.
 #[derive(Clone, Copy)]

@@ -1,9 +1,9 @@
 //! Where the expressions of a text stand.
 ghost use Rattle.std.specs.Prelude.{◌≡◌};
-ghost use Rattle.v_tree.specs.Tree.{tree_of};
+ghost use Rattle.v_syntax.specs.Tree.{tree_of};
 ghost use Rattle.v_hierarchy.specs.Constants.{site_of};
 
-use v_tree::{Expr, Site};
+use v_syntax::{Expr, Site};
 
 /// Where an expression stands.
 pub fn site_of(e: &Expr) -> Site

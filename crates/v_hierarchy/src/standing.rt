@@ -9,7 +9,7 @@ ghost use Rattle.v_hierarchy.specs.Views.{standing_of};
 use crate::bounds::Bounds;
 use crate::signal::Signal;
 use v_sizes::{Const, Meaning};
-use v_tree::{Identifier, Range};
+use v_syntax::{Identifier, Range};
 
 /// What a name is declared as.
 #[derive(Clone, Copy)]

@@ -1,7 +1,7 @@
 //! Statements whose loops are unrolled (IEEE 1364-2005, 9.6).
 use loc_base::{Boxed, Items};
 use v_sizes::Const;
-use v_tree::{CaseKind, Expr, Identifier, Statement};
+use v_syntax::{CaseKind, Expr, Identifier, Statement};
 
 /// A statement with its loops unrolled.
 #[cycle(steps)]

@@ -4,18 +4,18 @@ use Rattle.std.specs.Prelude.{nat_lt, if◌then◌else◌, ◌==◌, drop}
 use Rattle.std.proofs.lemmas.Grind.{common_steps}
 use Rattle.loc_base.specs.declared.span.Span.{Span}
 use Rattle.v_lexer.specs.declared.types.refusal.LexErr.{LexErr}
-use Rattle.v_lexer.specs.declared.types.token.TokenKind.{TokenKind}
+use Rattle.v_syntax.specs.declared.token_kind.TokenKind.{TokenKind}
 use Rattle.v_lexer.specs.declared.pieces.Piece.{Piece}
 use Rattle.v_lexer.specs.declared.pieces.Piece.TheVariants as piece
 use Rattle.v_lexer.specs.declared.directives.Directive.{Directive}
 use Rattle.v_lexer.specs.declared.directives.Directive.TheVariants.{Define, Undef, Ifdef, Ifndef, Elsif, Else, Endif, ToLineEnd, Alone, Use}
 use Rattle.v_lexer.specs.declared.position.Position.{Position}
 use Rattle.v_lexer.specs.declared.state.State.{State}
-use Rattle.v_lexer.specs.declared.literals.NumberFault.{NumberFault}
+use Rattle.v_syntax.specs.declared.literal.NumberFault.{NumberFault}
 use Rattle.v_lexer.specs.declared.types.refusal.LexErr.TheVariants as refused
 use Rattle.std.specs.FinMap as map
 use Rattle.v_lexer.specs.Lexeme.{Lexeme}
-use Rattle.v_lexer.specs.Literals.{judge, skip_white}
+use Rattle.v_syntax.specs.Literals.{judge, skip_white}
 use Rattle.v_lexer.specs.Directives.{tail_of}
 use Rattle.v_lexer.specs.Conditionals.{is_skipping}
 use Rattle.v_lexer.specs.Acts.{Step, goes, stops, expands, adds, opens_if, goes_on, closes, defines, undefines, directs, skips, enters, uses, commands, takes, passes, does, number_refusal, span_of, word_span, is_in_text}

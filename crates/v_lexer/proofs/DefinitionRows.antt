@@ -2,10 +2,11 @@
 use Rattle.std.proofs.Common.{◌≡◌, ℕ, ◌+◌, ◌<◌, Bool, true, false, cond, not, ◌&&◌, List, [], ◌∷◌, ◌++◌, length, get_or, drop, refl, sym, ◌∙◌, ap, append_assoc, Option, Some, None}
 use Rattle.std.specs.Prelude.{nat_eq}
 use Rattle.std.proofs.lemmas.List.{append-nil}
-use Rattle.v_lexer.specs.Bytes.{is_letter}
-use Rattle.v_lexer.specs.Literals.{skip_white}
+use Rattle.v_syntax.specs.Bytes.{is_letter}
+use Rattle.v_syntax.specs.Literals.{skip_white}
 use Rattle.v_lexer.specs.Directives.{joined, begins_with, definition_at, word_of, tail_of}
-use Rattle.v_lexer.proofs.Fronts.{drop_at, drop_all}
+use Rattle.v_syntax.proofs.Digits.{drop_at}
+use Rattle.v_lexer.proofs.Fronts.{drop_all}
 
 joined_first : (byte : ℕ) (rest : List ℕ) (b : Bool) → (nat_eq byte 92 && begins_with 10 rest) ≡ b → joined (byte ∷ rest) ≡ cond b (joined rest) (byte ∷ joined rest)
 unfolding joined

@@ -6,11 +6,12 @@ use Rattle.v_lexer.specs.declared.pieces.Piece.{Piece}
 use Rattle.v_lexer.specs.declared.directives.Directive.{Directive}
 use Rattle.v_lexer.specs.declared.directives.Directive.TheVariants.{Define, Undef, Ifdef, Ifndef, Elsif, Else, Endif, ToLineEnd, Alone, Use}
 use Rattle.v_lexer.specs.declared.pieces.Piece.TheVariants.{Directive as DirectivePiece}
-use Rattle.v_lexer.specs.Bytes.{is_white, is_letter, is_name_byte, not_newline}
+use Rattle.v_syntax.specs.Bytes.{is_white, is_letter, is_name_byte, not_newline}
 use Rattle.v_lexer.specs.Directives.{is_spaced_name, is_named, is_line, is_nothing, is_tail, directive_of, word_size, word_of, tail_of}
 use Rattle.v_lexer.specs.Pieces.{when, if_all, run_of, directive_rest}
 use Rattle.v_lexer.specs.Longest.{HasFront, HasNoFront}
-use Rattle.v_lexer.proofs.Fronts.{at_rest, none_at_rest, drop_at, same_front, goes_on, ends_at, ends_here, ends_empty, none_here, none_empty, run_front, loop_front, loop_none, head_stops, behind_word, drop_all}
+use Rattle.v_syntax.proofs.Digits.{drop_at}
+use Rattle.v_lexer.proofs.Fronts.{at_rest, none_at_rest, same_front, goes_on, ends_at, ends_here, ends_empty, none_here, none_empty, run_front, loop_front, loop_none, head_stops, behind_word, drop_all}
 
 spaced_name_loop : (kind : Piece) (byte : ℕ) (rest : List ℕ) → is_white byte ≡ true
     → if_all is_spaced_name kind (byte ∷ rest) ≡ if_all is_spaced_name kind rest

@@ -6,7 +6,7 @@ use Rattle.std.proofs.lemmas.List.{append-nil}
 use Rattle.loc_base.proofs.ShelfOptions.{Some-same}
 use std.Path.{fun_ext}
 use Rattle.v_lexer.specs.declared.pieces.Piece.{Piece}
-use Rattle.v_lexer.specs.Bytes.{is_letter, is_name_byte}
+use Rattle.v_syntax.specs.Bytes.{is_letter, is_name_byte}
 use Rattle.v_lexer.specs.Directives.{word_size}
 use Rattle.v_lexer.specs.Pieces.{when, run_of, kind_in, IsPiece}
 use Rattle.v_lexer.specs.Longest.{longest, longer, empty_front, HasFront, HasNoFront}
@@ -355,10 +355,6 @@ behind_word g (first ∷ text) kind size front = identifier_front g first text k
 pub drop_all : (bytes : List ℕ) → drop (length bytes) bytes ≡ []
 drop_all [] = refl
 drop_all (byte ∷ bytes) = drop_all bytes
-
--- the bytes from a place on begin with what stands there
-pub drop_at : (bytes : List ℕ) (i : ℕ) → i < length bytes → drop i bytes ≡ get_or bytes i 0 ∷ drop (i + 1) bytes
-drop_at bytes i within = rw (add-one, drop-cons bytes i 0) refl
 
 -- a front of bytes that are equal
 pub at_rest : (f : List ℕ → Option Piece) (rest bytes : List ℕ) (kind : Piece) (size : ℕ) → rest ≡ bytes → HasFront f bytes kind size → HasFront f rest kind size

@@ -3,12 +3,12 @@ use Rattle.std.proofs.Common.{◌≡◌, ℕ, ◌+◌, ◌*◌, ◌^◌, ◌<◌
 use Rattle.std.specs.Prelude.{nat_eq, position}
 use Rattle.std.proofs.Math.Nat.{mul-le-mul_left}
 use Rattle.std.proofs.lemmas.Bool.{le-ltb}
-use Rattle.v_lexer.specs.declared.types.token.TokenKind.{TokenKind}
-use Rattle.v_lexer.specs.declared.literals.NumberFault.{NumberFault}
-use Rattle.v_lexer.specs.declared.literals.NumberFault.TheVariants.{Wide}
-use Rattle.v_lexer.specs.Numbers.{is_hexadecimal, is_wild}
-use Rattle.v_lexer.specs.Literals.{digit_value, next_value, value_from, value_of, digit_fault, digits_fault, judge_plain, judge_based, is_bad_size, judge}
-use Rattle.v_lexer.proofs.Fronts.{drop_at}
+use Rattle.v_syntax.specs.declared.token_kind.TokenKind.{TokenKind}
+use Rattle.v_syntax.specs.declared.literal.NumberFault.{NumberFault}
+use Rattle.v_syntax.specs.declared.literal.NumberFault.TheVariants.{Wide}
+use Rattle.v_syntax.specs.Numbers.{is_hexadecimal, is_wild}
+use Rattle.v_syntax.specs.Literals.{digit_value, next_value, value_from, value_of, digit_fault, digits_fault, judge_plain, judge_based, is_bad_size, judge}
+use Rattle.v_syntax.proofs.Digits.{drop_at, next_value_digit, next_value_other}
 
 grows : (base value : ℕ) → 1 ≤ base → value ≤ value * base
 grows base value positive = grind (arith, mul-le-mul_left)
@@ -27,12 +27,6 @@ value_from-le base value (byte ∷ rest) positive =
     let here : value ≤ next_value base value byte = next_value-le base value byte positive in
     let there : next_value base value byte ≤ value_from base (next_value base value byte) rest = value_from-le base (next_value base value byte) rest positive in
     omega (arith, here, there)
-
-pub next_value_digit : (base value byte : ℕ) → (is_hexadecimal byte || is_wild byte) ≡ true → next_value base value byte ≡ value * base + digit_value byte
-next_value_digit base value byte is_so = ap (λ b. cond b (value * base + digit_value byte) value) is_so
-
-pub next_value_other : (base value byte : ℕ) → (is_hexadecimal byte || is_wild byte) ≡ false → next_value base value byte ≡ value
-next_value_other base value byte not_so = ap (λ b. cond b (value * base + digit_value byte) value) not_so
 
 pub ruleset literal_rows = (next_value_digit, next_value_other)
 

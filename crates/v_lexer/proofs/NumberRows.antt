@@ -5,8 +5,8 @@ use Rattle.std.specs.List.{list_all, prefix_len}
 use Rattle.std.proofs.lemmas.Bool.{ne_eqb}
 use Rattle.v_lexer.specs.declared.pieces.Piece.{Piece}
 use Rattle.v_lexer.specs.declared.pieces.Piece.TheVariants.{Number}
-use Rattle.v_lexer.specs.Bytes.{is_white, is_decimal}
-use Rattle.v_lexer.specs.Numbers.{is_sign, is_base, is_digit, is_digit_or_underscore, is_decimal_or_underscore, is_spaced_digits, is_digits, is_signed_base, is_based, is_spaced_quote, is_number_rest}
+use Rattle.v_syntax.specs.Bytes.{is_white, is_decimal}
+use Rattle.v_syntax.specs.Numbers.{is_sign, is_base, is_digit, is_digit_or_underscore, is_decimal_or_underscore, is_spaced_digits, is_digits, is_signed_base, is_based, is_spaced_quote, is_number_rest}
 use Rattle.v_lexer.specs.Pieces.{when, if_all, run_of}
 use Rattle.v_lexer.specs.Longest.{HasFront, HasNoFront}
 use Rattle.v_lexer.proofs.Fronts.{none_at_rest, at_rest as at_bytes, goes_on, ends_at, ends_here, ends_empty, none_here, none_empty, run_front, loop_front, loop_none, head_stops, first_stops, no_run}

@@ -5,8 +5,8 @@ use Rattle.std.specs.List.{prefix_len}
 use Rattle.std.proofs.lemmas.Bool.{ne_eqb}
 use Rattle.v_lexer.specs.declared.pieces.Piece.{Piece}
 use Rattle.v_lexer.specs.declared.pieces.Piece.TheVariants.{Blank, Name, Escaped, System, Symbol, Number, Stray}
-use Rattle.v_lexer.specs.Bytes.{is_white, not_white, is_letter, is_decimal, is_name_byte, is_mark}
-use Rattle.v_lexer.specs.Numbers.{is_number_rest, is_based}
+use Rattle.v_syntax.specs.Bytes.{is_white, not_white, is_letter, is_decimal, is_name_byte, is_mark}
+use Rattle.v_syntax.specs.Numbers.{is_number_rest, is_based}
 use Rattle.v_lexer.specs.Directives.{is_nothing}
 use Rattle.v_lexer.specs.Pieces.{if_all, run_of, directive_rest, slash_rest, symbol_rest, taken_rest, skipped_rest, kind_in, is_plain}
 use Rattle.v_lexer.specs.Longest.{HasFront}

@@ -5,12 +5,13 @@ use Rattle.std.specs.List.{prefix_len}
 use Rattle.std.proofs.lemmas.Bool.{ne_eqb}
 use Rattle.v_lexer.specs.declared.pieces.Piece.{Piece}
 use Rattle.v_lexer.specs.declared.pieces.Piece.TheVariants.{Blank, OpenComment, Symbol}
-use Rattle.v_lexer.specs.Bytes.{is_mark, not_newline}
+use Rattle.v_syntax.specs.Bytes.{is_mark, not_newline}
 use Rattle.v_lexer.specs.Symbols.{is_double, is_triple}
 use Rattle.v_lexer.specs.Directives.{is_nothing}
 use Rattle.v_lexer.specs.Pieces.{when, if_all, run_of, symbol_rest, block_rest, slash_rest}
 use Rattle.v_lexer.specs.Longest.{HasFront, HasNoFront}
-use Rattle.v_lexer.proofs.Fronts.{at_rest, drop_at, goes_on, ends_at, ends_here, ends_empty, none_behind, none_here, none_empty, run_front, drop_all}
+use Rattle.v_syntax.proofs.Digits.{drop_at}
+use Rattle.v_lexer.proofs.Fronts.{at_rest, goes_on, ends_at, ends_here, ends_empty, none_behind, none_here, none_empty, run_front, drop_all}
 use Rattle.v_lexer.proofs.DirectiveRows.{nothing_front}
 
 -- behind two bytes, and behind three

@@ -3,16 +3,17 @@ use Rattle.std.proofs.Common.{rules, ◌≡◌, ◌≢◌, ℕ, ◌≤◌, Bool,
 use Rattle.std.specs.Prelude.{nat_eq, IsTrue}
 use Rattle.std.specs.List.{list_all}
 use Rattle.std.proofs.lemmas.Bool.{and_parts, and_from, eqb-true}
-use Rattle.v_lexer.specs.declared.types.token.TokenKind.{TokenKind}
-use Rattle.v_lexer.specs.declared.types.token.TokenKind.TheVariants as token
+use Rattle.v_syntax.specs.declared.token_kind.TokenKind.{TokenKind}
+use Rattle.v_syntax.specs.declared.token_kind.TokenKind.TheVariants as token
 use Rattle.v_lexer.specs.declared.pieces.Piece.{Piece}
 use Rattle.v_lexer.specs.declared.pieces.Piece.TheVariants.{Blank, OpenComment, Name, Escaped, System, Symbol, Number, Directive, Stray}
 use Rattle.v_lexer.specs.declared.position.Position.{Position}
 use Rattle.v_lexer.specs.declared.position.Position.TheVariants.{Text, Macro}
-use Rattle.v_lexer.specs.Bytes.{is_white, is_letter, is_decimal, is_name_byte, is_visible, is_mark, not_newline}
+use Rattle.v_syntax.specs.Bytes.{is_white, is_letter, is_decimal, is_name_byte, is_visible, is_mark, not_newline}
 use Rattle.v_lexer.specs.Words.{is_reserved}
 use Rattle.v_lexer.specs.Symbols.{is_symbol}
-use Rattle.v_lexer.specs.Literals.{judge}
+use Rattle.v_syntax.specs.Numbers.{is_number_rest, is_based, is_number}
+use Rattle.v_syntax.specs.Literals.{judge, IsNumber, IsWildNumber}
 use Rattle.v_lexer.specs.Directives.{is_nothing}
 use Rattle.v_lexer.specs.Pieces.{when, if_all, run_of, block_rest, slash_rest, directive_rest, symbol_rest, taken_rest, kind_in}
 use Rattle.v_lexer.specs.Text.{IsTokenText}
@@ -34,7 +35,7 @@ all_visible (byte ∷ bytes) is =
     let others : list_all is_name_byte bytes ≡ true = (and_parts (is_name_byte byte) (list_all is_name_byte bytes) is).1 in
     and_from (is_visible byte) (list_all is_visible bytes) (name_byte_visible byte first) (all_visible bytes others)
 
--- what is known of the bytes of a name and of a symbol
+-- what is known of the bytes of a name, of a symbol and of a number
 TextOf : Piece → List ℕ → Type 0
 TextOf Name bytes = (bytes ≢ []) × IsTrue (list_all is_visible bytes)
 TextOf Symbol bytes = is_symbol bytes ≡ true
@@ -42,7 +43,7 @@ TextOf Blank bytes = Unit {0}
 TextOf OpenComment bytes = Unit {0}
 TextOf Escaped bytes = Unit {0}
 TextOf System bytes = Unit {0}
-TextOf Number bytes = Unit {0}
+TextOf Number bytes = is_number bytes ≡ true
 TextOf (Directive word) bytes = Unit {0}
 TextOf Stray bytes = Unit {0}
 
@@ -85,6 +86,12 @@ unfolding TextOf
 name_fits first rest letter others =
     ((λ e. absurd (cc)), search (rules, and_from (is_visible first) (list_all is_visible rest) (letter_visible first letter) (all_visible rest others)))
 
+begins_with_digit : (first : ℕ) (rest : List ℕ) → is_decimal first ≡ true → is_number_rest rest ≡ true → is_number (first ∷ rest) ≡ true
+begins_with_digit first rest digit others = rw (digit, others) refl
+
+begins_with_quote : (first : ℕ) (rest : List ℕ) → is_decimal first ≡ false → nat_eq first 39 ≡ true → is_based rest ≡ true → is_number (first ∷ rest) ≡ true
+begins_with_quote first rest no_digit quote others = rw (no_digit, quote, others) refl
+
 taken_fits : (first : ℕ) (rest : List ℕ) → Fitting (first ∷ rest) (taken_rest first rest)
 unfolding taken_rest TextOf run_of if_all directive_rest symbol_rest
 taken_fits first rest =
@@ -93,8 +100,8 @@ taken_fits first rest =
     cond_fits (is_letter first) _ _ rest bytes (λ h. when_fits _ Name bytes (λ k. name_fits first rest h k)) (λ h2.
     cond_fits (nat_eq first 92) _ _ rest bytes (λ h. when_fits _ Escaped bytes (λ k. tt)) (λ h3.
     cond_fits (nat_eq first 36) _ _ rest bytes (λ h. when_fits _ System bytes (λ k. tt)) (λ h4.
-    cond_fits (is_decimal first) _ _ rest bytes (λ h. when_fits _ Number bytes (λ k. tt)) (λ h5.
-    cond_fits (nat_eq first 39) _ _ rest bytes (λ h. when_fits _ Number bytes (λ k. tt)) (λ h6.
+    cond_fits (is_decimal first) _ _ rest bytes (λ h. when_fits _ Number bytes (λ k. begins_with_digit first rest h k)) (λ h5.
+    cond_fits (nat_eq first 39) _ _ rest bytes (λ h. when_fits _ Number bytes (λ k. begins_with_quote first rest h5 h k)) (λ h6.
     cond_fits (nat_eq first 96) _ _ rest bytes (λ h. when_fits _ (Directive _) bytes (λ k. tt)) (λ h7.
     cond_fits (nat_eq first 47) _ _ rest bytes (λ h. subst (λ b. Fitting (b ∷ rest) (slash_rest rest)) (sym (eqb-true first 47 h)) (slash_fits rest)) (λ h8.
     cond_fits (is_mark first) _ _ rest bytes (λ h. when_fits _ Symbol bytes (λ k. k)) (λ h9.
@@ -125,6 +132,15 @@ number_text bytes token.Name e judged number = absurd number
 number_text bytes token.Word e judged number = absurd number
 number_text bytes token.System e judged number = absurd number
 number_text bytes token.Symbol e judged number = absurd number
+
+-- the text of a token that is a number is one as it is written
+pub number_written : (text : List ℕ) → IsTokenText token.Number text → IsNumber text
+unfolding TextOf
+number_written text is = (piece_fits text Number is.0, is.1)
+
+pub wild_written : (text : List ℕ) → IsTokenText token.Wild text → IsWildNumber text
+unfolding TextOf
+wild_written text is = (piece_fits text Number is.0, is.1)
 
 pub escaped_text : (name : List ℕ) → is_escaped_name name ≡ true → IsTokenText token.Name name
 escaped_text [] is = absurd (cc)

@@ -4,12 +4,12 @@ use Rattle.std.specs.Prelude.{ℕ, Bool, true, false, not, ◌+◌, ◌-◌, ◌
 use Rattle.std.specs.List.{list_all}
 use Rattle.std.specs.FinMap as map
 use Rattle.loc_base.specs.declared.span.Span.{Span}
-use Rattle.v_lexer.specs.declared.types.token.TokenKind.{TokenKind}
-use Rattle.v_lexer.specs.declared.types.token.TokenKind.TheVariants.{Name, Word, System, Symbol}
+use Rattle.v_syntax.specs.declared.token_kind.TokenKind.{TokenKind}
+use Rattle.v_syntax.specs.declared.token_kind.TokenKind.TheVariants.{Name, Word, System, Symbol}
 use Rattle.v_lexer.specs.declared.types.refusal.LexErr.{LexErr}
 use Rattle.v_lexer.specs.declared.types.refusal.LexErr.TheVariants as refused
-use Rattle.v_lexer.specs.declared.literals.NumberFault.{NumberFault}
-use Rattle.v_lexer.specs.declared.literals.NumberFault.TheVariants.{Malformed, Unknown, Wide}
+use Rattle.v_syntax.specs.declared.literal.NumberFault.{NumberFault}
+use Rattle.v_syntax.specs.declared.literal.NumberFault.TheVariants.{Malformed, Unknown, Wide}
 use Rattle.v_lexer.specs.declared.directives.Directive.{Directive}
 use Rattle.v_lexer.specs.declared.directives.Directive.TheVariants.{Define, Undef, Ifdef, Ifndef, Elsif, Else, Endif, ToLineEnd, Alone, Use}
 use Rattle.v_lexer.specs.declared.pieces.Piece.{Piece}
@@ -20,9 +20,9 @@ use Rattle.v_lexer.specs.declared.conditionals.Arm.{Arm}
 use Rattle.v_lexer.specs.declared.conditionals.Arm.TheVariants.{Taken, Waiting, Nested}
 use Rattle.v_lexer.specs.declared.state.State.{State}
 use Rattle.v_lexer.specs.Conditionals.{next_arm, is_nested, is_skipping}
-use Rattle.v_lexer.specs.Bytes.{is_visible}
+use Rattle.v_syntax.specs.Bytes.{is_visible}
 use Rattle.v_lexer.specs.Words.{is_reserved, is_system}
-use Rattle.v_lexer.specs.Literals.{judge, skip_white}
+use Rattle.v_syntax.specs.Literals.{judge, skip_white}
 use Rattle.v_lexer.specs.Directives.{word_of, tail_of, definition_of}
 use Rattle.v_lexer.specs.Lexeme.{Lexeme}
 

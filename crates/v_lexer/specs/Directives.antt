@@ -3,9 +3,9 @@ use Rattle.std.specs.Prelude.{ℕ, Bool, true, false, not, ◌&&◌, ◌+◌, Li
 use Rattle.std.specs.List.{list_all, prefix_len}
 use Rattle.v_lexer.specs.declared.directives.Directive.{Directive}
 use Rattle.v_lexer.specs.declared.directives.Directive.TheVariants.{Define, Undef, Ifdef, Ifndef, Elsif, Else, Endif, ToLineEnd, Alone, Use}
-use Rattle.v_lexer.specs.Bytes.{is_white, is_letter, is_name_byte, not_newline}
+use Rattle.v_syntax.specs.Bytes.{is_white, is_letter, is_name_byte, not_newline}
 use Rattle.v_lexer.specs.Words.{is_among}
-use Rattle.v_lexer.specs.Literals.{skip_white}
+use Rattle.v_syntax.specs.Literals.{skip_white}
 
 -- the directive that a word names; any other word is the use of a macro
 unfoldable pub directive_of : List ℕ → Directive

@@ -1,9 +1,6 @@
-pub mod Bytes
 pub mod Terminals
 pub mod Words
 pub mod Symbols
-pub mod Numbers
-pub mod Literals
 pub mod Directives
 pub mod Pieces
 pub mod Lexeme

@@ -1,7 +1,7 @@
 -- What the contracts of the reading functions say: the state or the refusal that a definition gives, but for want of memory.
 use Rattle.std.specs.Prelude.{◌≡◌, ℕ, suc, Bool, true, false, ◌+◌, ◌<◌, ◌≤◌, List, Result, Ok, Err}
-use Rattle.v_lexer.specs.declared.types.token.TokenKind.{TokenKind}
-use Rattle.v_lexer.specs.declared.types.token.TokenKind.TheVariants.{Name, Word, System, Symbol, Number, Wild}
+use Rattle.v_syntax.specs.declared.token_kind.TokenKind.{TokenKind}
+use Rattle.v_syntax.specs.declared.token_kind.TokenKind.TheVariants.{Name, Word, System, Symbol, Number, Wild}
 use Rattle.v_lexer.specs.declared.types.refusal.LexErr.{LexErr}
 use Rattle.v_lexer.specs.declared.types.refusal.LexErr.TheVariants.{BadByte, OpenComment, BadNumber, UnknownValue, WideNumber, Directive, OpenIf, MacroDepth, TooLong, NoMemory}
 use Rattle.v_lexer.specs.declared.pieces.Piece.{Piece}

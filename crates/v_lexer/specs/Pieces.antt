@@ -4,9 +4,9 @@ use Rattle.std.specs.Prelude.{◌≡◌, ◌≢◌, ℕ, Bool, false, true, ◌&
 use Rattle.std.specs.List.{list_all}
 use Rattle.v_lexer.specs.declared.pieces.Piece.{Piece}
 use Rattle.v_lexer.specs.declared.pieces.Piece.TheVariants.{Blank, OpenComment, Name, Escaped, System, Symbol, Number, Directive, Stray}
-use Rattle.v_lexer.specs.Bytes.{is_white, not_white, not_newline, is_letter, is_decimal, is_name_byte, is_mark}
+use Rattle.v_syntax.specs.Bytes.{is_white, not_white, not_newline, is_letter, is_decimal, is_name_byte, is_mark}
 use Rattle.v_lexer.specs.Symbols.{is_symbol}
-use Rattle.v_lexer.specs.Numbers.{is_number_rest, is_based}
+use Rattle.v_syntax.specs.Numbers.{is_number_rest, is_based}
 use Rattle.v_lexer.specs.Directives.{directive_of, is_tail, word_of, tail_of, is_nothing}
 
 -- a piece of this kind where the test holds

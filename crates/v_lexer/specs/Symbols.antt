@@ -1,7 +1,7 @@
 -- The symbols: operators and marks of punctuation (IEEE 1364-2005, 3.4 and 5.1).
 use Rattle.std.specs.Prelude.{ℕ, Bool, false, ◌&&◌, ◌||◌, List, [], ◌∷◌, if◌then◌else◌, ◌==◌, codes}
 use Rattle.std.specs.List.{list_any}
-use Rattle.v_lexer.specs.Bytes.{is_mark}
+use Rattle.v_syntax.specs.Bytes.{is_mark}
 
 -- the bytes that make a symbol of two bytes when they stand behind this one:
 -- ** ~& ~| ~^ ^~ && || << <= >> >= == != +: -:

@@ -1,13 +1,13 @@
 -- The texts of a token of each kind (IEEE 1364-2005, clause 3).
 use Rattle.std.specs.Prelude.{◌≡◌, ◌≢◌, ℕ, false, List, [], IsTrue, Some, Ok}
 use Rattle.std.specs.List.{list_all}
-use Rattle.v_lexer.specs.declared.types.token.TokenKind.{TokenKind}
-use Rattle.v_lexer.specs.declared.types.token.TokenKind.TheVariants.{Name, Word, System, Symbol, Number, Wild}
+use Rattle.v_syntax.specs.declared.token_kind.TokenKind.{TokenKind}
+use Rattle.v_syntax.specs.declared.token_kind.TokenKind.TheVariants.{Name, Word, System, Symbol, Number, Wild}
 use Rattle.v_lexer.specs.declared.pieces.Piece.TheVariants.{Number as NumberPiece}
-use Rattle.v_lexer.specs.Bytes.{is_visible}
+use Rattle.v_syntax.specs.Bytes.{is_visible}
 use Rattle.v_lexer.specs.Words.{is_reserved, is_system}
 use Rattle.v_lexer.specs.Symbols.{is_symbol}
-use Rattle.v_lexer.specs.Literals.{judge}
+use Rattle.v_syntax.specs.Literals.{judge}
 use Rattle.v_lexer.specs.Pieces.{kind_in}
 
 -- a text that a token of this kind can have

@@ -1,32 +1,32 @@
 //! Classes of bytes (IEEE 1364-2005, 3.2, 3.5.1 and 3.7).
 ghost use Rattle.std.specs.Prelude.{◌≡◌, [], ◌∷◌, MatchOption, ◌≤◌, length, drop};
 ghost use Rattle.std.specs.List.{prefix_len};
-ghost use Rattle.v_lexer.specs.Bytes as class;
+ghost use Rattle.v_syntax.specs.Bytes as class;
 ghost use Rattle.v_lexer.specs.Directives.{word_size};
 ghost use Rattle.v_lexer.specs.Pieces.{is_plain};
 
-#[tactic(auto, unfolding(crate::specs::Bytes::is_white))]
+#[tactic(auto, unfolding(v_syntax::specs::Bytes::is_white))]
 pub fn is_white(byte: u8) -> bool
     ensures { result ≡ class.is_white byte }
 {
     matches!(byte, b' ' | 9..=10 | 12..=13)
 }
 
-#[tactic(auto, unfolding(crate::specs::Bytes::is_letter))]
+#[tactic(auto, unfolding(v_syntax::specs::Bytes::is_letter))]
 pub fn is_letter(byte: u8) -> bool
     ensures { result ≡ class.is_letter byte }
 {
     matches!(byte, b'a'..=b'z' | b'A'..=b'Z' | b'_')
 }
 
-#[tactic(auto, unfolding(crate::specs::Bytes::is_decimal))]
+#[tactic(auto, unfolding(v_syntax::specs::Bytes::is_decimal))]
 pub fn is_decimal(byte: u8) -> bool
     ensures { result ≡ class.is_decimal byte }
 {
     matches!(byte, b'0'..=b'9')
 }
 
-#[tactic(auto, unfolding(crate::specs::Bytes::is_name_byte))]
+#[tactic(auto, unfolding(v_syntax::specs::Bytes::is_name_byte))]
 pub fn is_name_byte(byte: u8) -> bool
     ensures { result ≡ class.is_name_byte byte }
 {
@@ -40,7 +40,7 @@ pub fn is_visible(byte: u8) -> bool
 }
 
 /// Whether a symbol begins with this byte.
-#[tactic(auto, unfolding(crate::specs::Bytes::is_mark))]
+#[tactic(auto, unfolding(v_syntax::specs::Bytes::is_mark))]
 pub fn is_mark(byte: u8) -> bool
     ensures { result ≡ class.is_mark byte }
 {

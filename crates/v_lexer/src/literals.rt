@@ -2,26 +2,15 @@
 ghost use Rattle.std.specs.Prelude.{◌≡◌, ◌+◌, ◌*◌, ◌^◌, ◌<◌, ◌≤◌, ◌||◌, nat_eq, length, position, IfOk, IfSome, MatchOption};
 ghost use Rattle.v_lexer.specs.Outcomes.{IsNumberKind};
 ghost use Rattle.std.specs.List.{list_any};
-ghost use Rattle.v_lexer.specs.Numbers as shape;
-ghost use Rattle.v_lexer.specs.Literals as literal;
+ghost use Rattle.v_syntax.specs.Numbers as shape;
+ghost use Rattle.v_syntax.specs.Literals as literal;
 
 use crate::bytes::{behind, first_of, is_decimal, white_run};
 use crate::numbers::{is_hexadecimal, is_sign, is_unknown, is_wild};
-use crate::types::TokenKind;
-
-/// What is wrong with a number.
-#[derive(Clone, Copy)]
-pub enum NumberFault {
-    /// The base letter or the digits are missing, or a digit isn't one of the base.
-    Malformed,
-    /// An unknown digit, or a wildcard digit in base ten.
-    Unknown,
-    /// A size that isn't 1 to 128, or a value that is too wide.
-    Wide,
-}
+use v_syntax::{NumberFault, TokenKind};
 
 /// The value of a digit; that of a wildcard is 0.
-#[tactic(auto, unfolding(crate::specs::Literals::digit_value, crate::specs::Bytes::is_decimal))]
+#[tactic(auto, unfolding(v_syntax::specs::Literals::digit_value, v_syntax::specs::Bytes::is_decimal))]
 fn digit_value(byte: u8) -> u8
     ensures { result ≡ literal.digit_value byte }
 {
@@ -63,7 +52,7 @@ fn value_of(base: u128, digits: &[u8]) -> Option<u128>
 }
 
 /// The number that a base letter names.
-#[tactic(auto, unfolding(crate::specs::Literals::base_of))]
+#[tactic(auto, unfolding(v_syntax::specs::Literals::base_of))]
 fn base_of(byte: u8) -> Option<u128>
     ensures names { result ≡ literal.base_of byte }
     ensures positive { IfSome result (λ base. 1 ≤ base) }
@@ -78,7 +67,7 @@ fn base_of(byte: u8) -> Option<u128>
 }
 
 /// What is wrong with a digit in a base.
-#[tactic(auto, unfolding(crate::specs::Literals::digit_fault))]
+#[tactic(auto, unfolding(v_syntax::specs::Literals::digit_fault))]
 fn digit_fault(base: u128, byte: u8) -> Option<NumberFault>
     ensures { result ≡ literal.digit_fault base byte }
 {

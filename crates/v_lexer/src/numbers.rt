@@ -4,60 +4,60 @@ ghost use Rattle.std.specs.List.{prefix_len};
 ghost use Rattle.v_lexer.specs.declared.pieces.Piece.TheVariants.{Number};
 ghost use Rattle.v_lexer.specs.Longest.{HasFront, HasNoFront};
 ghost use Rattle.v_lexer.specs.Pieces.{if_all};
-ghost use Rattle.v_lexer.specs.Numbers as shape;
+ghost use Rattle.v_syntax.specs.Numbers as shape;
 
 use crate::bytes::{behind, first_of, is_decimal, is_white, white_run};
 
-#[tactic(auto, unfolding(crate::specs::Numbers::is_sign))]
+#[tactic(auto, unfolding(v_syntax::specs::Numbers::is_sign))]
 pub fn is_sign(byte: u8) -> bool
     ensures { result ≡ shape.is_sign byte }
 {
     matches!(byte, b's' | b'S')
 }
 
-#[tactic(auto, unfolding(crate::specs::Numbers::is_base))]
+#[tactic(auto, unfolding(v_syntax::specs::Numbers::is_base))]
 fn is_base(byte: u8) -> bool
     ensures { result ≡ shape.is_base byte }
 {
     matches!(byte, b'b' | b'B' | b'o' | b'O' | b'd' | b'D' | b'h' | b'H')
 }
 
-#[tactic(auto, unfolding(crate::specs::Numbers::is_wild))]
+#[tactic(auto, unfolding(v_syntax::specs::Numbers::is_wild))]
 pub fn is_wild(byte: u8) -> bool
     ensures { result ≡ shape.is_wild byte }
 {
     matches!(byte, b'z' | b'Z' | b'?')
 }
 
-#[tactic(auto, unfolding(crate::specs::Numbers::is_unknown))]
+#[tactic(auto, unfolding(v_syntax::specs::Numbers::is_unknown))]
 pub fn is_unknown(byte: u8) -> bool
     ensures { result ≡ shape.is_unknown byte }
 {
     matches!(byte, b'x' | b'X')
 }
 
-#[tactic(auto, unfolding(crate::specs::Numbers::is_hexadecimal, crate::specs::Bytes::is_decimal))]
+#[tactic(auto, unfolding(v_syntax::specs::Numbers::is_hexadecimal, v_syntax::specs::Bytes::is_decimal))]
 pub fn is_hexadecimal(byte: u8) -> bool
     ensures { result ≡ shape.is_hexadecimal byte }
 {
     matches!(byte, b'0'..=b'9' | b'a'..=b'f' | b'A'..=b'F')
 }
 
-#[tactic(auto, unfolding(crate::specs::Numbers::is_digit))]
+#[tactic(auto, unfolding(v_syntax::specs::Numbers::is_digit))]
 fn is_digit(byte: u8) -> bool
     ensures { result ≡ shape.is_digit byte }
 {
     is_hexadecimal(byte) || is_unknown(byte) || is_wild(byte)
 }
 
-#[tactic(auto, unfolding(crate::specs::Numbers::is_digit_or_underscore))]
+#[tactic(auto, unfolding(v_syntax::specs::Numbers::is_digit_or_underscore))]
 fn is_digit_or_underscore(byte: u8) -> bool
     ensures { result ≡ shape.is_digit_or_underscore byte }
 {
     is_digit(byte) || byte == b'_'
 }
 
-#[tactic(auto, unfolding(crate::specs::Numbers::is_decimal_or_underscore))]
+#[tactic(auto, unfolding(v_syntax::specs::Numbers::is_decimal_or_underscore))]
 fn is_decimal_or_underscore(byte: u8) -> bool
     ensures { result ≡ shape.is_decimal_or_underscore byte }
 {

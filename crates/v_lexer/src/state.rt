@@ -1,9 +1,9 @@
 //! What the pieces read so far have left, and the tokens that pieces add to it.
 ghost use Rattle.std.specs.Prelude.{◌≡◌, ◌≤◌, false, length, Some, if◌then◌else◌};
 ghost use Rattle.v_lexer.specs.declared.pieces.Piece.TheVariants as piece_kind;
-ghost use Rattle.v_lexer.specs.declared.types.token.TokenKind.TheVariants as word;
+ghost use Rattle.v_syntax.specs.declared.token_kind.TokenKind.TheVariants as word;
 ghost use Rattle.std.specs.List.{list_all};
-ghost use Rattle.v_lexer.specs.Bytes as class;
+ghost use Rattle.v_syntax.specs.Bytes as class;
 ghost use Rattle.v_lexer.specs.Acts as act;
 ghost use Rattle.v_lexer.specs.Outcomes.{Gives, HasSpan, IsWithin};
 ghost use Rattle.v_lexer.specs.Pieces.{kind_in};
@@ -13,14 +13,15 @@ ghost use Rattle.v_lexer.specs.Tokens.{start};
 
 use crate::bytes::{behind, first_of, is_visible};
 use crate::conditionals::Conditionals;
-use crate::literals::{NumberFault, judge};
+use crate::literals::judge;
 use crate::macros::Macros;
 use crate::position::Position;
 use crate::terminals::terminal_of;
-use crate::types::{LexErr, Token, TokenKind, Tokens};
+use crate::types::{LexErr, Token, Tokens};
 use crate::words::{is_reserved, is_system};
 use loc_base::{Bytes, Span};
 use std::alloc::Global;
+use v_syntax::{NumberFault, TokenKind};
 
 /// The macros, the open conditionals and the tokens so far.
 #[derive(Drop)]

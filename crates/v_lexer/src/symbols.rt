@@ -1,7 +1,7 @@
 //! Symbols (IEEE 1364-2005, 3.4 and 5.1).
 ghost use Rattle.std.specs.Prelude.{◌≡◌, true, if◌then◌else◌};
 ghost use Rattle.v_lexer.specs.declared.pieces.Piece.TheVariants.{Symbol};
-ghost use Rattle.v_lexer.specs.Bytes as class;
+ghost use Rattle.v_syntax.specs.Bytes as class;
 ghost use Rattle.v_lexer.specs.Symbols as symbol;
 ghost use Rattle.v_lexer.specs.Pieces.{symbol_rest};
 ghost use Rattle.v_lexer.specs.Longest.{HasFront};

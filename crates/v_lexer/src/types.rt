@@ -5,4 +5,5 @@ mod token;
 
 pub use refusal::LexErr;
 pub use terminal::Terminal;
-pub use token::{Token, TokenKind, Tokens};
+pub use token::{Token, Tokens};
+pub use v_syntax::TokenKind;

@@ -1,7 +1,7 @@
 -- A source has no more modules, ports and items than tokens, and no other tree.
 use Rattle.std.proofs.Common.{◌≡◌, ℕ, suc, ◌+◌, ◌<◌, ◌≤◌, inl, inr, Bool, true, false, List, [], ◌∷◌, length, refl, ap, sym, ◌∙◌, subst, arith}
 use Rattle.v_lexer.specs.Lexeme.{Lexeme}
-use Rattle.v_tree.specs.declared.declaration.Identifier.{Identifier}
+use Rattle.v_syntax.specs.declared.declaration.Identifier.{Identifier}
 use Rattle.v_lexer.specs.declared.types.terminal.Terminal.{Terminal}
 use Rattle.v_lexer.specs.declared.types.terminal.Terminal.TheVariants as marks
 use Rattle.v_tree.specs.Marks.{mark_at, same}
@@ -10,7 +10,7 @@ use Rattle.v_tree.proofs.BindLemmas.{ok-one}
 use Rattle.v_tree.proofs.PlaceLemmas.{marked_inside}
 use Rattle.v_tree.proofs.SteadyLemmas.{not_by}
 use Rattle.v_parts.proofs.NameLaws.{law_identifier}
-use Rattle.v_tree.specs.ModuleTree.{PlainPorts, PlainModule, no_ports, count_ports, parts_of}
+use Rattle.v_syntax.specs.ModuleTree.{PlainPorts, PlainModule, no_ports, count_ports, parts_of}
 use Rattle.v_parts.specs.Reading.{identifier_at}
 use Rattle.v_parts.specs.Productions.{AreMore, AreListed, AreRun, IsIdentifier}
 use Rattle.v_declarations.specs.Headers.{IsHeaderPorts, IsNextPort, is_reg}

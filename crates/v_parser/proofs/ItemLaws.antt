@@ -6,19 +6,19 @@ use Rattle.v_lexer.specs.declared.types.terminal.Terminal.TheVariants as marks
 use Rattle.v_tree.specs.declared.fault.Fault.TheVariants.{Deep}
 use Rattle.v_tree.specs.Marks.{mark_at, same}
 use Rattle.v_tree.specs.Sites.{site}
-use Rattle.v_tree.specs.Tree.{Tree}
+use Rattle.v_syntax.specs.Tree.{Tree}
 use Rattle.v_tree.specs.Faults.{no_place}
 use Rattle.v_tree.proofs.BindLemmas.{bad}
 use Rattle.v_parser.specs.declared.item_kinds.ItemKind.{ItemKind}
 use Rattle.v_parser.specs.declared.item_kinds.ItemKind.TheVariants as kinds
 use Rattle.v_parser.specs.ItemKinds.{item_kind}
-use Rattle.v_tree.specs.ItemTree.{PlainItem, PlainBlock, generate_item, loop_item, if_item, if_else_item, single, several, items_of}
+use Rattle.v_syntax.specs.ItemTree.{PlainItem, PlainBlock, generate_item, loop_item, if_item, if_else_item, single, several, items_of}
 use Rattle.v_parts.specs.Reading.{optional_at}
 use Rattle.v_parts.specs.Productions.{IsOptional}
 use Rattle.v_statements.specs.Statements.{IsLabel, IsInParens, IsHead}
 use Rattle.v_statements.specs.StatementReading.{label_at, head_at, in_parens_at}
 use Rattle.v_declarations.specs.Declarations.{IsDeclaration}
-use Rattle.v_tree.specs.declared.item.GateKind.{GateKind}
+use Rattle.v_syntax.specs.declared.item.GateKind.{GateKind}
 use Rattle.v_declarations.specs.Structures.{IsStructure, gate_kind}
 use Rattle.v_statements.specs.Procedures.{IsProcedure}
 use Rattle.v_parser.specs.Items.{NestedItem, AreItemsUpTo, IsGenerate, IsSeveral, IsSingle, IsBlockItem, IsLoopItem, IsElseItem, IsIfItem, IsGenerated, IsItemWith, IsItem}

@@ -10,7 +10,7 @@ use Rattle.v_tree.proofs.BindLemmas.{good}
 use Rattle.v_tree.proofs.CompleteLemmas.{then_of, else_of}
 use Rattle.v_tree.proofs.PlaceLemmas.{marked_inside}
 use Rattle.v_tree.proofs.SteadyLemmas.{reach_more, begins_less, not_by}
-use Rattle.v_tree.specs.ModuleTree.{PlainModule}
+use Rattle.v_syntax.specs.ModuleTree.{PlainModule}
 use Rattle.v_parts.specs.Reading.{identifier_at}
 use Rattle.v_parts.specs.Productions.{IsIdentifier}
 use Rattle.v_declarations.specs.Headers.{AreHeaderParameters, IsHeaderPorts}

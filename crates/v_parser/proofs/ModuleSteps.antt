@@ -2,11 +2,11 @@
 use Rattle.std.proofs.Common.{◌≡◌, ◌≢◌, ℕ, zero, suc, ◌-◌, ◌<◌, ◌≤◌, if◌then◌else◌, nat_lt, le-ltb, lt-ltb, List, [], ◌∷◌, ◌++◌, length, map, sym, ap, ◌∙◌, refl, arith}
 use Rattle.v_lexer.specs.Lexeme.{Lexeme}
 use Rattle.v_tree.specs.declared.fault.Fault.{Fault}
-use Rattle.v_tree.specs.declared.module.Module.{Module}
+use Rattle.v_syntax.specs.declared.module.Module.{Module}
 use Rattle.v_tree.specs.Reading.{◌>>=◌}
 use Rattle.v_tree.proofs.BindLemmas.{good, bad}
 use Rattle.v_tree.proofs.CompleteLemmas.{step, then_of, else_of}
-use Rattle.v_tree.specs.ModuleTree.{PlainModule, module_of}
+use Rattle.v_syntax.specs.ModuleTree.{PlainModule, module_of}
 use Rattle.v_parser.specs.ModuleReading.{module_at, modules_at}
 use Rattle.v_parts.proofs.ListSteps.{with_front, front_one, append_none}
 

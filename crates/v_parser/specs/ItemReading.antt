@@ -7,12 +7,12 @@ use Rattle.v_tree.specs.declared.fault.Fault.TheVariants.{Deep}
 use Rattle.v_tree.specs.Marks.{mark_at, same}
 use Rattle.v_tree.specs.Sites.{site}
 use Rattle.v_tree.specs.Faults.{no_place}
-use Rattle.v_tree.specs.Tree.{Tree}
+use Rattle.v_syntax.specs.Tree.{Tree}
 use Rattle.v_tree.specs.Reading.{Read, ◌>>=◌, expect, lower}
 use Rattle.v_parser.specs.declared.item_kinds.ItemKind.{ItemKind}
 use Rattle.v_parser.specs.declared.item_kinds.ItemKind.TheVariants as kind
 use Rattle.v_parser.specs.ItemKinds.{item_kind}
-use Rattle.v_tree.specs.ItemTree.{PlainItem, PlainBlock, generate_item, loop_item, if_item, if_else_item, single, several, items_of}
+use Rattle.v_syntax.specs.ItemTree.{PlainItem, PlainBlock, generate_item, loop_item, if_item, if_else_item, single, several, items_of}
 use Rattle.v_parts.specs.Reading.{optional_at, run_at}
 use Rattle.v_statements.specs.StatementReading.{label_at, head_at, in_parens_at}
 use Rattle.v_declarations.specs.DeclarationReading.{declaration_at}

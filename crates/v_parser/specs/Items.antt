@@ -2,16 +2,16 @@
 -- where `nesting_left` levels of nesting are left. Each production stands as its comment, as in Productions.
 use Rattle.std.specs.Prelude.{◌≡◌, ◌≢◌, ℕ, zero, suc, ◌+◌, ◌⊎◌, Bool, true, List, Option}
 use Rattle.v_lexer.specs.Lexeme.{Lexeme}
-use Rattle.v_tree.specs.declared.declaration.Identifier.{Identifier}
+use Rattle.v_syntax.specs.declared.declaration.Identifier.{Identifier}
 use Rattle.v_lexer.specs.declared.types.terminal.Terminal.{Terminal}
 use Rattle.v_lexer.specs.declared.types.terminal.Terminal.TheVariants.{Colon, Begin, End, Else, Endgenerate, For, Generate, If}
 use Rattle.v_tree.specs.Marks.{mark_at}
 use Rattle.v_tree.specs.Sites.{site}
-use Rattle.v_tree.specs.Tree.{Tree}
+use Rattle.v_syntax.specs.Tree.{Tree}
 use Rattle.v_parts.specs.Productions.{IsOptional, AreRun}
-use Rattle.v_tree.specs.StatementTree.{PlainHead}
+use Rattle.v_syntax.specs.StatementTree.{PlainHead}
 use Rattle.v_statements.specs.Statements.{IsLabel, IsInParens, IsHead}
-use Rattle.v_tree.specs.ItemTree.{PlainItem, PlainBlock, generate_item, loop_item, if_item, if_else_item, single, several, items_of}
+use Rattle.v_syntax.specs.ItemTree.{PlainItem, PlainBlock, generate_item, loop_item, if_item, if_else_item, single, several, items_of}
 use Rattle.v_declarations.specs.Declarations.{IsDeclaration}
 use Rattle.v_declarations.specs.Structures.{IsStructure}
 use Rattle.v_statements.specs.Procedures.{IsProcedure}

@@ -2,10 +2,10 @@
 use Rattle.std.specs.Prelude.{ℕ, zero, suc, List, [], ◌∷◌, length, Ok, if◌then◌else◌, nat_lt}
 use Rattle.v_lexer.specs.Lexeme.{Lexeme}
 use Rattle.v_lexer.specs.declared.types.terminal.Terminal.TheVariants as mark
-use Rattle.v_tree.specs.declared.declaration.Identifier.{Identifier}
+use Rattle.v_syntax.specs.declared.declaration.Identifier.{Identifier}
 use Rattle.v_tree.specs.Sites.{site}
 use Rattle.v_tree.specs.Reading.{Read, ◌>>=◌, expect}
-use Rattle.v_tree.specs.ModuleTree.{PlainHeaderParameter, PlainPorts, PlainModule}
+use Rattle.v_syntax.specs.ModuleTree.{PlainHeaderParameter, PlainPorts, PlainModule}
 use Rattle.v_parts.specs.Reading.{identifier_at}
 use Rattle.v_declarations.specs.HeaderReading.{header_parameters_at, header_ports_at}
 use Rattle.v_parser.specs.ItemReading.{items_at, item_at}

@@ -2,8 +2,8 @@
 use Rattle.std.specs.Prelude.{ℕ, List, map}
 use Rattle.std.specs.declared.vec.Vec.{Vec}
 use Rattle.std.specs.declared.alloc.Global.{Global}
-use Rattle.v_tree.specs.declared.module.Module.{Module}
-use Rattle.v_tree.specs.ModuleTree.{PlainModule, module_of}
+use Rattle.v_syntax.specs.declared.module.Module.{Module}
+use Rattle.v_syntax.specs.ModuleTree.{PlainModule, module_of}
 
 abbrev pub seen_module : Module × ℕ → PlainModule × ℕ
 seen_module x = (module_of x.0, x.1)

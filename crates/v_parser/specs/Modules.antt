@@ -2,16 +2,16 @@
 -- comment, as in Productions.
 use Rattle.std.specs.Prelude.{◌≡◌, ℕ, ◌+◌, List, [], ◌∷◌, length, Result, MatchResult}
 use Rattle.v_lexer.specs.Lexeme.{Lexeme}
-use Rattle.v_tree.specs.declared.declaration.Identifier.{Identifier}
-use Rattle.v_tree.specs.declared.module.SourceTree.{SourceTree}
+use Rattle.v_syntax.specs.declared.declaration.Identifier.{Identifier}
+use Rattle.v_syntax.specs.declared.module.SourceTree.{SourceTree}
 use Rattle.v_lexer.specs.declared.types.terminal.Terminal.TheVariants.{Semicolon, Endmodule, Module}
 use Rattle.v_tree.specs.declared.fault.ParseErr.{ParseErr}
 use Rattle.v_tree.specs.declared.fault.ParseErr.TheVariants as error
 use Rattle.v_tree.specs.Marks.{mark_at}
 use Rattle.v_tree.specs.Sites.{site}
 use Rattle.v_parts.specs.Productions.{IsIdentifier}
-use Rattle.v_tree.specs.ItemTree.{PlainItem}
-use Rattle.v_tree.specs.ModuleTree.{PlainHeaderParameter, PlainPorts, PlainModule, source_of}
+use Rattle.v_syntax.specs.ItemTree.{PlainItem}
+use Rattle.v_syntax.specs.ModuleTree.{PlainHeaderParameter, PlainPorts, PlainModule, source_of}
 use Rattle.v_declarations.specs.Headers.{AreHeaderParameters, IsHeaderPorts}
 use Rattle.v_parser.specs.Items.{AreItemsUpTo, IsItem}
 use Rattle.v_parts.specs.Answers.{ShowsFault}

@@ -1,12 +1,12 @@
 //! The nodes of generate items, once what nests in them is read.
 ghost use Rattle.std.specs.Prelude.{◌≡◌, map, IfOk};
-ghost use Rattle.v_tree.specs.Tree.{tree_of};
-ghost use Rattle.v_tree.specs.StatementTree.{head_of};
-ghost use Rattle.v_tree.specs.ItemTree.{item_of, block_of, items_of, generate_item, loop_item, if_item, if_else_item, single, several};
+ghost use Rattle.v_syntax.specs.Tree.{tree_of};
+ghost use Rattle.v_syntax.specs.StatementTree.{head_of};
+ghost use Rattle.v_syntax.specs.ItemTree.{item_of, block_of, items_of, generate_item, loop_item, if_item, if_else_item, single, several};
 
 use loc_base::NoMemory;
 use std::alloc::Global;
-use v_tree::{Expr, GenerateBlock, Identifier, Item, LoopHead, Site};
+use v_syntax::{Expr, GenerateBlock, Identifier, Item, LoopHead, Site};
 
 pub fn generate(site: Site, items: Vec<Item>) -> Item
     ensures { item_of result ≡ generate_item site (items_of (map item_of items.items)) }

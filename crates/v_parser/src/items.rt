@@ -14,9 +14,8 @@ use v_declarations::{declaration, structure};
 use v_lexer::types::Token;
 use v_parts::Read;
 use v_statements::{in_parens, label_if, loop_head, procedure};
-use v_tree::{
-    GenerateBlock, Item, Stop, Terminal, expect, lower, mark_at, no_place, site_of, stands,
-};
+use v_syntax::{GenerateBlock, Item};
+use v_tree::{Stop, Terminal, expect, lower, mark_at, no_place, site_of, stands};
 
 /// An item, where `nesting_left` levels of nesting are left to it.
 #[tactic(auto, using(crate::proofs::ItemSteps::item_over), unfolding(crate::specs::ItemReading::item_with))]

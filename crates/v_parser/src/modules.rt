@@ -1,7 +1,7 @@
 //! Modules (IEEE 1364-2005, 12.1 and A.1.2).
 ghost use Rattle.std.specs.Prelude.{◌<◌, ◌≤◌, ◌^◌, length, map, IfOk};
 ghost use Rattle.v_tree.specs.Faults.{Gives};
-ghost use Rattle.v_tree.specs.ModuleTree.{header_parameter_of, ports_of};
+ghost use Rattle.v_syntax.specs.ModuleTree.{header_parameter_of, ports_of};
 ghost use Rattle.v_parts.specs.Seen.{Inside};
 ghost use Rattle.v_parser.specs.ModuleSeen.{seen_module, seen_modules};
 ghost use Rattle.v_parser.specs.ModuleReading.{module_items_at, module_at, source_at};
@@ -11,7 +11,8 @@ use std::alloc::Global;
 use v_declarations::{header_parameters, header_ports};
 use v_lexer::types::Token;
 use v_parts::{Read, identifier};
-use v_tree::{HeaderParameter, Identifier, Module, Ports, Terminal, expect, site_of};
+use v_syntax::{HeaderParameter, Identifier, Module, Ports};
+use v_tree::{Terminal, expect, site_of};
 
 /// How deep each part of a module may nest.
 const MOST_NESTING: u32 = 256;

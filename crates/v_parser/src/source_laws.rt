@@ -1,7 +1,7 @@
 //! Laws of sources, as contracts of calls that take no time.
 ghost use Rattle.std.specs.Prelude.{◌≡◌, ◌≤◌, List, length};
 ghost use Rattle.v_lexer.specs.Lexeme.{Lexeme};
-ghost use Rattle.v_tree.specs.ModuleTree.{PlainModule, parts_of};
+ghost use Rattle.v_syntax.specs.ModuleTree.{PlainModule, parts_of};
 ghost use Rattle.v_parser.specs.Modules.{IsSource};
 
 /// Tokens have at most one tree.

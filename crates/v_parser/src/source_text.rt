@@ -1,13 +1,14 @@
 //! The tree of a whole text (IEEE 1364-2005, A.1).
 ghost use Rattle.std.specs.Prelude.{◌≢◌, ◌<◌, ◌^◌, List, length, IfOk, IfErr};
 ghost use Rattle.v_tree.specs.declared.fault.ParseErr.TheVariants as error;
-ghost use Rattle.v_tree.specs.ModuleTree.{PlainModule, source_of};
+ghost use Rattle.v_syntax.specs.ModuleTree.{PlainModule, source_of};
 ghost use Rattle.v_parser.specs.Modules.{IsSource, IsSourceAnswer, ShowsNoSource};
 
 use crate::modules::modules;
 use std::alloc::Global;
 use v_lexer::types::Token;
-use v_tree::{ParseErr, SourceTree, error_of};
+use v_syntax::SourceTree;
+use v_tree::{ParseErr, error_of};
 
 /// The tree of all the tokens (IEEE 1364-2005, A.1): the modules, one behind the other, and none where there is no token.
 /// `Unexpected` comes where no production has a token, `Unsupported` where a token is of a form that is left out, `Deep` where a

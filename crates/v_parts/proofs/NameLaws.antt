@@ -7,7 +7,7 @@ use Rattle.v_lexer.specs.declared.types.terminal.Terminal.TheVariants as marks
 use Rattle.v_tree.specs.declared.fault.Fault.TheVariants.{Unsupported, Deep}
 use Rattle.v_tree.specs.Marks.{mark_at, same}
 use Rattle.v_tree.specs.Sites.{text_at}
-use Rattle.v_tree.specs.Tree.{Tree, wild}
+use Rattle.v_syntax.specs.Tree.{Tree, wild}
 use Rattle.v_tree.specs.Reading.{Read, below, selects_at, whole_expression}
 use Rattle.v_tree.specs.Expressions.{IsWild, IsWhole}
 use Rattle.v_tree.proofs.MarkLemmas.{same_true}
@@ -17,7 +17,7 @@ use Rattle.v_tree.proofs.CompleteLemmas.{else_of, apart_of, complete_selects}
 use Rattle.v_tree.proofs.SteadyLemmas.{Steady, st_look, st_if, not_by, within_by, text_kept, site_kept}
 use Rattle.v_tree.proofs.SelectLemmas.{selects_found, steady_selects}
 use Rattle.v_tree.proofs.WholeLemmas.{whole_sound, whole_complete, begins_plain, wild_bad, st_whole_expression}
-use Rattle.v_tree.specs.PartTree.{number_delay, name_delay, parens_delay, PlainLeft, name_left, concat_left, lefts_of}
+use Rattle.v_syntax.specs.PartTree.{number_delay, name_delay, parens_delay, PlainLeft, name_left, concat_left, lefts_of}
 use Rattle.v_parts.specs.Reading.{name_at, identifier_at, value_at, equals_at, range_at, parens_delay_at, name_delay_at, number_delay_at, behind_hash_at, delay_at, name_left_at, concat_left_at, close_left_at, left_with, left_at, list_at, named_value_at}
 use Rattle.v_parts.specs.Productions.{IsName, IsIdentifier, IsValue, IsEquals, IsRange, IsNumberDelay, IsParensDelay, IsNameDelay, IsDelay, AreIndexes, IsNameLeft, IsConcatLeft, IsLeftWith, IsLeft, AreListed, IsNamedValue}
 use Rattle.v_parts.proofs.Laws.{Start, Law, LawFrom, later, law_as, law_bind, law_expect, law_open, law_no_place, law_found, law_node, law_choice}

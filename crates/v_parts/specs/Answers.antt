@@ -2,13 +2,13 @@
 use Rattle.std.specs.Prelude.{◌≡◌, ℕ, ◌+◌, ◌≤◌, List, true, length, Result, MatchResult}
 use Rattle.v_lexer.specs.Lexeme.{Lexeme}
 use Rattle.v_lexer.specs.declared.types.terminal.Terminal.TheVariants as mark
-use Rattle.v_tree.specs.declared.statement.Statement.{Statement}
+use Rattle.v_syntax.specs.declared.statement.Statement.{Statement}
 use Rattle.v_tree.specs.declared.fault.Fault.{Fault}
 use Rattle.v_tree.specs.declared.fault.ParseErr.{ParseErr}
 use Rattle.v_tree.specs.declared.fault.ParseErr.TheVariants as error
 use Rattle.v_tree.specs.Marks.{mark_at}
 use Rattle.v_tree.specs.Faults.{fault_place, is_unsupported, is_deep, error_of_fault, Begins, told_by}
-use Rattle.v_tree.specs.StatementTree.{PlainStatement, statement_of}
+use Rattle.v_syntax.specs.StatementTree.{PlainStatement, statement_of}
 
 -- no tokens that begin as these do, up to the one that tells of the fault, have a tree of the production from a on; the place
 -- behind the last token stands for the end, so there it is said of these tokens alone

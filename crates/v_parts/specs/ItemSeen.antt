@@ -2,11 +2,11 @@
 use Rattle.std.specs.Prelude.{ℕ, List, map}
 use Rattle.std.specs.declared.vec.Vec.{Vec}
 use Rattle.std.specs.declared.alloc.Global.{Global}
-use Rattle.v_tree.specs.declared.item.Item.{Item}
-use Rattle.v_tree.specs.declared.module.HeaderParameter.{HeaderParameter}
-use Rattle.v_tree.specs.declared.module.Ports.{Ports}
-use Rattle.v_tree.specs.ItemTree.{PlainItem, item_of}
-use Rattle.v_tree.specs.ModuleTree.{PlainHeaderParameter, header_parameter_of, PlainPorts, ports_of}
+use Rattle.v_syntax.specs.declared.item.Item.{Item}
+use Rattle.v_syntax.specs.declared.module.HeaderParameter.{HeaderParameter}
+use Rattle.v_syntax.specs.declared.module.Ports.{Ports}
+use Rattle.v_syntax.specs.ItemTree.{PlainItem, item_of}
+use Rattle.v_syntax.specs.ModuleTree.{PlainHeaderParameter, header_parameter_of, PlainPorts, ports_of}
 
 abbrev pub seen_item : Item × ℕ → PlainItem × ℕ
 seen_item x = (item_of x.0, x.1)

@@ -3,15 +3,15 @@
 -- x? is x where its first token stands and nothing elsewhere, x,+ is one or more with commas between, as far as commas go.
 use Rattle.std.specs.Prelude.{◌≡◌, ◌≢◌, ℕ, zero, suc, ◌+◌, ◌<◌, ◌≤◌, ◌⊎◌, List, [], ◌∷◌, Option, Some, None}
 use Rattle.v_lexer.specs.Lexeme.{Lexeme}
-use Rattle.v_tree.specs.declared.declaration.Identifier.{Identifier}
+use Rattle.v_syntax.specs.declared.declaration.Identifier.{Identifier}
 use Rattle.v_lexer.specs.declared.types.terminal.Terminal.{Terminal}
 use Rattle.v_lexer.specs.declared.types.terminal.Terminal.TheVariants.{Number, Name, Open, Close, OpenBracket, CloseBracket, OpenBrace, CloseBrace, Comma, Colon, Equals, Hash}
 use Rattle.v_tree.specs.Marks.{mark_at}
 use Rattle.v_tree.specs.Sites.{text_at, site}
-use Rattle.v_tree.specs.Tree.{Tree, Selections}
+use Rattle.v_syntax.specs.Tree.{Tree, Selections}
 use Rattle.v_tree.specs.Depth.{nesting_of_selects, levels_of_selects}
 use Rattle.v_tree.specs.Expressions.{IsExpr, AreSelects, how_many, Ends, Within}
-use Rattle.v_tree.specs.PartTree.{PlainRange, PlainNamed, PlainDelay, number_delay, name_delay, parens_delay, PlainLeft, name_left, concat_left, lefts_of}
+use Rattle.v_syntax.specs.PartTree.{PlainRange, PlainNamed, PlainDelay, number_delay, name_delay, parens_delay, PlainLeft, name_left, concat_left, lefts_of}
 
 -- x?
 abbrev pub IsOptional : {A : Type 0} → List Lexeme → Terminal → (A → ℕ → ℕ → Type 0) → Option A → ℕ → ℕ → Type 0

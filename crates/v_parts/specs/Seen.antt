@@ -3,14 +3,14 @@ use Rattle.std.specs.Prelude.{ℕ, ◌≤◌, Option, option_map, List, length, 
 use Rattle.v_lexer.specs.Lexeme.{Lexeme}
 use Rattle.std.specs.declared.vec.Vec.{Vec}
 use Rattle.std.specs.declared.alloc.Global.{Global}
-use Rattle.v_tree.specs.declared.expression.Expr.{Expr}
-use Rattle.v_tree.specs.declared.declaration.Identifier.{Identifier}
-use Rattle.v_tree.specs.declared.declaration.NamedValue.{NamedValue}
-use Rattle.v_tree.specs.declared.declaration.Range.{Range}
-use Rattle.v_tree.specs.declared.declaration.Delay.{Delay}
-use Rattle.v_tree.specs.declared.declaration.Left.{Left}
-use Rattle.v_tree.specs.Tree.{Tree, tree_of}
-use Rattle.v_tree.specs.PartTree.{PlainRange, range_of, PlainNamed, named_of, PlainDelay, delay_of, PlainLeft, left_of}
+use Rattle.v_syntax.specs.declared.expression.Expr.{Expr}
+use Rattle.v_syntax.specs.declared.declaration.Identifier.{Identifier}
+use Rattle.v_syntax.specs.declared.declaration.NamedValue.{NamedValue}
+use Rattle.v_syntax.specs.declared.declaration.Range.{Range}
+use Rattle.v_syntax.specs.declared.declaration.Delay.{Delay}
+use Rattle.v_syntax.specs.declared.declaration.Left.{Left}
+use Rattle.v_syntax.specs.Tree.{Tree, tree_of}
+use Rattle.v_syntax.specs.PartTree.{PlainRange, range_of, PlainNamed, named_of, PlainDelay, delay_of, PlainLeft, left_of}
 
 abbrev pub as_is : {A : Type 0} → A × ℕ → A × ℕ
 as_is x = x

@@ -2,16 +2,17 @@
 ghost use Rattle.std.specs.Prelude.{◌≡◌, ◌+◌, ◌<◌, ◌≤◌, ◌^◌, length, map, IfOk, Ok};
 ghost use Rattle.v_tree.specs.Faults.{Gives};
 ghost use Rattle.v_tree.specs.Sites.{site};
-ghost use Rattle.v_tree.specs.PartTree.{left_of, name_left, concat_left, lefts_of};
+ghost use Rattle.v_syntax.specs.PartTree.{left_of, name_left, concat_left, lefts_of};
 ghost use Rattle.v_parts.specs.Seen.{seen_left, seen_lefts, Inside};
 ghost use Rattle.v_parts.specs.Reading.{name_left_at, concat_left_at, close_left_at, left_at, left_below, list_at};
-ghost use Rattle.v_tree.specs.Tree.{selection_of, selections_of, no_select};
+ghost use Rattle.v_syntax.specs.Tree.{selection_of, selections_of, no_select};
 
 use crate::names::{Read, name};
 use loc_base::Name;
 use std::alloc::Global;
 use v_lexer::types::Token;
-use v_tree::{Left, Select, Site, Terminal, expect, lower, selects, site_of, stands};
+use v_syntax::{Left, Select, Site};
+use v_tree::{Terminal, expect, lower, selects, site_of, stands};
 
 /// Levels for the indexes of a left side or an event, each of which is an expression of its own.
 pub const INDEX_LEVELS: u32 = 4097;

@@ -1,10 +1,10 @@
 //! Lists with commas between (IEEE 1364-2005, A.2.3 and A.8.3).
 ghost use Rattle.std.specs.Prelude.{◌<◌, ◌≤◌, ◌^◌, List, ℕ, length, IfOk};
 ghost use Rattle.v_lexer.specs.Lexeme.{Lexeme};
-ghost use Rattle.v_tree.specs.declared.declaration.Identifier.{Identifier};
+ghost use Rattle.v_syntax.specs.declared.declaration.Identifier.{Identifier};
 ghost use Rattle.v_tree.specs.Faults.{Gives};
-ghost use Rattle.v_tree.specs.Tree.{Tree, tree_of};
-ghost use Rattle.v_tree.specs.PartTree.{PlainNamed, named_of};
+ghost use Rattle.v_syntax.specs.Tree.{Tree, tree_of};
+ghost use Rattle.v_syntax.specs.PartTree.{PlainNamed, named_of};
 ghost use Rattle.v_tree.specs.Reading.{Read as Reading};
 ghost use Rattle.v_parts.specs.Seen.{seen_part, seen_parts, seen_identifiers, seen_values, seen_named, seen_nameds, Inside};
 ghost use Rattle.v_parts.specs.Reading.{identifier_at, value_at, named_value_at, list_at};
@@ -12,7 +12,8 @@ ghost use Rattle.v_parts.specs.Reading.{identifier_at, value_at, named_value_at,
 use crate::names::{Read, identifier, name, value};
 use std::alloc::Global;
 use v_lexer::types::Token;
-use v_tree::{Expr, Identifier, NamedValue, Terminal, expect, site_of, stands};
+use v_syntax::{Expr, Identifier, NamedValue};
+use v_tree::{Terminal, expect, site_of, stands};
 
 /// What reads a part of a list.
 pub trait PartReader {

@@ -9,9 +9,10 @@ ghost use Rattle.v_parts.specs.Reading.{name_at, identifier_at, value_at, equals
 use loc_base::Name;
 use std::alloc::Global;
 use v_lexer::types::Token;
+use v_syntax::{Delay, Expr, Identifier, Range};
 use v_tree::{
-    Delay, Expr, Fault, Identifier, Range, Stop, Terminal, expect, lower, name_of, no_place,
-    number_of, read_expression, site_of, stands,
+    Fault, Stop, Terminal, expect, lower, name_of, no_place, number_of, read_expression, site_of,
+    stands,
 };
 
 /// A part of the tree, and the place behind its tokens.

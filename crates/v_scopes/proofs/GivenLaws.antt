@@ -4,8 +4,8 @@ use Rattle.std.specs.Prelude.{Result, Ok, Err, IsErrAnd, IfErr, slice_get, map, 
 use Rattle.std.proofs.lemmas.List.{append_assoc, drop_all}
 use Rattle.std.proofs.lemmas.Option.{none-some, slice_get_within, get_or_from_slice_get, slice_get_cases}
 use Rattle.loc_base.proofs.ShelfLists.{drop-at}
-use Rattle.v_tree.specs.declared.expression.Expr.{Expr}
-use Rattle.v_tree.specs.Tree.{Tree, tree_of}
+use Rattle.v_syntax.specs.declared.expression.Expr.{Expr}
+use Rattle.v_syntax.specs.Tree.{Tree, tree_of}
 use Rattle.v_sizes.specs.declared.meaning.Const.{Const}
 use Rattle.v_sizes.specs.Look.{Look}
 use Rattle.v_hierarchy.specs.declared.error.ElabErr.{ElabErr}

@@ -5,9 +5,9 @@ use Rattle.std.specs.Option.{option_or}
 use Rattle.std.proofs.lemmas.List.{map-append, length-map}
 use Rattle.std.proofs.lemmas.Option.{none-some}
 use Rattle.std.proofs.lemmas.Slice.Eq.{bytes_eq-Decides}
-use Rattle.v_tree.specs.declared.module.Module.{Module}
-use Rattle.v_tree.specs.declared.declaration.Identifier.{Identifier}
-use Rattle.v_tree.specs.ModuleTree.{PlainModule, module_of, name_ports}
+use Rattle.v_syntax.specs.declared.module.Module.{Module}
+use Rattle.v_syntax.specs.declared.declaration.Identifier.{Identifier}
+use Rattle.v_syntax.specs.ModuleTree.{PlainModule, module_of, name_ports}
 use Rattle.v_sizes.specs.declared.meaning.Const.{Const}
 use Rattle.v_hierarchy.specs.declared.instance.Given.{Given}
 use Rattle.v_hierarchy.specs.Headers.{port_names}

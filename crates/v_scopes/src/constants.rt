@@ -1,6 +1,6 @@
 //! Constants where a range, a parameter, a condition or the head of a loop wants one (IEEE 1364-2005, clause 5).
 ghost use Rattle.std.specs.Prelude.{◌≡◌, ◌≤◌, Ok, IfOk, IfErr};
-ghost use Rattle.v_tree.specs.Tree.{tree_of};
+ghost use Rattle.v_syntax.specs.Tree.{tree_of};
 ghost use Rattle.v_sizes.specs.Scopes.{look_of};
 ghost use Rattle.v_hierarchy.specs.Constants.{fault_of, constant_at};
 ghost use Rattle.v_hierarchy.specs.Frames.{Refuses};
@@ -8,7 +8,7 @@ ghost use Rattle.v_hierarchy.specs.Frames.{Refuses};
 use std::alloc::Global;
 use v_hierarchy::ElabErr;
 use v_sizes::{Const, Scope, WidthErr};
-use v_tree::Expr;
+use v_syntax::Expr;
 use v_widths::constant_in;
 
 /// A refusal of an expression, as one of a text.

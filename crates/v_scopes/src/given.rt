@@ -1,8 +1,8 @@
 //! The values that an instance gives to the parameters of its module (IEEE 1364-2005, 12.2.2).
 ghost use Rattle.std.specs.Prelude.{◌≡◌, map, option_map, Ok, IfOk, IfErr, OnOk};
-ghost use Rattle.v_tree.specs.Tree.{tree_of};
-ghost use Rattle.v_tree.specs.ItemTree.{connection_of, connections_of};
-ghost use Rattle.v_tree.specs.ModuleTree.{module_of};
+ghost use Rattle.v_syntax.specs.Tree.{tree_of};
+ghost use Rattle.v_syntax.specs.ItemTree.{connection_of, connections_of};
+ghost use Rattle.v_syntax.specs.ModuleTree.{module_of};
 ghost use Rattle.v_scopes.specs.Around.{frames_of};
 ghost use Rattle.v_hierarchy.specs.Frames.{Refuses};
 ghost use Rattle.v_hierarchy.specs.Names.{look_in};
@@ -17,7 +17,7 @@ use crate::open_names::open_names;
 use crate::scope_stack::Scopes;
 use loc_base::{Items, Name};
 use v_hierarchy::{ElabErr, Given, site_of};
-use v_tree::{Connections, Expr, Module, NamedConnection};
+use v_syntax::{Connections, Expr, Module, NamedConnection};
 
 /// The names that are met, and the values that are given.
 struct Naming<'t> {

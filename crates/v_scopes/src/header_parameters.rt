@@ -1,6 +1,6 @@
 //! The parameters of a module's header (IEEE 1364-2005, 12.2).
 ghost use Rattle.std.specs.Prelude.{◌≡◌, [], map, Ok, IfOk, IfErr, OnOk};
-ghost use Rattle.v_tree.specs.ModuleTree.{header_parameter_of};
+ghost use Rattle.v_syntax.specs.ModuleTree.{header_parameter_of};
 ghost use Rattle.v_scopes.specs.Around.{names_in, outer_of};
 ghost use Rattle.v_hierarchy.specs.Frames.{Refuses};
 ghost use Rattle.v_hierarchy.specs.Parameters.{heading_kind, header_parameter, header_parameters};
@@ -10,7 +10,7 @@ ghost use Rattle.v_scopes.specs.Valued.{values_of};
 use crate::scope_stack::Scopes;
 use crate::values::Values;
 use v_hierarchy::{ElabErr, Kind, is_written};
-use v_tree::HeaderParameter;
+use v_syntax::HeaderParameter;
 
 impl<'t> Scopes<'t> {
     /// The type of a parameter: one without a type of its own has that of the one before it.

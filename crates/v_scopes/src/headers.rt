@@ -1,8 +1,8 @@
 //! The ports of a module (IEEE 1364-2005, 12.3): those that its header declares, and those that its header names and its items
 //! declare.
 ghost use Rattle.std.specs.Prelude.{◌≡◌, ◌++◌, [], map, option_map, Ok, IfOk, IfErr, OnOk};
-ghost use Rattle.v_tree.specs.ModuleTree.{module_of, port_of, name_ports, declared_ports, ports_of as plain_ports};
-ghost use Rattle.v_tree.specs.Tree.{tree_of};
+ghost use Rattle.v_syntax.specs.ModuleTree.{module_of, port_of, name_ports, declared_ports, ports_of as plain_ports};
+ghost use Rattle.v_syntax.specs.Tree.{tree_of};
 ghost use Rattle.v_hierarchy.specs.Names.{find};
 ghost use Rattle.v_hierarchy.specs.Views.{port_of as instance_port};
 ghost use Rattle.v_scopes.specs.Around.{names_in, outer_of};
@@ -17,7 +17,7 @@ use crate::scope_stack::Scopes;
 use loc_base::{Items, Name, NoMemory};
 use std::alloc::Global;
 use v_hierarchy::{ElabErr, Entry, Port as InstancePort, Signal, Standing};
-use v_tree::{Expr, Identifier, Module, Port, Ports};
+use v_syntax::{Expr, Identifier, Module, Port, Ports};
 
 /// A name of a header, which is named once and has a direction.
 fn port_name<'t>(

@@ -1,6 +1,6 @@
 //! The types that are written of parameters (IEEE 1364-2005, 4.10).
 ghost use Rattle.std.specs.Prelude.{◌≡◌, Ok, IfOk, IfErr};
-ghost use Rattle.v_tree.specs.ItemTree.{parameter_type_of};
+ghost use Rattle.v_syntax.specs.ItemTree.{parameter_type_of};
 ghost use Rattle.v_sizes.specs.Scopes.{look_of};
 ghost use Rattle.v_hierarchy.specs.Parameters.{kind_of, kind_at};
 ghost use Rattle.v_hierarchy.specs.Frames.{Refuses};
@@ -10,7 +10,7 @@ use crate::ranges::bounds_if;
 use std::alloc::Global;
 use v_hierarchy::{Bounds, ElabErr, Kind};
 use v_sizes::Scope;
-use v_tree::ParameterType;
+use v_syntax::ParameterType;
 
 /// A sign and a range that are written, if any is.
 fn kind_of(signed: bool, bounds: Option<Bounds>) -> Kind

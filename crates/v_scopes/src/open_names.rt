@@ -1,10 +1,10 @@
 //! The names to which a module's text gives a role: its parameters that may be given from outside, and those that its items give a
 //! direction (IEEE 1364-2005, 12.2 and 12.3).
 ghost use Rattle.std.specs.Prelude.{◌≡◌, ◌++◌, map, OnOk, IfOk};
-ghost use Rattle.v_tree.specs.PartTree.{named_of};
-ghost use Rattle.v_tree.specs.declared.item.ParameterKind.TheVariants as parameter_kind;
-ghost use Rattle.v_tree.specs.ItemTree.{item_of, items_of};
-ghost use Rattle.v_tree.specs.ModuleTree.{header_parameter_of, module_of};
+ghost use Rattle.v_syntax.specs.PartTree.{named_of};
+ghost use Rattle.v_syntax.specs.declared.item.ParameterKind.TheVariants as parameter_kind;
+ghost use Rattle.v_syntax.specs.ItemTree.{item_of, items_of};
+ghost use Rattle.v_syntax.specs.ModuleTree.{header_parameter_of, module_of};
 ghost use Rattle.v_hierarchy.specs.Parameters.{parameter_names, open_in, open_in_all, header_names, open_names};
 ghost use Rattle.v_hierarchy.specs.Headers.{directed_in, directed_in_all};
 ghost use Rattle.v_scopes.specs.Listed.{listed};
@@ -12,7 +12,7 @@ ghost use Rattle.v_scopes.specs.Listed.{listed};
 use crate::name_list::NameList;
 use loc_base::NoMemory;
 use std::alloc::Global;
-use v_tree::{HeaderParameter, Identifier, Item, Module, NamedValue, ParameterKind};
+use v_syntax::{HeaderParameter, Identifier, Item, Module, NamedValue, ParameterKind};
 
 /// Names of a declaration, at the end of a list.
 pub(crate) fn add_names<'t>(

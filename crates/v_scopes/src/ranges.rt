@@ -1,7 +1,7 @@
 //! Ranges of declarations (IEEE 1364-2005, 4.3.1).
 ghost use Rattle.std.specs.Prelude.{◌≡◌, Ok, IfOk, IfErr, option_map};
-ghost use Rattle.v_tree.specs.Tree.{tree_of};
-ghost use Rattle.v_tree.specs.PartTree.{range_of};
+ghost use Rattle.v_syntax.specs.Tree.{tree_of};
+ghost use Rattle.v_syntax.specs.PartTree.{range_of};
 ghost use Rattle.v_sizes.specs.Scopes.{look_of};
 ghost use Rattle.v_hierarchy.specs.Constants.{index_at, bounds_at, bounds_if};
 ghost use Rattle.v_hierarchy.specs.Frames.{Refuses};
@@ -11,7 +11,7 @@ use crate::constants::constant_at;
 use std::alloc::Global;
 use v_hierarchy::{Bounds, ElabErr, count_between, index_of, site_of};
 use v_sizes::Scope;
-use v_tree::{Expr, Range};
+use v_syntax::{Expr, Range};
 
 /// The index that an expression is.
 fn index_at(alloc: Global, scope: &Scope<'_>, e: &Expr) -> Result<i32, ElabErr>

@@ -12,7 +12,7 @@ use std::alloc::Global;
 use std::mem;
 use v_hierarchy::{Bounds, ElabErr, Entry, Frame, Standing};
 use v_sizes::{Const, Scope};
-use v_tree::Identifier;
+use v_syntax::Identifier;
 
 /// The scopes around a place, of which names are declared in the innermost. To find or to declare a name takes one look into a table
 /// for each scope at most.

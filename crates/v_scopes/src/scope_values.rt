@@ -1,9 +1,9 @@
 //! Constants, ranges, types and parameters at a place of a text (IEEE 1364-2005, clause 5 and 12.2).
 ghost use Rattle.std.specs.Prelude.{◌≡◌, ◌≤◌, Ok, IfOk, IfErr, OnOk, option_map};
 ghost use Rattle.loc_base.specs.Bits.{width_of};
-ghost use Rattle.v_tree.specs.Tree.{tree_of};
-ghost use Rattle.v_tree.specs.PartTree.{range_of};
-ghost use Rattle.v_tree.specs.ItemTree.{parameter_type_of};
+ghost use Rattle.v_syntax.specs.Tree.{tree_of};
+ghost use Rattle.v_syntax.specs.PartTree.{range_of};
+ghost use Rattle.v_syntax.specs.ItemTree.{parameter_type_of};
 ghost use Rattle.v_sizes.specs.Context.{IsMeaning};
 ghost use Rattle.v_scopes.specs.Around.{names_in, outer_of, frames_of};
 ghost use Rattle.v_hierarchy.specs.Constants.{constant_at, bounds_if};
@@ -17,7 +17,7 @@ ghost use Rattle.v_hierarchy.specs.Views.{standing_of};
 use crate::scope_stack::Scopes;
 use v_hierarchy::{Bounds, ElabErr, Entry, Kind, Standing, assigned};
 use v_sizes::Const;
-use v_tree::{Expr, Identifier, ParameterType, Range};
+use v_syntax::{Expr, Identifier, ParameterType, Range};
 
 impl<'t> Scopes<'t> {
     /// The constant that an expression is in an assignment of a width, 0 for none.

@@ -5,7 +5,7 @@ ghost use Rattle.v_scopes.specs.Listed.{listed};
 use crate::name_list::NameList;
 use loc_base::{Name, NoMemory};
 use std::alloc::Global;
-use v_tree::Module;
+use v_syntax::Module;
 
 /// The modules of a text. To find one takes one look into a table.
 pub struct Units<'t> {
@@ -22,7 +22,7 @@ impl<'t> Drop for Units<'t> {
 }
 
 impl<'t> Units<'t> {
-    ghost use Rattle.v_tree.specs.ModuleTree.{module_of};
+    ghost use Rattle.v_syntax.specs.ModuleTree.{module_of};
     ghost use Rattle.v_hierarchy.specs.Items.{module_named};
     ghost use Rattle.v_scopes.specs.Units.{units_of};
 

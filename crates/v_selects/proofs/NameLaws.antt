@@ -7,7 +7,7 @@ use Rattle.std.proofs.Math.Nat.{mod-eq_of_lt}
 use Rattle.std.proofs.lemmas.Bool.{and_parts}
 use Rattle.loc_base.specs.Bits.{width_of, value_of, value_of-range}
 use Rattle.loc_base.specs.Word.{extended, is_negative}
-use Rattle.v_tree.specs.declared.expression.PartKind.TheVariants as kind
+use Rattle.v_syntax.specs.declared.expression.PartKind.TheVariants as kind
 use Rattle.design_core.specs.Constant.{zeros}
 use Rattle.design_core.specs.Valuation.{Valuation, number, bit, word_at, distance_of}
 use Rattle.design_core.proofs.NumberLaws.{number-bit, number-same, number-zero, number-suc}

@@ -6,7 +6,7 @@ use Rattle.v_sizes.specs.declared.meaning.Meaning.TheVariants as meaning
 use Rattle.v_sizes.specs.Refusals.{name_fault}
 use Rattle.std.proofs.lemmas.Int.{ints, to_z-of_z}
 use Rattle.design_core.specs.Valuation.{distance_of}
-use Rattle.v_tree.specs.declared.expression.PartKind.TheVariants as kind
+use Rattle.v_syntax.specs.declared.expression.PartKind.TheVariants as kind
 use Rattle.v_sizes.specs.Selected.{part_offset, descends, bits_within}
 use Rattle.v_sizes.specs.Sizing.{Sizing, known, Chosen, one_bit, some_bits, chosen_width, has_no_bit}
 use Rattle.design_core.specs.declared.expression.Typed.{Typed}

@@ -2,7 +2,7 @@
 use design_core::Typed;
 use loc_base::Boxed;
 use v_sizes::WidthErr;
-use v_tree::PartKind;
+use v_syntax::PartKind;
 
 /// An expression in a context. Where it is refused, only the width and the sign of its sized expression count, and the
 /// value of a constant.

@@ -12,7 +12,7 @@ use crate::places::place_within;
 use crate::selected::{Bounds, descends, distance_of, part_offset};
 use loc_base::{Bits, Items, NoMemory};
 use std::alloc::Global;
-use v_tree::PartKind;
+use v_syntax::PartKind;
 
 /// So many bits of a word, by the index from which theirs are counted.
 #[derive(Clone, Copy)]

@@ -10,7 +10,7 @@ use crate::taken::known;
 use design_core::Typed;
 use loc_base::Boxed;
 use v_sizes::numbers::limited;
-use v_tree::PartKind;
+use v_syntax::PartKind;
 
 impl Picked {
     ghost use Rattle.std.specs.Prelude.{◌≡◌, ◌≤◌, ◌==◌};

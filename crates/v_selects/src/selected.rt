@@ -6,7 +6,7 @@ ghost use Rattle.v_sizes.specs.Selected.{descends, part_count, runs_along, base_
 ghost use Rattle.design_core.specs.Valuation.{distance_of};
 
 use crate::integer::{Integer, at_least_0, count_between, is_less};
-use v_tree::PartKind;
+use v_syntax::PartKind;
 
 /// The indexes of the leftmost and the rightmost bit of a word.
 #[derive(Clone, Copy)]

@@ -4,10 +4,9 @@ use Rattle.std.specs.Prelude.{◌||◌, min}
 use Rattle.std.proofs.lemmas.Nat.{mul-mod_first}
 use Rattle.std.proofs.Math.Nat.{mod-mod, add-mod, mod-eq_of_lt}
 use Rattle.std.proofs.lemmas.List.{drop_all}
-use Rattle.v_lexer.specs.Numbers.{is_hexadecimal, is_wild}
-use Rattle.v_lexer.specs.Literals.{digit_value, next_value, value_from, value_of}
-use Rattle.v_lexer.proofs.LiteralRows.{next_value_digit, next_value_other}
-use Rattle.v_lexer.proofs.Fronts.{drop_at}
+use Rattle.v_syntax.specs.Numbers.{is_hexadecimal, is_wild}
+use Rattle.v_syntax.specs.Literals.{digit_value, next_value, value_from, value_of}
+use Rattle.v_syntax.proofs.Digits.{drop_at, next_value_digit, next_value_other}
 
 next_by-mod : (base v digit m : ℕ) (b : Bool) → cond b (v % m * base + digit) (v % m) % m ≡ cond b (v * base + digit) v % m
 next_by-mod base v digit m true = add-mod (v % m * base) digit m ∙ ap (λ x. (x + digit % m) % m) (mul-mod_first v base m) ∙ sym (add-mod (v * base) digit m)

@@ -2,16 +2,16 @@
 use Rattle.std.proofs.Common.{◌≡◌, ℕ, ◌+◌, List, refl}
 use Rattle.std.specs.Prelude.{true, false, pos, negsuc, Option, Some, None, codes, nat_eq, if◌then◌else◌}
 use Rattle.std.specs.Cmp.Lexicographic.{pointwise}
-use Rattle.v_lexer.specs.Bytes.{is_decimal}
-use Rattle.v_lexer.specs.Numbers.{is_sign, is_wild, is_hexadecimal}
-use Rattle.v_lexer.specs.Literals.{digit_value, base_of}
-use Rattle.v_tree.specs.declared.site.Site.{Site}
-use Rattle.v_tree.specs.declared.operator.Unary.TheVariants as unary
-use Rattle.v_tree.specs.declared.operator.Binary.TheVariants as binary
-use Rattle.v_tree.specs.declared.operator.SystemFunction.TheVariants as function
-use Rattle.v_tree.specs.declared.expression.PartKind.TheVariants as kind
-use Rattle.v_tree.specs.Tree.{Tree, Trees, no_tree, tree, Selections, no_select, select}
-use Rattle.v_tree.specs.Tree as written
+use Rattle.v_syntax.specs.Bytes.{is_decimal}
+use Rattle.v_syntax.specs.Numbers.{is_sign, is_wild, is_hexadecimal}
+use Rattle.v_syntax.specs.Literals.{digit_value, base_of}
+use Rattle.v_syntax.specs.declared.site.Site.{Site}
+use Rattle.v_syntax.specs.declared.operator.Unary.TheVariants as unary
+use Rattle.v_syntax.specs.declared.operator.Binary.TheVariants as binary
+use Rattle.v_syntax.specs.declared.operator.SystemFunction.TheVariants as function
+use Rattle.v_syntax.specs.declared.expression.PartKind.TheVariants as kind
+use Rattle.v_syntax.specs.Tree.{Tree, Trees, no_tree, tree, Selections, no_select, select}
+use Rattle.v_syntax.specs.Tree as written
 use Rattle.design_core.specs.declared.expression.Node.TheVariants as node
 use Rattle.design_core.specs.declared.expression.BinaryOp.TheVariants as binary_op
 use Rattle.design_core.specs.Valuation.{number}

@@ -4,13 +4,13 @@ use Rattle.std.proofs.Common.{◌≡◌, ℕ, zero, suc, ◌+◌, ◌*◌, ◌^�
 use Rattle.std.specs.Prelude.{min, if◌then◌else◌, max, not, ◌||◌, ◌==◌, nat_le, ℤ, int_lt, pos, negsuc}
 use Rattle.std.proofs.Math.Nat.{le-max_left, le-max_right, add-mul}
 use Rattle.loc_base.specs.declared.span.Span.{Span}
-use Rattle.v_tree.specs.declared.site.Site.{Site}
-use Rattle.v_tree.specs.declared.operator.Unary.{Unary}
-use Rattle.v_tree.specs.declared.operator.Binary.{Binary}
-use Rattle.v_tree.specs.declared.operator.SystemFunction.{SystemFunction}
-use Rattle.v_tree.specs.declared.operator.SystemFunction.TheVariants as function
-use Rattle.v_tree.specs.Tree.{Tree, Trees, no_tree, tree, Selections, no_select, select}
-use Rattle.v_tree.specs.Tree as written
+use Rattle.v_syntax.specs.declared.site.Site.{Site}
+use Rattle.v_syntax.specs.declared.operator.Unary.{Unary}
+use Rattle.v_syntax.specs.declared.operator.Binary.{Binary}
+use Rattle.v_syntax.specs.declared.operator.SystemFunction.{SystemFunction}
+use Rattle.v_syntax.specs.declared.operator.SystemFunction.TheVariants as function
+use Rattle.v_syntax.specs.Tree.{Tree, Trees, no_tree, tree, Selections, no_select, select}
+use Rattle.v_syntax.specs.Tree as written
 use Rattle.design_core.specs.declared.signal.Signal.{Signal}
 use Rattle.design_core.specs.declared.expression.Node.TheVariants as node
 use Rattle.design_core.specs.Constant.{zeros}

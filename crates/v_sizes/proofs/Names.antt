@@ -4,8 +4,8 @@ use Rattle.std.specs.Prelude.{if◌then◌else◌, min, ℤ, pos, ◌+ℤ◌}
 use Rattle.std.proofs.lemmas.Int.{ints}
 use Rattle.std.proofs.Math.Nat.{max-le, le-max_left, min-le_right}
 use Rattle.std.proofs.Common.{lit≤}
-use Rattle.v_tree.specs.declared.expression.PartKind.{PartKind}
-use Rattle.v_tree.specs.declared.expression.PartKind.TheVariants as kind
+use Rattle.v_syntax.specs.declared.expression.PartKind.{PartKind}
+use Rattle.v_syntax.specs.declared.expression.PartKind.TheVariants as kind
 use Rattle.design_core.specs.declared.signal.Signal.{Signal}
 use Rattle.design_core.specs.declared.expression.Typed.{Typed}
 use Rattle.design_core.specs.declared.expression.Node.{Node}

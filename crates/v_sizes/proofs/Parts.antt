@@ -4,8 +4,8 @@ use Rattle.std.specs.Prelude.{Bool, true, false, not, if◌then◌else◌, min, 
 use Rattle.std.proofs.lemmas.Bool.{le-ltb}
 use Rattle.std.proofs.lemmas.Int.{ints}
 use Rattle.std.proofs.Math.Nat.{le-min}
-use Rattle.v_tree.specs.declared.expression.PartKind.{PartKind}
-use Rattle.v_tree.specs.declared.expression.PartKind.TheVariants as kind
+use Rattle.v_syntax.specs.declared.expression.PartKind.{PartKind}
+use Rattle.v_syntax.specs.declared.expression.PartKind.TheVariants as kind
 use Rattle.design_core.specs.Valuation.{distance_of, place_within}
 use Rattle.v_sizes.specs.Selected.{base_index, part_offset, part_distance, bits_within, descends}
 

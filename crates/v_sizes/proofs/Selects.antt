@@ -14,7 +14,7 @@ use Rattle.design_core.specs.Value.{value, index_value, picked}
 use Rattle.design_core.specs.WellFormed.{is_signal}
 use Rattle.design_core.proofs.NumberLaws.{number-same, number-zero, number-suc}
 use Rattle.design_core.proofs.ExpressionSteps.{value_pick, fits_pick}
-use Rattle.v_tree.specs.declared.expression.PartKind.{PartKind}
+use Rattle.v_syntax.specs.declared.expression.PartKind.{PartKind}
 use Rattle.v_sizes.specs.Selected.{bit_at_index, part_number, part_distance, part_offset, base_index, descends}
 use Rattle.v_sizes.specs.Sizing.{Sizing, integer}
 use Rattle.v_sizes.specs.Sized.{sized, offsets_to, start_of}

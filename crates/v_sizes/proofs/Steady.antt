@@ -5,17 +5,17 @@ use Rattle.std.specs.List.{list_all}
 use Rattle.std.proofs.lemmas.Bool.{and_parts, eqb-true}
 use Rattle.std.proofs.lemmas.Int.{ints}
 use Rattle.loc_base.specs.Word.{extended}
-use Rattle.v_tree.specs.declared.operator.Unary.{Unary}
-use Rattle.v_tree.specs.declared.operator.SystemFunction.{SystemFunction}
-use Rattle.v_tree.specs.declared.operator.SystemFunction.TheVariants as function
+use Rattle.v_syntax.specs.declared.operator.Unary.{Unary}
+use Rattle.v_syntax.specs.declared.operator.SystemFunction.{SystemFunction}
+use Rattle.v_syntax.specs.declared.operator.SystemFunction.TheVariants as function
 use Rattle.design_core.specs.Valuation.{Valuation}
 use Rattle.design_core.specs.Constant.{zeros}
 use Rattle.design_core.specs.Operator.{is_true, integer_of, repeated}
 use Rattle.design_core.specs.Operator as operator
 use Rattle.loc_base.specs.Bits.{width_of, value_of}
 use Rattle.v_sizes.specs.Operations.{class_of, Class, by_context, shift, comparison, logical, quotient, remainder, power, unary_of, keeps_width, quotient_of, remainder_of, power_of, ceiling_of_logarithm}
-use Rattle.v_tree.specs.Tree.{Tree, Trees, no_tree, tree, Selections, no_select, select}
-use Rattle.v_tree.specs.Tree as written
+use Rattle.v_syntax.specs.Tree.{Tree, Trees, no_tree, tree, Selections, no_select, select}
+use Rattle.v_syntax.specs.Tree as written
 use Rattle.design_core.specs.Valuation.{number, bit, word_at, distance_of, place_within, bit_or_zero}
 use Rattle.design_core.proofs.NumberLaws.{number-zero, number-suc, number-same}
 use Rattle.v_sizes.specs.declared.meaning.Meaning.{Meaning}

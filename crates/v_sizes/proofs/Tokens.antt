@@ -2,10 +2,10 @@
 use Rattle.std.proofs.Common.{◌≡◌, ℕ, refl}
 use Rattle.std.specs.Prelude.{Bool, true, false, ◌==◌, ◌+◌, List, [], ◌∷◌, take, drop, Option, Some, None, Result, Ok, Err, position, if◌then◌else◌}
 use Rattle.std.specs.Option.{option_map_or}
-use Rattle.v_lexer.specs.declared.types.token.TokenKind.{TokenKind}
-use Rattle.v_lexer.specs.declared.literals.NumberFault.{NumberFault}
-use Rattle.v_lexer.specs.declared.literals.NumberFault.TheVariants.{Wide}
-use Rattle.v_lexer.specs.Literals.{judge, judge_based, judge_plain, is_bad_size}
+use Rattle.v_syntax.specs.declared.token_kind.TokenKind.{TokenKind}
+use Rattle.v_syntax.specs.declared.literal.NumberFault.{NumberFault}
+use Rattle.v_syntax.specs.declared.literal.NumberFault.TheVariants.{Wide}
+use Rattle.v_syntax.specs.Literals.{judge, judge_based, judge_plain, is_bad_size}
 use Rattle.v_sizes.specs.Literal.{width_of_size, written_width}
 use Rattle.v_sizes.specs.Refusals.{is_bad_width}
 

@@ -5,8 +5,8 @@ use Rattle.std.proofs.Math.Nat.{mod-lt, mod-eq_of_lt}
 use Rattle.std.proofs.lemmas.Nat.{pow_pos}
 use Rattle.loc_base.specs.Word.{extended}
 use Rattle.loc_base.specs.declared.span.Span.{Span}
-use Rattle.v_tree.specs.declared.operator.Unary.{Unary}
-use Rattle.v_tree.specs.Tree.{Tree}
+use Rattle.v_syntax.specs.declared.operator.Unary.{Unary}
+use Rattle.v_syntax.specs.Tree.{Tree}
 use Rattle.design_core.specs.declared.signal.Signal.{Signal}
 use Rattle.design_core.specs.declared.expression.Typed.{Typed}
 use Rattle.design_core.specs.declared.expression.Node.TheVariants as node

@@ -1,7 +1,7 @@
 -- Scopes that stand for something, contexts that an expression can stand in, and what the public calls give.
 use Rattle.std.specs.Prelude.{ℕ, ◌≡◌, ◌≤◌, ◌<◌, ⊤, ◌+◌, Bool, true, false, not, ◌&&◌, max, ℤ, List, Option, Some, slice_get}
 use Rattle.loc_base.specs.Bits.{width_of}
-use Rattle.v_tree.specs.Tree.{Tree}
+use Rattle.v_syntax.specs.Tree.{Tree}
 use Rattle.design_core.specs.declared.signal.Signal.{Signal}
 use Rattle.design_core.specs.declared.expression.Typed.{Typed}
 use Rattle.design_core.specs.Constant.{zeros}

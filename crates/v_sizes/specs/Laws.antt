@@ -1,8 +1,8 @@
 -- Laws of the definitions: a sized expression means what the expression means in its context, and fits it.
 use Rattle.std.specs.Prelude.{ℕ, ◌≡◌, Bool, true, false, List, None}
 use Rattle.loc_base.specs.declared.span.Span.{Span}
-use Rattle.v_lexer.specs.declared.types.token.TokenKind.{TokenKind}
-use Rattle.v_tree.specs.Tree.{Tree}
+use Rattle.v_syntax.specs.declared.token_kind.TokenKind.{TokenKind}
+use Rattle.v_syntax.specs.Tree.{Tree}
 use Rattle.design_core.specs.declared.signal.Signal.{Signal}
 use Rattle.design_core.specs.WellFormed.{typed_fits}
 use Rattle.v_sizes.specs.Look.{Look}

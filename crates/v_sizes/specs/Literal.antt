@@ -3,8 +3,8 @@
 -- value wider than the size is cut on the left.
 use Rattle.std.specs.Prelude.{ℕ, ◌+◌, ◌%◌, ◌^◌, ◌==◌, Bool, true, false, if◌then◌else◌, min, max, List, [], ◌∷◌, take, drop, Option, position}
 use Rattle.std.specs.Option.{option_map_or}
-use Rattle.v_lexer.specs.Literals.{value_of, base_of}
-use Rattle.v_lexer.specs.Numbers.{is_sign}
+use Rattle.v_syntax.specs.Literals.{value_of, base_of}
+use Rattle.v_syntax.specs.Numbers.{is_sign}
 
 -- a width, and what counts as one where it isn't 1 to 128
 abbrev pub limited : ℕ → ℕ

@@ -1,10 +1,10 @@
 -- Operators of the text: those of sized expressions (IEEE 1364-2005, 5.1), and those that stand in constants alone: division,
 -- remainder, power and the ceiling of the logarithm.
 use Rattle.std.specs.Prelude.{ℕ, zero, suc, ◌+◌, ◌-◌, ◌/◌, ◌%◌, ◌^◌, Bool, true, false, not, if◌then◌else◌, nat_le, int_lt, ℤ, pos, negsuc}
-use Rattle.v_tree.specs.declared.operator.Unary.{Unary}
-use Rattle.v_tree.specs.declared.operator.Unary.TheVariants as unary
-use Rattle.v_tree.specs.declared.operator.Binary.{Binary}
-use Rattle.v_tree.specs.declared.operator.Binary.TheVariants as binary
+use Rattle.v_syntax.specs.declared.operator.Unary.{Unary}
+use Rattle.v_syntax.specs.declared.operator.Unary.TheVariants as unary
+use Rattle.v_syntax.specs.declared.operator.Binary.{Binary}
+use Rattle.v_syntax.specs.declared.operator.Binary.TheVariants as binary
 use Rattle.design_core.specs.declared.expression.UnaryOp.{UnaryOp}
 use Rattle.design_core.specs.declared.expression.UnaryOp.TheVariants as unary_op
 use Rattle.design_core.specs.declared.expression.BinaryOp.{BinaryOp}

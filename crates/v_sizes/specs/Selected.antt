@@ -1,8 +1,8 @@
 -- Which bits a select names (IEEE 1364-2005, 5.2.1): how many, and how far the index of each lies from the index that is
 -- written. Bit 0 is the one nearest the right end of the declared range.
 use Rattle.std.specs.Prelude.{ℕ, suc, ◌+◌, ◌-◌, Bool, true, false, not, if◌then◌else◌, min, int_lt, ℤ, pos, negsuc, ◌+ℤ◌, ◌-ℤ◌}
-use Rattle.v_tree.specs.declared.expression.PartKind.{PartKind}
-use Rattle.v_tree.specs.declared.expression.PartKind.TheVariants as kind
+use Rattle.v_syntax.specs.declared.expression.PartKind.{PartKind}
+use Rattle.v_syntax.specs.declared.expression.PartKind.TheVariants as kind
 use Rattle.design_core.specs.Valuation.{number, distance_of, place_within, bit_or_zero}
 
 -- whether the indexes of a range become less from its left end to its right; those of a range of one index do

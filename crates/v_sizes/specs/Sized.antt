@@ -2,10 +2,10 @@
 -- another width, or of another sign where the sign counts, stands below a `Resize`; what reads no signal is a `Const`.
 -- A constant select within its word is a `Slice`, a bare name `Whole`, any other select a `Pick`.
 use Rattle.std.specs.Prelude.{ℕ, zero, suc, ◌+◌, ◌-◌, ◌==◌, Bool, false, ◌&&◌, if◌then◌else◌, max, nat_le, ℤ, pos, negsuc, List, [], ◌∷◌, ◌++◌, Option, Some, None}
-use Rattle.v_tree.specs.declared.expression.PartKind.{PartKind}
-use Rattle.v_tree.specs.declared.expression.PartKind.TheVariants as kind
-use Rattle.v_tree.specs.Tree.{Tree, Trees, no_tree, tree, Selections, no_select, select}
-use Rattle.v_tree.specs.Tree as written
+use Rattle.v_syntax.specs.declared.expression.PartKind.{PartKind}
+use Rattle.v_syntax.specs.declared.expression.PartKind.TheVariants as kind
+use Rattle.v_syntax.specs.Tree.{Tree, Trees, no_tree, tree, Selections, no_select, select}
+use Rattle.v_syntax.specs.Tree as written
 use Rattle.design_core.specs.declared.expression.Typed.{Typed}
 use Rattle.design_core.specs.declared.expression.Node.{Node}
 use Rattle.design_core.specs.declared.expression.Node.TheVariants as node

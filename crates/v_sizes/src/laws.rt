@@ -1,6 +1,6 @@
 //! Laws of the definitions. Each is the contract of a function that does nothing, over values that no code holds.
 ghost use Rattle.std.specs.Prelude.{◌≡◌, true, Ok, None};
-ghost use Rattle.v_lexer.specs.Literals.{judge};
+ghost use Rattle.v_syntax.specs.Literals.{judge};
 ghost use Rattle.v_sizes.specs.Refusals.{literal_fault};
 ghost use Rattle.design_core.specs.Constant.{zeros};
 ghost use Rattle.design_core.specs.Valuation.{Valuation};

@@ -1,8 +1,8 @@
 //! What a number of the text is (IEEE 1364-2005, 3.5.1).
 ghost use Rattle.std.specs.Prelude.{◌≡◌, ◌||◌, ◌%◌, ◌^◌, min};
-ghost use Rattle.v_lexer.specs.Numbers as shape;
-ghost use Rattle.v_lexer.specs.Literals as lexed;
-ghost use Rattle.v_lexer.specs.Literals.{value_of};
+ghost use Rattle.v_syntax.specs.Numbers as shape;
+ghost use Rattle.v_syntax.specs.Literals as lexed;
+ghost use Rattle.v_syntax.specs.Literals.{value_of};
 ghost use Rattle.loc_base.specs.Bits as word;
 ghost use Rattle.v_sizes.specs.Literal.{quote_in, width_of_size, written_width, value_in_base, value_behind, has_sign, literal_width, literal_signed, literal_value};
 ghost use Rattle.v_sizes.specs.Refusals.{is_bad_width};
@@ -12,7 +12,7 @@ use crate::numbers::{limited, low_bits};
 use loc_base::Bits;
 
 /// A digit that counts, or a wildcard.
-#[tactic(auto, unfolding(v_lexer::specs::Numbers::is_hexadecimal, v_lexer::specs::Numbers::is_wild, v_lexer::specs::Bytes::is_decimal))]
+#[tactic(auto, unfolding(v_syntax::specs::Numbers::is_hexadecimal, v_syntax::specs::Numbers::is_wild, v_syntax::specs::Bytes::is_decimal))]
 fn counts(byte: u8) -> bool
     ensures { result ≡ (shape.is_hexadecimal byte || shape.is_wild byte) }
 {
@@ -20,7 +20,7 @@ fn counts(byte: u8) -> bool
 }
 
 /// The value of a digit; that of a wildcard is 0.
-#[tactic(auto, unfolding(v_lexer::specs::Literals::digit_value, v_lexer::specs::Bytes::is_decimal))]
+#[tactic(auto, unfolding(v_syntax::specs::Literals::digit_value, v_syntax::specs::Bytes::is_decimal))]
 fn digit_value(byte: u8) -> u8
     ensures { result ≡ lexed.digit_value byte }
 {
@@ -62,7 +62,7 @@ fn value_of(base: u128, digits: &[u8]) -> u128
 }
 
 /// The number that a base letter names.
-#[tactic(auto, unfolding(v_lexer::specs::Literals::base_of))]
+#[tactic(auto, unfolding(v_syntax::specs::Literals::base_of))]
 fn base_of(byte: u8) -> Option<u128>
     ensures { result ≡ lexed.base_of byte }
 {
@@ -75,7 +75,7 @@ fn base_of(byte: u8) -> Option<u128>
     }
 }
 
-#[tactic(auto, unfolding(v_lexer::specs::Numbers::is_sign))]
+#[tactic(auto, unfolding(v_syntax::specs::Numbers::is_sign))]
 fn is_sign(byte: u8) -> bool
     ensures { result ≡ shape.is_sign byte }
 {

@@ -4,17 +4,17 @@ use Rattle.loc_base.proofs.ShelfBools.{if-cases}
 use Rattle.v_lexer.specs.Lexeme.{Lexeme}
 use Rattle.v_lexer.specs.declared.types.terminal.Terminal.TheVariants as marks
 use Rattle.v_tree.specs.declared.fault.Fault.TheVariants.{Unsupported, Deep}
-use Rattle.v_tree.specs.declared.statement.AssignKind.TheVariants.{Blocking}
+use Rattle.v_syntax.specs.declared.statement.AssignKind.TheVariants.{Blocking}
 use Rattle.v_tree.specs.Marks.{mark_at}
 use Rattle.v_tree.specs.Sites.{site}
-use Rattle.v_tree.specs.Tree.{no_select}
+use Rattle.v_syntax.specs.Tree.{no_select}
 use Rattle.v_tree.proofs.BindLemmas.{bad, bad_good}
 use Rattle.v_tree.proofs.CompleteLemmas.{else_of}
 use Rattle.v_tree.proofs.SteadyLemmas.{st_look, st_if, site_kept}
-use Rattle.v_tree.specs.PartTree.{name_left}
+use Rattle.v_syntax.specs.PartTree.{name_left}
 use Rattle.v_parts.specs.Reading.{optional_at, run_at, name_at, value_at}
 use Rattle.v_parts.specs.Productions.{IsOptional, AreRun, IsName, IsValue}
-use Rattle.v_tree.specs.StatementTree.{block, assignment, statements_of}
+use Rattle.v_syntax.specs.StatementTree.{block, assignment, statements_of}
 use Rattle.v_statements.specs.Statements.{Nested, IsLabel}
 use Rattle.v_statements.specs.StatementReading.{Inner, label_at, body_at, close_block_at}
 use Rattle.v_statements.specs.Initials.{IsInitialBlock, IsInitialAssign, is_left_out, IsInitialWith, IsInitial}

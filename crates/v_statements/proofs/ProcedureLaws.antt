@@ -4,7 +4,7 @@ use Rattle.v_lexer.specs.Lexeme.{Lexeme}
 use Rattle.v_lexer.specs.declared.types.terminal.Terminal.{Terminal}
 use Rattle.v_lexer.specs.declared.types.terminal.Terminal.TheVariants as marks
 use Rattle.v_tree.specs.Marks.{mark_at}
-use Rattle.v_tree.specs.ItemTree.{PlainItem, always_item, initial_item}
+use Rattle.v_syntax.specs.ItemTree.{PlainItem, always_item, initial_item}
 use Rattle.v_statements.specs.StatementReading.{statement_at}
 use Rattle.v_statements.specs.Statements.{IsStatement}
 use Rattle.v_statements.specs.InitialReading.{initial_at}

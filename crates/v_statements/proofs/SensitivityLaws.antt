@@ -3,7 +3,7 @@ use Rattle.std.proofs.Common.{◌≡◌, ◌≢◌, ℕ, ◌+◌, ◌<◌, ◌�
 use Rattle.v_lexer.specs.Lexeme.{Lexeme}
 use Rattle.v_lexer.specs.declared.types.terminal.Terminal.{Terminal}
 use Rattle.v_lexer.specs.declared.types.terminal.Terminal.TheVariants as marks
-use Rattle.v_tree.specs.declared.statement.Edge.TheVariants as edges
+use Rattle.v_syntax.specs.declared.statement.Edge.TheVariants as edges
 use Rattle.v_tree.specs.declared.fault.Fault.{Fault}
 use Rattle.v_tree.specs.declared.fault.Fault.TheVariants.{Unsupported}
 use Rattle.v_tree.specs.Marks.{mark_at, same}
@@ -17,7 +17,7 @@ use Rattle.v_tree.proofs.SteadyLemmas.{not_by, site_kept}
 use Rattle.v_tree.proofs.SelectLemmas.{select_found, steady_select}
 use Rattle.v_parts.specs.Reading.{optional_at, run_at, name_at, unless_at}
 use Rattle.v_parts.specs.Productions.{IsOptional, AreRun, IsName}
-use Rattle.v_tree.specs.ItemTree.{PlainEvent, edge_event, change_event, all_events, listed}
+use Rattle.v_syntax.specs.ItemTree.{PlainEvent, edge_event, change_event, all_events, listed}
 use Rattle.v_statements.specs.Sensitivities.{IsEdge, IsSeparator, IsEdgeEvent, IsIndex, IsChange, IsNextChange, AreChanges, is_posedge, IsLoneEdge, IsSecondEdge, AreEdges, AreEvents, IsStarClose, IsListed, IsSensitivity}
 use Rattle.v_statements.specs.SensitivityReading.{edge_at, separator_at, edge_event_at, index_at, change_at, next_change_at, more_changes_at, changes_at, lone_edge_at, edges_end_at, close_edges_at, second_edge_at, edges_at, events_at, listed_at, star_close_at, sensitivity_at}
 use Rattle.v_parts.proofs.Laws.{Start, Law, LawFrom, later, law_as, law_same, law_there, law_bind, law_before, law_expect, law_no_place, law_found, law_node, law_choice, law_optional, law_unless, left_out_steady}

@@ -5,13 +5,13 @@ use Rattle.v_lexer.specs.Lexeme.{Lexeme}
 use Rattle.v_lexer.specs.declared.types.terminal.Terminal.{Terminal}
 use Rattle.v_lexer.specs.declared.types.terminal.Terminal.TheVariants as marks
 use Rattle.v_tree.specs.declared.fault.Fault.TheVariants.{Unsupported, Deep}
-use Rattle.v_tree.specs.declared.statement.AssignKind.{AssignKind}
-use Rattle.v_tree.specs.declared.statement.AssignKind.TheVariants.{Blocking, Nonblocking}
-use Rattle.v_tree.specs.declared.statement.CaseKind.{CaseKind}
-use Rattle.v_tree.specs.declared.statement.CaseKind.TheVariants as kinds
+use Rattle.v_syntax.specs.declared.statement.AssignKind.{AssignKind}
+use Rattle.v_syntax.specs.declared.statement.AssignKind.TheVariants.{Blocking, Nonblocking}
+use Rattle.v_syntax.specs.declared.statement.CaseKind.{CaseKind}
+use Rattle.v_syntax.specs.declared.statement.CaseKind.TheVariants as kinds
 use Rattle.v_tree.specs.Marks.{mark_at, same}
 use Rattle.v_tree.specs.Sites.{site}
-use Rattle.v_tree.specs.Tree.{Tree, wild}
+use Rattle.v_syntax.specs.Tree.{Tree, wild}
 use Rattle.v_tree.specs.Faults.{no_place, Begins}
 use Rattle.v_tree.specs.Reading.{Read, ◌>>=◌, whole_expression}
 use Rattle.v_tree.specs.Expressions.{IsWild}
@@ -21,10 +21,10 @@ use Rattle.v_tree.proofs.SoundLemmas.{not_mark}
 use Rattle.v_tree.proofs.CompleteLemmas.{step, then_of, else_of, apart_of}
 use Rattle.v_tree.proofs.SteadyLemmas.{Steady, st_bind, not_by, within_by, site_kept, mark_kept}
 use Rattle.v_tree.proofs.WholeLemmas.{whole_sound, whole_complete, begins_plain, wild_bad, st_whole_expression}
-use Rattle.v_tree.specs.PartTree.{PlainDelay}
+use Rattle.v_syntax.specs.PartTree.{PlainDelay}
 use Rattle.v_parts.specs.Reading.{optional_at, list_at, run_at, identifier_at, value_at, delay_at, left_at}
 use Rattle.v_parts.specs.Productions.{IsOptional, AreListed, AreRun, IsIdentifier, IsValue, IsDelay, IsLeft}
-use Rattle.v_tree.specs.StatementTree.{PlainStatement, empty, block, delayed, if_then, if_else, choice, loop, assignment, statements_of, PlainCaseItem, labelled, otherwise, case_items_of}
+use Rattle.v_syntax.specs.StatementTree.{PlainStatement, empty, block, delayed, if_then, if_else, choice, loop, assignment, statements_of, PlainCaseItem, labelled, otherwise, case_items_of}
 use Rattle.v_statements.specs.Statements.{Nested, IsLabel, IsInParens, IsEmpty, IsBlock, IsDelayed, IsElse, IsIf, may_follow_label, IsCasezLabel, IsCaseLabel, IsLabelled, IsColonIf, IsOtherwise, IsCaseItem, case_word, AreItems, IsCase, IsHead, IsLoop, IsAssignKind, IsAssign, IsStatementWith, IsStatement}
 use Rattle.v_statements.specs.StatementReading.{loop_step_at, loop_condition_at, assigned_at, Inner, label_at, in_parens_at, close_block_at, block_at, delayed_at, else_at, if_at, casez_label_at, case_label_at, labelled_at, colon_at, default_at, case_item_at, has_default, case_items_at, case_at, body_at, head_at, loop_at, assign_kind_at, assign_at, statement_with, statement_at}
 use Rattle.v_parts.proofs.Laws.{ahead_of, Start, Law, LawFrom, later, lower_start, law_as, law_bind, law_expect, law_open_at, law_before, law_no_place, law_found, law_node, law_choice, law_optional}

@@ -1,16 +1,16 @@
 -- How the code reads initial blocks: the function on lists that each reader is. No public clause speaks of it.
 use Rattle.std.specs.Prelude.{ℕ, zero, suc, ◌+◌, List, None, Ok, Err, if◌then◌else◌}
 use Rattle.v_lexer.specs.Lexeme.{Lexeme}
-use Rattle.v_tree.specs.declared.statement.AssignKind.TheVariants.{Blocking}
+use Rattle.v_syntax.specs.declared.statement.AssignKind.TheVariants.{Blocking}
 use Rattle.v_lexer.specs.declared.types.terminal.Terminal.TheVariants as mark
 use Rattle.v_tree.specs.declared.fault.Fault.TheVariants.{Unsupported, Deep}
 use Rattle.v_tree.specs.Marks.{mark_at, same}
 use Rattle.v_tree.specs.Sites.{site}
-use Rattle.v_tree.specs.Tree.{no_select}
+use Rattle.v_syntax.specs.Tree.{no_select}
 use Rattle.v_tree.specs.Reading.{Read, ◌>>=◌, expect, lower}
-use Rattle.v_tree.specs.PartTree.{name_left}
+use Rattle.v_syntax.specs.PartTree.{name_left}
 use Rattle.v_parts.specs.Reading.{optional_at, unless_at, name_at, value_at}
-use Rattle.v_tree.specs.StatementTree.{PlainStatement, assignment}
+use Rattle.v_syntax.specs.StatementTree.{PlainStatement, assignment}
 use Rattle.v_statements.specs.StatementReading.{Inner, label_at, body_at, close_block_at}
 use Rattle.v_statements.specs.Initials.{is_left_out}
 

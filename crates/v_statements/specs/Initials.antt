@@ -1,16 +1,16 @@
 -- What stands in an initial block (IEEE 1364-2005, 9.9.1 and A.6.2): begin .. end and name = value, and no other statement.
 use Rattle.std.specs.Prelude.{◌≡◌, ◌≢◌, ℕ, zero, suc, ◌+◌, ◌⊎◌, Bool, true, false, List, Option, None}
 use Rattle.v_lexer.specs.Lexeme.{Lexeme}
-use Rattle.v_tree.specs.declared.declaration.Identifier.{Identifier}
-use Rattle.v_tree.specs.declared.statement.AssignKind.TheVariants.{Blocking}
+use Rattle.v_syntax.specs.declared.declaration.Identifier.{Identifier}
+use Rattle.v_syntax.specs.declared.statement.AssignKind.TheVariants.{Blocking}
 use Rattle.v_lexer.specs.declared.types.terminal.Terminal.{Terminal}
 use Rattle.v_lexer.specs.declared.types.terminal.Terminal.TheVariants.{OpenBracket, OpenBrace, Colon, Semicolon, Equals, LessEqual, Hash, Begin, End, If, Case, Casez, For}
 use Rattle.v_tree.specs.Marks.{mark_at}
 use Rattle.v_tree.specs.Sites.{site}
-use Rattle.v_tree.specs.Tree.{Tree, no_select}
-use Rattle.v_tree.specs.PartTree.{name_left}
+use Rattle.v_syntax.specs.Tree.{Tree, no_select}
+use Rattle.v_syntax.specs.PartTree.{name_left}
 use Rattle.v_parts.specs.Productions.{IsOptional, AreRun, IsName, IsValue}
-use Rattle.v_tree.specs.StatementTree.{PlainStatement, block, assignment, statements_of}
+use Rattle.v_syntax.specs.StatementTree.{PlainStatement, block, assignment, statements_of}
 use Rattle.v_statements.specs.Statements.{Nested, IsLabel}
 
 -- 'begin' (':' NAME)? initial* 'end'

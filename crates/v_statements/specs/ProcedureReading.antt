@@ -7,7 +7,7 @@ use Rattle.v_tree.specs.Sites.{site}
 use Rattle.v_tree.specs.Reading.{Read, ◌>>=◌, expect}
 use Rattle.v_statements.specs.StatementReading.{statement_at}
 use Rattle.v_statements.specs.InitialReading.{initial_at}
-use Rattle.v_tree.specs.ItemTree.{PlainItem, always_item, initial_item}
+use Rattle.v_syntax.specs.ItemTree.{PlainItem, always_item, initial_item}
 use Rattle.v_statements.specs.SensitivityReading.{sensitivity_at}
 
 unfoldable pub always_at : List Lexeme → ℕ → ℕ → Read PlainItem

@@ -5,10 +5,10 @@ use Rattle.v_lexer.specs.Lexeme.{Lexeme}
 use Rattle.v_lexer.specs.declared.types.terminal.Terminal.TheVariants.{At, Always, Initial}
 use Rattle.v_tree.specs.Marks.{mark_at}
 use Rattle.v_tree.specs.Sites.{site}
-use Rattle.v_tree.specs.StatementTree.{PlainStatement}
+use Rattle.v_syntax.specs.StatementTree.{PlainStatement}
 use Rattle.v_statements.specs.Statements.{IsStatement}
 use Rattle.v_statements.specs.Initials.{IsInitial}
-use Rattle.v_tree.specs.ItemTree.{PlainSensitivity, PlainItem, always_item, initial_item}
+use Rattle.v_syntax.specs.ItemTree.{PlainSensitivity, PlainItem, always_item, initial_item}
 use Rattle.v_statements.specs.Sensitivities.{IsSensitivity}
 
 -- 'always' '@' sens stmt

@@ -2,16 +2,16 @@
 -- spell, where `nesting_left` levels of nesting are left. Each production stands as its comment, as in Productions.
 use Rattle.std.specs.Prelude.{◌≡◌, ◌≢◌, ℕ, ◌+◌, ◌≤◌, ◌⊎◌, Bool, true, false, List, [], ◌∷◌, Option}
 use Rattle.v_lexer.specs.Lexeme.{Lexeme}
-use Rattle.v_tree.specs.declared.statement.Edge.{Edge}
-use Rattle.v_tree.specs.declared.statement.Edge.TheVariants as edges
+use Rattle.v_syntax.specs.declared.statement.Edge.{Edge}
+use Rattle.v_syntax.specs.declared.statement.Edge.TheVariants as edges
 use Rattle.v_lexer.specs.declared.types.terminal.Terminal.TheVariants.{Name, Open, Close, OpenBracket, Comma, Or, Star, Posedge, Negedge}
 use Rattle.v_tree.specs.Marks.{mark_at}
 use Rattle.v_tree.specs.Sites.{site}
-use Rattle.v_tree.specs.Tree.{Selection}
+use Rattle.v_syntax.specs.Tree.{Selection}
 use Rattle.v_tree.specs.Depth.{nesting_of_select, levels_of_select}
 use Rattle.v_tree.specs.Expressions.{IsSelect}
 use Rattle.v_parts.specs.Productions.{IsOptional, AreRun, IsName}
-use Rattle.v_tree.specs.ItemTree.{PlainEvent, edge_event, change_event, PlainSensitivity, all_events, listed}
+use Rattle.v_syntax.specs.ItemTree.{PlainEvent, edge_event, change_event, PlainSensitivity, all_events, listed}
 
 -- 'posedge' | 'negedge'
 abbrev pub IsEdge : List Lexeme → Edge → ℕ → ℕ → Type 0

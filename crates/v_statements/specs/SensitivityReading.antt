@@ -1,18 +1,18 @@
 -- How the code reads what an always block waits for: the function on lists that each reader is. No public clause speaks of it.
 use Rattle.std.specs.Prelude.{ℕ, ◌+◌, List, [], ◌∷◌, length, Result, Ok, Err, if◌then◌else◌, Bool, true, false}
 use Rattle.v_lexer.specs.Lexeme.{Lexeme}
-use Rattle.v_tree.specs.declared.statement.Edge.{Edge}
-use Rattle.v_tree.specs.declared.statement.Edge.TheVariants as edges
+use Rattle.v_syntax.specs.declared.statement.Edge.{Edge}
+use Rattle.v_syntax.specs.declared.statement.Edge.TheVariants as edges
 use Rattle.v_lexer.specs.declared.types.terminal.Terminal.TheVariants as mark
 use Rattle.v_tree.specs.declared.fault.Fault.{Fault}
 use Rattle.v_tree.specs.declared.fault.Fault.TheVariants.{Unsupported}
 use Rattle.v_tree.specs.Marks.{mark_at, same}
 use Rattle.v_tree.specs.Sites.{site}
 use Rattle.v_tree.specs.Faults.{no_place}
-use Rattle.v_tree.specs.Tree.{Selection}
+use Rattle.v_syntax.specs.Tree.{Selection}
 use Rattle.v_tree.specs.Reading.{Read, ◌>>=◌, expect, below, select_at}
 use Rattle.v_parts.specs.Reading.{optional_at, run_at, name_at, unless_at}
-use Rattle.v_tree.specs.ItemTree.{PlainEvent, edge_event, change_event, PlainSensitivity, all_events, listed}
+use Rattle.v_syntax.specs.ItemTree.{PlainEvent, edge_event, change_event, PlainSensitivity, all_events, listed}
 use Rattle.v_statements.specs.Sensitivities.{is_posedge}
 
 unfoldable pub edge_at : List Lexeme → ℕ → Read Edge

@@ -2,11 +2,11 @@
 use Rattle.std.specs.Prelude.{ℕ, List, map, Option, option_map}
 use Rattle.std.specs.declared.vec.Vec.{Vec}
 use Rattle.std.specs.declared.alloc.Global.{Global}
-use Rattle.v_tree.specs.declared.expression.Select.{Select}
-use Rattle.v_tree.specs.declared.statement.Event.{Event}
-use Rattle.v_tree.specs.declared.statement.Sensitivity.{Sensitivity}
-use Rattle.v_tree.specs.Tree.{Selection, selection_of}
-use Rattle.v_tree.specs.ItemTree.{PlainEvent, event_of, PlainSensitivity, sensitivity_of}
+use Rattle.v_syntax.specs.declared.expression.Select.{Select}
+use Rattle.v_syntax.specs.declared.statement.Event.{Event}
+use Rattle.v_syntax.specs.declared.statement.Sensitivity.{Sensitivity}
+use Rattle.v_syntax.specs.Tree.{Selection, selection_of}
+use Rattle.v_syntax.specs.ItemTree.{PlainEvent, event_of, PlainSensitivity, sensitivity_of}
 
 abbrev pub seen_event : Event × ℕ → PlainEvent × ℕ
 seen_event x = (event_of x.0, x.1)

@@ -1,20 +1,20 @@
 -- How the code reads statements: the function on lists that each reader is. No public clause speaks of it.
 use Rattle.std.specs.Prelude.{ℕ, zero, suc, ◌+◌, List, ◌∷◌, length, Option, Ok, Err, if◌then◌else◌, Bool, true, false, ◌||◌}
 use Rattle.v_lexer.specs.Lexeme.{Lexeme}
-use Rattle.v_tree.specs.declared.declaration.Identifier.{Identifier}
-use Rattle.v_tree.specs.declared.statement.AssignKind.{AssignKind}
-use Rattle.v_tree.specs.declared.statement.AssignKind.TheVariants.{Blocking, Nonblocking}
-use Rattle.v_tree.specs.declared.statement.CaseKind.{CaseKind}
-use Rattle.v_tree.specs.declared.statement.CaseKind.TheVariants as kinds
+use Rattle.v_syntax.specs.declared.declaration.Identifier.{Identifier}
+use Rattle.v_syntax.specs.declared.statement.AssignKind.{AssignKind}
+use Rattle.v_syntax.specs.declared.statement.AssignKind.TheVariants.{Blocking, Nonblocking}
+use Rattle.v_syntax.specs.declared.statement.CaseKind.{CaseKind}
+use Rattle.v_syntax.specs.declared.statement.CaseKind.TheVariants as kinds
 use Rattle.v_lexer.specs.declared.types.terminal.Terminal.TheVariants as mark
 use Rattle.v_tree.specs.declared.fault.Fault.TheVariants.{Unsupported, Deep}
 use Rattle.v_tree.specs.Marks.{mark_at, same}
 use Rattle.v_tree.specs.Sites.{site}
 use Rattle.v_tree.specs.Faults.{no_place}
-use Rattle.v_tree.specs.Tree.{Tree}
+use Rattle.v_syntax.specs.Tree.{Tree}
 use Rattle.v_tree.specs.Reading.{Read, ◌>>=◌, expect, lower, whole_expression}
-use Rattle.v_tree.specs.PartTree.{PlainLeft}
-use Rattle.v_tree.specs.StatementTree.{PlainHead, PlainStatement, empty, block, delayed, if_then, if_else, choice, loop, assignment, statements_of, PlainCaseItem, labelled, otherwise, case_items_of, is_default}
+use Rattle.v_syntax.specs.PartTree.{PlainLeft}
+use Rattle.v_syntax.specs.StatementTree.{PlainHead, PlainStatement, empty, block, delayed, if_then, if_else, choice, loop, assignment, statements_of, PlainCaseItem, labelled, otherwise, case_items_of, is_default}
 use Rattle.v_parts.specs.Reading.{optional_at, list_at, run_at, identifier_at, value_at, delay_at, left_at}
 use Rattle.v_statements.specs.Statements.{may_follow_label}
 

@@ -2,10 +2,10 @@
 use Rattle.std.specs.Prelude.{ℕ, List, map}
 use Rattle.std.specs.declared.vec.Vec.{Vec}
 use Rattle.std.specs.declared.alloc.Global.{Global}
-use Rattle.v_tree.specs.declared.declaration.LoopHead.{LoopHead}
-use Rattle.v_tree.specs.declared.statement.Statement.{Statement}
-use Rattle.v_tree.specs.declared.statement.CaseItem.{CaseItem}
-use Rattle.v_tree.specs.StatementTree.{PlainHead, head_of, PlainStatement, statement_of, PlainCaseItem, case_item_of}
+use Rattle.v_syntax.specs.declared.declaration.LoopHead.{LoopHead}
+use Rattle.v_syntax.specs.declared.statement.Statement.{Statement}
+use Rattle.v_syntax.specs.declared.statement.CaseItem.{CaseItem}
+use Rattle.v_syntax.specs.StatementTree.{PlainHead, head_of, PlainStatement, statement_of, PlainCaseItem, case_item_of}
 
 abbrev pub seen_head : LoopHead × ℕ → PlainHead × ℕ
 seen_head x = (head_of x.0, x.1)

@@ -14,9 +14,8 @@ use loc_base::Name;
 use std::alloc::Global;
 use v_lexer::types::Token;
 use v_parts::{Read, bare, name, value};
-use v_tree::{
-    AssignKind, Fault, Statement, Stop, Terminal, expect, lower, mark_at, no_place, site_of, stands,
-};
+use v_syntax::{AssignKind, Statement};
+use v_tree::{Fault, Stop, Terminal, expect, lower, mark_at, no_place, site_of, stands};
 
 /// A form that another statement has.
 fn is_left_out(mark: Terminal) -> bool

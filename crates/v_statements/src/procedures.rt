@@ -11,7 +11,8 @@ use crate::{initials, procedure_nodes as nodes};
 use std::alloc::Global;
 use v_lexer::types::Token;
 use v_parts::Read;
-use v_tree::{Item, Terminal, expect, site_of, stands};
+use v_syntax::Item;
+use v_tree::{Terminal, expect, site_of, stands};
 
 /// `'always' '@' sens stmt`
 #[tactic(auto, unfolding(crate::specs::ProcedureReading::always_at))]

@@ -4,7 +4,7 @@ ghost use Rattle.v_tree.specs.Faults.{Gives};
 ghost use Rattle.v_lexer.specs.declared.types.terminal.Terminal.TheVariants as marks;
 ghost use Rattle.v_parts.specs.Seen.{as_is, Inside};
 ghost use Rattle.v_parts.specs.Reading.{optional_at};
-ghost use Rattle.v_tree.specs.ItemTree.{event_of};
+ghost use Rattle.v_syntax.specs.ItemTree.{event_of};
 ghost use Rattle.v_statements.specs.Sensitivities.{is_posedge};
 ghost use Rattle.v_statements.specs.SensitivitySeen.{seen_event, seen_events, seen_index_if, seen_sensitivity};
 ghost use Rattle.v_statements.specs.SensitivityReading.{edge_at, separator_at, edge_event_at, index_at, change_at, next_change_at, more_changes_at, changes_at, lone_edge_at, edges_end_at, close_edges_at, second_edge_at, edges_at, events_at, listed_at, star_close_at, sensitivity_at};
@@ -13,10 +13,8 @@ use loc_base::NoMemory;
 use std::alloc::Global;
 use v_lexer::types::Token;
 use v_parts::{INDEX_LEVELS, Read, name};
-use v_tree::{
-    Edge, Event, Fault, Select, Sensitivity, Stop, Terminal, expect, no_place, select, site_of,
-    stands,
-};
+use v_syntax::{Edge, Event, Select, Sensitivity};
+use v_tree::{Fault, Stop, Terminal, expect, no_place, select, site_of, stands};
 
 /// `'posedge' | 'negedge'`
 #[tactic(auto, unfolding(crate::specs::SensitivityReading::edge_at))]

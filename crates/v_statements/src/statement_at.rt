@@ -1,7 +1,7 @@
 //! The statement, and the statement of an initial block, that begins at a place (IEEE 1364-2005, 9.9.1 and A.6).
 ghost use Rattle.std.specs.Prelude.{◌≢◌, ℕ, ◌<◌, ◌≤◌, ◌^◌, length, IfOk, IfErr};
 ghost use Rattle.v_tree.specs.declared.fault.ParseErr.TheVariants as error;
-ghost use Rattle.v_tree.specs.StatementTree.{PlainStatement, statement_of};
+ghost use Rattle.v_syntax.specs.StatementTree.{PlainStatement, statement_of};
 ghost use Rattle.v_statements.specs.Statements.{IsStatement};
 ghost use Rattle.v_statements.specs.Initials.{IsInitial};
 ghost use Rattle.v_parts.specs.Answers.{IsAnswer, ShowsFault};
@@ -9,7 +9,8 @@ ghost use Rattle.v_parts.specs.Answers.{IsAnswer, ShowsFault};
 use crate::{initials, statements};
 use std::alloc::Global;
 use v_lexer::types::Token;
-use v_tree::{ParseErr, Statement, error_of};
+use v_syntax::Statement;
+use v_tree::{ParseErr, error_of};
 
 /// How deep a statement may nest.
 const MOST_NESTING: u32 = 256;

@@ -1,13 +1,13 @@
 //! The nodes of statements, once what nests in them is read.
 ghost use Rattle.std.specs.Prelude.{◌≡◌, ◌||◌, map, option_map, IfOk};
-ghost use Rattle.v_tree.specs.Tree.{tree_of};
-ghost use Rattle.v_tree.specs.PartTree.{delay_of, left_of};
-ghost use Rattle.v_tree.specs.StatementTree as tree;
-ghost use Rattle.v_tree.specs.StatementTree.{statement_of, case_item_of, statements_of, case_items_of, head_of, is_default};
+ghost use Rattle.v_syntax.specs.Tree.{tree_of};
+ghost use Rattle.v_syntax.specs.PartTree.{delay_of, left_of};
+ghost use Rattle.v_syntax.specs.StatementTree as tree;
+ghost use Rattle.v_syntax.specs.StatementTree.{statement_of, case_item_of, statements_of, case_items_of, head_of, is_default};
 
 use loc_base::NoMemory;
 use std::alloc::Global;
-use v_tree::{
+use v_syntax::{
     AssignKind, CaseItem, CaseKind, Delay, Expr, Identifier, Left, LoopHead, Site, Statement,
 };
 

@@ -2,8 +2,8 @@
 ghost use Rattle.std.specs.Prelude.{◌≡◌, ◌+◌, ◌<◌, ◌≤◌, ◌^◌, length, IfOk};
 ghost use Rattle.v_tree.specs.Faults.{Gives};
 ghost use Rattle.v_lexer.specs.declared.types.terminal.Terminal.TheVariants as marks;
-ghost use Rattle.v_tree.specs.Tree.{Tree, tree_of};
-ghost use Rattle.v_tree.specs.PartTree.{left_of};
+ghost use Rattle.v_syntax.specs.Tree.{Tree, tree_of};
+ghost use Rattle.v_syntax.specs.PartTree.{left_of};
 ghost use Rattle.v_parts.specs.Seen.{as_is, seen_value, seen_values, Inside};
 ghost use Rattle.v_tree.specs.Marks.{mark_at};
 ghost use Rattle.v_statements.specs.Statements.{may_follow_label};
@@ -15,10 +15,8 @@ use crate::statement_nodes::assignment;
 use std::alloc::Global;
 use v_lexer::types::Token;
 use v_parts::{PartReader, Read, delay_if, identifier, left, listed, value};
-use v_tree::{
-    AssignKind, CaseKind, Expr, Fault, Identifier, Left, LoopHead, Statement, Stop, Terminal,
-    expect, mark_at, no_place, read_expression, site_of, stands,
-};
+use v_syntax::{AssignKind, CaseKind, Expr, Identifier, Left, LoopHead, Statement};
+use v_tree::{Fault, Stop, Terminal, expect, mark_at, no_place, read_expression, site_of, stands};
 
 /// `(':' NAME)?`
 #[tactic(auto, unfolding(v_parts::specs::Reading::optional_at, crate::specs::StatementReading::label_at))]

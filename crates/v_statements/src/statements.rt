@@ -2,7 +2,7 @@
 ghost use Rattle.std.specs.Prelude.{◌+◌, ◌<◌, ◌≤◌, ◌^◌, length, IfOk};
 ghost use Rattle.v_tree.specs.Faults.{Gives};
 ghost use Rattle.v_parts.specs.Seen.{Inside};
-ghost use Rattle.v_tree.specs.StatementTree.{case_item_of, is_default};
+ghost use Rattle.v_syntax.specs.StatementTree.{case_item_of, is_default};
 ghost use Rattle.v_statements.specs.StatementSeen.{seen_statement, seen_statements, seen_case_item, seen_case_items};
 ghost use Rattle.v_statements.specs.StatementReading.{statement_at, statement_below, block_at, body_at, delayed_at, if_at, case_at, case_items_at, case_item_at, labelled_at, default_at, loop_at};
 
@@ -11,9 +11,8 @@ use crate::statement_parts::{assign, colon_if, in_parens, label_if, labels, loop
 use std::alloc::Global;
 use v_lexer::types::Token;
 use v_parts::{Read, delay};
-use v_tree::{
-    CaseItem, CaseKind, Statement, Stop, Terminal, expect, lower, no_place, site_of, stands,
-};
+use v_syntax::{CaseItem, CaseKind, Statement};
+use v_tree::{Stop, Terminal, expect, lower, no_place, site_of, stands};
 
 /// A statement, where `nesting_left` levels of nesting are left to it.
 #[tactic(auto, using(crate::proofs::StatementSteps::statement_over), unfolding(crate::specs::StatementReading::statement_with))]

@@ -8,11 +8,11 @@ use Rattle.std.proofs.lemmas.List.Sums.{AllPass-from_list_all}
 use Rattle.loc_base.specs.Name.{IsName, IsNameByte}
 use Rattle.v_lexer.specs.Lexeme.{Lexeme}
 use Rattle.v_lexer.specs.Text.{IsTokenText}
-use Rattle.v_lexer.specs.Bytes.{is_visible}
+use Rattle.v_syntax.specs.Bytes.{is_visible}
 use Rattle.v_lexer.specs.Terminals.{Row, spelled, symbol, system_function, reserved_word, terminal_of}
 use Rattle.v_lexer.specs.declared.terminals.TheConstants.{SYMBOLS, SYSTEM_FUNCTIONS, RESERVED_WORDS}
-use Rattle.v_lexer.specs.declared.types.token.TokenKind.{TokenKind}
-use Rattle.v_lexer.specs.declared.types.token.TokenKind.TheVariants as kind
+use Rattle.v_syntax.specs.declared.token_kind.TokenKind.{TokenKind}
+use Rattle.v_syntax.specs.declared.token_kind.TokenKind.TheVariants as kind
 use Rattle.v_lexer.specs.declared.types.terminal.Terminal.{Terminal}
 use Rattle.v_lexer.specs.declared.types.terminal.Terminal.TheVariants.{Nothing, Name, Number, Wild}
 use Rattle.v_tree.specs.Marks.{mark_at, mark_in}

@@ -2,18 +2,18 @@
 use Rattle.std.proofs.Common.{◌≡◌, ◌≢◌, ℕ, zero, suc, ◌+◌, ◌-◌, ◌<◌, ◌≤◌, Bool, true, false, if◌then◌else◌, List, length, Some, None, Option, Ok, Result, sym, ap, ◌∙◌, subst, refl, arith, nat_lt, le-ltb, lt-ltb, ne_eqb, ◌==◌, lit≤}
 use Rattle.loc_base.proofs.ShelfOptions.{Some-same}
 use Rattle.v_lexer.specs.Lexeme.{Lexeme}
-use Rattle.v_tree.specs.declared.site.Site.{Site}
+use Rattle.v_syntax.specs.declared.site.Site.{Site}
 use Rattle.v_lexer.specs.declared.types.terminal.Terminal.{Terminal}
 use Rattle.v_lexer.specs.declared.types.terminal.Terminal.TheVariants as marks
 use Rattle.v_tree.specs.declared.fault.Fault.{Fault}
-use Rattle.v_tree.specs.declared.operator.Unary.{Unary}
-use Rattle.v_tree.specs.declared.operator.Binary.{Binary}
-use Rattle.v_tree.specs.declared.operator.SystemFunction.{SystemFunction}
-use Rattle.v_tree.specs.declared.expression.PartKind.{PartKind}
+use Rattle.v_syntax.specs.declared.operator.Unary.{Unary}
+use Rattle.v_syntax.specs.declared.operator.Binary.{Binary}
+use Rattle.v_syntax.specs.declared.operator.SystemFunction.{SystemFunction}
+use Rattle.v_syntax.specs.declared.expression.PartKind.{PartKind}
 use Rattle.v_tree.specs.Marks.{mark_at, same}
 use Rattle.v_tree.specs.Sites.{site}
 use Rattle.v_tree.specs.Operators.{unary_of, binary_of, strength, system_of, part_of}
-use Rattle.v_tree.specs.Tree.{Tree, number, wild, name, parens, concat, repeat, system, unary, binary, conditional, Trees, no_tree, tree, Selection, bit, part, Selections, no_select, select}
+use Rattle.v_syntax.specs.Tree.{Tree, number, wild, name, parens, concat, repeat, system, unary, binary, conditional, Trees, no_tree, tree, Selection, bit, part, Selections, no_select, select}
 use Rattle.v_tree.specs.Depth.{nesting, levels, nesting_of_parts, levels_of_parts, nesting_of_select, levels_of_select, nesting_of_selects, levels_of_selects}
 use Rattle.v_tree.specs.Expressions.{Ends, tightness, how_many, takes_select, IsExpr, AreMore, IsSelect, AreSelects}
 use Rattle.v_tree.specs.Reading.{Reader, Readers, readers, below, operand_with, signed_at, called_at, plain_at, whole_with, ◌>>=◌, lower, above, expect, chain, chain_step, climb, more_parts, parts_from, selects_at, select_at, behind_at, close_bit, close_part, name_at, parens_at, close_parens, braces_at, repeat_at, concat_at, close_repeat, close_concat, system_at, close_system, unary_at, question_at}

@@ -4,7 +4,7 @@ use Rattle.v_lexer.specs.Lexeme.{Lexeme}
 use Rattle.v_tree.specs.declared.fault.Stop.{Stop}
 use Rattle.v_tree.specs.declared.fault.Stop.TheVariants as stop
 use Rattle.v_tree.specs.declared.fault.ParseErr.TheVariants as error
-use Rattle.v_tree.specs.Tree.{Tree}
+use Rattle.v_syntax.specs.Tree.{Tree}
 use Rattle.v_tree.specs.Expressions.{IsWhole}
 use Rattle.v_tree.specs.Faults.{Fails, error_of}
 use Rattle.v_tree.specs.Answers.{ShowsFault}

@@ -1,7 +1,7 @@
 -- Selects of their own: what reading finds, and that it looks no farther than the token behind them.
 use Rattle.std.proofs.Common.{◌≡◌, ℕ, ◌+◌, ◌<◌, ◌≤◌, ◌∙◌, List, length, Ok, ap, sym, subst}
 use Rattle.v_lexer.specs.Lexeme.{Lexeme}
-use Rattle.v_tree.specs.Tree.{Selection, Selections}
+use Rattle.v_syntax.specs.Tree.{Selection, Selections}
 use Rattle.v_tree.specs.Reading.{Readers, readers, below, select_at, selects_at}
 use Rattle.v_lexer.specs.declared.types.terminal.Terminal.TheVariants as marks
 use Rattle.v_tree.specs.Marks.{mark_at}

@@ -5,14 +5,14 @@ use Rattle.loc_base.proofs.ShelfOptions.{Some-same}
 use Rattle.v_lexer.specs.Lexeme.{Lexeme}
 use Rattle.v_lexer.specs.declared.types.terminal.Terminal.{Terminal}
 use Rattle.v_lexer.specs.declared.types.terminal.Terminal.TheVariants as marks
-use Rattle.v_tree.specs.declared.operator.Unary.{Unary}
-use Rattle.v_tree.specs.declared.operator.Binary.{Binary}
-use Rattle.v_tree.specs.declared.operator.SystemFunction.{SystemFunction}
-use Rattle.v_tree.specs.declared.expression.PartKind.{PartKind}
+use Rattle.v_syntax.specs.declared.operator.Unary.{Unary}
+use Rattle.v_syntax.specs.declared.operator.Binary.{Binary}
+use Rattle.v_syntax.specs.declared.operator.SystemFunction.{SystemFunction}
+use Rattle.v_syntax.specs.declared.expression.PartKind.{PartKind}
 use Rattle.v_tree.specs.Marks.{mark_at, same}
 use Rattle.v_tree.specs.Sites.{site}
 use Rattle.v_tree.specs.Operators.{unary_of, binary_of, strength, system_of, part_of}
-use Rattle.v_tree.specs.Tree.{Tree, number, wild, name, parens, concat, repeat, system, unary, binary, conditional, Trees, no_tree, tree, Selection, bit, part, Selections, no_select, select}
+use Rattle.v_syntax.specs.Tree.{Tree, number, wild, name, parens, concat, repeat, system, unary, binary, conditional, Trees, no_tree, tree, Selection, bit, part, Selections, no_select, select}
 use Rattle.v_tree.specs.Depth.{nesting, levels, nesting_of_parts, levels_of_parts, nesting_of_select, levels_of_select, nesting_of_selects, levels_of_selects}
 use Rattle.v_tree.specs.Expressions.{Ends, tightness, how_many, takes_select, IsExpr, AreParts, AreMore, IsSelect, AreSelects}
 use Rattle.v_tree.specs.Faults.{no_place}
@@ -21,7 +21,7 @@ use Rattle.v_tree.proofs.MarkLemmas.{same_true, same_of}
 use Rattle.v_tree.proofs.BindLemmas.{bind-inv, from_ok, lower-inv, above-inv, expect-inv, bad_good, true_false}
 use Rattle.v_tree.proofs.StepLemmas.{whole_over, operand_over, below_less, strength_most}
 use Rattle.v_tree.proofs.PlaceLemmas.{binary_inside}
-use Rattle.v_tree.specs.declared.operator.Binary.TheVariants as ops
+use Rattle.v_syntax.specs.declared.operator.Binary.TheVariants as ops
 
 pub record Sound (t : List Lexeme) (d levels_left : ℕ) (x : Tree) (a b : ℕ) : Type 0 where
   pub spelled : IsExpr t x a b

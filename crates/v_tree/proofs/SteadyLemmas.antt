@@ -7,14 +7,14 @@ use Rattle.v_lexer.specs.declared.types.terminal.Terminal.{Terminal}
 use Rattle.v_lexer.specs.declared.types.terminal.Terminal.TheVariants as marks
 use Rattle.v_tree.specs.declared.fault.Fault.{Fault}
 use Rattle.v_tree.specs.declared.fault.Fault.TheVariants.{Unexpected, Unsupported, Deep}
-use Rattle.v_tree.specs.declared.operator.Unary.{Unary}
-use Rattle.v_tree.specs.declared.operator.Binary.{Binary}
-use Rattle.v_tree.specs.declared.operator.SystemFunction.{SystemFunction}
-use Rattle.v_tree.specs.declared.expression.PartKind.{PartKind}
+use Rattle.v_syntax.specs.declared.operator.Unary.{Unary}
+use Rattle.v_syntax.specs.declared.operator.Binary.{Binary}
+use Rattle.v_syntax.specs.declared.operator.SystemFunction.{SystemFunction}
+use Rattle.v_syntax.specs.declared.expression.PartKind.{PartKind}
 use Rattle.v_tree.specs.Marks.{mark_at, mark_in, same}
 use Rattle.v_tree.specs.Sites.{site, text_at, text_in, span_at, span_in, line_at, line_in}
 use Rattle.v_tree.specs.Operators.{unary_of, binary_of, strength, system_of, part_of}
-use Rattle.v_tree.specs.Tree.{Tree, number, name, parens, concat, repeat, system, unary, binary, conditional, Trees, no_tree, tree, bit, part, no_select, select}
+use Rattle.v_syntax.specs.Tree.{Tree, number, name, parens, concat, repeat, system, unary, binary, conditional, Trees, no_tree, tree, bit, part, no_select, select}
 use Rattle.v_tree.specs.Depth.{levels}
 use Rattle.v_tree.specs.Faults.{no_place, fault_of_mark, fault_place, is_unsupported, is_deep, Begins, told_by}
 use Rattle.v_tree.specs.Reading.{Read, Reader, Readers, readers, below, operand_with, signed_at, called_at, plain_at, whole_with, shut, ◌>>=◌, lower, above, expect, chain, chain_step, climb, more_parts, parts_from, selects_at, select_at, behind_at, close_bit, close_part, name_at, parens_at, close_parens, braces_at, repeat_at, concat_at, close_repeat, close_concat, system_at, close_system, unary_at, question_at}

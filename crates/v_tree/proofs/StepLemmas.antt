@@ -2,10 +2,10 @@
 use Rattle.std.proofs.Common.{◌≡◌, ◌≢◌, ℕ, zero, suc, ◌+◌, ◌-◌, ◌<◌, ◌≤◌, Bool, true, false, if◌then◌else◌, List, [], ◌∷◌, ◌++◌, map, length, max, Some, None, Ok, Err, Result, sym, ap, ◌∙◌, refl, arith, nat_lt, lit<, ltb-false, lt-ltb, le-ltb, lit≤}
 use Rattle.v_lexer.specs.Lexeme.{Lexeme}
 use Rattle.v_lexer.specs.declared.types.terminal.Terminal.TheVariants as marks
-use Rattle.v_tree.specs.declared.operator.Binary.{Binary}
-use Rattle.v_tree.specs.declared.operator.Binary.TheVariants as ops
-use Rattle.v_tree.specs.declared.expression.Expr.{Expr}
-use Rattle.v_tree.specs.declared.expression.Select.{Select}
+use Rattle.v_syntax.specs.declared.operator.Binary.{Binary}
+use Rattle.v_syntax.specs.declared.operator.Binary.TheVariants as ops
+use Rattle.v_syntax.specs.declared.expression.Expr.{Expr}
+use Rattle.v_syntax.specs.declared.expression.Select.{Select}
 use Rattle.v_tree.specs.declared.fault.Stop.{Stop}
 use Rattle.v_tree.specs.declared.fault.Stop.TheVariants as stop
 use Rattle.v_tree.specs.Faults.{Fails}
@@ -13,7 +13,7 @@ use Rattle.v_tree.specs.Sites.{site}
 use Rattle.v_tree.specs.declared.fault.Fault.{Fault}
 use Rattle.v_tree.specs.Marks.{mark_at, same}
 use Rattle.v_tree.specs.Operators.{binary_of, strength}
-use Rattle.v_tree.specs.Tree.{Tree, binary, tree_of, selection_of, Trees, no_tree, tree, trees_of, append_parts, Selection, Selections, no_select, select, selections_of, append_selects}
+use Rattle.v_syntax.specs.Tree.{Tree, binary, tree_of, selection_of, Trees, no_tree, tree, trees_of, append_parts, Selection, Selections, no_select, select, selections_of, append_selects}
 use Rattle.v_tree.specs.Depth.{levels_of_parts, levels, levels_of_selects, levels_of_select}
 use Rattle.v_tree.specs.Reading.{Read, above, Reader, Readers, readers, readers_over, below, operand_with, whole_with, ◌>>=◌, chain, chain_step, climb, more_parts, selects_at, select_at}
 

@@ -2,15 +2,15 @@
 use Rattle.std.proofs.Common.{◌≡◌, ◌≢◌, ℕ, ◌+◌, ◌<◌, ◌≤◌, inl, inr, Bool, true, false, if◌then◌else◌, List, length, Some, None, Option, Ok, Err, sym, ap, ◌∙◌, subst, refl, arith, lit≤}
 use Rattle.loc_base.proofs.ShelfBools.{if-cases}
 use Rattle.v_lexer.specs.Lexeme.{Lexeme}
-use Rattle.v_tree.specs.declared.site.Site.{Site}
+use Rattle.v_syntax.specs.declared.site.Site.{Site}
 use Rattle.v_lexer.specs.declared.types.terminal.Terminal.TheVariants as marks
 use Rattle.v_tree.specs.declared.fault.Fault.{Fault}
 use Rattle.v_tree.specs.declared.fault.Fault.TheVariants.{Unsupported}
-use Rattle.v_tree.specs.declared.operator.Binary.{Binary}
+use Rattle.v_syntax.specs.declared.operator.Binary.{Binary}
 use Rattle.v_tree.specs.Marks.{mark_at, same}
 use Rattle.v_tree.specs.Sites.{site, text_at}
 use Rattle.v_tree.specs.Operators.{unary_of, binary_of, system_of}
-use Rattle.v_tree.specs.Tree.{Tree, number, wild, name, parens, concat, repeat, system, unary, binary, conditional}
+use Rattle.v_syntax.specs.Tree.{Tree, number, wild, name, parens, concat, repeat, system, unary, binary, conditional}
 use Rattle.v_tree.specs.Expressions.{IsExpr, IsWild, Ends, IsWhole}
 use Rattle.v_tree.specs.Faults.{Begins, told_by}
 use Rattle.v_tree.specs.Answers.{Refuses}

@@ -2,12 +2,12 @@
 use Rattle.std.specs.Prelude.{◌≡◌, ℕ, ◌+◌, ◌≤◌, List, true, length, Result, MatchResult}
 use Rattle.v_lexer.specs.Lexeme.{Lexeme}
 use Rattle.v_lexer.specs.declared.types.terminal.Terminal.TheVariants as mark
-use Rattle.v_tree.specs.declared.expression.Expr.{Expr}
+use Rattle.v_syntax.specs.declared.expression.Expr.{Expr}
 use Rattle.v_tree.specs.declared.fault.Fault.{Fault}
 use Rattle.v_tree.specs.declared.fault.ParseErr.{ParseErr}
 use Rattle.v_tree.specs.declared.fault.ParseErr.TheVariants as error
 use Rattle.v_tree.specs.Marks.{mark_at}
-use Rattle.v_tree.specs.Tree.{Tree, tree_of}
+use Rattle.v_syntax.specs.Tree.{Tree, tree_of}
 use Rattle.v_tree.specs.Expressions.{IsWhole}
 use Rattle.v_tree.specs.Faults.{fault_place, is_unsupported, is_deep, error_of_fault, Begins, told_by}
 

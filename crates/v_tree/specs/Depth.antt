@@ -1,6 +1,6 @@
 -- How deep an expression nests, and of how many levels its tree is.
 use Rattle.std.specs.Prelude.{ℕ, ◌+◌, max}
-use Rattle.v_tree.specs.Tree.{Tree, number, wild, name, parens, concat, repeat, system, unary, binary, conditional, Trees, no_tree, tree, Selection, bit, part, Selections, no_select, select}
+use Rattle.v_syntax.specs.Tree.{Tree, number, wild, name, parens, concat, repeat, system, unary, binary, conditional, Trees, no_tree, tree, Selection, bit, part, Selections, no_select, select}
 
 -- the most constructs that are open at one token: parentheses, concatenations, replications, selects, system calls, unary
 -- operators, and conditional operators from their `?` on

@@ -6,7 +6,7 @@ use Rattle.v_lexer.specs.declared.types.terminal.Terminal.TheVariants.{Number, W
 use Rattle.v_tree.specs.Marks.{mark_at}
 use Rattle.v_tree.specs.Sites.{text_at, site}
 use Rattle.v_tree.specs.Operators.{unary_of, binary_of, strength, system_of, part_of}
-use Rattle.v_tree.specs.Tree.{Tree, number, wild, name, parens, concat, repeat, system, unary, binary, conditional, Trees, no_tree, tree, Selection, bit, part, Selections, no_select, select}
+use Rattle.v_syntax.specs.Tree.{Tree, number, wild, name, parens, concat, repeat, system, unary, binary, conditional, Trees, no_tree, tree, Selection, bit, part, Selections, no_select, select}
 use Rattle.v_tree.specs.Depth.{nesting, levels}
 
 -- the level of a tree's outermost operator: 0 for ?:, 12 for a unary operator and for what has no operator

@@ -1,12 +1,12 @@
 -- What contracts see of what a reader found.
 use Rattle.std.specs.Prelude.{◌≡◌, ℕ, ◌≤◌, List, length, map}
 use Rattle.v_lexer.specs.Lexeme.{Lexeme}
-use Rattle.v_tree.specs.declared.expression.Expr.{Expr}
-use Rattle.v_tree.specs.declared.expression.Select.{Select}
+use Rattle.v_syntax.specs.declared.expression.Expr.{Expr}
+use Rattle.v_syntax.specs.declared.expression.Select.{Select}
 use Rattle.v_tree.specs.declared.found.Found.{Found}
 use Rattle.std.specs.declared.vec.Vec.{Vec}
 use Rattle.std.specs.declared.alloc.Global.{Global}
-use Rattle.v_tree.specs.Tree.{Tree, tree_of, Trees, trees_of, Selection, selection_of, Selections, selections_of}
+use Rattle.v_syntax.specs.Tree.{Tree, tree_of, Trees, trees_of, Selection, selection_of, Selections, selections_of}
 use Rattle.v_tree.specs.Depth.{levels, levels_of_parts, levels_of_select, levels_of_selects}
 
 -- what was found, and the place behind it

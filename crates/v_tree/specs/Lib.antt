@@ -1,14 +1,9 @@
 pub mod Marks
 pub mod Sites
 pub mod Operators
-pub mod Tree
 pub mod Depth
 pub mod Expressions
 pub mod Faults
 pub mod Reading
 pub mod Found
 pub mod Answers
-pub mod PartTree
-pub mod StatementTree
-pub mod ItemTree
-pub mod ModuleTree

@@ -2,14 +2,14 @@
 use Rattle.std.specs.Prelude.{ℕ, Option, Some, None}
 use Rattle.v_lexer.specs.declared.types.terminal.Terminal.{Terminal}
 use Rattle.v_lexer.specs.declared.types.terminal.Terminal.TheVariants as mark
-use Rattle.v_tree.specs.declared.operator.Unary.{Unary}
-use Rattle.v_tree.specs.declared.operator.Unary.TheVariants as unary
-use Rattle.v_tree.specs.declared.operator.Binary.{Binary}
-use Rattle.v_tree.specs.declared.operator.Binary.TheVariants as binary
-use Rattle.v_tree.specs.declared.operator.SystemFunction.{SystemFunction}
-use Rattle.v_tree.specs.declared.operator.SystemFunction.TheVariants as system
-use Rattle.v_tree.specs.declared.expression.PartKind.{PartKind}
-use Rattle.v_tree.specs.declared.expression.PartKind.TheVariants as part
+use Rattle.v_syntax.specs.declared.operator.Unary.{Unary}
+use Rattle.v_syntax.specs.declared.operator.Unary.TheVariants as unary
+use Rattle.v_syntax.specs.declared.operator.Binary.{Binary}
+use Rattle.v_syntax.specs.declared.operator.Binary.TheVariants as binary
+use Rattle.v_syntax.specs.declared.operator.SystemFunction.{SystemFunction}
+use Rattle.v_syntax.specs.declared.operator.SystemFunction.TheVariants as system
+use Rattle.v_syntax.specs.declared.expression.PartKind.{PartKind}
+use Rattle.v_syntax.specs.declared.expression.PartKind.TheVariants as part
 
 -- + - ! ~ & ~& | ~| ^ ~^ ^~
 abbrev pub unary_of : Terminal → Option Unary

@@ -2,7 +2,7 @@
 use Rattle.std.specs.Prelude.{ℕ, ◌-◌, List, [], Option, Some, None, length, slice_get}
 use Rattle.loc_base.specs.declared.span.Span.{Span}
 use Rattle.v_lexer.specs.Lexeme.{Lexeme}
-use Rattle.v_tree.specs.declared.site.Site.{Site}
+use Rattle.v_syntax.specs.declared.site.Site.{Site}
 
 abbrev pub span_in : Option Lexeme → Span
 span_in None = record { from = 0; to = 0 }

@@ -1,7 +1,7 @@
 //! The nodes of expressions, once what nests in them is read.
 ghost use Rattle.std.specs.Prelude.{◌≡◌, ◌+◌, ◌<◌, ◌≤◌, ◌^◌, length, max, IfOk, Ok};
-ghost use Rattle.v_tree.specs.Tree as tree;
-ghost use Rattle.v_tree.specs.Tree.{tree_of};
+ghost use Rattle.v_syntax.specs.Tree as tree;
+ghost use Rattle.v_syntax.specs.Tree.{tree_of};
 ghost use Rattle.v_tree.specs.Sites.{site, text_at};
 ghost use Rattle.v_tree.specs.Marks.{mark_at};
 ghost use Rattle.v_lexer.specs.declared.types.terminal.Terminal.TheVariants as marks;
@@ -9,15 +9,14 @@ ghost use Rattle.v_tree.specs.Faults.{Gives};
 ghost use Rattle.v_tree.specs.Found.{seen, seen_parts, seen_select, seen_selects, Sized, SizedParts, SizedSelect, SizedSelects};
 ghost use Rattle.v_tree.specs.Reading.{above, close_bit, close_concat, close_part, close_parens, close_repeat, close_system};
 
-use crate::expression::{Expr, PartKind, Select};
 use crate::fault::{Fault, Stop};
 use crate::found::Found;
 use crate::input::{expect, site};
 use crate::make;
-use crate::operator::{Binary, SystemFunction, Unary};
 use crate::text::{name_of, number_of};
 use std::alloc::Global;
 use v_lexer::types::{Terminal, Token};
+use v_syntax::{Binary, Expr, PartKind, Select, SystemFunction, Unary};
 
 /// One level less, where one more still stands above a tree of so many levels.
 pub fn above(levels_left: u32, used: u32, at: usize) -> Result<u32, Stop>

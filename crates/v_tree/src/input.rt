@@ -8,9 +8,9 @@ ghost use Rattle.v_lexer.specs.declared.types.terminal.Terminal.TheVariants as m
 
 use crate::fault::{Fault, Stop, no_place};
 use crate::mark::{mark_at, same};
-use crate::site::Site;
 use loc_base::Span;
 use v_lexer::types::{Terminal, Token};
+use v_syntax::Site;
 
 #[tactic(auto, unfolding(crate::specs::Sites::span_at))]
 fn span_at(tokens: &[Token], at: usize) -> Span

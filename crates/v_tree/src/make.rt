@@ -1,13 +1,10 @@
 ghost use Rattle.std.specs.Prelude.{◌≡◌, IfOk, map};
-ghost use Rattle.v_tree.specs.Tree as tree;
-ghost use Rattle.v_tree.specs.Tree.{tree_of, selection_of, selections_of, trees_of};
+ghost use Rattle.v_syntax.specs.Tree as tree;
+ghost use Rattle.v_syntax.specs.Tree.{tree_of, selection_of, selections_of, trees_of};
 
-use crate::expression::{Expr, PartKind, Select};
-use crate::literal::{Number, WildNumber};
-use crate::operator::{Binary, SystemFunction, Unary};
-use crate::site::Site;
 use loc_base::{Name, NoMemory};
 use std::alloc::Global;
+use v_syntax::{Binary, Expr, Number, PartKind, Select, Site, SystemFunction, Unary, WildNumber};
 
 pub fn number(site: Site, number: Number) -> Expr
     ensures { tree_of result ≡ tree.number site number }

@@ -1,9 +1,8 @@
 ghost use Rattle.std.specs.Prelude.{◌≡◌, ◌≤◌, Some};
 ghost use Rattle.v_tree.specs.Operators.{unary_of, binary_of, strength, system_of, part_of};
 
-use crate::expression::PartKind;
-use crate::operator::{Binary, SystemFunction, Unary};
 use v_lexer::types::Terminal;
+use v_syntax::{Binary, PartKind, SystemFunction, Unary};
 
 /// The unary operator of a symbol.
 pub fn unary_of(mark: Terminal) -> Option<Unary>

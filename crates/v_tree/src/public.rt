@@ -3,14 +3,13 @@ ghost use Rattle.v_tree.specs.Marks.{mark_at};
 ghost use Rattle.v_lexer.specs.declared.types.terminal.Terminal.TheVariants as marks;
 ghost use Rattle.v_tree.specs.declared.fault.ParseErr.TheVariants as error;
 ghost use Rattle.v_tree.specs.Operators.{binary_of};
-ghost use Rattle.v_tree.specs.Tree.{Tree, tree_of};
+ghost use Rattle.v_syntax.specs.Tree.{Tree, tree_of};
 ghost use Rattle.v_tree.specs.Expressions.{IsWhole};
 ghost use Rattle.v_tree.specs.Faults.{Gives};
 ghost use Rattle.v_tree.specs.Found.{seen, Sized};
 ghost use Rattle.v_tree.specs.Reading.{wild_at, whole_expression};
 ghost use Rattle.v_tree.specs.Answers.{IsAnswer, ShowsFault};
 
-use crate::expression::Expr;
 use crate::fault::{Fault, ParseErr, Stop, error_of};
 use crate::found::Found;
 use crate::input::{site, stands};
@@ -21,6 +20,7 @@ use crate::read::whole;
 use crate::text::wild_of;
 use std::alloc::Global;
 use v_lexer::types::{Terminal, Token};
+use v_syntax::Expr;
 
 /// How deep a text may nest.
 const MOST_NESTING: u32 = 256;

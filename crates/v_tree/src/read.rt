@@ -1,7 +1,7 @@
 //! The reading of expressions (IEEE 1364-2005, clause 5): recursive descent with one token of look-ahead, binary operators
 //! by precedence climbing.
 ghost use Rattle.std.specs.Prelude.{◌+◌, ◌<◌, ◌≤◌, ◌^◌, length, IfOk};
-ghost use Rattle.v_tree.specs.Tree.{tree_of};
+ghost use Rattle.v_syntax.specs.Tree.{tree_of};
 ghost use Rattle.v_tree.specs.Faults.{Gives};
 ghost use Rattle.v_tree.specs.Found.{seen, seen_parts, seen_select, seen_selects, Sized, SizedParts, SizedSelect, SizedSelects};
 ghost use Rattle.v_tree.specs.Reading.{readers, below, climb, selects_at, select_at, parens_at, braces_at, parts_from, system_at, unary_at};
@@ -10,15 +10,14 @@ use crate::close::{
     above, close_bit, close_concat, close_parens, close_part, close_repeat, close_system,
     conditional, joined, name, negated, number,
 };
-use crate::expression::{Expr, Select};
 use crate::fault::{Stop, no_place};
 use crate::found::Found;
 use crate::input::{expect, lower, stands};
 use crate::mark::mark_at;
-use crate::operator::{SystemFunction, Unary};
 use crate::operator_of::{binary_of, part_of, strength, system_of, unary_of};
 use std::alloc::Global;
 use v_lexer::types::{Terminal, Token};
+use v_syntax::{Expr, Select, SystemFunction, Unary};
 
 /// An expression, where `nesting_left` levels of nesting and `levels_left` levels of operators are left to it.
 #[tactic(auto, using(crate::proofs::StepLemmas::whole_over, crate::proofs::StepLemmas::below_less), unfolding(crate::specs::Reading::whole_with, crate::specs::Reading::question_at))]

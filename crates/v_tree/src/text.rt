@@ -4,10 +4,10 @@ ghost use Rattle.v_tree.specs.Sites.{text_at};
 ghost use Rattle.v_tree.specs.Marks.{mark_at};
 ghost use Rattle.v_lexer.specs.declared.types.terminal.Terminal.TheVariants as marks;
 
-use crate::literal::{Number, WildNumber};
 use loc_base::{Bytes, Name, NoMemory};
 use std::alloc::Global;
 use v_lexer::types::Token;
+use v_syntax::{Number, WildNumber};
 
 #[tactic(auto, using(crate::proofs::ClassLemmas::name_bytes, crate::proofs::ClassLemmas::name_inside, crate::proofs::ClassLemmas::text_read))]
 /// The name at that place.

@@ -2,8 +2,8 @@
 use Rattle.std.proofs.Common.{◌≡◌, ℕ, zero, suc, ◌+◌, ◌-◌, ◌<◌, ◌≤◌, Bool, true, false, List, [], ◌∷◌, ◌++◌, length, map, drop, refl, sym, ap, ◌∙◌, arith, subst}
 use Rattle.std.specs.Prelude.{Result, Ok, Err}
 use Rattle.loc_base.specs.declared.span.Span.{Span}
-use Rattle.v_tree.specs.Tree.{Tree}
-use Rattle.v_tree.specs.StatementTree.{PlainHead, PlainStatement, PlainCaseItem, labelled, otherwise, Statements, no_statement, statement, CaseItems, no_item, item}
+use Rattle.v_syntax.specs.Tree.{Tree}
+use Rattle.v_syntax.specs.StatementTree.{PlainHead, PlainStatement, PlainCaseItem, labelled, otherwise, Statements, no_statement, statement, CaseItems, no_item, item}
 use Rattle.v_sizes.specs.declared.meaning.Const.{Const}
 use Rattle.v_hierarchy.specs.declared.error.ElabErr.{ElabErr}
 use Rattle.v_hierarchy.specs.declared.error.ElabErr.TheVariants as fault

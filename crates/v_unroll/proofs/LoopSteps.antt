@@ -4,9 +4,9 @@ use Rattle.std.specs.Prelude.{⊤, Result, Ok, Err, IfOk}
 use Rattle.std.proofs.lemmas.List.{drop_all}
 use Rattle.loc_base.proofs.ShelfLists.{drop-at}
 use Rattle.loc_base.specs.declared.span.Span.{Span}
-use Rattle.v_tree.specs.declared.statement.CaseItem.{CaseItem}
-use Rattle.v_tree.specs.declared.statement.Statement.{Statement}
-use Rattle.v_tree.specs.StatementTree.{PlainHead, PlainStatement, statement_of, statements_of, case_item_of, case_items_of}
+use Rattle.v_syntax.specs.declared.statement.CaseItem.{CaseItem}
+use Rattle.v_syntax.specs.declared.statement.Statement.{Statement}
+use Rattle.v_syntax.specs.StatementTree.{PlainHead, PlainStatement, statement_of, statements_of, case_item_of, case_items_of}
 use Rattle.v_sizes.specs.declared.meaning.Const.{Const}
 use Rattle.v_hierarchy.specs.declared.error.ElabErr.{ElabErr}
 use Rattle.v_hierarchy.specs.declared.left.Left.{Left}

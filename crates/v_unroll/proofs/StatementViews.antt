@@ -5,23 +5,23 @@ use Rattle.std.specs.Borrow.{Bor}
 use Rattle.std.specs.declared.boxed.Box.{Box}
 use Rattle.std.specs.declared.vec.Vec.{Vec}
 use Rattle.std.specs.declared.alloc.Global.{Global}
-use Rattle.v_tree.specs.declared.site.Site.{Site}
-use Rattle.v_tree.specs.declared.declaration.Delay.{Delay}
-use Rattle.v_tree.specs.declared.declaration.Identifier.{Identifier}
-use Rattle.v_tree.specs.declared.declaration.Left.{Left}
-use Rattle.v_tree.specs.declared.declaration.LoopHead.{LoopHead}
-use Rattle.v_tree.specs.declared.expression.Expr.{Expr}
-use Rattle.v_tree.specs.declared.statement.AssignKind.{AssignKind}
-use Rattle.v_tree.specs.declared.statement.CaseKind.{CaseKind}
-use Rattle.v_tree.specs.declared.statement.CaseItem.{CaseItem}
-use Rattle.v_tree.specs.declared.statement.CaseItem.TheFolds.{fold-roll-Statement, fold-roll-CaseItem}
-use Rattle.v_tree.specs.declared.statement.CaseItem.TheOpen.{Statement-F, CaseItem-F}
-use Rattle.v_tree.specs.declared.statement.CaseItem.TheVariants as item_case
-use Rattle.v_tree.specs.declared.statement.Statement.{Statement}
-use Rattle.v_tree.specs.declared.statement.Statement.TheVariants as written
-use Rattle.v_tree.specs.Tree.{tree_of}
-use Rattle.v_tree.specs.PartTree.{delay_of, left_of}
-use Rattle.v_tree.specs.StatementTree.{PlainStatement, PlainCaseItem, empty, block, delayed, if_then, if_else, choice, loop, assignment, labelled, otherwise, head_of, statements_of, case_items_of, statement_of, case_item_of, statement_step, case_step}
+use Rattle.v_syntax.specs.declared.site.Site.{Site}
+use Rattle.v_syntax.specs.declared.declaration.Delay.{Delay}
+use Rattle.v_syntax.specs.declared.declaration.Identifier.{Identifier}
+use Rattle.v_syntax.specs.declared.declaration.Left.{Left}
+use Rattle.v_syntax.specs.declared.declaration.LoopHead.{LoopHead}
+use Rattle.v_syntax.specs.declared.expression.Expr.{Expr}
+use Rattle.v_syntax.specs.declared.statement.AssignKind.{AssignKind}
+use Rattle.v_syntax.specs.declared.statement.CaseKind.{CaseKind}
+use Rattle.v_syntax.specs.declared.statement.CaseItem.{CaseItem}
+use Rattle.v_syntax.specs.declared.statement.CaseItem.TheFolds.{fold-roll-Statement, fold-roll-CaseItem}
+use Rattle.v_syntax.specs.declared.statement.CaseItem.TheOpen.{Statement-F, CaseItem-F}
+use Rattle.v_syntax.specs.declared.statement.CaseItem.TheVariants as item_case
+use Rattle.v_syntax.specs.declared.statement.Statement.{Statement}
+use Rattle.v_syntax.specs.declared.statement.Statement.TheVariants as written
+use Rattle.v_syntax.specs.Tree.{tree_of}
+use Rattle.v_syntax.specs.PartTree.{delay_of, left_of}
+use Rattle.v_syntax.specs.StatementTree.{PlainStatement, PlainCaseItem, empty, block, delayed, if_then, if_else, choice, loop, assignment, labelled, otherwise, head_of, statements_of, case_items_of, statement_of, case_item_of, statement_step, case_step}
 use Rattle.v_sizes.specs.declared.meaning.Const.{Const}
 use Rattle.v_hierarchy.specs.declared.steps.Arm.{Arm}
 use Rattle.v_hierarchy.specs.declared.steps.Arm.TheFolds.{fold-roll-Arm, fold-roll-Steps, fold_out-Turn}

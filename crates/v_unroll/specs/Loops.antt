@@ -1,7 +1,7 @@
 -- The parts of a loop as private contracts cite them: one turn, the turns, the whole.
 use Rattle.std.specs.Prelude.{Bool, List, Result, Ok}
 use Rattle.loc_base.specs.declared.span.Span.{Span}
-use Rattle.v_tree.specs.StatementTree.{PlainHead, PlainStatement, PlainCaseItem, labelled, otherwise}
+use Rattle.v_syntax.specs.StatementTree.{PlainHead, PlainStatement, PlainCaseItem, labelled, otherwise}
 use Rattle.v_sizes.specs.declared.meaning.Const.{Const}
 use Rattle.v_hierarchy.specs.declared.error.ElabErr.{ElabErr}
 use Rattle.v_hierarchy.specs.declared.left.Left.{Left}

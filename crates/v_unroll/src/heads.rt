@@ -1,8 +1,8 @@
 //! The heads of loops, those of generates too: the values of their variables, and how many turns there are (IEEE 1364-2005, 9.6
 //! and 12.4.1).
 ghost use Rattle.std.specs.Prelude.{◌≡◌, Ok, IfOk, IfErr, OnOk};
-ghost use Rattle.v_tree.specs.Tree.{tree_of};
-ghost use Rattle.v_tree.specs.StatementTree.{head_of};
+ghost use Rattle.v_syntax.specs.Tree.{tree_of};
+ghost use Rattle.v_syntax.specs.StatementTree.{head_of};
 ghost use Rattle.v_scopes.specs.Around.{frames_of};
 ghost use Rattle.v_unroll.specs.Heads.{IsTurning};
 ghost use Rattle.v_hierarchy.specs.Constants.{integer};
@@ -13,7 +13,7 @@ ghost use Rattle.v_hierarchy.specs.Unrolled.{at_turn, counted_at, holds_at, step
 use v_hierarchy::{ElabErr, Standing, index_of};
 use v_scopes::Scopes;
 use v_sizes::Const;
-use v_tree::{Expr, Identifier, LoopHead};
+use v_syntax::{Expr, Identifier, LoopHead};
 
 /// The most turns of a loop.
 pub const MOST_TURNS: u32 = 65536;

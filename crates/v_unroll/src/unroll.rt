@@ -1,7 +1,7 @@
 //! Statements whose loops are unrolled (IEEE 1364-2005, 9.6): at each turn the variable is a constant.
 ghost use Rattle.std.specs.Prelude.{◌≡◌, map, Ok, IfOk, IfErr, OnOk};
-ghost use Rattle.v_tree.specs.Tree.{tree_of};
-ghost use Rattle.v_tree.specs.StatementTree.{statement_of, statements_of, case_item_of, case_items_of, head_of};
+ghost use Rattle.v_syntax.specs.Tree.{tree_of};
+ghost use Rattle.v_syntax.specs.StatementTree.{statement_of, statements_of, case_item_of, case_items_of, head_of};
 ghost use Rattle.v_scopes.specs.Around.{frames_of};
 ghost use Rattle.v_hierarchy.specs.Frames.{Refuses};
 ghost use Rattle.v_hierarchy.specs.Views.{steps_of, step_list_of, arm_of, arms_of, turn_of, turns_of};
@@ -15,7 +15,7 @@ use loc_base::{Boxed, Items, NoMemory, Span};
 use std::alloc::Global;
 use v_hierarchy::{Arm, ElabErr, Steps, Turn};
 use v_sizes::Const;
-use v_tree::{CaseItem, Expr, LoopHead, Statement};
+use v_syntax::{CaseItem, Expr, LoopHead, Statement};
 
 /// A condition with its arms.
 #[tactic(auto, using(crate::proofs::StatementViews::made_steps))]

@@ -4,8 +4,8 @@ use Rattle.std.specs.Prelude.{max, not}
 use Rattle.std.proofs.Math.Nat.{le-max_right, max-le}
 use Rattle.loc_base.specs.declared.bits.Bits.{Bits}
 use Rattle.loc_base.specs.Bits.{width_of, value_of}
-use Rattle.v_tree.specs.Tree.{Tree, Selections}
-use Rattle.v_tree.specs.Tree as written
+use Rattle.v_syntax.specs.Tree.{Tree, Selections}
+use Rattle.v_syntax.specs.Tree as written
 use Rattle.design_core.specs.declared.expression.Typed.{Typed}
 use Rattle.design_core.specs.Constant.{zeros}
 use Rattle.v_sizes.specs.declared.meaning.Const.{Const}
@@ -24,7 +24,7 @@ use Rattle.v_widths.specs.Opening.{opened, opened_selects}
 use Rattle.v_widths.proofs.Agrees.{IsClosed}
 use Rattle.v_widths.proofs.Opened.{opened-law}
 use Rattle.v_widths.proofs.OnlyConstants.{only-constant}
-use Rattle.v_tree.specs.declared.site.Site.{Site}
+use Rattle.v_syntax.specs.declared.site.Site.{Site}
 use Rattle.v_widths.specs.declared.measured.Measured.{Measured}
 
 pub opened-least : (look : Look) (only : Bool) → IsScope look → (e : Tree) → 1 ≤ (opened look only e).width

@@ -7,8 +7,8 @@ use Rattle.std.proofs.lemmas.Nat.{pow_pos}
 use Rattle.std.proofs.Math.Nat.{mod-lt, le-max_left, le-max_right}
 use Rattle.loc_base.specs.declared.span.Span.{Span}
 use Rattle.loc_base.specs.Word.{extended}
-use Rattle.v_tree.specs.declared.operator.Binary.{Binary}
-use Rattle.v_tree.specs.declared.operator.Binary.TheVariants as binary
+use Rattle.v_syntax.specs.declared.operator.Binary.{Binary}
+use Rattle.v_syntax.specs.declared.operator.Binary.TheVariants as binary
 use Rattle.design_core.specs.declared.expression.Typed.{Typed}
 use Rattle.design_core.specs.declared.expression.Node.TheVariants as node
 use Rattle.design_core.specs.declared.expression.BinaryOp.{BinaryOp}

@@ -9,7 +9,7 @@ use Rattle.std.proofs.lemmas.Nat.{pow_pos}
 use Rattle.std.proofs.Math.Nat.{mod-lt}
 use Rattle.loc_base.specs.declared.span.Span.{Span}
 use Rattle.loc_base.specs.Word.{extended}
-use Rattle.v_tree.specs.declared.operator.SystemFunction.TheVariants as function
+use Rattle.v_syntax.specs.declared.operator.SystemFunction.TheVariants as function
 use Rattle.design_core.specs.declared.expression.Typed.{Typed}
 use Rattle.design_core.specs.declared.expression.Node.TheVariants as node
 use Rattle.design_core.specs.Constant.{zeros}

@@ -3,19 +3,19 @@ use Rattle.std.proofs.Common.{◌≡◌, ℕ, List, map, sym, ap, ◌∙◌}
 use Rattle.std.specs.declared.boxed.Box.{Box}
 use Rattle.std.specs.declared.vec.Vec.{Vec}
 use Rattle.std.specs.declared.alloc.Global.{Global}
-use Rattle.v_tree.specs.declared.site.Site.{Site}
-use Rattle.v_tree.specs.declared.operator.Unary.{Unary}
-use Rattle.v_tree.specs.declared.operator.Binary.{Binary}
-use Rattle.v_tree.specs.declared.operator.SystemFunction.{SystemFunction}
-use Rattle.v_tree.specs.declared.expression.PartKind.{PartKind}
-use Rattle.v_tree.specs.declared.expression.Expr.{Expr}
-use Rattle.v_tree.specs.declared.expression.Expr.TheVariants as variant
-use Rattle.v_tree.specs.declared.expression.Select.{Select}
-use Rattle.v_tree.specs.declared.expression.Select.TheVariants as select_variant
-use Rattle.v_tree.specs.declared.expression.Expr.TheFolds.{fold-roll-Expr, fold-roll-Select}
-use Rattle.v_tree.specs.declared.expression.Expr.TheOpen.{Expr-F, Select-F}
-use Rattle.v_tree.specs.Tree.{Tree, Selection, trees_of, expr_step, select_step, tree_of, selection_of, selections_of}
-use Rattle.v_tree.specs.Tree as written
+use Rattle.v_syntax.specs.declared.site.Site.{Site}
+use Rattle.v_syntax.specs.declared.operator.Unary.{Unary}
+use Rattle.v_syntax.specs.declared.operator.Binary.{Binary}
+use Rattle.v_syntax.specs.declared.operator.SystemFunction.{SystemFunction}
+use Rattle.v_syntax.specs.declared.expression.PartKind.{PartKind}
+use Rattle.v_syntax.specs.declared.expression.Expr.{Expr}
+use Rattle.v_syntax.specs.declared.expression.Expr.TheVariants as variant
+use Rattle.v_syntax.specs.declared.expression.Select.{Select}
+use Rattle.v_syntax.specs.declared.expression.Select.TheVariants as select_variant
+use Rattle.v_syntax.specs.declared.expression.Expr.TheFolds.{fold-roll-Expr, fold-roll-Select}
+use Rattle.v_syntax.specs.declared.expression.Expr.TheOpen.{Expr-F, Select-F}
+use Rattle.v_syntax.specs.Tree.{Tree, Selection, trees_of, expr_step, select_step, tree_of, selection_of, selections_of}
+use Rattle.v_syntax.specs.Tree as written
 
 pub tree_of_number : (s : Site) (text : List ℕ) → tree_of (variant.Number s text) ≡ written.number s text
 tree_of_number s text = ap tree_of (sym (variant.rolls-Number s text)) ∙ fold-roll-Expr Tree Selection expr_step select_step (Expr-F.Number s text)

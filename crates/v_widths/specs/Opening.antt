@@ -1,10 +1,10 @@
 -- What the pass up gives of an expression, one case for each form. `only` where constants alone are wanted.
 use Rattle.std.specs.Prelude.{Bool, true, false, ◌||◌, List, [], ◌∷◌}
 use Rattle.loc_base.specs.declared.span.Span.{Span}
-use Rattle.v_tree.specs.declared.operator.SystemFunction.{SystemFunction}
-use Rattle.v_tree.specs.declared.operator.SystemFunction.TheVariants as function
-use Rattle.v_tree.specs.Tree.{Tree, Trees, no_tree, tree, Selection, Selections, no_select, select}
-use Rattle.v_tree.specs.Tree as written
+use Rattle.v_syntax.specs.declared.operator.SystemFunction.{SystemFunction}
+use Rattle.v_syntax.specs.declared.operator.SystemFunction.TheVariants as function
+use Rattle.v_syntax.specs.Tree.{Tree, Trees, no_tree, tree, Selection, Selections, no_select, select}
+use Rattle.v_syntax.specs.Tree as written
 use Rattle.v_sizes.specs.Look.{Look}
 use Rattle.v_sizes.specs.Operations.{class_of}
 use Rattle.v_sizes.specs.Refusals.{only_first, only_later, is_bound}

@@ -15,7 +15,7 @@ use std::alloc::Global;
 use v_selects::{Closed, Leaf};
 use v_sizes::WidthErr;
 use v_sizes::literal::{is_bad_literal, literal_signed, literal_width, literal_word};
-use v_tree::Unary;
+use v_syntax::Unary;
 
 fn literal_fault(span: Span, text: &[u8]) -> Option<WidthErr>
     ensures { result ≡ literal_fault span text.now }

@@ -1,7 +1,7 @@
 //! The pass up: the width and the sign that an expression has by itself (IEEE 1364-2005, 5.4.1 and 5.5.1). What no context sizes is
 //! finished here, once.
 ghost use Rattle.std.specs.Prelude.{◌≡◌, true, IfOk, map};
-ghost use Rattle.v_tree.specs.Tree.{tree_of, trees_of, selection_of, selections_of};
+ghost use Rattle.v_syntax.specs.Tree.{tree_of, trees_of, selection_of, selections_of};
 ghost use Rattle.v_sizes.specs.Refusals.{only_first, only_later, is_bound};
 ghost use Rattle.v_sizes.specs.Scopes.{look_of};
 ghost use Rattle.v_widths.specs.Closing.{alone};
@@ -18,7 +18,7 @@ use loc_base::{Boxed, Items, Name, NoMemory, Span};
 use std::alloc::Global;
 use v_selects::{At, Closed, Picked, named};
 use v_sizes::{Meaning, Scope};
-use v_tree::{Expr, PartKind, Select, Site, SystemFunction};
+use v_syntax::{Expr, PartKind, Select, Site, SystemFunction};
 
 /// Where an expression stands.
 fn place_of(site: &Site, only: bool) -> At

@@ -18,7 +18,7 @@ use v_selects::taken::number_word;
 use v_selects::{Closed, typed_of};
 use v_sizes::numbers::{is_true, limited};
 use v_sizes::{WidthErr, fold};
-use v_tree::Unary;
+use v_syntax::Unary;
 
 /// An unsigned bit.
 fn one_bit(

@@ -4,7 +4,7 @@ ghost use Rattle.v_sizes.specs.Operations.{class_of, keeps_width, unary_of};
 ghost use Rattle.v_widths.specs.Takings.{class_in};
 
 use design_core::{BinaryOp, UnaryOp};
-use v_tree::{Binary, Unary};
+use v_syntax::{Binary, Unary};
 
 pub(crate) fn unary_of(op: Unary) -> UnaryOp
     ensures { result ≡ unary_of op }

@@ -1,7 +1,7 @@
 //! An expression of the text in a context: sized, as a constant, or refused.
 ghost use Rattle.std.specs.Prelude.{◌≡◌, ◌≤◌, ◌⊎◌, ◌&&◌, not, max, map, true, false, Some, None, IfOk, IfErr, OnOk};
-ghost use Rattle.v_tree.specs.Tree.{tree_of, selection_of, selections_of};
-ghost use Rattle.v_tree.specs.Tree as written;
+ghost use Rattle.v_syntax.specs.Tree.{tree_of, selection_of, selections_of};
+ghost use Rattle.v_syntax.specs.Tree as written;
 ghost use Rattle.v_sizes.specs.declared.error.WidthErr.TheVariants.{NoMemory as OutOfMemory};
 ghost use Rattle.v_sizes.specs.Scopes.{look_of};
 ghost use Rattle.v_sizes.specs.Sizing.{sizing};
@@ -18,7 +18,7 @@ use std::alloc::Global;
 use v_selects::node::word_in;
 use v_selects::{At, Closed};
 use v_sizes::{Const, Scope, WidthErr};
-use v_tree::{Expr, Select, Site};
+use v_syntax::{Expr, Select, Site};
 
 /// What is asked of an expression: whether constants alone are wanted, the width of the context, and whether what stands beside
 /// it makes it unsigned.

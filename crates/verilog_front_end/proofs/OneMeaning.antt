@@ -3,7 +3,7 @@ use Rattle.std.proofs.Common.{◌≡◌, inl, inr, ℕ, List, Option, Some, refl
 use Rattle.design_core.specs.declared.design.Design.{Design}
 use Rattle.v_lexer.proofs.Unique.{no_other_tokens, no_tokens}
 use Rattle.v_tree.specs.declared.fault.ParseErr.{ParseErr}
-use Rattle.v_tree.specs.ModuleTree.{PlainModule}
+use Rattle.v_syntax.specs.ModuleTree.{PlainModule}
 use Rattle.v_parser.specs.Modules.{IsSource}
 use Rattle.v_parser.proofs.FewParts.{one_source}
 use Rattle.v_hierarchy.specs.Instances.{Instance, instances}

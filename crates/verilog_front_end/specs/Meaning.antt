@@ -5,7 +5,7 @@ use Rattle.design_core.specs.declared.design.Design.{Design}
 use Rattle.design_core.specs.Order.{HasCircle}
 use Rattle.v_lexer.specs.Lexeme.{Lexeme}
 use Rattle.v_lexer.specs.Tokens.{HasTokens}
-use Rattle.v_tree.specs.ModuleTree.{PlainModule}
+use Rattle.v_syntax.specs.ModuleTree.{PlainModule}
 use Rattle.v_parser.specs.Modules.{IsSource}
 use Rattle.v_hierarchy.specs.Instances.{Instance, instances}
 use Rattle.v_design.specs.Means.{IsMeant}

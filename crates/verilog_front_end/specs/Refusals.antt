@@ -5,7 +5,7 @@ use Rattle.design_core.specs.declared.design.Design.{Design}
 use Rattle.v_lexer.specs.Lexeme.{Lexeme}
 use Rattle.v_lexer.specs.Tokens.{HasTokens, HasFault}
 use Rattle.v_tree.specs.declared.fault.ParseErr.{ParseErr}
-use Rattle.v_tree.specs.ModuleTree.{PlainModule}
+use Rattle.v_syntax.specs.ModuleTree.{PlainModule}
 use Rattle.v_parser.specs.Modules.{ShowsNoSource}
 use Rattle.v_hierarchy.specs.declared.error.ElabErr.{ElabErr}
 use Rattle.v_hierarchy.specs.Instances.{Instance, instances}

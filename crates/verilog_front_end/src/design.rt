@@ -3,7 +3,7 @@ ghost use Rattle.std.specs.Prelude.{◌≡◌, ◌<◌, ◌^◌, ℕ, List, Opti
 ghost use Rattle.std.specs.Option.{option_copied};
 ghost use Rattle.design_core.specs.WellFormed.{IsWellFormed};
 ghost use Rattle.design_core.specs.DrivenOnce.{IsDrivenOnce};
-ghost use Rattle.v_tree.specs.ModuleTree.{source_of};
+ghost use Rattle.v_syntax.specs.ModuleTree.{source_of};
 ghost use Rattle.v_hierarchy.specs.Instances.{instances as instances_by};
 ghost use Rattle.v_hierarchy.specs.Views.{instances_of};
 ghost use Rattle.bind_scopes.specs.Standing.{InstancesStand};
@@ -21,7 +21,7 @@ use std::alloc::Global;
 use v_design::design;
 use v_elaborate::instances;
 use v_hierarchy::Instances;
-use v_tree::SourceTree;
+use v_syntax::SourceTree;
 
 /// The instances that a tree makes of a top.
 fn made_of<'t>(alloc: Global, tree: &'t SourceTree, top: &Name) -> Result<Instances<'t>, DesignErr>

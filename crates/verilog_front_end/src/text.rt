@@ -1,7 +1,7 @@
 //! The tree of a text.
 ghost use Rattle.std.specs.Prelude.{ℕ, List, Option, IfOk, IfErr};
 ghost use Rattle.v_lexer.specs.Tokens.{HasTokens};
-ghost use Rattle.v_tree.specs.ModuleTree.{source_of};
+ghost use Rattle.v_syntax.specs.ModuleTree.{source_of};
 ghost use Rattle.front_end.specs.Means.{Refuses};
 ghost use Rattle.verilog_front_end.specs.Meaning.{HasModules};
 ghost use Rattle.verilog_front_end.specs.Refusals.{IsRefusal};
@@ -11,7 +11,7 @@ use std::alloc::Global;
 use v_lexer::types::Tokens;
 use v_lexer::{few_tokens, tokens};
 use v_parser::source;
-use v_tree::SourceTree;
+use v_syntax::SourceTree;
 
 /// The tokens of a text.
 fn tokens_of(alloc: Global, text: &[u8]) -> Result<Tokens, DesignErr>

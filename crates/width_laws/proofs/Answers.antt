@@ -3,7 +3,7 @@ use Rattle.std.proofs.Common.{◌≡◌, ℕ, ◌≤◌, ◌<◌, ◌^◌, ◌%�
 use Rattle.std.proofs.Math.Nat.{le-max_right, max-le, mod-eq_of_lt}
 use Rattle.loc_base.specs.Bits.{value_of}
 use Rattle.loc_base.proofs.ShelfBools.{and-true}
-use Rattle.v_tree.specs.Tree.{Tree}
+use Rattle.v_syntax.specs.Tree.{Tree}
 use Rattle.design_core.specs.declared.signal.Signal.{Signal}
 use Rattle.design_core.specs.declared.expression.Typed.{Typed}
 use Rattle.design_core.specs.Constant.{zeros}

@@ -1,7 +1,7 @@
 -- What an expression means in an assignment of a width, 0 for none (IEEE 1364-2005, 5.4 and 5.5): its value in whole numbers, by the bits of
 -- the signals, at the width and the sign that the assignment gives it.
 use Rattle.std.specs.Prelude.{ℕ, Bool}
-use Rattle.v_tree.specs.Tree.{Tree}
+use Rattle.v_syntax.specs.Tree.{Tree}
 use Rattle.design_core.specs.Valuation.{Valuation}
 use Rattle.v_sizes.specs.Look.{Look}
 use Rattle.v_sizes.specs.Sizing.{sizing}

@@ -1,7 +1,7 @@
 //! Each law is the contract of a function that does nothing.
 ghost use Rattle.std.specs.Prelude.{◌≡◌, ◌≤◌, List, None, true, false};
 ghost use Rattle.loc_base.specs.Bits.{value_of};
-ghost use Rattle.v_tree.specs.Tree.{tree_of};
+ghost use Rattle.v_syntax.specs.Tree.{tree_of};
 ghost use Rattle.design_core.specs.declared.signal.Signal.{Signal};
 ghost use Rattle.design_core.specs.Valuation.{Valuation};
 ghost use Rattle.design_core.specs.Value.{value};
@@ -12,7 +12,7 @@ ghost use Rattle.v_sizes.specs.Context.{IsScopeOf, context_width, context_sign, 
 ghost use Rattle.width_laws.specs.Meaning.{meaning_in};
 
 use design_core::Typed;
-use v_tree::Expr;
+use v_syntax::Expr;
 use v_widths::{Const, Scope};
 
 /// What `typed` answers, in the words of its clauses `ok` and `accepted`: where the names stand for signals of a design, its value is that of

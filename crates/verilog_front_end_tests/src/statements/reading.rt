@@ -13,7 +13,7 @@ use v_hierarchy::{Arm, Steps};
 use v_lexer::{few_tokens, tokens};
 use v_sizes::Meaning;
 use v_statements::statement;
-use v_tree::{CaseKind, Expr, Statement};
+use v_syntax::{CaseKind, Expr, Statement};
 
 /// A case of one arm.
 #[derive(Clone, Copy)]

@@ -7,7 +7,7 @@ use std::alloc::Global;
 use std::process::Abort;
 use std::test::Fail;
 use v_binding::BindErr;
-use v_tree::{CaseItem, Statement};
+use v_syntax::{CaseItem, Statement};
 
 /// Where the tests' statements stand.
 fn home<'h>(name: &'h Name) -> Home<'h> {

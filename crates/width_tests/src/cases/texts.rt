@@ -2,7 +2,8 @@
 use std::alloc::Global;
 use std::test::Fail;
 use v_lexer::tokens;
-use v_tree::{Expr, expr};
+use v_syntax::Expr;
+use v_tree::expr;
 
 /// The expression of a text.
 pub fn expression(alloc: Global, text: &[u8]) -> Result<Expr, Fail> {

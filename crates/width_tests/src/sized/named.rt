@@ -2,7 +2,7 @@
 use crate::cases::expression;
 use std::alloc::Global;
 use std::test::Fail;
-use v_tree::Expr;
+use v_syntax::Expr;
 use v_widths::{Scope, Size, WidthErr, own_size, typed, typed_name};
 
 /// The width and the sign that a name with its selects has by itself.

@@ -1,5 +1,5 @@
 use Rattle.std.proofs.Common.{◌≡◌, take, map}
-use Rattle.v_tree.specs.ItemTree.{event_of}
+use Rattle.v_syntax.specs.ItemTree.{event_of}
 use Rattle.v_binding.specs.Clocks.{edges}
 use Rattle.bind_scopes.specs.Seen.{names_in}
 use Rattle.bind_clocks.specs.Waits.{waited_of}

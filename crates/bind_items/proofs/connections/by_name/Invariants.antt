@@ -1,5 +1,5 @@
 use Rattle.std.proofs.Common.{◌≡◌, drop, map}
-use Rattle.v_tree.specs.ItemTree.{connection_of}
+use Rattle.v_syntax.specs.ItemTree.{connection_of}
 use Rattle.v_binding.specs.Connections.{by_name}
 use Rattle.bind_scopes.specs.Seen.{names_in}
 use Rattle.bind_statements.specs.Homes.{home_of}

@@ -1,6 +1,6 @@
 use Rattle.std.proofs.Common.{◌≡◌, drop, map}
 use Rattle.std.specs.Prelude.{option_map}
-use Rattle.v_tree.specs.Tree.{tree_of}
+use Rattle.v_syntax.specs.Tree.{tree_of}
 use Rattle.v_binding.specs.Connections.{by_order}
 use Rattle.bind_scopes.specs.Seen.{names_in}
 use Rattle.bind_statements.specs.Homes.{home_of}

@@ -1,5 +1,5 @@
 use Rattle.std.proofs.Common.{◌∙◌, sym, ap, arith}
-use Rattle.v_tree.specs.Tree.{tree_of}
+use Rattle.v_syntax.specs.Tree.{tree_of}
 use Rattle.v_widths.proofs.TreeSteps.{tree_of_name}
 use Rattle.v_binding.specs.Connections.{plain_name}
 use Rattle.bind_items.proofs.PlainNames.{no-plain-name}

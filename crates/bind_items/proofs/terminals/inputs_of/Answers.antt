@@ -1,6 +1,6 @@
 use Rattle.std.proofs.Common.{ap, ◌∙◌, map, drop}
 use Rattle.std.proofs.lemmas.List.{take_rest}
-use Rattle.v_tree.specs.Tree.{tree_of}
+use Rattle.v_syntax.specs.Tree.{tree_of}
 use Rattle.v_binding.specs.Gates.{last_alone}
 use Rattle.bind_items.proofs.TerminalSteps.{inputs-dropped}
 use Rattle.bind_items.proofs.terminals.inputs_of.Goals as goal

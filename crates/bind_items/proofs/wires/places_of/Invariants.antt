@@ -1,5 +1,5 @@
 use Rattle.std.proofs.Common.{◌≡◌, ℕ, List, take, map}
-use Rattle.v_tree.specs.ItemTree.{connection_of}
+use Rattle.v_syntax.specs.ItemTree.{connection_of}
 use Rattle.v_hierarchy.specs.Places.{place_in}
 use Rattle.bind_items.specs.Wires.{first_named}
 use Rattle.bind_items.proofs.wires.places_of.Given as goal

@@ -1,5 +1,5 @@
 use Rattle.std.proofs.Common.{◌≡◌, drop, map}
-use Rattle.v_tree.specs.ItemTree as tree
+use Rattle.v_syntax.specs.ItemTree as tree
 use Rattle.v_binding.specs.Steps.{each}
 use Rattle.v_binding.specs.Assignments.{assignment_of}
 use Rattle.bind_scopes.specs.Seen.{names_in}

@@ -1,5 +1,5 @@
 use Rattle.std.proofs.Common.{◌≡◌, map, drop}
-use Rattle.v_tree.specs.Tree.{tree_of}
+use Rattle.v_syntax.specs.Tree.{tree_of}
 use Rattle.v_hierarchy.specs.Views.{arm_of, arms_of}
 use Rattle.v_binding.specs.Cases.{with_arms}
 use Rattle.v_binding.specs.Cases as case

@@ -1,5 +1,5 @@
 use Rattle.std.proofs.Common.{◌≡◌, map, drop}
-use Rattle.v_tree.specs.Tree.{tree_of}
+use Rattle.v_syntax.specs.Tree.{tree_of}
 use Rattle.v_binding.specs.Steps.{through}
 use Rattle.v_binding.specs.Cases.{with_label}
 use Rattle.bind_scopes.specs.Seen.{names_in}

@@ -1,6 +1,6 @@
 use Rattle.std.proofs.Common.{◌≡◌, map, drop}
 use Rattle.std.specs.Prelude.{is_some}
-use Rattle.v_tree.specs.Tree.{tree_of, trees_of}
+use Rattle.v_syntax.specs.Tree.{tree_of, trees_of}
 use Rattle.v_binding.specs.Lefts.{as_lefts}
 use Rattle.bind_statements.proofs.expression.+left_form.Given as goal
 

@@ -1,5 +1,5 @@
 use Rattle.std.proofs.Common.{◌≡◌, map, drop}
-use Rattle.v_tree.specs.Tree.{tree_of, trees_of}
+use Rattle.v_syntax.specs.Tree.{tree_of, trees_of}
 use Rattle.v_binding.specs.Lefts.{nothing_named}
 use Rattle.bind_scopes.specs.Seen.{names_in}
 use Rattle.bind_statements.specs.TreeTargets.{targets_of_trees}

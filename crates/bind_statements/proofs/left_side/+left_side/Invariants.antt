@@ -1,5 +1,5 @@
 use Rattle.std.proofs.Common.{◌≡◌, map, drop}
-use Rattle.v_tree.specs.PartTree.{left_of, lefts_of}
+use Rattle.v_syntax.specs.PartTree.{left_of, lefts_of}
 use Rattle.v_binding.specs.Lefts.{nothing_named, targets}
 use Rattle.bind_scopes.specs.Seen.{names_in}
 use Rattle.bind_statements.proofs.left_side.+left_side.Given as goal

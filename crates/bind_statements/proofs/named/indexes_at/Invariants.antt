@@ -1,5 +1,5 @@
 use Rattle.std.proofs.Common.{◌≡◌, map, drop}
-use Rattle.v_tree.specs.Tree.{selection_of, selections_of}
+use Rattle.v_syntax.specs.Tree.{selection_of, selections_of}
 use Rattle.v_binding.specs.Lefts.{indexes_at}
 use Rattle.bind_scopes.specs.Seen.{names_in}
 use Rattle.bind_statements.proofs.named.indexes_at.Given as goal

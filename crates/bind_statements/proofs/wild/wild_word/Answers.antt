@@ -1,4 +1,4 @@
-use Rattle.v_tree.specs.Tree.{tree_of}
+use Rattle.v_syntax.specs.Tree.{tree_of}
 use Rattle.v_binding.specs.Cases.{wild_bits}
 use Rattle.bind_statements.specs.Contexts.{context_of}
 use Rattle.bind_statements.proofs.Carried.{word-by}

@@ -1,5 +1,5 @@
 use Rattle.std.proofs.Common.{◌≡◌, drop, map}
-use Rattle.v_tree.specs.ItemTree.{event_of}
+use Rattle.v_syntax.specs.ItemTree.{event_of}
 use Rattle.v_binding.specs.Blocks.{event_at}
 use Rattle.v_binding.specs.Steps.{each}
 use Rattle.bind_scopes.specs.Seen.{names_in}

@@ -1,5 +1,5 @@
 use Rattle.std.proofs.Common.{◌≡◌, drop, map}
-use Rattle.v_tree.specs.ItemTree.{event_of}
+use Rattle.v_syntax.specs.ItemTree.{event_of}
 use Rattle.v_binding.specs.Blocks.{has_edge}
 use Rattle.bind_walk.proofs.events.has_edge.Given as goal
 

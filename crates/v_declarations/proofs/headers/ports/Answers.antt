@@ -7,7 +7,7 @@ use Rattle.v_tree.specs.Faults.{no_place}
 use Rattle.v_tree.proofs.BindLemmas.{bad}
 use Rattle.v_tree.proofs.StepLemmas.{fails_along}
 use Rattle.v_parts.specs.Reading.{run_at}
-use Rattle.v_tree.specs.ModuleTree.{port_of}
+use Rattle.v_syntax.specs.ModuleTree.{port_of}
 use Rattle.v_declarations.specs.Headers.{is_reg}
 use Rattle.v_declarations.specs.HeaderReading.{next_port_at, ports_at}
 use Rattle.v_parts.proofs.ListSteps.{with_front, run_turn, run_ends, run_fails, run_done}

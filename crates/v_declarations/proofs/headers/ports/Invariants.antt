@@ -1,7 +1,7 @@
 use Rattle.std.proofs.Common.{◌≡◌, ◌-◌, ◌≤◌, length}
 use Rattle.v_lexer.specs.declared.types.terminal.Terminal.TheVariants as marks
 use Rattle.v_parts.specs.Reading.{run_at}
-use Rattle.v_tree.specs.ModuleTree.{port_of}
+use Rattle.v_syntax.specs.ModuleTree.{port_of}
 use Rattle.v_declarations.specs.Headers.{is_reg}
 use Rattle.v_declarations.specs.HeaderReading.{next_port_at, ports_at}
 use Rattle.v_parts.proofs.ListSteps.{with_front}

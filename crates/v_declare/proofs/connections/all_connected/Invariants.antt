@@ -1,5 +1,5 @@
 use Rattle.std.proofs.Common.{◌≡◌, [], map, drop}
-use Rattle.v_tree.specs.ItemTree.{connection_of}
+use Rattle.v_syntax.specs.ItemTree.{connection_of}
 use Rattle.v_hierarchy.specs.Items.{connected}
 use Rattle.v_hierarchy.specs.Steps.{each}
 use Rattle.v_scopes.specs.Listed.{listed}

@@ -1,7 +1,7 @@
 use Rattle.std.proofs.Common.{◌∙◌, sym, ap}
 use Rattle.std.specs.Prelude.{option_map}
-use Rattle.v_tree.specs.ModuleTree.{ports_of}
-use Rattle.v_tree.specs.Tree.{tree_of}
+use Rattle.v_syntax.specs.ModuleTree.{ports_of}
+use Rattle.v_syntax.specs.Tree.{tree_of}
 use Rattle.v_hierarchy.specs.Headers.{port_names}
 use Rattle.v_declare.specs.Connected.{past_ports}
 use Rattle.v_declare.proofs.PortLaws.{few-is}

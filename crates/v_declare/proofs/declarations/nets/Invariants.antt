@@ -1,5 +1,5 @@
 use Rattle.std.proofs.Common.{◌≡◌, map, drop}
-use Rattle.v_tree.specs.ItemTree.{declarator_of}
+use Rattle.v_syntax.specs.ItemTree.{declarator_of}
 use Rattle.v_hierarchy.specs.Items.{net_of}
 use Rattle.v_hierarchy.specs.Steps.{each}
 use Rattle.v_scopes.specs.Around.{names_in, outer_of}

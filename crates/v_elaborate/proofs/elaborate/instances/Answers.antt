@@ -1,5 +1,5 @@
 use Rattle.std.proofs.Common.{◌∙◌, map, sym, ap}
-use Rattle.v_tree.specs.ModuleTree.{module_of, source_of}
+use Rattle.v_syntax.specs.ModuleTree.{module_of, source_of}
 use Rattle.v_scopes.specs.Units.{units_of}
 use Rattle.v_scopes.proofs.GivenLaws.{passed_on}
 use Rattle.v_hierarchy.specs.Frames.{Refuses}

@@ -1,5 +1,5 @@
 use Rattle.std.proofs.Common.{◌≡◌, [], map, drop}
-use Rattle.v_tree.specs.ModuleTree.{module_of}
+use Rattle.v_syntax.specs.ModuleTree.{module_of}
 use Rattle.v_hierarchy.specs.Instances.{unit_name}
 use Rattle.v_hierarchy.specs.Steps.{each}
 use Rattle.v_scopes.specs.Listed.{listed}

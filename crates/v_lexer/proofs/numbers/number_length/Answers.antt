@@ -1,7 +1,7 @@
 use Rattle.std.proofs.Common.{◌≡◌, drop, ◌∙◌, ap, subst}
 use Rattle.std.specs.List.{prefix_len}
 use Rattle.v_lexer.specs.declared.pieces.Piece.TheVariants.{Number}
-use Rattle.v_lexer.specs.Numbers.{is_decimal_or_underscore, is_number_rest}
+use Rattle.v_syntax.specs.Numbers.{is_decimal_or_underscore, is_number_rest}
 use Rattle.v_lexer.specs.Pieces.{if_all}
 use Rattle.v_lexer.specs.Longest.{HasFront}
 use Rattle.v_lexer.proofs.NumberRows.{number_goes}

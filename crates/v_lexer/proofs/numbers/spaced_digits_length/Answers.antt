@@ -1,6 +1,6 @@
 use Rattle.std.proofs.Common.{◌≡◌, ◌∷◌, drop, ◌∙◌, sym, ap}
 use Rattle.std.specs.List.{prefix_len}
-use Rattle.v_lexer.specs.Bytes.{is_white}
+use Rattle.v_syntax.specs.Bytes.{is_white}
 use Rattle.v_lexer.proofs.NumberRows.{spaced_digits_go}
 use Rattle.v_lexer.proofs.numbers.spaced_digits_length.Goals as goal
 

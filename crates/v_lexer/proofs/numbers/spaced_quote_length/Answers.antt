@@ -1,6 +1,6 @@
 use Rattle.std.proofs.Common.{◌≡◌, ◌∷◌, drop, ◌∙◌, sym, ap}
 use Rattle.std.specs.List.{prefix_len}
-use Rattle.v_lexer.specs.Bytes.{is_white}
+use Rattle.v_syntax.specs.Bytes.{is_white}
 use Rattle.v_lexer.proofs.NumberRows.{spaced_quote_goes}
 use Rattle.v_lexer.proofs.numbers.spaced_quote_length.Goals as goal
 

@@ -6,7 +6,7 @@ use Rattle.v_tree.specs.Faults.{no_place}
 use Rattle.v_tree.proofs.BindLemmas.{bad}
 use Rattle.v_tree.proofs.StepLemmas.{fails_along}
 use Rattle.v_parts.specs.Reading.{run_at}
-use Rattle.v_tree.specs.ItemTree.{item_of}
+use Rattle.v_syntax.specs.ItemTree.{item_of}
 use Rattle.v_parser.specs.ItemReading.{item_at, items_at}
 use Rattle.v_parts.proofs.ListSteps.{with_front, run_turn, run_ends, run_fails, run_done}
 use Rattle.v_parser.proofs.items.+item.Goals as goal

@@ -1,6 +1,6 @@
 use Rattle.std.proofs.Common.{◌≡◌, ◌+◌, ◌-◌, ◌*◌, ◌≤◌, length, Bool, true}
 use Rattle.v_parts.specs.Reading.{run_at}
-use Rattle.v_tree.specs.ItemTree.{item_of}
+use Rattle.v_syntax.specs.ItemTree.{item_of}
 use Rattle.v_parser.specs.ItemReading.{item_at, items_at}
 use Rattle.v_parts.proofs.ListSteps.{with_front}
 use Rattle.v_parser.proofs.items.+item.Given as goal

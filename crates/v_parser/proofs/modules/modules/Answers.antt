@@ -2,7 +2,7 @@ use Rattle.std.proofs.Common.{◌≡◌, ◌≢◌, ◌+◌, ◌-◌, ◌<◌, �
 use Rattle.std.proofs.lemmas.Result.{err_from_is_err_and}
 use Rattle.v_tree.specs.declared.fault.Fault.{Fault}
 use Rattle.v_tree.proofs.StepLemmas.{fails_along}
-use Rattle.v_tree.specs.ModuleTree.{module_of}
+use Rattle.v_syntax.specs.ModuleTree.{module_of}
 use Rattle.v_parser.specs.ModuleReading.{module_at, modules_at, source_at}
 use Rattle.v_parts.proofs.ListSteps.{with_front}
 use Rattle.v_parser.proofs.ModuleSteps.{modules_turn, modules_end, modules_done, modules_fails}

@@ -1,5 +1,5 @@
 use Rattle.std.proofs.Common.{◌≡◌, ◌-◌, ◌≤◌, length}
-use Rattle.v_tree.specs.ModuleTree.{module_of}
+use Rattle.v_syntax.specs.ModuleTree.{module_of}
 use Rattle.v_parser.specs.ModuleReading.{modules_at, source_at}
 use Rattle.v_parts.proofs.ListSteps.{with_front}
 use Rattle.v_parser.proofs.modules.modules.Given as goal

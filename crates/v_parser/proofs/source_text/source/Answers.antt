@@ -1,5 +1,5 @@
 use Rattle.std.proofs.Common.{length, map, subst, sym, ◌∙◌, refl, arith}
-use Rattle.v_tree.specs.ModuleTree.{module_of}
+use Rattle.v_syntax.specs.ModuleTree.{module_of}
 use Rattle.v_parser.specs.Modules.{ShowsNoSource}
 use Rattle.v_parser.specs.ModuleReading.{source_at}
 use Rattle.v_parts.proofs.AnswerLemmas.{found_one, found_only, refused_only, shows_fault}

@@ -1,5 +1,5 @@
 use Rattle.std.proofs.Common.{◌+◌, ◌-◌, ◌*◌}
-use Rattle.v_tree.specs.PartTree.{left_of}
+use Rattle.v_syntax.specs.PartTree.{left_of}
 use Rattle.v_parts.specs.Reading.{left_at}
 use Rattle.v_parts.proofs.ListSteps.{Listing}
 use Rattle.v_parts.proofs.left_sides.+left.Given as goal

@@ -1,5 +1,5 @@
 use Rattle.std.proofs.Common.{◌≡◌, ◌++◌, drop, map}
-use Rattle.v_tree.specs.ModuleTree.{port_of}
+use Rattle.v_syntax.specs.ModuleTree.{port_of}
 use Rattle.v_hierarchy.specs.Headers.{named_port}
 use Rattle.v_scopes.specs.Listed.{listed}
 use Rattle.v_scopes.proofs.headers.add_declared.Given as goal

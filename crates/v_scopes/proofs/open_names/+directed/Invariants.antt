@@ -1,5 +1,5 @@
 use Rattle.std.proofs.Common.{◌≡◌, ◌++◌, drop, map}
-use Rattle.v_tree.specs.ItemTree.{item_of, items_of}
+use Rattle.v_syntax.specs.ItemTree.{item_of, items_of}
 use Rattle.v_hierarchy.specs.Headers.{directed_in_all}
 use Rattle.v_scopes.specs.Listed.{listed}
 use Rattle.v_scopes.proofs.open_names.+directed.Given as goal

@@ -1,5 +1,5 @@
 use Rattle.std.proofs.Common.{◌≡◌, ◌++◌, drop, map}
-use Rattle.v_tree.specs.ModuleTree.{header_parameter_of}
+use Rattle.v_syntax.specs.ModuleTree.{header_parameter_of}
 use Rattle.v_hierarchy.specs.Parameters.{header_names}
 use Rattle.v_scopes.specs.Listed.{listed}
 use Rattle.v_scopes.proofs.open_names.add_header.Given as goal

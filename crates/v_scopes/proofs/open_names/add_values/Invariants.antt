@@ -1,6 +1,6 @@
 use Rattle.std.proofs.Common.{◌≡◌, ◌++◌, drop, map}
-use Rattle.v_tree.specs.declared.item.ParameterKind.TheVariants as parameter_kind
-use Rattle.v_tree.specs.PartTree.{named_of}
+use Rattle.v_syntax.specs.declared.item.ParameterKind.TheVariants as parameter_kind
+use Rattle.v_syntax.specs.PartTree.{named_of}
 use Rattle.v_hierarchy.specs.Parameters.{parameter_names}
 use Rattle.v_scopes.specs.Listed.{listed}
 use Rattle.v_scopes.proofs.open_names.add_values.Given as goal

@@ -1,6 +1,6 @@
 use Rattle.std.proofs.Common.{◌≡◌, ◌≤◌, drop}
 use Rattle.std.specs.Prelude.{min}
-use Rattle.v_lexer.specs.Literals.{value_from, value_of}
+use Rattle.v_syntax.specs.Literals.{value_from, value_of}
 use Rattle.v_sizes.proofs.literal.capped_value.Given as goal
 
 abbrev pub invariant-loop-byte : goal.invariant-loop-byte

@@ -1,5 +1,5 @@
 use Rattle.std.proofs.Common.{◌≡◌, ◌%◌, ◌^◌, ◌<◌, drop}
-use Rattle.v_lexer.specs.Literals.{value_from, value_of}
+use Rattle.v_syntax.specs.Literals.{value_from, value_of}
 use Rattle.v_sizes.proofs.literal.value_of.Given as goal
 
 abbrev pub invariant-loop-byte : goal.invariant-loop-byte

@@ -1,7 +1,7 @@
 use Rattle.std.proofs.Common.{◌≡◌, ◌+◌, ◌-◌, ◌*◌, ◌≤◌, length, Bool, true}
 use Rattle.v_lexer.specs.declared.types.terminal.Terminal.TheVariants as marks
 use Rattle.v_parts.specs.Reading.{run_at}
-use Rattle.v_tree.specs.StatementTree.{statement_of}
+use Rattle.v_syntax.specs.StatementTree.{statement_of}
 use Rattle.v_statements.specs.StatementReading.{body_at}
 use Rattle.v_statements.specs.InitialReading.{initial_at}
 use Rattle.v_parts.proofs.ListSteps.{with_front}

@@ -7,7 +7,7 @@ use Rattle.v_tree.specs.Faults.{no_place}
 use Rattle.v_tree.proofs.BindLemmas.{bad}
 use Rattle.v_tree.proofs.StepLemmas.{fails_along}
 use Rattle.v_parts.specs.Reading.{run_at}
-use Rattle.v_tree.specs.ItemTree.{event_of}
+use Rattle.v_syntax.specs.ItemTree.{event_of}
 use Rattle.v_statements.specs.SensitivityReading.{next_change_at, more_changes_at}
 use Rattle.v_parts.proofs.ListSteps.{with_front, run_turn, run_ends, run_fails, run_done}
 use Rattle.v_statements.proofs.sensitivity.more_changes.Goals as goal

@@ -1,7 +1,7 @@
 use Rattle.std.proofs.Common.{◌≡◌, ◌-◌, ◌≤◌, length, Bool, true}
 use Rattle.v_lexer.specs.declared.types.terminal.Terminal.TheVariants as marks
 use Rattle.v_parts.specs.Reading.{run_at}
-use Rattle.v_tree.specs.ItemTree.{event_of}
+use Rattle.v_syntax.specs.ItemTree.{event_of}
 use Rattle.v_statements.specs.SensitivityReading.{next_change_at, more_changes_at}
 use Rattle.v_parts.proofs.ListSteps.{with_front}
 use Rattle.v_statements.proofs.sensitivity.more_changes.Given as goal

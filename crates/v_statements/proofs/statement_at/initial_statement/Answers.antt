@@ -1,5 +1,5 @@
 use Rattle.std.proofs.Common.{subst, sym, ◌∙◌}
-use Rattle.v_tree.specs.StatementTree.{statement_of}
+use Rattle.v_syntax.specs.StatementTree.{statement_of}
 use Rattle.v_statements.specs.Initials.{IsInitial}
 use Rattle.v_statements.specs.InitialReading.{initial_at}
 use Rattle.v_parts.specs.Answers.{ShowsFault}

@@ -1,5 +1,5 @@
 use Rattle.std.proofs.Common.{subst, sym, ◌∙◌}
-use Rattle.v_tree.specs.StatementTree.{statement_of}
+use Rattle.v_syntax.specs.StatementTree.{statement_of}
 use Rattle.v_statements.specs.Statements.{IsStatement}
 use Rattle.v_statements.specs.StatementReading.{statement_at}
 use Rattle.v_parts.specs.Answers.{ShowsFault}

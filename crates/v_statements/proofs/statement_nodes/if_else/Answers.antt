@@ -1,9 +1,9 @@
 use Rattle.std.proofs.Common.{◌∙◌, ap, ap₂, sym, Some}
-use Rattle.v_tree.specs.Tree.{tree_of}
-use Rattle.v_tree.specs.declared.statement.Statement.TheVariants as variant
-use Rattle.v_tree.specs.declared.statement.CaseItem.TheFolds.{fold-roll-Statement}
-use Rattle.v_tree.specs.declared.statement.CaseItem.TheOpen.{Statement-F}
-use Rattle.v_tree.specs.StatementTree.{PlainStatement, PlainCaseItem, if_else, case_step, statement_step, statement_of}
+use Rattle.v_syntax.specs.Tree.{tree_of}
+use Rattle.v_syntax.specs.declared.statement.Statement.TheVariants as variant
+use Rattle.v_syntax.specs.declared.statement.CaseItem.TheFolds.{fold-roll-Statement}
+use Rattle.v_syntax.specs.declared.statement.CaseItem.TheOpen.{Statement-F}
+use Rattle.v_syntax.specs.StatementTree.{PlainStatement, PlainCaseItem, if_else, case_step, statement_step, statement_of}
 use Rattle.v_statements.proofs.statement_nodes.if_else.Goals as goal
 
 pub returns : goal.returns

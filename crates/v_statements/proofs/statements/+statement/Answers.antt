@@ -7,7 +7,7 @@ use Rattle.v_tree.specs.Faults.{no_place}
 use Rattle.v_tree.proofs.BindLemmas.{bad}
 use Rattle.v_tree.proofs.StepLemmas.{fails_along}
 use Rattle.v_parts.specs.Reading.{run_at}
-use Rattle.v_tree.specs.StatementTree.{statement_of, case_item_of, is_default}
+use Rattle.v_syntax.specs.StatementTree.{statement_of, case_item_of, is_default}
 use Rattle.v_statements.specs.StatementReading.{statement_at, body_at, case_items_at, case_item_at, has_default}
 use Rattle.v_parts.proofs.ListSteps.{with_front, run_turn, run_ends, run_fails, run_done}
 use Rattle.v_statements.proofs.statements.+statement.Goals as goal

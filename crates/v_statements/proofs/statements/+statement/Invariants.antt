@@ -1,7 +1,7 @@
 use Rattle.std.proofs.Common.{◌≡◌, ◌+◌, ◌-◌, ◌*◌, ◌≤◌, length, Bool, true}
 use Rattle.v_lexer.specs.declared.types.terminal.Terminal.TheVariants as marks
 use Rattle.v_parts.specs.Reading.{run_at}
-use Rattle.v_tree.specs.StatementTree.{statement_of, case_item_of}
+use Rattle.v_syntax.specs.StatementTree.{statement_of, case_item_of}
 use Rattle.v_statements.specs.StatementReading.{statement_at, body_at, case_items_at, case_item_at, has_default}
 use Rattle.v_parts.proofs.ListSteps.{with_front}
 use Rattle.v_statements.proofs.statements.+statement.Given as goal

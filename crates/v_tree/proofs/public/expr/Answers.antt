@@ -1,5 +1,5 @@
 use Rattle.std.proofs.Common.{subst, sym, ◌∙◌}
-use Rattle.v_tree.specs.Tree.{tree_of}
+use Rattle.v_syntax.specs.Tree.{tree_of}
 use Rattle.v_tree.specs.Answers.{ShowsFault}
 use Rattle.v_tree.proofs.WholeLemmas.{whole_sound}
 use Rattle.v_tree.proofs.PublicLemmas.{found_only, refused_only, shows_fault}

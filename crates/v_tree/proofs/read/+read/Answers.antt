@@ -5,7 +5,7 @@ use Rattle.v_tree.specs.declared.fault.Fault.{Fault}
 use Rattle.v_tree.specs.Marks.{mark_at, same}
 use Rattle.v_tree.specs.Operators.{binary_of, strength}
 use Rattle.v_tree.specs.Sites.{site}
-use Rattle.v_tree.specs.Tree.{Tree, binary, tree_of, selection_of, trees_of, selections_of}
+use Rattle.v_syntax.specs.Tree.{Tree, binary, tree_of, selection_of, trees_of, selections_of}
 use Rattle.v_tree.specs.Depth.{levels, levels_of_parts, levels_of_selects}
 use Rattle.v_tree.specs.Reading.{readers, below, above, chain, climb, more_parts, selects_at}
 use Rattle.v_tree.proofs.BindLemmas.{ok-one}

@@ -1,5 +1,5 @@
 use Rattle.std.proofs.Common.{◌≡◌, ◌+◌, ◌-◌, ◌*◌, map, Ok}
-use Rattle.v_tree.specs.Tree.{tree_of, selection_of, trees_of, selections_of, append_parts, append_selects}
+use Rattle.v_syntax.specs.Tree.{tree_of, selection_of, trees_of, selections_of, append_parts, append_selects}
 use Rattle.v_tree.specs.Depth.{levels_of_parts, levels_of_selects}
 use Rattle.v_tree.specs.Found.{Sized, IsSized}
 use Rattle.v_tree.specs.Reading.{readers, below, climb, chain, more_parts, parts_from, selects_at, ◌>>=◌}

@@ -2,7 +2,7 @@ use Rattle.std.proofs.Common.{◌≡◌, ◌<◌, length, rules, sym, ap, ◌∙
 use Rattle.v_lexer.specs.Lexeme.{Lexeme}
 use Rattle.v_lexer.specs.Text.{IsTokenText}
 use Rattle.loc_base.specs.Name.{IsName}
-use Rattle.v_lexer.specs.declared.types.token.TokenKind.TheVariants as kind
+use Rattle.v_syntax.specs.declared.token_kind.TokenKind.TheVariants as kind
 use Rattle.v_tree.proofs.ClassLemmas.{class, name_inside, class_text, name_bytes, text_read}
 use Rattle.v_tree.proofs.text.name_of.Goals as goal
 

@@ -1,4 +1,4 @@
-use Rattle.v_tree.specs.Tree.{tree_of}
+use Rattle.v_syntax.specs.Tree.{tree_of}
 use Rattle.v_scopes.specs.Around.{frames_of}
 use Rattle.v_unroll.proofs.TurningLaws.{counted-fits}
 use Rattle.v_unroll.proofs.heads.counted_at.Goals as goal

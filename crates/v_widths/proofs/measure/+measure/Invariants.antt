@@ -1,5 +1,5 @@
 use Rattle.std.proofs.Common.{◌≡◌, ◌++◌, map, drop}
-use Rattle.v_tree.specs.Tree.{tree_of, trees_of, selection_of, selections_of}
+use Rattle.v_syntax.specs.Tree.{tree_of, trees_of, selection_of, selections_of}
 use Rattle.v_sizes.specs.Scopes.{look_of}
 use Rattle.v_widths.specs.Parts.{no_parts, with_parts}
 use Rattle.v_widths.specs.Opening.{opened_parts, opened_selects}

@@ -1,4 +1,4 @@
-use Rattle.v_tree.specs.Tree.{tree_of}
+use Rattle.v_syntax.specs.Tree.{tree_of}
 use Rattle.v_sizes.specs.Scopes.{look_of}
 use Rattle.v_widths.proofs.Answered.{answered-closed}
 use Rattle.v_widths.proofs.sizes.constant_in.Goals as goal

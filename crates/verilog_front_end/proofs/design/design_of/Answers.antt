@@ -1,5 +1,5 @@
 use Rattle.std.proofs.Common.{option_map}
-use Rattle.v_tree.specs.ModuleTree.{source_of}
+use Rattle.v_syntax.specs.ModuleTree.{source_of}
 use Rattle.v_hierarchy.specs.Views.{instances_of}
 use Rattle.front_end.specs.Means.{Refuses}
 use Rattle.verilog_front_end.specs.Refusals.{IsRefusal}

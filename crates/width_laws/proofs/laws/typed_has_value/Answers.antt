@@ -1,5 +1,5 @@
 use Rattle.std.proofs.Common.{ap, ◌∙◌}
-use Rattle.v_tree.specs.Tree.{tree_of}
+use Rattle.v_syntax.specs.Tree.{tree_of}
 use Rattle.design_core.specs.declared.expression.Typed.{Typed}
 use Rattle.design_core.specs.Value.{value}
 use Rattle.design_core.specs.WellFormed.{typed_fits}

@@ -1,6 +1,6 @@
 use Rattle.std.proofs.Common.{map}
-use Rattle.v_tree.specs.Tree.{Tree, selection_of, selections_of}
-use Rattle.v_tree.specs.Tree as written
+use Rattle.v_syntax.specs.Tree.{Tree, selection_of, selections_of}
+use Rattle.v_syntax.specs.Tree as written
 use Rattle.v_sizes.specs.Scopes.{look_of}
 use Rattle.bind_scopes.specs.Seen.{names_in}
 use Rattle.bind_scopes.proofs.NamedWidth.{typed-most}

@@ -1,4 +1,4 @@
-use Rattle.v_tree.specs.Tree.{tree_of}
+use Rattle.v_syntax.specs.Tree.{tree_of}
 use Rattle.bind_scopes.proofs.NamedWidth.{own-least, own-most}
 use Rattle.bind_scopes.proofs.names.Names.own_size.Goals as goal
 

@@ -1,5 +1,5 @@
 use Rattle.std.proofs.Common.{◌≡◌, map, drop}
-use Rattle.v_tree.specs.ItemTree.{declarator_of}
+use Rattle.v_syntax.specs.ItemTree.{declarator_of}
 use Rattle.v_binding.specs.Steps.{through}
 use Rattle.v_binding.specs.Signals.{with_declarator}
 use Rattle.bind_scopes.specs.Seen.{names_in}

@@ -1,5 +1,5 @@
 use Rattle.std.proofs.Common.{◌≡◌, map, drop}
-use Rattle.v_tree.specs.PartTree.{named_of}
+use Rattle.v_syntax.specs.PartTree.{named_of}
 use Rattle.v_hierarchy.specs.Items.{parameter_of}
 use Rattle.v_hierarchy.specs.Steps.{each}
 use Rattle.v_scopes.specs.Around.{names_in, outer_of}

@@ -1,7 +1,7 @@
 use Rattle.std.proofs.Common.{◌≡◌, ◌+◌, ◌-◌, ◌∙◌, Bool, true, false, map, refl, sym, ap, arith, inr}
 use Rattle.std.proofs.lemmas.Grind.{common_steps}
-use Rattle.v_tree.specs.StatementTree.{head_of}
-use Rattle.v_tree.specs.ItemTree.{item_of, block_of}
+use Rattle.v_syntax.specs.StatementTree.{head_of}
+use Rattle.v_syntax.specs.ItemTree.{item_of, block_of}
 use Rattle.v_scopes.specs.Around.{names_in, outer_of, frames_of}
 use Rattle.v_scopes.proofs.GivenLaws.{passed_on}
 use Rattle.v_hierarchy.specs.Frames.{Refuses}

@@ -1,6 +1,6 @@
 use Rattle.std.proofs.Common.{◌≡◌, ◌-◌, map, drop}
-use Rattle.v_tree.specs.StatementTree.{head_of}
-use Rattle.v_tree.specs.ItemTree.{item_of, items_of, block_of}
+use Rattle.v_syntax.specs.StatementTree.{head_of}
+use Rattle.v_syntax.specs.ItemTree.{item_of, items_of, block_of}
 use Rattle.v_hierarchy.specs.Items.{items}
 use Rattle.v_unroll.specs.Heads.{IsTurning}
 use Rattle.v_declare.specs.Places.{place_of}

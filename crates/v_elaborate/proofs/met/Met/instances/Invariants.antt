@@ -1,6 +1,6 @@
 use Rattle.std.proofs.Common.{◌≡◌, map, drop}
-use Rattle.v_tree.specs.ItemTree.{instance_of as plain_instance}
-use Rattle.v_tree.specs.ModuleTree.{module_of}
+use Rattle.v_syntax.specs.ItemTree.{instance_of as plain_instance}
+use Rattle.v_syntax.specs.ModuleTree.{module_of}
 use Rattle.v_hierarchy.specs.Items.{instance_of}
 use Rattle.v_hierarchy.specs.Steps.{each}
 use Rattle.v_hierarchy.specs.Views.{given_of}

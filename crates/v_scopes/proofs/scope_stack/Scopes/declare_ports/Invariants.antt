@@ -1,5 +1,5 @@
 use Rattle.std.proofs.Common.{◌≡◌, [], drop, map}
-use Rattle.v_tree.specs.ModuleTree.{port_of}
+use Rattle.v_syntax.specs.ModuleTree.{port_of}
 use Rattle.v_scopes.specs.Around.{names_in, outer_of}
 use Rattle.v_hierarchy.specs.Headers.{port_at, nothing_before}
 use Rattle.v_hierarchy.specs.Stands.{IsRangeIf}

@@ -1,5 +1,5 @@
 use Rattle.std.proofs.Common.{◌≡◌, [], drop, map}
-use Rattle.v_tree.specs.ItemTree.{connection_of}
+use Rattle.v_syntax.specs.ItemTree.{connection_of}
 use Rattle.v_scopes.specs.Around.{frames_of}
 use Rattle.v_scopes.specs.Listed.{listed}
 use Rattle.v_scopes.specs.NamedValues.{naming_of}

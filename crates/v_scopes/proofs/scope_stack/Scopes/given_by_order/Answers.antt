@@ -1,6 +1,6 @@
 use Rattle.std.proofs.Common.{◌≡◌, ◌<◌, ◌∙◌, length, map, arith}
 use Rattle.std.specs.Prelude.{option_map}
-use Rattle.v_tree.specs.Tree.{tree_of}
+use Rattle.v_syntax.specs.Tree.{tree_of}
 use Rattle.v_hierarchy.specs.Frames.{Refuses}
 use Rattle.v_hierarchy.specs.Names.{look_in}
 use Rattle.v_hierarchy.specs.Parameters.{given_by_order}

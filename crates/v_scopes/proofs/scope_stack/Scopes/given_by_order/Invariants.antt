@@ -1,6 +1,6 @@
 use Rattle.std.proofs.Common.{◌≡◌, drop, map}
 use Rattle.std.specs.Prelude.{option_map}
-use Rattle.v_tree.specs.Tree.{tree_of}
+use Rattle.v_syntax.specs.Tree.{tree_of}
 use Rattle.v_scopes.specs.Around.{frames_of}
 use Rattle.v_scopes.specs.Listed.{listed}
 use Rattle.v_hierarchy.specs.Names.{look_in}

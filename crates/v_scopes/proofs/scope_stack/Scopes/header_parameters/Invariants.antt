@@ -1,5 +1,5 @@
 use Rattle.std.proofs.Common.{◌≡◌, [], drop, map}
-use Rattle.v_tree.specs.ModuleTree.{header_parameter_of}
+use Rattle.v_syntax.specs.ModuleTree.{header_parameter_of}
 use Rattle.v_hierarchy.specs.declared.kind.Kind.TheVariants as kind_case
 use Rattle.v_scopes.specs.Around.{names_in, outer_of}
 use Rattle.v_hierarchy.specs.Parameters.{header_parameter}

@@ -1,5 +1,5 @@
 use Rattle.std.proofs.Common.{◌≡◌, ◌++◌, drop, map}
-use Rattle.v_tree.specs.ModuleTree.{declared_ports, port_of as plain_port}
+use Rattle.v_syntax.specs.ModuleTree.{declared_ports, port_of as plain_port}
 use Rattle.v_scopes.specs.Around.{names_in}
 use Rattle.v_hierarchy.specs.Headers.{ports_of}
 use Rattle.v_hierarchy.specs.Views.{port_of}

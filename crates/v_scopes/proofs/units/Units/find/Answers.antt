@@ -1,6 +1,6 @@
 use Rattle.std.proofs.Common.{◌<◌, None, Some, length, rules, sym}
 use Rattle.std.proofs.lemmas.Option.{slice_get-get_or}
-use Rattle.v_tree.specs.declared.module.Module.{Module}
+use Rattle.v_syntax.specs.declared.module.Module.{Module}
 use Rattle.v_scopes.specs.Listed.{listed}
 use Rattle.v_scopes.proofs.TableLaws.{told, told-within, unit-none, unit-some}
 use Rattle.v_scopes.proofs.units.Units.find.Goals as goal

@@ -1,7 +1,7 @@
 use Rattle.std.proofs.Common.{◌≡◌, ◌<◌, ◌∙◌, List, Bool, true, false, map, refl, sym, ap, arith, inr}
 use Rattle.std.specs.Prelude.{Ok}
 use Rattle.std.proofs.lemmas.Grind.{common_steps}
-use Rattle.v_tree.specs.StatementTree.{statement_of, case_item_of, head_of}
+use Rattle.v_syntax.specs.StatementTree.{statement_of, case_item_of, head_of}
 use Rattle.v_scopes.specs.Around.{frames_of}
 use Rattle.v_scopes.proofs.GivenLaws.{passed_on}
 use Rattle.v_hierarchy.specs.declared.steps.Steps.{Steps}

@@ -1,5 +1,5 @@
 use Rattle.std.proofs.Common.{◌≡◌, ◌-◌, map, drop}
-use Rattle.v_tree.specs.StatementTree.{statement_of, statements_of, case_item_of, case_items_of, head_of}
+use Rattle.v_syntax.specs.StatementTree.{statement_of, statements_of, case_item_of, case_items_of, head_of}
 use Rattle.v_scopes.specs.Around.{frames_of}
 use Rattle.v_hierarchy.specs.Unrolled.{unrolled_all, unrolled_arms}
 use Rattle.v_hierarchy.specs.Views.{steps_of, arm_of, turn_of}

@@ -1,7 +1,7 @@
 -- The shape of a number (IEEE 1364-2005, 3.5.1). Each test is of all the bytes that stand behind what was read.
 use Rattle.std.specs.Prelude.{ℕ, Bool, true, false, ◌&&◌, ◌||◌, List, [], ◌∷◌, if◌then◌else◌, ◌==◌}
 use Rattle.std.specs.List.{list_all}
-use Rattle.v_lexer.specs.Bytes.{between, is_white, is_decimal}
+use Rattle.v_syntax.specs.Bytes.{between, is_white, is_decimal}
 
 -- s or S
 unfoldable pub is_sign : ℕ → Bool
@@ -70,3 +70,8 @@ is_number_rest (byte ∷ rest) =
     if is_decimal_or_underscore byte then is_number_rest rest
     else if is_white byte then is_spaced_quote rest
     else byte == 39 && is_based rest
+
+-- a whole number: a decimal digit or a quote, and what goes with it
+abbrev pub is_number : List ℕ → Bool
+is_number [] = false
+is_number (byte ∷ rest) = if is_decimal byte then is_number_rest rest else byte == 39 && is_based rest

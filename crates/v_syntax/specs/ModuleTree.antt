@@ -1,19 +1,19 @@
 -- The tree of modules and of a whole text without where it lies in memory (IEEE 1364-2005, 12.1 to 12.3, A.1.1 to A.1.3).
 use Rattle.std.specs.Prelude.{ℕ, ◌+◌, List, [], ◌∷◌, length, map, Option, option_map, Bool}
-use Rattle.v_tree.specs.declared.site.Site.{Site}
-use Rattle.v_tree.specs.declared.declaration.Identifier.{Identifier}
-use Rattle.v_tree.specs.declared.item.Direction.{Direction}
-use Rattle.v_tree.specs.declared.item.NetKind.{NetKind}
-use Rattle.v_tree.specs.declared.module.HeaderParameter.{HeaderParameter}
-use Rattle.v_tree.specs.declared.module.Port.{Port}
-use Rattle.v_tree.specs.declared.module.Port.TheVariants as port
-use Rattle.v_tree.specs.declared.module.Ports.{Ports}
-use Rattle.v_tree.specs.declared.module.Ports.TheVariants as ports
-use Rattle.v_tree.specs.declared.module.Module.{Module}
-use Rattle.v_tree.specs.declared.module.SourceTree.{SourceTree}
-use Rattle.v_tree.specs.Tree.{Tree, tree_of}
-use Rattle.v_tree.specs.PartTree.{PlainRange, range_of}
-use Rattle.v_tree.specs.ItemTree.{PlainParameterType, parameter_type_of, PlainItem, item_of}
+use Rattle.v_syntax.specs.declared.site.Site.{Site}
+use Rattle.v_syntax.specs.declared.declaration.Identifier.{Identifier}
+use Rattle.v_syntax.specs.declared.item.Direction.{Direction}
+use Rattle.v_syntax.specs.declared.item.NetKind.{NetKind}
+use Rattle.v_syntax.specs.declared.module.HeaderParameter.{HeaderParameter}
+use Rattle.v_syntax.specs.declared.module.Port.{Port}
+use Rattle.v_syntax.specs.declared.module.Port.TheVariants as port
+use Rattle.v_syntax.specs.declared.module.Ports.{Ports}
+use Rattle.v_syntax.specs.declared.module.Ports.TheVariants as ports
+use Rattle.v_syntax.specs.declared.module.Module.{Module}
+use Rattle.v_syntax.specs.declared.module.SourceTree.{SourceTree}
+use Rattle.v_syntax.specs.Tree.{Tree, tree_of}
+use Rattle.v_syntax.specs.PartTree.{PlainRange, range_of}
+use Rattle.v_syntax.specs.ItemTree.{PlainParameterType, parameter_type_of, PlainItem, item_of}
 
 -- a parameter of a module's header, and whether the word parameter stands before it
 pub record PlainHeaderParameter : Type 0 where

@@ -1,5 +1,17 @@
+//! Numbers as they are written (IEEE 1364-2005, 3.5.1).
 use loc_base::Bytes;
 use std::marker::Model;
+
+/// What is wrong with a number.
+#[derive(Clone, Copy)]
+pub enum NumberFault {
+    /// The base letter or the digits are missing, or a digit isn't one of the base.
+    Malformed,
+    /// An unknown digit, or a wildcard digit in base ten.
+    Unknown,
+    /// A size that isn't 1 to 128, or a value that is too wide.
+    Wide,
+}
 
 /// A number without wildcard digits, as it is written. Contracts see its bytes.
 pub struct Number {
@@ -8,14 +20,13 @@ pub struct Number {
 
 impl Model for Number {
     ghost use Rattle.std.specs.Prelude.{List, ℕ};
-    ghost use Rattle.v_lexer.specs.Text.{IsTokenText};
-    ghost use Rattle.v_lexer.specs.declared.types.token.TokenKind.TheVariants as kind;
+    ghost use Rattle.v_syntax.specs.Literals.{IsNumber};
 
     ghost Value = { List ℕ };
 
     ghost view = { λ n. n.text };
 
-    ghost invariant = { λ n. IsTokenText kind.Number n.text };
+    ghost invariant = { λ n. IsNumber n.text };
 }
 
 /// A number with wildcard digits, as it is written. Contracts see its bytes.
@@ -25,14 +36,13 @@ pub struct WildNumber {
 
 impl Model for WildNumber {
     ghost use Rattle.std.specs.Prelude.{List, ℕ};
-    ghost use Rattle.v_lexer.specs.Text.{IsTokenText};
-    ghost use Rattle.v_lexer.specs.declared.types.token.TokenKind.TheVariants as kind;
+    ghost use Rattle.v_syntax.specs.Literals.{IsWildNumber};
 
     ghost Value = { List ℕ };
 
     ghost view = { λ n. n.text };
 
-    ghost invariant = { λ n. IsTokenText kind.Wild n.text };
+    ghost invariant = { λ n. IsWildNumber n.text };
 }
 
 // Each node's `drop` is written out, so that it is proved once, here: a derived one is proved again by each crate that lets a

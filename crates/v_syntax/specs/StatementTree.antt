@@ -1,16 +1,16 @@
 -- The tree of statements without where it lies in memory, a case for each production (IEEE 1364-2005, clause 9 and A.6).
 use Rattle.std.specs.Prelude.{List, [], ◌∷◌, map, Option, Some, None, option_map, Bool, true, false}
-use Rattle.v_tree.specs.declared.site.Site.{Site}
-use Rattle.v_tree.specs.declared.declaration.Identifier.{Identifier}
-use Rattle.v_tree.specs.declared.declaration.LoopHead.{LoopHead}
-use Rattle.v_tree.specs.declared.statement.AssignKind.{AssignKind}
-use Rattle.v_tree.specs.declared.statement.CaseKind.{CaseKind}
-use Rattle.v_tree.specs.declared.statement.Statement.{Statement}
-use Rattle.v_tree.specs.declared.statement.CaseItem.{CaseItem, fold-CaseItem}
-use Rattle.v_tree.specs.declared.statement.CaseItem.TheFolds.{fold-Statement}
-use Rattle.v_tree.specs.declared.statement.CaseItem.TheOpen.{Statement-F, CaseItem-F}
-use Rattle.v_tree.specs.Tree.{Tree, tree_of}
-use Rattle.v_tree.specs.PartTree.{PlainDelay, delay_of, PlainLeft, left_of}
+use Rattle.v_syntax.specs.declared.site.Site.{Site}
+use Rattle.v_syntax.specs.declared.declaration.Identifier.{Identifier}
+use Rattle.v_syntax.specs.declared.declaration.LoopHead.{LoopHead}
+use Rattle.v_syntax.specs.declared.statement.AssignKind.{AssignKind}
+use Rattle.v_syntax.specs.declared.statement.CaseKind.{CaseKind}
+use Rattle.v_syntax.specs.declared.statement.Statement.{Statement}
+use Rattle.v_syntax.specs.declared.statement.CaseItem.{CaseItem, fold-CaseItem}
+use Rattle.v_syntax.specs.declared.statement.CaseItem.TheFolds.{fold-Statement}
+use Rattle.v_syntax.specs.declared.statement.CaseItem.TheOpen.{Statement-F, CaseItem-F}
+use Rattle.v_syntax.specs.Tree.{Tree, tree_of}
+use Rattle.v_syntax.specs.PartTree.{PlainDelay, delay_of, PlainLeft, left_of}
 
 -- the head of a loop
 pub record PlainHead : Type 0 where

@@ -1,33 +1,33 @@
 -- The tree of a module's items without where it lies in memory, a case for each production (IEEE 1364-2005, clauses 4, 6, 7,
 -- 9.7, 12 and A.1 to A.6).
 use Rattle.std.specs.Prelude.{ℕ, List, [], ◌∷◌, map, Option, Some, None, option_map, Bool}
-use Rattle.v_tree.specs.declared.site.Site.{Site}
-use Rattle.v_tree.specs.declared.declaration.Identifier.{Identifier}
-use Rattle.v_tree.specs.declared.statement.Edge.{Edge}
-use Rattle.v_tree.specs.declared.statement.Event.{Event}
-use Rattle.v_tree.specs.declared.statement.Event.TheVariants as event
-use Rattle.v_tree.specs.declared.statement.Sensitivity.{Sensitivity}
-use Rattle.v_tree.specs.declared.statement.Sensitivity.TheVariants as sensitivity
-use Rattle.v_tree.specs.declared.item.Direction.{Direction}
-use Rattle.v_tree.specs.declared.item.NetKind.{NetKind}
-use Rattle.v_tree.specs.declared.item.ParameterKind.{ParameterKind}
-use Rattle.v_tree.specs.declared.item.GateKind.{GateKind}
-use Rattle.v_tree.specs.declared.item.ParameterType.{ParameterType}
-use Rattle.v_tree.specs.declared.item.ParameterType.TheVariants as type_kind
-use Rattle.v_tree.specs.declared.item.Declarator.{Declarator}
-use Rattle.v_tree.specs.declared.item.NetAssignment.{NetAssignment}
-use Rattle.v_tree.specs.declared.item.GateInstance.{GateInstance}
-use Rattle.v_tree.specs.declared.item.NamedConnection.{NamedConnection}
-use Rattle.v_tree.specs.declared.item.Connections.{Connections}
-use Rattle.v_tree.specs.declared.item.Connections.TheVariants as connection_kind
-use Rattle.v_tree.specs.declared.item.Instance.{Instance}
-use Rattle.v_tree.specs.declared.item.Item.{Item}
-use Rattle.v_tree.specs.declared.item.GenerateBlock.{GenerateBlock, fold-GenerateBlock}
-use Rattle.v_tree.specs.declared.item.GenerateBlock.TheFolds.{fold-Item}
-use Rattle.v_tree.specs.declared.item.GenerateBlock.TheOpen.{Item-F, GenerateBlock-F}
-use Rattle.v_tree.specs.Tree.{Tree, tree_of, Selection, selection_of}
-use Rattle.v_tree.specs.PartTree.{PlainRange, range_of, PlainNamed, named_of, PlainDelay, delay_of, PlainLeft, left_of}
-use Rattle.v_tree.specs.StatementTree.{PlainHead, head_of, PlainStatement, statement_of}
+use Rattle.v_syntax.specs.declared.site.Site.{Site}
+use Rattle.v_syntax.specs.declared.declaration.Identifier.{Identifier}
+use Rattle.v_syntax.specs.declared.statement.Edge.{Edge}
+use Rattle.v_syntax.specs.declared.statement.Event.{Event}
+use Rattle.v_syntax.specs.declared.statement.Event.TheVariants as event
+use Rattle.v_syntax.specs.declared.statement.Sensitivity.{Sensitivity}
+use Rattle.v_syntax.specs.declared.statement.Sensitivity.TheVariants as sensitivity
+use Rattle.v_syntax.specs.declared.item.Direction.{Direction}
+use Rattle.v_syntax.specs.declared.item.NetKind.{NetKind}
+use Rattle.v_syntax.specs.declared.item.ParameterKind.{ParameterKind}
+use Rattle.v_syntax.specs.declared.item.GateKind.{GateKind}
+use Rattle.v_syntax.specs.declared.item.ParameterType.{ParameterType}
+use Rattle.v_syntax.specs.declared.item.ParameterType.TheVariants as type_kind
+use Rattle.v_syntax.specs.declared.item.Declarator.{Declarator}
+use Rattle.v_syntax.specs.declared.item.NetAssignment.{NetAssignment}
+use Rattle.v_syntax.specs.declared.item.GateInstance.{GateInstance}
+use Rattle.v_syntax.specs.declared.item.NamedConnection.{NamedConnection}
+use Rattle.v_syntax.specs.declared.item.Connections.{Connections}
+use Rattle.v_syntax.specs.declared.item.Connections.TheVariants as connection_kind
+use Rattle.v_syntax.specs.declared.item.Instance.{Instance}
+use Rattle.v_syntax.specs.declared.item.Item.{Item}
+use Rattle.v_syntax.specs.declared.item.GenerateBlock.{GenerateBlock, fold-GenerateBlock}
+use Rattle.v_syntax.specs.declared.item.GenerateBlock.TheFolds.{fold-Item}
+use Rattle.v_syntax.specs.declared.item.GenerateBlock.TheOpen.{Item-F, GenerateBlock-F}
+use Rattle.v_syntax.specs.Tree.{Tree, tree_of, Selection, selection_of}
+use Rattle.v_syntax.specs.PartTree.{PlainRange, range_of, PlainNamed, named_of, PlainDelay, delay_of, PlainLeft, left_of}
+use Rattle.v_syntax.specs.StatementTree.{PlainHead, head_of, PlainStatement, statement_of}
 
 -- an event of a sensitivity list
 pub data PlainEvent : Type 0 where

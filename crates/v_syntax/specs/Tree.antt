@@ -1,14 +1,14 @@
 -- The tree of an expression without where it lies in memory, a case for each production (IEEE 1364-2005, A.8).
 use Rattle.std.specs.Prelude.{ℕ, List, [], ◌∷◌}
-use Rattle.v_tree.specs.declared.site.Site.{Site}
-use Rattle.v_tree.specs.declared.operator.Unary.{Unary}
-use Rattle.v_tree.specs.declared.operator.Binary.{Binary}
-use Rattle.v_tree.specs.declared.operator.SystemFunction.{SystemFunction}
-use Rattle.v_tree.specs.declared.expression.PartKind.{PartKind}
-use Rattle.v_tree.specs.declared.expression.Expr.{Expr, fold-Expr}
-use Rattle.v_tree.specs.declared.expression.Expr.TheFolds.{fold-Select}
-use Rattle.v_tree.specs.declared.expression.Expr.TheOpen.{Expr-F, Select-F}
-use Rattle.v_tree.specs.declared.expression.Select.{Select}
+use Rattle.v_syntax.specs.declared.site.Site.{Site}
+use Rattle.v_syntax.specs.declared.operator.Unary.{Unary}
+use Rattle.v_syntax.specs.declared.operator.Binary.{Binary}
+use Rattle.v_syntax.specs.declared.operator.SystemFunction.{SystemFunction}
+use Rattle.v_syntax.specs.declared.expression.PartKind.{PartKind}
+use Rattle.v_syntax.specs.declared.expression.Expr.{Expr, fold-Expr}
+use Rattle.v_syntax.specs.declared.expression.Expr.TheFolds.{fold-Select}
+use Rattle.v_syntax.specs.declared.expression.Expr.TheOpen.{Expr-F, Select-F}
+use Rattle.v_syntax.specs.declared.expression.Select.{Select}
 
 mutual
   pub data Tree : Type 0 where

@@ -1,13 +1,13 @@
 -- What a number stands for and what is wrong with it (IEEE 1364-2005, 3.5.1). Bounds of 32 and 128 bits, wildcard
 -- digits and the refusal of unknown digits are this project's own.
-use Rattle.std.specs.Prelude.{ℕ, Bool, false, ◌+◌, ◌-◌, ◌*◌, ◌^◌, ◌||◌, List, [], ◌∷◌, take, drop, if◌then◌else◌, ◌==◌, nat_lt, Option, Some, None, Result, Ok, Err, position}
+use Rattle.std.specs.Prelude.{◌≡◌, ℕ, Bool, true, false, ◌+◌, ◌-◌, ◌*◌, ◌^◌, ◌||◌, List, [], ◌∷◌, take, drop, if◌then◌else◌, ◌==◌, nat_lt, Option, Some, None, Result, Ok, Err, position}
 use Rattle.std.specs.List.{list_any, prefix_len}
-use Rattle.v_lexer.specs.declared.types.token.TokenKind.{TokenKind}
-use Rattle.v_lexer.specs.declared.types.token.TokenKind.TheVariants.{Number, Wild}
-use Rattle.v_lexer.specs.declared.literals.NumberFault.{NumberFault}
-use Rattle.v_lexer.specs.declared.literals.NumberFault.TheVariants.{Malformed, Unknown, Wide}
-use Rattle.v_lexer.specs.Bytes.{between, is_white, is_decimal}
-use Rattle.v_lexer.specs.Numbers.{is_sign, is_wild, is_unknown, is_hexadecimal}
+use Rattle.v_syntax.specs.declared.token_kind.TokenKind.{TokenKind}
+use Rattle.v_syntax.specs.declared.token_kind.TokenKind.TheVariants.{Number, Wild}
+use Rattle.v_syntax.specs.declared.literal.NumberFault.{NumberFault}
+use Rattle.v_syntax.specs.declared.literal.NumberFault.TheVariants.{Malformed, Unknown, Wide}
+use Rattle.v_syntax.specs.Bytes.{between, is_white, is_decimal}
+use Rattle.v_syntax.specs.Numbers.{is_sign, is_wild, is_unknown, is_hexadecimal, is_number}
 
 -- the value of a digit; that of a wildcard is 0
 unfoldable pub digit_value : ℕ → ℕ
@@ -88,3 +88,11 @@ judge bytes =
       | Some at ↦ if is_bad_size (take at bytes) then Err Wide else judge_based (drop (at + 1) bytes)
       | None ↦ judge_plain bytes
     ]
+
+-- a number without wildcard digits, as it is written
+abbrev pub IsNumber : List ℕ → Type 0
+IsNumber text = (is_number text ≡ true) × (judge text ≡ Ok Number)
+
+-- a number with wildcard digits, as it is written
+abbrev pub IsWildNumber : List ℕ → Type 0
+IsWildNumber text = (is_number text ≡ true) × (judge text ≡ Ok Wild)

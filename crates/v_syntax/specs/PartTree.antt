@@ -1,14 +1,14 @@
 -- The tree above expressions without where it lies in memory, a case for each production (IEEE 1364-2005, A.2, A.6 and A.8.5).
 use Rattle.std.specs.Prelude.{ℕ, List, [], ◌∷◌, map}
-use Rattle.v_tree.specs.declared.site.Site.{Site}
-use Rattle.v_tree.specs.declared.declaration.Identifier.{Identifier}
-use Rattle.v_tree.specs.declared.declaration.Range.{Range}
-use Rattle.v_tree.specs.declared.declaration.NamedValue.{NamedValue}
-use Rattle.v_tree.specs.declared.declaration.Delay.{Delay}
-use Rattle.v_tree.specs.declared.declaration.Delay.TheVariants as variant
-use Rattle.v_tree.specs.declared.declaration.Left.{Left, fold-Left}
-use Rattle.v_tree.specs.declared.declaration.Left.TheOpen.{Left-F}
-use Rattle.v_tree.specs.Tree.{Tree, tree_of, selection_of, Selections, selections_of}
+use Rattle.v_syntax.specs.declared.site.Site.{Site}
+use Rattle.v_syntax.specs.declared.declaration.Identifier.{Identifier}
+use Rattle.v_syntax.specs.declared.declaration.Range.{Range}
+use Rattle.v_syntax.specs.declared.declaration.NamedValue.{NamedValue}
+use Rattle.v_syntax.specs.declared.declaration.Delay.{Delay}
+use Rattle.v_syntax.specs.declared.declaration.Delay.TheVariants as variant
+use Rattle.v_syntax.specs.declared.declaration.Left.{Left, fold-Left}
+use Rattle.v_syntax.specs.declared.declaration.Left.TheOpen.{Left-F}
+use Rattle.v_syntax.specs.Tree.{Tree, tree_of, selection_of, Selections, selections_of}
 
 -- a range of a declaration
 pub record PlainRange : Type 0 where
