@@ -4,18 +4,17 @@ ghost use Rattle.std.specs.List.{list_any};
 ghost use Rattle.design_core.specs.Valuation.{bit};
 ghost use Rattle.v_binding.specs.Clocks.{driver_reads_clock, block_reads_clock};
 ghost use Rattle.v_binding.specs.Assignments.{driven, driven_at};
-ghost use Rattle.bind_statements.specs.Homes.{home_of};
+ghost use Rattle.v_binding.specs.Homes.{home_of};
 ghost use Rattle.bind_clocks.specs.Rooted.{is_read_in};
 
 use crate::bound::Bound;
 use crate::frame::Frame;
 use crate::roots::Roots;
-use bind_statements::{Home, Start};
 use design_bits::BitSet;
 use design_core::{Clocked, Driver, Target, Typed};
 use loc_base::{Items, NoMemory, Span};
 use std::mem;
-use v_binding::Left;
+use v_binding::{Home, Left, Start};
 
 /// An assignment that is a driver: where its place begins, and its sides.
 #[derive(Drop)]

@@ -6,14 +6,14 @@ ghost use Rattle.v_syntax.specs.ItemTree as tree;
 ghost use Rattle.v_binding.specs.Assignments.{continuous, assignment_of};
 ghost use Rattle.bind_scopes.specs.Seen.{names_in};
 ghost use Rattle.bind_scopes.specs.Refuses.{Refuses};
-ghost use Rattle.bind_statements.specs.Homes.{home_of};
+ghost use Rattle.v_binding.specs.Homes.{home_of};
 
 use crate::scene::Scene;
 use bind_clocks::{Bound, Made};
 use bind_scopes::Names;
-use bind_statements::{Start, target};
+use bind_statements::target;
 use design_core::PlaceKind;
-use v_binding::BindErr;
+use v_binding::{BindErr, Start};
 use v_syntax::{Expr, Left, NetAssignment, Site};
 
 /// A continuous assignment: where it begins, its left side and its right side.

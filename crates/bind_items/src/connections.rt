@@ -6,7 +6,7 @@ ghost use Rattle.v_hierarchy.specs.Views as view;
 ghost use Rattle.v_binding.specs.Connections.{by_order, by_name, connected, child_of};
 ghost use Rattle.bind_scopes.specs.Seen.{names_in};
 ghost use Rattle.bind_scopes.specs.Refuses.{Refuses};
-ghost use Rattle.bind_statements.specs.Homes.{home_of};
+ghost use Rattle.v_binding.specs.Homes.{home_of};
 ghost use Rattle.bind_scopes.specs.Views.{socket_of};
 
 use crate::ports::{Port, connected};

@@ -6,7 +6,7 @@ ghost use Rattle.v_hierarchy.specs.Paths.{below, line_part};
 ghost use Rattle.v_binding.specs.Gates.{gate_of};
 ghost use Rattle.bind_scopes.specs.Seen.{names_in};
 ghost use Rattle.bind_scopes.specs.Refuses.{Refuses};
-ghost use Rattle.bind_statements.specs.Homes.{home_of};
+ghost use Rattle.v_binding.specs.Homes.{home_of};
 
 use crate::inputs::inputs_at;
 use crate::outputs::{Given, drive, outputs_at};

@@ -1,13 +1,13 @@
 //! Where items stand.
 ghost use Rattle.std.specs.Prelude.{◌≡◌};
 ghost use Rattle.v_binding.specs.Items.{home_of};
-ghost use Rattle.bind_statements.specs.Homes as homes;
+ghost use Rattle.v_binding.specs.Homes as homes;
 ghost use Rattle.bind_items.specs.Grounds.{ground_of};
 
 use crate::Scene;
 use bind_clocks::Frame;
-use bind_statements::Home;
 use loc_base::Name;
+use v_binding::Home;
 use v_syntax::Site;
 
 /// A scope: the signals and the clock of the design, the module of its text, and its path.

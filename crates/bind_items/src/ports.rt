@@ -6,7 +6,7 @@ ghost use Rattle.design_core.specs.declared.statement.Part.TheVariants as part;
 ghost use Rattle.v_binding.specs.Connections.{plain_name, handed_on, input_of, output_value, output_of, connection};
 ghost use Rattle.bind_scopes.specs.Seen.{names_in};
 ghost use Rattle.bind_scopes.specs.Refuses.{Refuses};
-ghost use Rattle.bind_statements.specs.Homes.{home_of};
+ghost use Rattle.v_binding.specs.Homes.{home_of};
 ghost use Rattle.bind_scopes.specs.Views.{socket_of};
 ghost use Rattle.bind_items.specs.Wires.{wire_in};
 
@@ -14,11 +14,11 @@ use crate::scene::Scene;
 use crate::wires::Wire;
 use bind_clocks::{Bound, Made};
 use bind_scopes::{Names, Root, Socket};
-use bind_statements::{Start, output};
+use bind_statements::output;
 use design_core::{Driver, Node, Part, PlaceKind, Target, Typed};
 use loc_base::{Items, Name, NoMemory};
 use std::alloc::Global;
-use v_binding::BindErr;
+use v_binding::{BindErr, Start};
 use v_selects::node::{sized, with_width};
 use v_syntax::Expr;
 

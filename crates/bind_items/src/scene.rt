@@ -2,8 +2,8 @@
 ghost use Rattle.std.specs.Prelude.{◌≡◌};
 
 use bind_clocks::Frame;
-use bind_statements::Home;
 use loc_base::Name;
+use v_binding::Home;
 
 /// Where an item stands: the signals and the clock of the design, and the item's home.
 #[derive(Clone, Copy)]

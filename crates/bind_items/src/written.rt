@@ -7,7 +7,7 @@ ghost use Rattle.v_binding.specs.Gates.{gate_of};
 ghost use Rattle.v_binding.specs.Items.{written_of};
 ghost use Rattle.bind_scopes.specs.Seen.{names_in};
 ghost use Rattle.bind_scopes.specs.Refuses.{Refuses};
-ghost use Rattle.bind_statements.specs.Homes.{home_of};
+ghost use Rattle.v_binding.specs.Homes.{home_of};
 ghost use Rattle.bind_items.specs.Grounds.{ground_of};
 
 use crate::declarations::{Declared, declarator};

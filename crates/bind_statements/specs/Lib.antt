@@ -1,4 +1,3 @@
-pub mod Homes
 pub mod Addressed
 pub mod Written
 pub mod TreeTargets

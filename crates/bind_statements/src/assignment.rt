@@ -7,14 +7,14 @@ ghost use Rattle.v_binding.specs.Places.{placed};
 ghost use Rattle.v_binding.specs.Statements.{is_later, set, set_of};
 ghost use Rattle.bind_scopes.specs.Refuses.{Refuses};
 ghost use Rattle.bind_scopes.specs.Seen.{names_in};
-ghost use Rattle.bind_statements.specs.Homes.{home_of};
+ghost use Rattle.v_binding.specs.Homes.{home_of};
 
-use crate::{Home, Start, target};
+use crate::target;
 use bind_scopes::Names;
 use design_core::{Place, PlaceKind, Stmt, Target};
 use loc_base::{Items, NoMemory};
 use std::mem;
-use v_binding::BindErr;
+use v_binding::{BindErr, Home, Start};
 use v_syntax::{AssignKind, Expr, Left, Site, Statement};
 
 /// Whether what is assigned is stored later.

@@ -1,6 +1,6 @@
 //! Procedural statements with their loops unrolled: each assignment is a place (IEEE 1364-2005, 9.2, 9.4, 9.5 and 9.8).
 //!
-//! The parts of left sides, left sides, the addresses of arrays, and places (IEEE 1364-2005, 4.9, 5.2.1, 6.1 and 9.2).
+//! The parts of left sides, left sides, and the addresses of arrays (IEEE 1364-2005, 4.9, 5.2.1, 6.1 and 9.2).
 #![tactic(auto)]
 
 mod addresses;
@@ -13,7 +13,6 @@ mod labels;
 mod left_side;
 mod named;
 mod parts;
-mod place;
 mod statement;
 mod wild;
 
@@ -21,5 +20,4 @@ pub use addresses::{Addresses, addresses_at, counted};
 pub use expression::{output, target_in};
 pub use left_side::target;
 pub use parts::{part_of, ranged_of};
-pub use place::{Home, Start};
 pub use statement::bound;

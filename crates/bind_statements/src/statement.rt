@@ -7,12 +7,11 @@ ghost use Rattle.v_binding.specs.Places.{placed};
 ghost use Rattle.v_binding.specs.Statements as written;
 ghost use Rattle.bind_scopes.specs.Refuses.{Refuses};
 ghost use Rattle.bind_scopes.specs.Seen.{names_in};
-ghost use Rattle.bind_statements.specs.Homes.{home_of};
+ghost use Rattle.v_binding.specs.Homes.{home_of};
 ghost use Rattle.bind_statements.specs.Arms.{chosen_of, bound_arm, FitArm};
 ghost use Rattle.bind_statements.specs.Contexts.{context_of};
 ghost use Rattle.bind_scopes.specs.Turns.{FitTurns, AllFit, ArmsFit, TurnsFit};
 
-use crate::Home;
 use crate::assignment::still;
 use crate::case_context::CaseContext;
 use crate::case_sizes::case_context;
@@ -23,7 +22,7 @@ use crate::labels::labels_at;
 use bind_scopes::Names;
 use design_core::{CaseItem, Place, Stmt};
 use loc_base::Items;
-use v_binding::{BindErr, Known, Use};
+use v_binding::{BindErr, Home, Known, Use};
 use v_hierarchy::{Arm, Steps, Turn};
 use v_syntax::Identifier;
 

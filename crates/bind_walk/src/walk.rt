@@ -5,7 +5,7 @@ ghost use Rattle.v_hierarchy.specs.Views.{child_of, copied_of, copies_of, block_
 ghost use Rattle.v_binding.specs.Names.{turned};
 ghost use Rattle.v_binding.specs.Items.{scope_next, ports_next, bound_copies, bound_block};
 ghost use Rattle.bind_scopes.specs.Seen.{names_in};
-ghost use Rattle.bind_statements.specs.Homes as homes;
+ghost use Rattle.v_binding.specs.Homes as homes;
 ghost use Rattle.bind_scopes.specs.Refuses.{Refuses};
 ghost use Rattle.bind_scopes.specs.Views.{scope_of, scopes_of, socket_of};
 ghost use Rattle.bind_scopes.specs.Standing.{BlockStands, CopiesStand, CopiedStands};

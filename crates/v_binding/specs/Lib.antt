@@ -7,6 +7,7 @@ pub mod Expressions
 pub mod Addresses
 pub mod Lefts
 pub mod Places
+pub mod Homes
 pub mod Cases
 pub mod Statements
 pub mod Signals

@@ -5,7 +5,9 @@
 mod error;
 mod known;
 mod left;
+mod place;
 
 pub use error::BindErr;
 pub use known::{Known, Use};
 pub use left::{Left, Ranged};
+pub use place::{Home, Start};

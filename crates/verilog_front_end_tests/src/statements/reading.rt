@@ -2,13 +2,13 @@
 ghost use Rattle.v_sizes.specs.Context.{IsMeaning};
 
 use bind_scopes::Names;
-use bind_statements::{Home, bound};
+use bind_statements::bound;
 use design_core::{Place, Stmt};
 use loc_base::{Items, Name, NoMemory};
 use std::alloc::Global;
 use std::process::Abort;
 use std::test::Fail;
-use v_binding::{BindErr, Known, Use};
+use v_binding::{BindErr, Home, Known, Use};
 use v_hierarchy::{Arm, Steps};
 use v_lexer::{few_tokens, tokens};
 use v_sizes::Meaning;

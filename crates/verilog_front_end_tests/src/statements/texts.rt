@@ -1,12 +1,11 @@
 //! Places and left sides of assignments, refusals, and the wild bits of labels (IEEE 1364-2005, 3.5.1, 6.1, 9.2 and 9.5).
 use crate::statements::reading::{OneArm, assigned, chosen, names_of, read, registers};
-use bind_statements::Home;
 use design_core::{Place, PlaceKind, Stmt};
 use loc_base::{Items, Name, NoMemory, Span};
 use std::alloc::Global;
 use std::process::Abort;
 use std::test::Fail;
-use v_binding::BindErr;
+use v_binding::{BindErr, Home};
 use v_syntax::{CaseItem, Statement};
 
 /// Where the tests' statements stand.

@@ -1,6 +1,6 @@
 use Rattle.std.proofs.Common.{map}
 use Rattle.bind_scopes.specs.Seen.{names_in}
-use Rattle.bind_statements.specs.Homes.{home_of}
+use Rattle.v_binding.specs.Homes.{home_of}
 use Rattle.bind_scopes.specs.Views.{socket_of}
 use Rattle.bind_items.proofs.OrderLaws.{child-alone}
 use Rattle.bind_items.proofs.connections.child.Goals as goal

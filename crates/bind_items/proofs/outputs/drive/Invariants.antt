@@ -1,6 +1,6 @@
 use Rattle.std.proofs.Common.{◌≡◌, reverse, vec_len}
 use Rattle.v_binding.specs.Gates.{outputs_driven}
-use Rattle.bind_statements.specs.Homes.{home_of}
+use Rattle.v_binding.specs.Homes.{home_of}
 use Rattle.bind_items.proofs.outputs.drive.Given as goal
 
 abbrev pub invariant-loop-output : goal.invariant-loop-output

@@ -1,5 +1,5 @@
 -- Where an assignment stands, as definitions have it.
-use Rattle.bind_statements.specs.declared.place.Home.{Home}
+use Rattle.v_binding.specs.declared.place.Home.{Home}
 use Rattle.v_binding.specs.Places as places
 
 abbrev pub home_of : Home → places.Home

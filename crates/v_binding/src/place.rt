@@ -1,12 +1,12 @@
 //! Places (IEEE 1364-2005, 6.1, 7.2, 9.2 and 12.3.9).
 ghost use Rattle.std.specs.Prelude.{◌≡◌, IfOk};
 ghost use Rattle.v_binding.specs.Places.{place};
-ghost use Rattle.bind_statements.specs.Homes.{home_of};
+ghost use Rattle.v_binding.specs.Homes.{home_of};
 
+use crate::left::Left;
 use design_core::{Place, PlaceKind};
 use loc_base::{Name, NoMemory};
 use std::alloc::Global;
-use v_binding::Left;
 use v_syntax::Site;
 
 /// Where an assignment stands.
