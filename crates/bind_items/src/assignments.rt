@@ -10,8 +10,8 @@ ghost use Rattle.v_binding.specs.Homes.{home_of};
 
 use crate::scene::Scene;
 use bind_clocks::{Bound, Made};
+use bind_lefts::target;
 use bind_scopes::Names;
-use bind_statements::target;
 use design_core::PlaceKind;
 use v_binding::{BindErr, Start};
 use v_syntax::{Expr, Left, NetAssignment, Site};

@@ -12,8 +12,8 @@ ghost use Rattle.v_binding.specs.Homes.{home_of};
 use crate::starts::start_at;
 use crate::{Assigning, Scene, continuous};
 use bind_clocks::Bound;
+use bind_lefts::{addresses_at, counted};
 use bind_scopes::Names;
-use bind_statements::{addresses_at, counted};
 use loc_base::NoMemory;
 use std::alloc::Global;
 use v_binding::BindErr;
@@ -33,7 +33,7 @@ fn array_of(names: &Names<'_>, d: &Declarator, bound: &mut Bound) -> Result<(), 
 }
 
 /// A name as a left side.
-#[tactic(auto, using(bind_statements::proofs::LeftSteps::left_steps))]
+#[tactic(auto, using(bind_lefts::proofs::LeftSteps::left_steps))]
 fn whole_left(alloc: Global, name: &Identifier) -> Result<Left, NoMemory>
     ensures { IfOk result (λ l. left_of l ≡ name_left name.now.site name.now.name no_select) }
 {

@@ -11,8 +11,8 @@ ghost use Rattle.bind_scopes.specs.Views.{numbered_of, scope_of, scopes_of};
 ghost use Rattle.bind_signals.specs.Scopings.{scoping, scoping_of, with_numbered, with_name};
 
 use crate::words::Array;
+use bind_lefts::Addresses;
 use bind_scopes::{Names, Numbered, Scope};
-use bind_statements::Addresses;
 use loc_base::{Items, NoMemory};
 use std::alloc::Global;
 use std::mem;

@@ -1,8 +1,3 @@
-pub mod Listed
-pub mod NodeParts
-pub mod Rows
-pub mod LeftSteps
-pub mod WrittenLefts
 pub mod StatementViews
 pub mod StepViews
 pub mod WildSteps

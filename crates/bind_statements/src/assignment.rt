@@ -9,7 +9,7 @@ ghost use Rattle.bind_scopes.specs.Refuses.{Refuses};
 ghost use Rattle.bind_scopes.specs.Seen.{names_in};
 ghost use Rattle.v_binding.specs.Homes.{home_of};
 
-use crate::target;
+use bind_lefts::target;
 use bind_scopes::Names;
 use design_core::{Place, PlaceKind, Stmt, Target};
 use loc_base::{Items, NoMemory};

@@ -14,10 +14,10 @@ ghost use Rattle.bind_walk.specs.Copies.{met_of, joined_at, copy_at, scopes_behi
 
 use crate::children::Children;
 use crate::own::{enter, leave, nameless};
-use crate::{Always, always_block};
 use bind_clocks::Bound;
 use bind_items::{Ground, Joined, Scene, child, written_item};
 use bind_scopes::{Names, Scope};
+use bind_statements::{Always, always_block};
 use loc_base::{Items, NoMemory};
 use v_binding::{BindErr, Known, Use};
 use v_hierarchy::{Block, Child, Copied};

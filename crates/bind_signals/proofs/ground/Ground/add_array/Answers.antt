@@ -5,7 +5,7 @@ use Rattle.v_binding.specs.declared.known.Use.TheVariants.{Stands as stands}
 use Rattle.v_binding.specs.Names.{known}
 use Rattle.bind_scopes.specs.Held.{known_of}
 use Rattle.bind_scopes.specs.Seen.{names_in}
-use Rattle.bind_statements.specs.Addressed.{addresses_of}
+use Rattle.bind_lefts.specs.Addressed.{addresses_of}
 use Rattle.bind_scopes.specs.Views.{numbered_of}
 use Rattle.bind_signals.specs.Scopings.{scoping_of}
 use Rattle.bind_signals.specs.Grounds.{ground_in}

@@ -1,0 +1,5 @@
+pub mod Listed
+pub mod NodeParts
+pub mod Rows
+pub mod LeftSteps
+pub mod WrittenLefts
