@@ -4,5 +4,3 @@ pub mod Lists
 pub mod Looks
 pub mod Fields
 pub mod Waits
-pub mod Conditions
-pub mod Parted

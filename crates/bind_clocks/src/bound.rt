@@ -3,18 +3,17 @@ ghost use Rattle.std.specs.Prelude.{◌≡◌, [], ◌∷◌, ◌++◌, IfOk, On
 ghost use Rattle.v_binding.specs.Binding.{nothing_bound};
 ghost use Rattle.v_binding.specs.Bound.{with_places, with_driver, with_clocked, with_words, with_declared, with_initial, with_root, with_misclocked, with_clock_read};
 ghost use Rattle.v_binding.specs.Clocks.{root_of, root_named, signal_of};
-ghost use Rattle.bind_scopes.specs.Seen.{names_in};
+ghost use Rattle.v_binding.specs.Seen.{names_in};
 ghost use Rattle.bind_clocks.specs.Lists.{AreLists};
 
 use crate::looked::Looked;
 use crate::roots::Roots;
-use bind_scopes::{Initial, Names, Root, Start};
 use design_core::{Clocked, Driver, Place};
 use loc_base::{Items, Name, NoMemory, Span};
 use std::alloc::Global;
 use std::marker::Model;
 use std::mem;
-use v_binding::Use;
+use v_binding::{Initial, Names, Root, StartValue, Use};
 use v_sizes::Meaning;
 
 /// What is bound so far. Contracts see it as the record of the definitions.
@@ -23,7 +22,7 @@ pub struct Bound {
     drivers: Items<Driver>,
     clocked: Items<Clocked>,
     words: u32,
-    declared: Items<Start>,
+    declared: Items<StartValue>,
     initial: Items<Initial>,
     pub(crate) roots: Roots,
     misclocked: Option<Span>,
@@ -76,7 +75,7 @@ pub struct BoundLists {
     pub places: Items<Place>,
     pub drivers: Items<Driver>,
     pub clocked: Items<Clocked>,
-    pub declared: Items<Start>,
+    pub declared: Items<StartValue>,
     pub initial: Items<Initial>,
     pub misclocked: Option<Span>,
     pub clock_read: Option<Span>,
@@ -131,7 +130,7 @@ impl Bound {
     }
 
     /// The start values of declarations.
-    pub fn declared(&self) -> &[Start]
+    pub fn declared(&self) -> &[StartValue]
         ensures { result.now ≡ self.now.declared }
     {
         self.declared.as_slice()
@@ -215,7 +214,7 @@ impl Bound {
     }
 
     /// Adds the start value of a declaration.
-    pub fn add_declared(&mut self, start: Start) -> Result<(), NoMemory>
+    pub fn add_declared(&mut self, start: StartValue) -> Result<(), NoMemory>
         ensures { OnOk result (self.new ≡ with_declared start self.old) }
     {
         self.declared.push(start)

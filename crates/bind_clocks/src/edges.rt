@@ -2,14 +2,14 @@
 ghost use Rattle.std.specs.Prelude.{◌≡◌, ◌++◌, [], map, IfOk, OnOk};
 ghost use Rattle.v_syntax.specs.ItemTree.{event_of};
 ghost use Rattle.v_binding.specs.Clocks.{is_rising, waited, edges, wait_for};
-ghost use Rattle.bind_scopes.specs.Seen.{names_in};
+ghost use Rattle.v_binding.specs.Seen.{names_in};
 ghost use Rattle.bind_clocks.specs.Waits.{waited_of, wait_of};
 
 use crate::Bound;
 use crate::wait::{Wait, Waited, of_one, of_two};
-use bind_scopes::Names;
 use loc_base::{Items, NoMemory};
 use std::alloc::Global;
+use v_binding::Names;
 use v_syntax::{Edge, Event};
 
 /// Whether an edge is a rising one.

@@ -2,13 +2,10 @@
 //!
 //! The values of resets (IEEE 1364.1-2002, 5.2.2.1): statements that assign constants alone, to left sides without variable indexes.
 //!
-//! What blocks wait for, and the form of a block with a reset (IEEE 1364.1-2002, 5.2.2).
+//! What blocks wait for (IEEE 1364.1-2002, 5.2.2).
 #![tactic(auto)]
 
-mod arms;
 mod bound;
-mod clocked;
-mod condition;
 mod driven;
 mod edges;
 mod frame;
@@ -18,7 +15,6 @@ mod roots;
 mod wait;
 
 pub use bound::{Bound, BoundLists};
-pub use clocked::{Judged, clocked_of};
 pub use driven::Made;
 pub use edges::wait_for;
 pub use frame::Frame;

@@ -5,10 +5,10 @@ ghost use Rattle.v_binding.specs.Clocks.{root_of};
 ghost use Rattle.bind_clocks.specs.Rooted.{has_root};
 ghost use Rattle.bind_clocks.specs.Tables.{with_root};
 
-use bind_scopes::Root;
 use loc_base::{Items, NoMemory};
 use std::alloc::Global;
 use std::marker::Model;
+use v_binding::Root;
 
 /// What the roots of one signal are: the input of the first one, and whether there is another.
 #[derive(Clone, Copy)]

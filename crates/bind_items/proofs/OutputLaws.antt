@@ -12,7 +12,7 @@ use Rattle.v_binding.specs.Names.{Names}
 use Rattle.v_binding.specs.declared.left.Left.{Left}
 use Rattle.v_binding.specs.Lefts.{target, as_left}
 use Rattle.v_binding.specs.Gates.{Output, output_at}
-use Rattle.bind_lefts.specs.Written.{output}
+use Rattle.bind_scopes.specs.Written.{output}
 
 abbrev with_output : Tree → List Output → Left → Result (List Output) BindErr
 with_output e done x = Ok (done ++ record { site = site_of e; left = x } ∷ [])

@@ -4,16 +4,15 @@ ghost use Rattle.v_syntax.specs.Tree.{tree_of};
 ghost use Rattle.v_syntax.specs.PartTree.{left_of};
 ghost use Rattle.v_syntax.specs.ItemTree as tree;
 ghost use Rattle.v_binding.specs.Assignments.{continuous, assignment_of};
-ghost use Rattle.bind_scopes.specs.Seen.{names_in};
+ghost use Rattle.v_binding.specs.Seen.{names_in};
 ghost use Rattle.bind_scopes.specs.Refuses.{Refuses};
 ghost use Rattle.v_binding.specs.Homes.{home_of};
 
 use crate::scene::Scene;
 use bind_clocks::{Bound, Made};
-use bind_lefts::target;
-use bind_scopes::Names;
+use bind_scopes::{assigned, target};
 use design_core::PlaceKind;
-use v_binding::{BindErr, Start};
+use v_binding::{BindErr, Names, Start};
 use v_syntax::{Expr, Left, NetAssignment, Site};
 
 /// A continuous assignment: where it begins, its left side and its right side.
@@ -35,7 +34,7 @@ pub fn continuous(
     ensures err { IfErr result (λ e. Refuses (continuous scene.entry.frame.now (home_of scene.entry.home) (names_in names.now) assigning.entry.site (left_of assigning.entry.left.now) (tree_of assigning.entry.value.now) bound.old) e) }
 {
     let left = target(names, assigning.left)?;
-    let value = names.assigned(assigning.value, left.width)?;
+    let value = assigned(names, assigning.value, left.width)?;
     let made = Made {
         start: Start {
             kind: PlaceKind::Assign,

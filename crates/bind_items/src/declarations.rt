@@ -5,18 +5,17 @@ ghost use Rattle.v_syntax.specs.Tree.{tree_of, no_select};
 ghost use Rattle.v_syntax.specs.PartTree.{left_of, name_left};
 ghost use Rattle.v_syntax.specs.ItemTree as tree;
 ghost use Rattle.v_binding.specs.Assignments.{array_of, value_at, declarator_of};
-ghost use Rattle.bind_scopes.specs.Seen.{names_in};
+ghost use Rattle.v_binding.specs.Seen.{names_in};
 ghost use Rattle.bind_scopes.specs.Refuses.{Refuses};
 ghost use Rattle.v_binding.specs.Homes.{home_of};
 
 use crate::starts::start_at;
 use crate::{Assigning, Scene, continuous};
 use bind_clocks::Bound;
-use bind_lefts::{addresses_at, counted};
-use bind_scopes::Names;
+use bind_scopes::{addresses_at, counted};
 use loc_base::NoMemory;
 use std::alloc::Global;
-use v_binding::BindErr;
+use v_binding::{BindErr, Names};
 use v_syntax::{Declarator, Expr, Identifier, Left, NetKind};
 
 /// The words of an array, where a declaration has a range of addresses.
@@ -33,7 +32,7 @@ fn array_of(names: &Names<'_>, d: &Declarator, bound: &mut Bound) -> Result<(), 
 }
 
 /// A name as a left side.
-#[tactic(auto, using(bind_lefts::proofs::LeftSteps::left_steps))]
+#[tactic(auto, using(bind_scopes::proofs::LeftSteps::left_steps))]
 fn whole_left(alloc: Global, name: &Identifier) -> Result<Left, NoMemory>
     ensures { IfOk result (λ l. left_of l ≡ name_left name.now.site name.now.name no_select) }
 {

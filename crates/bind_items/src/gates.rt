@@ -4,7 +4,7 @@ ghost use Rattle.std.specs.Option.{option_map_or};
 ghost use Rattle.v_syntax.specs.ItemTree as tree;
 ghost use Rattle.v_hierarchy.specs.Paths.{below, line_part};
 ghost use Rattle.v_binding.specs.Gates.{gate_of};
-ghost use Rattle.bind_scopes.specs.Seen.{names_in};
+ghost use Rattle.v_binding.specs.Seen.{names_in};
 ghost use Rattle.bind_scopes.specs.Refuses.{Refuses};
 ghost use Rattle.v_binding.specs.Homes.{home_of};
 
@@ -13,11 +13,10 @@ use crate::outputs::{Given, drive, outputs_at};
 use crate::scene::Scene;
 use crate::{gate_value, inputs_of, outputs_of, terminals_fit};
 use bind_clocks::Bound;
-use bind_scopes::Names;
 use itoa::Buffer;
 use loc_base::{Bytes, Name, NoMemory};
 use std::alloc::Global;
-use v_binding::BindErr;
+use v_binding::{BindErr, Names};
 use v_hierarchy::below;
 use v_syntax::{GateInstance, GateKind, Site};
 

@@ -3,14 +3,14 @@ ghost use Rattle.std.specs.Prelude.{◌≡◌, map, Ok, OnOk, IfErr};
 ghost use Rattle.v_syntax.specs.Tree.{tree_of};
 ghost use Rattle.v_syntax.specs.StatementTree.{statement_of, statements_of};
 ghost use Rattle.v_binding.specs.Assignments.{initial_fault, initial_at, initial_block, initial_all};
-ghost use Rattle.bind_scopes.specs.Seen.{names_in};
+ghost use Rattle.v_binding.specs.Seen.{names_in};
 ghost use Rattle.bind_scopes.specs.Refuses.{Refuses};
 
 use crate::starts::register_of;
 use bind_clocks::Bound;
-use bind_scopes::{Initial, Names, Start};
+use bind_scopes::constant_at;
 use loc_base::{Name, Span};
-use v_binding::{BindErr, Use};
+use v_binding::{BindErr, Initial, Names, StartValue, Use};
 use v_sizes::Meaning;
 use v_syntax::{Expr, Left, Site, Statement};
 
@@ -46,15 +46,15 @@ fn initial_at(
         return Err(wrong);
     }
     let own = register_of(names, target.name);
-    let value = names.constant_at(value, own.width)?;
-    let start = Start::new(own.signal, own.width, value);
+    let value = constant_at(names, value, own.width)?;
+    let start = StartValue::new(own.signal, own.width, value);
     bound.add_initial(Initial::new(target.site.span, start))?;
     Ok(())
 }
 
 /// The start values that a statement of an initial block gives.
 #[cycle(initial)]
-#[tactic(auto, using(crate::proofs::StatementViews::statement_views, bind_lefts::proofs::LeftSteps::left_steps))]
+#[tactic(auto, using(crate::proofs::StatementViews::statement_views, bind_scopes::proofs::LeftSteps::left_steps))]
 pub(crate) fn initial_block(
     names: &Names<'_>,
     statement: &Statement,

@@ -3,13 +3,13 @@ ghost use Rattle.std.specs.Prelude.{◌≡◌, None, map, Ok, IfOk, IfErr};
 ghost use Rattle.v_syntax.specs.Tree.{tree_of};
 ghost use Rattle.v_binding.specs.Steps.{each};
 ghost use Rattle.v_binding.specs.Gates.{input_at};
-ghost use Rattle.bind_scopes.specs.Seen.{names_in};
+ghost use Rattle.v_binding.specs.Seen.{names_in};
 ghost use Rattle.bind_scopes.specs.Refuses.{Refuses};
 
 use crate::{joined, low_bit};
-use bind_scopes::Names;
+use bind_scopes::by_itself;
 use design_core::Typed;
-use v_binding::BindErr;
+use v_binding::{BindErr, Names};
 use v_syntax::{Expr, GateKind};
 
 /// The bits of inputs together, from the left; nothing where there are none.
@@ -24,7 +24,7 @@ pub(crate) fn inputs_at(
     let alloc = names.allocator();
     let mut inputs = None;
     for e in terminals {
-        let by_itself = names.by_itself(e)?;
+        let by_itself = by_itself(names, e)?;
         let bit = low_bit(alloc, e, by_itself)?;
         let more = joined(alloc, kind, inputs, bit)?;
         inputs = Some(more);

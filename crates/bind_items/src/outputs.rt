@@ -3,20 +3,19 @@ ghost use Rattle.std.specs.Prelude.{◌≡◌, [], ◌∷◌, map, Ok, OnOk, IfO
 ghost use Rattle.v_syntax.specs.Tree.{tree_of};
 ghost use Rattle.v_binding.specs.Steps.{each};
 ghost use Rattle.v_binding.specs.Gates.{output_at, outputs_driven};
-ghost use Rattle.bind_scopes.specs.Seen.{names_in};
+ghost use Rattle.v_binding.specs.Seen.{names_in};
 ghost use Rattle.bind_scopes.specs.Refuses.{Refuses};
 ghost use Rattle.v_binding.specs.Homes.{home_of};
 
 use crate::scene::Scene;
 use crate::{copied, for_width};
 use bind_clocks::{Bound, Made};
-use bind_lefts::output;
-use bind_scopes::Names;
+use bind_scopes::output;
 use design_core::{PlaceKind, Typed};
 use loc_base::{Items, NoMemory, Span};
 use std::alloc::Global;
 use std::marker::Model;
-use v_binding::{BindErr, Left, Start};
+use v_binding::{BindErr, Left, Names, Start};
 use v_hierarchy::site_of;
 use v_syntax::{Expr, Site};
 

@@ -4,7 +4,7 @@ ghost use Rattle.std.specs.Prelude.{◌≡◌, ◌∷◌, [], max, option_map, O
 ghost use Rattle.v_syntax.specs.Tree.{tree_of};
 ghost use Rattle.design_core.specs.declared.statement.Part.TheVariants as part;
 ghost use Rattle.v_binding.specs.Connections.{plain_name, handed_on, input_of, output_value, output_of, connection};
-ghost use Rattle.bind_scopes.specs.Seen.{names_in};
+ghost use Rattle.v_binding.specs.Seen.{names_in};
 ghost use Rattle.bind_scopes.specs.Refuses.{Refuses};
 ghost use Rattle.v_binding.specs.Homes.{home_of};
 ghost use Rattle.bind_scopes.specs.Views.{socket_of};
@@ -13,12 +13,11 @@ ghost use Rattle.bind_items.specs.Wires.{wire_in};
 use crate::scene::Scene;
 use crate::wires::Wire;
 use bind_clocks::{Bound, Made};
-use bind_lefts::output;
-use bind_scopes::{Names, Root, Socket};
+use bind_scopes::{Socket, assigned, output};
 use design_core::{Driver, Node, Part, PlaceKind, Target, Typed};
 use loc_base::{Items, Name, NoMemory};
 use std::alloc::Global;
-use v_binding::{BindErr, Start};
+use v_binding::{BindErr, Names, Root, Start};
 use v_selects::node::{sized, with_width};
 use v_syntax::Expr;
 
@@ -89,7 +88,7 @@ fn input(
         wire,
         copy: _,
     } = link;
-    let value = names.assigned(wire.value, socket.width)?;
+    let value = assigned(names, wire.value, socket.width)?;
     let target = whole(names.allocator(), socket.signal)?;
     let driver = Driver::Cont {
         target,

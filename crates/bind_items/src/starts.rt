@@ -4,14 +4,14 @@ ghost use Rattle.v_syntax.specs.Tree.{tree_of};
 ghost use Rattle.v_sizes.specs.Scopes.{look_of};
 ghost use Rattle.v_binding.specs.Names.{find};
 ghost use Rattle.v_binding.specs.Assignments.{width_of, number_of, start_at};
-ghost use Rattle.bind_scopes.specs.Seen.{names_in};
+ghost use Rattle.v_binding.specs.Seen.{names_in};
 ghost use Rattle.bind_scopes.specs.Refuses.{Refuses};
 ghost use Rattle.bind_items.specs.Registers.{number_in, width_in};
 
 use bind_clocks::Bound;
-use bind_scopes::{Names, Start};
+use bind_scopes::constant_at;
 use loc_base::Name;
-use v_binding::BindErr;
+use v_binding::{BindErr, Names, StartValue};
 use v_sizes::{Meaning, Scope};
 use v_syntax::Expr;
 
@@ -83,7 +83,7 @@ pub fn start_at(
     ensures err { IfErr result (λ e. Refuses (start_at (names_in names.now) name.now (tree_of value.now) bound.old) e) }
 {
     let own = register_of(names, name);
-    let value = names.constant_at(value, own.width)?;
-    bound.add_declared(Start::new(own.signal, own.width, value))?;
+    let value = constant_at(names, value, own.width)?;
+    bound.add_declared(StartValue::new(own.signal, own.width, value))?;
     Ok(())
 }

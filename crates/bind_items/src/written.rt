@@ -5,7 +5,7 @@ ghost use Rattle.v_binding.specs.Steps.{each};
 ghost use Rattle.v_binding.specs.Assignments.{declarator_of, assignment_of};
 ghost use Rattle.v_binding.specs.Gates.{gate_of};
 ghost use Rattle.v_binding.specs.Items.{written_of};
-ghost use Rattle.bind_scopes.specs.Seen.{names_in};
+ghost use Rattle.v_binding.specs.Seen.{names_in};
 ghost use Rattle.bind_scopes.specs.Refuses.{Refuses};
 ghost use Rattle.v_binding.specs.Homes.{home_of};
 ghost use Rattle.bind_items.specs.Grounds.{ground_of};
@@ -15,8 +15,7 @@ use crate::ground::Ground;
 use crate::initials::initial_block;
 use crate::{Scene, WrittenGate, assignment, gate};
 use bind_clocks::Bound;
-use bind_scopes::Names;
-use v_binding::BindErr;
+use v_binding::{BindErr, Names};
 use v_syntax::{Declarator, GateInstance, GateKind, Item, NetAssignment, NetKind};
 
 /// The names of a declaration.

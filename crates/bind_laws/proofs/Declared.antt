@@ -22,7 +22,7 @@ use Rattle.v_binding.specs.Names.{Known, Names, known, within, turned}
 use Rattle.v_binding.specs.Names as bound
 use Rattle.v_binding.specs.Addresses.{Addresses}
 use Rattle.v_binding.specs.Signals.{Numbered, path_in, signal_of, kind_of, word_path, words, Scoping, Ground, with_signal, addresses_or_one, with_array, declared_as, with_declarator}
-use Rattle.bind_scopes.specs.Standing.{EntriesStand}
+use Rattle.v_binding.specs.Standing.{EntriesStand}
 use Rattle.instance_laws.specs.Every.{Every, IfGiven}
 use Rattle.bind_laws.specs.Fit.{UseFits, NamesFit, Begins}
 use Rattle.bind_laws.specs.Scopes.{NamesSignal, HasSignal}

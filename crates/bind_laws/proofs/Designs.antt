@@ -23,7 +23,7 @@ use Rattle.v_binding.specs.Assignments.{start_at}
 use Rattle.v_binding.specs.Connections.{Socket}
 use Rattle.v_binding.specs.Items.{Met, names_of, scopes_of, bound_copies}
 use Rattle.v_binding.specs.Binding.{all_sockets, is_in, children_of, top_ports, clock_of, top_roots, inputs_of, outputs_of, port_start, ground_of, instance_items, bound_from, nothing_bound, Binding, is_misnamed, frame_of, binding}
-use Rattle.bind_scopes.specs.Standing.{InstancesStand}
+use Rattle.v_binding.specs.Standing.{InstancesStand}
 use Rattle.instance_laws.specs.Every.{Every}
 use Rattle.bind_laws.specs.Fit.{NamesFit}
 use Rattle.bind_laws.specs.Whole.{Whole, below, RootFits, StartFits, BoundFits, IsDesignOf}

@@ -13,7 +13,7 @@ use Rattle.v_binding.specs.Names.{Names, find, within}
 use Rattle.v_binding.specs.Signals.{Numbered, Scope, scoped, Scoping, Ground, with_port, fixed_all, begun, numbered, is_top, instance_ground, numbered_instance, Whole, with_instance, signals_of}
 use Rattle.v_binding.specs.Connections.{sockets}
 use Rattle.v_binding.specs.Items.{names_of}
-use Rattle.bind_scopes.specs.Standing.{EntriesStand, PortsStand, BlockStands, InstancesStand}
+use Rattle.v_binding.specs.Standing.{EntriesStand, PortsStand, BlockStands, InstancesStand}
 use Rattle.instance_laws.specs.Every.{Every}
 use Rattle.bind_laws.specs.Fit.{Begins}
 use Rattle.bind_laws.specs.Scopes.{NamesSignal, CopiesFit, BlockFits, SocketFits}

@@ -12,7 +12,7 @@ use Rattle.v_binding.specs.declared.known.Use.TheVariants.{Outside as outside}
 use Rattle.v_binding.specs.Steps.{through}
 use Rattle.v_binding.specs.Names.{Known, Names, known, within, turned}
 use Rattle.v_binding.specs.Signals.{is_loop_variable, Scope, scoped, Scopes, no_scope, more_scopes, and_scope, Scoping, Ground, with_signal, declared_as, with_declarator, an_integer, with_integer, fixed_all, ground_of, begun, ended, numbered, numbered_copy}
-use Rattle.bind_scopes.specs.Standing.{EntriesStand, CopiesStand, BlockStands}
+use Rattle.v_binding.specs.Standing.{EntriesStand, CopiesStand, BlockStands}
 use Rattle.instance_laws.specs.Every.{Every}
 use Rattle.bind_laws.specs.Fit.{UseFits, StepsFit, Begins}
 use Rattle.bind_laws.specs.Scopes.{HasSignal, ItemFits, CopiesFit, BlockFits}

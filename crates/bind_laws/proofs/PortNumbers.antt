@@ -24,7 +24,7 @@ use Rattle.v_binding.specs.Names.{Known, Names, known, find}
 use Rattle.v_binding.specs.Signals.{Numbered, signal_of, is_input, kind_in, kind_of, path_in, Scoping, Ground, with_port, fixed, fixed_all}
 use Rattle.v_binding.specs.Assignments.{number_of}
 use Rattle.v_binding.specs.Connections.{Socket, socket}
-use Rattle.bind_scopes.specs.Standing.{PortsStand}
+use Rattle.v_binding.specs.Standing.{PortsStand}
 use Rattle.instance_laws.specs.Every.{Every}
 use Rattle.bind_laws.specs.Fit.{Begins}
 use Rattle.bind_laws.specs.Scopes.{SocketFits}

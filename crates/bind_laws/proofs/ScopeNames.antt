@@ -14,7 +14,7 @@ use Rattle.v_hierarchy.proofs.DeclaredLaws.{same-itself}
 use Rattle.v_binding.specs.Names.{Known, Names, known, within}
 use Rattle.v_binding.specs.Names as bound
 use Rattle.v_binding.specs.Signals.{fixed, fixed_all}
-use Rattle.bind_scopes.specs.Standing.{EntriesStand}
+use Rattle.v_binding.specs.Standing.{EntriesStand}
 use Rattle.instance_laws.specs.Every.{Every}
 use Rattle.bind_laws.specs.Fit.{UseFits, NamesFit}
 use Rattle.bind_laws.specs.Scopes.{NamesSignal}

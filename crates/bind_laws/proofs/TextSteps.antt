@@ -1,8 +1,8 @@
 -- Statements as those of a text, from what is said of the turns of their loops and of their cases.
 use Rattle.std.proofs.Common.{Bool, true, false}
 use Rattle.v_hierarchy.specs.Unrolled.{Steps, nothing, still, run, branch, choose, repeated, StepList, no_step, step, Arms, no_arm, arm, default_arm, Turns, no_turn, turn}
-use Rattle.bind_scopes.specs.Turns.{FitTurns, AllFit}
-use Rattle.bind_scopes.specs.Turns as standing
+use Rattle.v_binding.specs.Turns.{FitTurns, AllFit}
+use Rattle.v_binding.specs.Turns as standing
 use Rattle.bind_laws.specs.Fit.{StepsFit, ListFit, ArmsFit, TurnsFit}
 use Rattle.instance_laws.specs.OfText.{OneDefault, AllOneDefault, ArmsOneDefault, TurnsOneDefault}
 

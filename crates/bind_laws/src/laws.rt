@@ -5,7 +5,7 @@ ghost use Rattle.design_core.specs.WellFormed.{IsWellFormed};
 ghost use Rattle.v_binding.specs.Binding.{binding};
 ghost use Rattle.v_binding.specs.Lefts.{target};
 ghost use Rattle.v_binding.specs.Statements.{bound};
-ghost use Rattle.bind_scopes.specs.Standing.{InstancesStand};
+ghost use Rattle.v_binding.specs.Standing.{InstancesStand};
 ghost use Rattle.bind_laws.specs.Fit.{AssignedLeft, BoundBody, LeftFits, NamesFit, StatementFits, StepsFit};
 ghost use Rattle.instance_laws.specs.OfText.{OfText};
 ghost use Rattle.bind_laws.specs.Whole.{BoundDesign, IsDesignOf};

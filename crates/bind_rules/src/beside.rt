@@ -2,7 +2,7 @@
 ghost use Rattle.std.specs.Prelude.{◌≡◌};
 ghost use Rattle.bind_rules.specs.Beside.{clock_fault};
 
-use bind_scopes::Initial;
+use v_binding::Initial;
 use loc_base::Span;
 
 /// What the rules want to know beside a design: for each signal the first word of its array, and the signal itself where it is no word

@@ -8,7 +8,7 @@ ghost use Rattle.bind_rules.specs.Views.{beside_of};
 use crate::beside::Beside;
 use crate::spans::no_span;
 use assign_rules::is_variable;
-use bind_scopes::Initial;
+use v_binding::Initial;
 use design_core::Design;
 use loc_base::Span;
 

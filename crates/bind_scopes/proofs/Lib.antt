@@ -1,5 +1,4 @@
 pub mod CopiedViews
-pub mod HeldLaws
 pub mod NamedWidth
 pub mod Selects
 pub mod UnknownLaws
@@ -8,3 +7,8 @@ pub mod NamesBack
 pub mod SocketLaws
 pub mod ChildLaws
 pub mod StartLaws
+pub mod Listed
+pub mod NodeParts
+pub mod Rows
+pub mod LeftSteps
+pub mod WrittenLefts

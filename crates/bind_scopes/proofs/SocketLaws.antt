@@ -8,7 +8,7 @@ use Rattle.v_hierarchy.specs.Views.{instance_of, port_of}
 use Rattle.v_binding.specs.Connections.{sockets}
 use Rattle.v_binding.specs.Binding.{all_sockets}
 use Rattle.bind_scopes.specs.declared.scope.Scope.{Scope}
-use Rattle.bind_scopes.specs.Standing.{PortsStand, InstancesStand}
+use Rattle.v_binding.specs.Standing.{PortsStand, InstancesStand}
 use Rattle.bind_scopes.specs.Views.{scope_of}
 
 drop-is : {X : Type 0} (xs : List X) (at : ℕ) (x : X) → at < length xs → x ≡ get_or xs at x → drop at xs ≡ x ∷ drop (suc at) xs

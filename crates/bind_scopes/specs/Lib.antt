@@ -1,8 +1,7 @@
-pub mod Turns
-pub mod Standing
 pub mod Views
-pub mod Held
-pub mod Seen
 pub mod Refuses
 pub mod Unknown
 pub mod Children
+pub mod Addressed
+pub mod Written
+pub mod TreeTargets

@@ -7,7 +7,7 @@ use Rattle.bind_scopes.specs.declared.scope.Whole.{Whole}
 use Rattle.bind_scopes.specs.declared.socket.Socket.{Socket}
 use Rattle.v_binding.specs.Signals as signals
 use Rattle.v_binding.specs.Connections as connections
-use Rattle.bind_scopes.specs.Held.{known_of}
+use Rattle.v_binding.specs.Held.{known_of}
 
 abbrev pub numbered_of : Numbered → signals.Numbered
 numbered_of n = record { signal = n.signal; home = n.home; span = n.span }

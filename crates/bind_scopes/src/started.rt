@@ -3,13 +3,13 @@ ghost use Rattle.std.specs.Prelude.{◌≡◌, ◌++◌, map};
 ghost use Rattle.v_binding.specs.Starts.{started};
 ghost use Rattle.v_binding.specs.Steps.{through};
 
-use crate::{Initial, Start};
 use design_core::Signal;
 use loc_base::Items;
+use v_binding::{Initial, StartValue};
 
 /// A signal's start value, if there is a signal of its number.
 #[tactic(auto, using(crate::proofs::StartLaws::start_laws))]
-fn put(start: &Start, signals: &mut Vec<Signal>)
+fn put(start: &StartValue, signals: &mut Vec<Signal>)
     ensures { signals.new.items ≡ started start.now signals.old.items }
 {
     let place = start.signal() as usize;
@@ -19,7 +19,7 @@ fn put(start: &Start, signals: &mut Vec<Signal>)
 }
 
 /// The start values of declarations: of several for one signal the last counts.
-fn put_declared(starts: &[Start], signals: &mut Vec<Signal>)
+fn put_declared(starts: &[StartValue], signals: &mut Vec<Signal>)
     ensures { signals.new.items ≡ through started starts.now signals.old.items }
 {
     for start in starts {
@@ -39,7 +39,11 @@ fn put_initial(starts: &[Initial], signals: &mut Vec<Signal>)
 /// The signals with their start values: those of declarations, then those of initial blocks; of several for one signal the last
 /// counts.
 #[tactic(auto, using(crate::proofs::StartLaws::through_append))]
-pub fn all_started(declared: &[Start], initial: &[Initial], signals: Items<Signal>) -> Items<Signal>
+pub fn all_started(
+    declared: &[StartValue],
+    initial: &[Initial],
+    signals: Items<Signal>,
+) -> Items<Signal>
     ensures { result ≡ through started (declared.now ++ map (λ i. i.start) initial.now) signals }
 {
     let mut signals = signals.into_vec();

@@ -3,9 +3,10 @@ ghost use Rattle.std.specs.Prelude.{◌≡◌, map, option_map, IfOk};
 ghost use Rattle.v_binding.specs.Binding.{clock_among, clock_of, top_roots, is_the_clock, inputs_of, outputs_of};
 ghost use Rattle.bind_scopes.specs.Views.{socket_of};
 
-use crate::{Root, Socket};
+use crate::Socket;
 use loc_base::{Items, Name, NoMemory};
 use std::alloc::Global;
+use v_binding::Root;
 
 /// The number of the input of one bit with a name.
 fn clock_among(name: &Name, ports: &[Socket<'_>]) -> Option<u32>

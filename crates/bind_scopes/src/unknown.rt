@@ -6,12 +6,11 @@ ghost use Rattle.v_syntax.specs.Tree as written;
 ghost use Rattle.v_syntax.specs.declared.site.Site.{Site};
 ghost use Rattle.v_binding.specs.Names.{find};
 ghost use Rattle.v_binding.specs.Unknown.{has_two, is_misused, is_outside, unknown_name, unknown_in, unknown_parts, unknown_selects, name_fault, fault_in};
-ghost use Rattle.bind_scopes.specs.Seen.{names_in};
+ghost use Rattle.v_binding.specs.Seen.{names_in};
 ghost use Rattle.bind_scopes.specs.Unknown.{unknown_select};
 
-use crate::names::Names;
 use loc_base::{Name, Span};
-use v_binding::{BindErr, Use};
+use v_binding::{BindErr, Names, Use};
 use v_sizes::{Meaning, WidthErr};
 use v_syntax::{Expr, Select};
 

@@ -2,7 +2,7 @@
 use Rattle.std.specs.Prelude.{List, [], ◌∷◌, ◌++◌, map}
 use Rattle.v_binding.specs.Names as plain
 use Rattle.v_binding.specs.Signals as signals
-use Rattle.bind_scopes.specs.Held.{known_of}
+use Rattle.v_binding.specs.Held.{known_of}
 use Rattle.bind_scopes.specs.declared.numbered.Numbered.{Numbered}
 use Rattle.bind_scopes.specs.Views.{numbered_of, scopes_of}
 use Rattle.bind_signals.specs.declared.met.Met.{Met}

@@ -2,7 +2,7 @@
 ghost use Rattle.std.specs.Prelude.{◌≡◌, map, IfOk};
 ghost use Rattle.v_hierarchy.specs.Frames.{names_of};
 ghost use Rattle.v_hierarchy.specs.Views.{entry_of};
-ghost use Rattle.bind_scopes.specs.Standing.{EntriesStand};
+ghost use Rattle.v_binding.specs.Standing.{EntriesStand};
 ghost use Rattle.bind_signals.specs.Firsts.{firsts};
 
 use loc_base::NoMemory;

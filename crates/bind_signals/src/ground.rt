@@ -2,7 +2,7 @@
 ghost use Rattle.std.specs.Prelude.{◌≡◌, map, option_map, IfOk};
 ghost use Rattle.v_hierarchy.specs.Frames.{names_of};
 ghost use Rattle.v_hierarchy.specs.Views.{entry_of, block_of};
-ghost use Rattle.bind_scopes.specs.Standing.{BlockStands};
+ghost use Rattle.v_binding.specs.Standing.{BlockStands};
 ghost use Rattle.bind_signals.specs.Firsts.{firsts};
 
 use crate::declared::first_of_each;

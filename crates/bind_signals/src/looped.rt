@@ -2,7 +2,7 @@
 ghost use Rattle.std.specs.Prelude.{◌≡◌, ℕ, List, [], map, nat_lt, OnOk, IfOk};
 ghost use Rattle.v_hierarchy.specs.Names.{Entry};
 ghost use Rattle.v_hierarchy.specs.Views.{steps_of, step_list_of, arm_of, arms_of, turn_of, turns_of, copied_of, copies_of, block_of};
-ghost use Rattle.bind_scopes.specs.Standing.{CopiedStands, CopiesStand, BlockStands};
+ghost use Rattle.v_binding.specs.Standing.{CopiedStands, CopiesStand, BlockStands};
 ghost use Rattle.bind_signals.specs.Tables.{is_behind, HasFirsts};
 ghost use Rattle.bind_signals.specs.LoopNames.{listed, is_used, with_loops, with_all, with_arm, with_arms, with_turns, with_copies, with_copied, with_block, with_unhidden, without};
 

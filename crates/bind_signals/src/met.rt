@@ -4,19 +4,18 @@ ghost use Rattle.v_sizes.specs.Context.{IsMeaning};
 ghost use Rattle.v_hierarchy.specs.Names.{meaning_of};
 ghost use Rattle.v_hierarchy.specs.Views.{entry_of};
 ghost use Rattle.v_binding.specs.Signals.{scoped, fixed, fixed_all, begun, ended};
-ghost use Rattle.bind_scopes.specs.Held.{known_of};
-ghost use Rattle.bind_scopes.specs.Seen.{names_in};
-ghost use Rattle.bind_scopes.specs.Standing.{EntriesStand};
+ghost use Rattle.v_binding.specs.Held.{known_of};
+ghost use Rattle.v_binding.specs.Seen.{names_in};
+ghost use Rattle.v_binding.specs.Standing.{EntriesStand};
 ghost use Rattle.bind_scopes.specs.Views.{numbered_of, scope_of, scopes_of};
 ghost use Rattle.bind_signals.specs.Scopings.{scoping, scoping_of, with_numbered, with_name};
 
 use crate::words::Array;
-use bind_lefts::Addresses;
-use bind_scopes::{Names, Numbered, Scope};
+use bind_scopes::{Addresses, Numbered, Scope};
 use loc_base::{Items, NoMemory};
 use std::alloc::Global;
 use std::mem;
-use v_binding::{Known, Use};
+use v_binding::{Known, Names, Use};
 use v_hierarchy::{Entry, Standing};
 
 /// The names of a scope so far, and the scopes in it.

@@ -6,8 +6,7 @@ ghost use Rattle.bind_scopes.specs.Views.{numbered_of};
 ghost use Rattle.bind_signals.specs.Words.{word_at};
 
 use crate::signals::{signal_of, word_path};
-use bind_lefts::Addresses;
-use bind_scopes::Numbered;
+use bind_scopes::{Addresses, Numbered};
 use design_core::SignalKind;
 use loc_base::{Items, Name, NoMemory, Span};
 use std::alloc::Global;

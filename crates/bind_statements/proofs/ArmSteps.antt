@@ -16,7 +16,7 @@ use Rattle.bind_statements.specs.declared.chosen.BoundArm.{BoundArm}
 use Rattle.bind_statements.specs.declared.chosen.BoundArm.TheVariants.{Item as item, Other as other}
 use Rattle.bind_statements.specs.Arms.{is_nothing, bound_arm, chosen_with, FitArm}
 use Rattle.bind_statements.specs.Contexts.{with_arm}
-use Rattle.bind_scopes.specs.Turns.{ArmsFit}
+use Rattle.v_binding.specs.Turns.{ArmsFit}
 
 -- ---- contexts
 pub context-next : (names : Names) (a : PlainArm) (rest : List PlainArm) (c : Context) → with_arms names (arms_of (a ∷ rest)) c ≡ with_arms names (arms_of rest) (with_arm names a c)

@@ -14,7 +14,7 @@ use Rattle.v_binding.specs.Statements.{as_default, bound}
 use Rattle.bind_statements.specs.declared.chosen.BoundArm.{BoundArm}
 use Rattle.bind_statements.specs.declared.chosen.BoundArm.TheVariants.{Item as item, Other as other}
 use Rattle.bind_statements.specs.declared.chosen.Chosen.{Chosen}
-use Rattle.bind_scopes.specs.Turns.{FitTurns}
+use Rattle.v_binding.specs.Turns.{FitTurns}
 
 abbrev pub chosen_of : Chosen → written.Chosen
 chosen_of c = record { items = c.items; other = c.other }

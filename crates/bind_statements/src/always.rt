@@ -4,18 +4,18 @@ ghost use Rattle.v_syntax.specs.ItemTree.{sensitivity_of};
 ghost use Rattle.v_hierarchy.specs.Views.{steps_of};
 ghost use Rattle.v_binding.specs.Blocks.{combinational, clocked, block_of, events_of, always_block};
 ghost use Rattle.bind_scopes.specs.Refuses.{Refuses};
-ghost use Rattle.bind_scopes.specs.Seen.{names_in};
+ghost use Rattle.v_binding.specs.Seen.{names_in};
 ghost use Rattle.v_binding.specs.Homes.{home_of};
-ghost use Rattle.bind_scopes.specs.Turns.{FitTurns};
+ghost use Rattle.v_binding.specs.Turns.{FitTurns};
 
+use crate::clocked::{Judged, clocked_of};
 use crate::events::{events_at, events_of, has_edge};
 use crate::statement::bound as bound_steps;
-use bind_clocks::{Bound, Frame, Judged, clocked_of, wait_for};
-use bind_scopes::Names;
+use bind_clocks::{Bound, Frame, wait_for};
 use design_core::{Clocked, Driver, Stmt};
 use loc_base::NoMemory;
 use std::mem;
-use v_binding::{BindErr, Home};
+use v_binding::{BindErr, Home, Names};
 use v_hierarchy::Steps;
 use v_syntax::{Sensitivity, Site};
 

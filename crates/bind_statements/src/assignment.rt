@@ -6,15 +6,14 @@ ghost use Rattle.v_syntax.specs.StatementTree.{statement_of};
 ghost use Rattle.v_binding.specs.Places.{placed};
 ghost use Rattle.v_binding.specs.Statements.{is_later, set, set_of};
 ghost use Rattle.bind_scopes.specs.Refuses.{Refuses};
-ghost use Rattle.bind_scopes.specs.Seen.{names_in};
+ghost use Rattle.v_binding.specs.Seen.{names_in};
 ghost use Rattle.v_binding.specs.Homes.{home_of};
 
-use bind_lefts::target;
-use bind_scopes::Names;
+use bind_scopes::{assigned, target};
 use design_core::{Place, PlaceKind, Stmt, Target};
 use loc_base::{Items, NoMemory};
 use std::mem;
-use v_binding::{BindErr, Home, Start};
+use v_binding::{BindErr, Home, Names, Start};
 use v_syntax::{AssignKind, Expr, Left, Site, Statement};
 
 /// Whether what is assigned is stored later.
@@ -57,7 +56,7 @@ fn set(
     ensures err { IfErr result (λ fault. Refuses (set (home_of home.entry) (names_in names.now) written.entry.site (left_of written.entry.left.now) written.entry.kind (tree_of written.entry.value.now) places.old) fault) }
 {
     let mut left = target(names, written.left)?;
-    let value = names.assigned(written.value, left.width)?;
+    let value = assigned(names, written.value, left.width)?;
     let number = next_place(places)?;
     let start = Start {
         kind: PlaceKind::Step,

@@ -6,12 +6,13 @@ ghost use Rattle.v_sizes.specs.Sizing.{sizing};
 ghost use Rattle.v_binding.specs.Names.{look_in};
 ghost use Rattle.v_binding.specs.Steps.{through};
 ghost use Rattle.v_binding.specs.Cases as case;
-ghost use Rattle.bind_scopes.specs.Seen.{names_in};
+ghost use Rattle.v_binding.specs.Seen.{names_in};
 ghost use Rattle.bind_statements.specs.Contexts.{context_of, with_arm};
 
 use crate::case_context::CaseContext;
-use bind_scopes::Names;
+use bind_scopes::own_size;
 use loc_base::NoMemory;
+use v_binding::Names;
 use v_hierarchy::Arm;
 use v_syntax::Expr;
 
@@ -20,7 +21,7 @@ fn context_alone(names: &Names<'_>, e: &Expr) -> Result<CaseContext, NoMemory>
     ensures width { IfOk result (λ c. c.width ≡ (sizing (look_in (names_in names.now)) (tree_of e.now)).width) }
     ensures signed { IfOk result (λ c. c.signed ≡ (sizing (look_in (names_in names.now)) (tree_of e.now)).signed) }
 {
-    let own = names.own_size(e)?;
+    let own = own_size(names, e)?;
     Ok(CaseContext {
         width: own.width,
         signed: own.signed,

@@ -5,11 +5,11 @@ ghost use Rattle.v_syntax.specs.ItemTree.{event_of, sensitivity_of};
 ghost use Rattle.v_binding.specs.Blocks.{one_select, event_at, is_edge, has_edge, events_of};
 ghost use Rattle.v_binding.specs.Steps.{each};
 ghost use Rattle.bind_scopes.specs.Refuses.{Refuses};
-ghost use Rattle.bind_scopes.specs.Seen.{names_in};
+ghost use Rattle.v_binding.specs.Seen.{names_in};
 
-use bind_scopes::Names;
+use bind_scopes::named;
 use std::slice;
-use v_binding::BindErr;
+use v_binding::{BindErr, Names};
 use v_syntax::{Event, Select, Sensitivity};
 
 /// At most one select, as a slice.
@@ -29,11 +29,11 @@ fn event_at(names: &Names<'_>, event: &Event) -> Result<(), BindErr>
 {
     match event {
         Event::Edge { site, name, .. } => {
-            let _read = names.named(*site, name, &[])?;
+            let _read = named(names, *site, name, &[])?;
             Ok(())
         }
         Event::Change { site, name, select } => {
-            let _read = names.named(*site, name, selects_of(select))?;
+            let _read = named(names, *site, name, selects_of(select))?;
             Ok(())
         }
     }

@@ -4,15 +4,15 @@ ghost use Rattle.v_syntax.specs.Tree.{tree_of};
 ghost use Rattle.v_binding.specs.Steps.{each};
 ghost use Rattle.v_binding.specs.Cases.{label_at};
 ghost use Rattle.bind_scopes.specs.Refuses.{Refuses};
-ghost use Rattle.bind_scopes.specs.Seen.{names_in};
+ghost use Rattle.v_binding.specs.Seen.{names_in};
 ghost use Rattle.bind_statements.specs.Contexts.{context_of};
 
 use crate::case_context::CaseContext;
 use crate::wild::wild_word;
-use bind_scopes::Names;
+use bind_scopes::sized_in;
 use design_core::Label;
 use loc_base::Items;
-use v_binding::BindErr;
+use v_binding::{BindErr, Names};
 use v_syntax::Expr;
 
 /// One label more.
@@ -25,7 +25,7 @@ fn push_label(
     ensures ok { OnOk result (label_at (names_in names.now) (context_of context) (tree_of e.now) done.old ≡ Ok done.new) }
     ensures err { IfErr result (λ fault. Refuses (label_at (names_in names.now) (context_of context) (tree_of e.now) done.old) fault) }
 {
-    let value = names.sized_in(e, context.width, !context.signed)?;
+    let value = sized_in(names, e, context.width, !context.signed)?;
     let wild = wild_word(context, e);
     done.push(Label { value, wild })?;
     Ok(())

@@ -6,11 +6,11 @@ ghost use Rattle.v_binding.specs.Names.{turned};
 ghost use Rattle.v_binding.specs.Places.{placed};
 ghost use Rattle.v_binding.specs.Statements as written;
 ghost use Rattle.bind_scopes.specs.Refuses.{Refuses};
-ghost use Rattle.bind_scopes.specs.Seen.{names_in};
+ghost use Rattle.v_binding.specs.Seen.{names_in};
 ghost use Rattle.v_binding.specs.Homes.{home_of};
 ghost use Rattle.bind_statements.specs.Arms.{chosen_of, bound_arm, FitArm};
 ghost use Rattle.bind_statements.specs.Contexts.{context_of};
-ghost use Rattle.bind_scopes.specs.Turns.{FitTurns, AllFit, ArmsFit, TurnsFit};
+ghost use Rattle.v_binding.specs.Turns.{FitTurns, AllFit, ArmsFit, TurnsFit};
 
 use crate::assignment::still;
 use crate::case_context::CaseContext;
@@ -19,10 +19,10 @@ use crate::chosen::{
     BoundArm, Chosen, case_statement, chosen_with, if_statement, is_wild_case, nothing_chosen,
 };
 use crate::labels::labels_at;
-use bind_scopes::Names;
+use bind_scopes::{by_itself, sized_in};
 use design_core::{CaseItem, Place, Stmt};
 use loc_base::Items;
-use v_binding::{BindErr, Home, Known, Use};
+use v_binding::{BindErr, Home, Known, Names, Use};
 use v_hierarchy::{Arm, Steps, Turn};
 use v_syntax::Identifier;
 
@@ -176,7 +176,7 @@ pub fn bound<'t>(
             then,
             other,
         } => {
-            let cond = names.by_itself(condition)?;
+            let cond = by_itself(names, condition)?;
             let yes = bound(home, names, then, places)?;
             let no = bound(home, names, other, places)?;
             Ok(if_statement(names.allocator(), cond, yes, no)?)
@@ -187,7 +187,7 @@ pub fn bound<'t>(
             arms: list,
         } => {
             let context = case_context(names, subject, list)?;
-            let value = names.sized_in(subject, context.width, !context.signed)?;
+            let value = sized_in(names, subject, context.width, !context.signed)?;
             let chosen = arms(Case { home, context }, names, list, places)?;
             Ok(case_statement(names.allocator(), value, chosen, is_wild_case(*kind))?)
         }

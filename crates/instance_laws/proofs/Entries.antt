@@ -22,7 +22,7 @@ use Rattle.v_hierarchy.proofs.RangeLaws.{between as range_between, scalar_range}
 use Rattle.v_hierarchy.proofs.AssignedLaws.{bits_range, assigned_range}
 use Rattle.v_hierarchy.proofs.FrameLaws.{declared-is, behind, both_of}
 use Rattle.v_hierarchy.proofs.DeclaredLaws.{stands-again}
-use Rattle.bind_scopes.specs.Standing.{EntriesStand}
+use Rattle.v_binding.specs.Standing.{EntriesStand}
 use Rattle.instance_laws.proofs.Steps.{Err-Ok, between, ended}
 
 -- ---- ranges

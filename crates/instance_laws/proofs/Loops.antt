@@ -14,7 +14,7 @@ use Rattle.v_hierarchy.specs.Constants.{constant_at}
 use Rattle.v_hierarchy.specs.Names.{Entry, look_in}
 use Rattle.v_hierarchy.specs.Unrolled.{Steps, nothing, still, run, branch, choose, repeated, StepList, no_step, step, Arms, no_arm, arm, default_arm, Turns, no_turn, turn, Looped, and_turn, at_turn, counted, counted_at, holds_at, steps_itself, loop_turned, loop_turn, loop_variable, begun, stepped, turns, most_turns, unrolled, unrolled_all, unrolled_arms}
 use Rattle.v_hierarchy.proofs.AssignedLaws.{counted_width}
-use Rattle.bind_scopes.specs.Turns.{FitTurns, AllFit, ArmsFit, TurnsFit}
+use Rattle.v_binding.specs.Turns.{FitTurns, AllFit, ArmsFit, TurnsFit}
 use Rattle.instance_laws.proofs.Steps.{between, ended, turns-keep}
 
 abbrev pub Has32 : Const → Type 0

@@ -23,7 +23,7 @@ use Rattle.v_hierarchy.specs.Paths.{block_part, turn_part}
 use Rattle.v_hierarchy.specs.Unrolled.{unrolled, at_turn, holds_at, begun, stepped, turns, most_turns}
 use Rattle.v_hierarchy.specs.Items.{Copied, written, always, inner, turn, Copies, no_copy, copy, and_copy, Place, Met, frames, with_names, with_copy, ported, direction_of, net_of, named_as, outside_value, parameter_of, connections_fit, not_deeper, instance_of, unit_of, loop_genvar, turn_met, within, begins, scope_of, ends, chosen, block_of, turn_of, item, items, body_of}
 use Rattle.v_hierarchy.proofs.RangeLaws.{between as range_between}
-use Rattle.bind_scopes.specs.Standing.{EntriesStand, CopiesStand, CopiedStands}
+use Rattle.v_binding.specs.Standing.{EntriesStand, CopiesStand, CopiedStands}
 use Rattle.instance_laws.proofs.Steps.{between, ended, Err-Ok, each-keeps, turns-keep}
 use Rattle.instance_laws.proofs.Entries.{bounds_if-range, kind_at-is, parameter-stands, declared-stands}
 use Rattle.instance_laws.proofs.Loops.{Has32, begun-has, stepped-has, unrolled-fits}

@@ -20,7 +20,7 @@ use Rattle.v_hierarchy.specs.Headers.{Porting, ported, port_at, nothing_before, 
 use Rattle.v_hierarchy.specs.Items.{Child, Met, begins}
 use Rattle.v_hierarchy.specs.Instances.{Instance, place_of, contents, instance, children, Found, with_instance, walked, unit_name, top_of, most_left, top_child, instances}
 use Rattle.v_hierarchy.proofs.RangeLaws.{scalar_range}
-use Rattle.bind_scopes.specs.Standing.{EntriesStand, PortsStand, BlockStands, InstancesStand}
+use Rattle.v_binding.specs.Standing.{EntriesStand, PortsStand, BlockStands, InstancesStand}
 use Rattle.instance_laws.proofs.Steps.{between, ended, each-keeps}
 use Rattle.instance_laws.proofs.Entries.{bounds_if-range, kind_at-is, parameter-stands, declared-stands}
 use Rattle.instance_laws.proofs.Made.{Stood, items-stand}

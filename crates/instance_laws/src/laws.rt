@@ -1,7 +1,7 @@
 //! Laws of the definitions. Each is the contract of a function that does nothing, over values that no code holds.
 ghost use Rattle.std.specs.Prelude.{◌≡◌, Ok};
 ghost use Rattle.v_hierarchy.specs.Instances.{instances};
-ghost use Rattle.bind_scopes.specs.Standing.{InstancesStand};
+ghost use Rattle.v_binding.specs.Standing.{InstancesStand};
 ghost use Rattle.instance_laws.specs.Every.{Every};
 ghost use Rattle.instance_laws.specs.Listed.{Listed};
 ghost use Rattle.instance_laws.specs.OfText.{OfText};

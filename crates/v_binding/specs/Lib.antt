@@ -20,3 +20,7 @@ pub mod Gates
 pub mod Connections
 pub mod Items
 pub mod Binding
+pub mod Held
+pub mod Seen
+pub mod Turns
+pub mod Standing

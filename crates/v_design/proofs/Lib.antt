@@ -3,3 +3,5 @@ pub mod WalkLaws
 pub mod BindingLaws
 mod MeansLaws
 mod Unbroken
+pub mod ItemWalkLaws
+pub mod ScopeViews

@@ -16,7 +16,7 @@ use Rattle.v_binding.specs.Signals as signals
 use Rattle.v_binding.specs.Signals.{scoped, with_instance, numbered_instance, signals_of}
 use Rattle.v_binding.specs.Binding.{is_in, children_of, all_sockets, instance_items, bound_from}
 use Rattle.bind_scopes.specs.declared.scope.Scope.{Scope}
-use Rattle.bind_scopes.specs.Standing.{BlockStands, InstancesStand}
+use Rattle.v_binding.specs.Standing.{BlockStands, InstancesStand}
 use Rattle.bind_scopes.specs.Views.{scope_of, socket_of}
 use Rattle.bind_scopes.specs.Children.{numbers_from}
 

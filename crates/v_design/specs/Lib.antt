@@ -2,3 +2,5 @@ pub mod Whole
 pub mod Views
 pub mod Means
 pub mod Made
+pub mod Children
+pub mod Copies

@@ -3,7 +3,7 @@ ghost use Rattle.std.specs.Prelude.{◌≡◌, option_map, Ok, IfOk, IfErr};
 ghost use Rattle.v_hierarchy.specs.Views.{instances_of};
 ghost use Rattle.v_binding.specs.Binding.{binding};
 ghost use Rattle.bind_scopes.specs.Refuses.{Refuses};
-ghost use Rattle.bind_scopes.specs.Standing.{InstancesStand};
+ghost use Rattle.v_binding.specs.Standing.{InstancesStand};
 ghost use Rattle.v_design.specs.Views.{binding_of};
 
 use crate::copies::signals_in;

@@ -7,10 +7,14 @@
 
 mod beside;
 mod binding;
+mod children;
 mod copies;
+mod instance;
+mod item_walk;
 mod laws;
 mod listed;
 mod meant;
+mod own;
 mod top;
 mod walk;
 

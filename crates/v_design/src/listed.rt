@@ -3,7 +3,7 @@ ghost use Rattle.std.specs.Prelude.{◌≡◌, Ok, option_map, IfOk, IfErr};
 ghost use Rattle.v_hierarchy.specs.Views.{instances_of};
 ghost use Rattle.v_binding.specs.Binding.{binding};
 ghost use Rattle.bind_scopes.specs.Refuses.{Refuses};
-ghost use Rattle.bind_scopes.specs.Standing.{InstancesStand};
+ghost use Rattle.v_binding.specs.Standing.{InstancesStand};
 ghost use Rattle.bind_rules.specs.Views.{beside_of};
 ghost use Rattle.v_design.specs.Made.{IsMade, listed_beside};
 
@@ -11,11 +11,10 @@ use crate::beside::{homes_of, spans_of};
 use crate::{Binding, bind};
 use bind_clocks::BoundLists;
 use bind_rules::{Beside, clock_fault};
-use bind_scopes::Initial;
 use design_core::Design;
 use loc_base::{Items, Name, Span};
 use std::alloc::Global;
-use v_binding::BindErr;
+use v_binding::{BindErr, Initial};
 use v_hierarchy::Instances;
 
 /// A design, with what its rules want to know beside it.

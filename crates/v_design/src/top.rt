@@ -6,9 +6,10 @@ ghost use Rattle.v_binding.specs.Steps.{through};
 ghost use Rattle.bind_scopes.specs.Views.{socket_of};
 
 use bind_clocks::Bound;
-use bind_scopes::{Root, Socket, top_roots};
+use bind_scopes::{Socket, top_roots};
 use loc_base::{Items, Name, NoMemory};
 use std::alloc::Global;
+use v_binding::Root;
 
 /// The ports of the top, which is the first instance.
 pub(crate) fn top_ports<'a, 't>(all: &'a [Items<Socket<'t>>]) -> &'a [Socket<'t>]

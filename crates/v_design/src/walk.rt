@@ -3,14 +3,15 @@ ghost use Rattle.std.specs.Prelude.{◌≡◌, ℕ, ◌<◌, length, map, slice_
 ghost use Rattle.v_hierarchy.specs.Views.{instance_of};
 ghost use Rattle.v_binding.specs.Binding.{all_sockets, bound_from};
 ghost use Rattle.bind_scopes.specs.Refuses.{Refuses};
-ghost use Rattle.bind_scopes.specs.Standing.{InstancesStand};
+ghost use Rattle.v_binding.specs.Standing.{InstancesStand};
 ghost use Rattle.bind_scopes.specs.Views.{scope_of, socket_of};
 ghost use Rattle.bind_scopes.specs.Children.{numbers_from};
 ghost use Rattle.v_design.specs.Whole.{AreAll};
 
+use crate::children::Children;
+use crate::instance::{Scoped, instance_items};
 use bind_clocks::{Bound, Frame};
 use bind_scopes::{Scope, Socket};
-use bind_walk::{Children, Scoped, instance_items};
 use loc_base::Items;
 use std::alloc::Global;
 use v_binding::BindErr;

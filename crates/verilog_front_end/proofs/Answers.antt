@@ -7,7 +7,7 @@ use Rattle.design_core.specs.WellFormed.{IsWellFormed}
 use Rattle.design_core.specs.DrivenOnce.{IsDrivenOnce}
 use Rattle.v_syntax.specs.ModuleTree.{PlainModule}
 use Rattle.v_hierarchy.specs.Instances.{Instance, instances}
-use Rattle.bind_scopes.specs.Standing.{InstancesStand}
+use Rattle.v_binding.specs.Standing.{InstancesStand}
 use Rattle.instance_laws.specs.OfText.{OfText}
 use Rattle.instance_laws.proofs.Whole.{instances-stand}
 use Rattle.instance_laws.proofs.OfWhole.{instances-of}

@@ -1,7 +1,7 @@
 //! The names of the tests' statements, and the statement of a text, bound.
 ghost use Rattle.v_sizes.specs.Context.{IsMeaning};
 
-use bind_scopes::Names;
+use v_binding::Names;
 use bind_statements::bound;
 use design_core::{Place, Stmt};
 use loc_base::{Items, Name, NoMemory};

@@ -1,7 +1,7 @@
 use Rattle.std.proofs.Common.{◌∙◌, ◌++◌, [], ap, sym, map, take}
 use Rattle.v_syntax.specs.ItemTree.{event_of}
 use Rattle.v_binding.specs.Clocks.{waited, edges}
-use Rattle.bind_scopes.specs.Seen.{names_in}
+use Rattle.v_binding.specs.Seen.{names_in}
 use Rattle.loc_base.proofs.ShelfLists.{map-take_at}
 use Rattle.bind_clocks.proofs.EdgeLaws.{edges-more}
 use Rattle.bind_clocks.proofs.edges.edges.Goals as goal

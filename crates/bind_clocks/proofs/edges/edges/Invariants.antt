@@ -1,7 +1,7 @@
 use Rattle.std.proofs.Common.{◌≡◌, take, map}
 use Rattle.v_syntax.specs.ItemTree.{event_of}
 use Rattle.v_binding.specs.Clocks.{edges}
-use Rattle.bind_scopes.specs.Seen.{names_in}
+use Rattle.v_binding.specs.Seen.{names_in}
 use Rattle.bind_clocks.specs.Waits.{waited_of}
 use Rattle.bind_clocks.proofs.edges.edges.Given as goal
 

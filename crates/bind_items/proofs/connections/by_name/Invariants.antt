@@ -1,7 +1,7 @@
 use Rattle.std.proofs.Common.{◌≡◌, drop, map}
 use Rattle.v_syntax.specs.ItemTree.{connection_of}
 use Rattle.v_binding.specs.Connections.{by_name}
-use Rattle.bind_scopes.specs.Seen.{names_in}
+use Rattle.v_binding.specs.Seen.{names_in}
 use Rattle.v_binding.specs.Homes.{home_of}
 use Rattle.bind_scopes.specs.Views.{socket_of}
 use Rattle.bind_items.proofs.connections.by_name.Given as goal

@@ -1,5 +1,5 @@
 use Rattle.std.proofs.Common.{◌∙◌, sym, arith}
-use Rattle.bind_scopes.specs.Seen.{names_in}
+use Rattle.v_binding.specs.Seen.{names_in}
 use Rattle.v_binding.specs.Homes.{home_of}
 use Rattle.bind_items.proofs.OrderLaws.{order-end}
 use Rattle.bind_items.proofs.connections.by_order.Goals as goal

@@ -2,7 +2,7 @@ use Rattle.std.proofs.Common.{◌≡◌, drop, map}
 use Rattle.std.specs.Prelude.{option_map}
 use Rattle.v_syntax.specs.Tree.{tree_of}
 use Rattle.v_binding.specs.Connections.{by_order}
-use Rattle.bind_scopes.specs.Seen.{names_in}
+use Rattle.v_binding.specs.Seen.{names_in}
 use Rattle.v_binding.specs.Homes.{home_of}
 use Rattle.bind_scopes.specs.Views.{socket_of}
 use Rattle.bind_items.proofs.connections.by_order.Given as goal

@@ -1,7 +1,7 @@
 use Rattle.std.proofs.Common.{◌≡◌, drop, map}
 use Rattle.v_syntax.specs.StatementTree.{statement_of, statements_of}
 use Rattle.v_binding.specs.Assignments.{initial_all}
-use Rattle.bind_scopes.specs.Seen.{names_in}
+use Rattle.v_binding.specs.Seen.{names_in}
 use Rattle.bind_items.proofs.initials.+initial.Given as goal
 
 abbrev pub invariant-initial_all-loop-statement : goal.invariant-initial_all-loop-statement

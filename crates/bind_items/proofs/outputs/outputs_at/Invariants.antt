@@ -2,7 +2,7 @@ use Rattle.std.proofs.Common.{◌≡◌, [], drop, map}
 use Rattle.v_syntax.specs.Tree.{tree_of}
 use Rattle.v_binding.specs.Steps.{each}
 use Rattle.v_binding.specs.Gates.{output_at}
-use Rattle.bind_scopes.specs.Seen.{names_in}
+use Rattle.v_binding.specs.Seen.{names_in}
 use Rattle.bind_items.proofs.outputs.outputs_at.Given as goal
 
 abbrev pub invariant-loop-e : goal.invariant-loop-e

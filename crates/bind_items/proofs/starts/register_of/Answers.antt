@@ -1,5 +1,5 @@
 use Rattle.std.proofs.Common.{◌∙◌, ap}
-use Rattle.bind_scopes.specs.Seen.{names_in}
+use Rattle.v_binding.specs.Seen.{names_in}
 use Rattle.bind_items.specs.Registers.{number_in, width_in}
 use Rattle.bind_items.proofs.RegisterLaws.{looked-width, looked-number}
 use Rattle.bind_items.proofs.starts.register_of.Goals as goal

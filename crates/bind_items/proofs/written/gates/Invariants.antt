@@ -2,7 +2,7 @@ use Rattle.std.proofs.Common.{◌≡◌, drop, map}
 use Rattle.v_syntax.specs.ItemTree as tree
 use Rattle.v_binding.specs.Steps.{each}
 use Rattle.v_binding.specs.Gates.{gate_of}
-use Rattle.bind_scopes.specs.Seen.{names_in}
+use Rattle.v_binding.specs.Seen.{names_in}
 use Rattle.v_binding.specs.Homes.{home_of}
 use Rattle.bind_items.proofs.written.gates.Given as goal
 

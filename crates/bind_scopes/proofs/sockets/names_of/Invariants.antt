@@ -1,6 +1,6 @@
 use Rattle.std.proofs.Common.{◌≡◌, ◌-◌, map, length, drop}
-use Rattle.bind_scopes.specs.Held.{known_of}
-use Rattle.bind_scopes.specs.Seen.{names_in}
+use Rattle.v_binding.specs.Held.{known_of}
+use Rattle.v_binding.specs.Seen.{names_in}
 use Rattle.bind_scopes.proofs.sockets.names_of.Given as goal
 
 abbrev pub invariant-loop-back : goal.invariant-loop-back

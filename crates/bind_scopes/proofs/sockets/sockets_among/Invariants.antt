@@ -1,8 +1,8 @@
 use Rattle.std.proofs.Common.{◌≡◌, ◌++◌, map, drop}
 use Rattle.v_hierarchy.specs.Views.{port_of}
 use Rattle.v_binding.specs.Connections.{socket}
-use Rattle.bind_scopes.specs.Seen.{names_in}
-use Rattle.bind_scopes.specs.Standing.{PortsStand}
+use Rattle.v_binding.specs.Seen.{names_in}
+use Rattle.v_binding.specs.Standing.{PortsStand}
 use Rattle.bind_scopes.specs.Views.{socket_of}
 use Rattle.bind_scopes.proofs.sockets.sockets_among.Given as goal
 

@@ -1,7 +1,7 @@
 use Rattle.std.proofs.Common.{◌≡◌, map, drop}
 use Rattle.v_syntax.specs.Tree.{tree_of, trees_of, selection_of, selections_of}
 use Rattle.v_binding.specs.Unknown.{unknown_parts, unknown_selects}
-use Rattle.bind_scopes.specs.Seen.{names_in}
+use Rattle.v_binding.specs.Seen.{names_in}
 use Rattle.bind_scopes.proofs.unknown.+unknown.Given as goal
 
 abbrev pub invariant-unknown_selects-loop-select : goal.invariant-unknown_selects-loop-select

@@ -1,7 +1,7 @@
 use Rattle.std.proofs.Common.{map}
 use Rattle.v_syntax.specs.Tree.{selection_of, selections_of}
 use Rattle.v_sizes.specs.Scopes.{look_of}
-use Rattle.bind_scopes.specs.Seen.{names_in}
+use Rattle.v_binding.specs.Seen.{names_in}
 use Rattle.bind_scopes.proofs.UnknownLaws.{unknown-nothing, unknown-meant}
 use Rattle.bind_scopes.proofs.unknown.unknown_name.Goals as goal
 

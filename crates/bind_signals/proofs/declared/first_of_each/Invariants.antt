@@ -1,7 +1,7 @@
 use Rattle.std.proofs.Common.{◌≡◌, map, drop}
 use Rattle.v_hierarchy.specs.Frames.{names_of}
 use Rattle.v_hierarchy.specs.Views.{entry_of}
-use Rattle.bind_scopes.specs.Standing.{EntriesStand}
+use Rattle.v_binding.specs.Standing.{EntriesStand}
 use Rattle.bind_signals.specs.Firsts.{firsts, firsts_behind}
 use Rattle.bind_signals.proofs.declared.first_of_each.Given as goal
 

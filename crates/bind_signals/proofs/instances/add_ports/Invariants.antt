@@ -2,8 +2,8 @@ use Rattle.std.proofs.Common.{◌≡◌, map, drop}
 use Rattle.v_hierarchy.specs.Views.{port_of}
 use Rattle.v_binding.specs.Steps.{through}
 use Rattle.v_binding.specs.Signals.{with_port}
-use Rattle.bind_scopes.specs.Seen.{names_in}
-use Rattle.bind_scopes.specs.Standing.{PortsStand}
+use Rattle.v_binding.specs.Seen.{names_in}
+use Rattle.v_binding.specs.Standing.{PortsStand}
 use Rattle.bind_signals.specs.Scopings.{scoping_of}
 use Rattle.bind_signals.specs.Grounds.{ground_in}
 use Rattle.bind_signals.proofs.instances.add_ports.Given as goal

@@ -3,7 +3,7 @@ use Rattle.v_hierarchy.specs.Views.{entry_of, port_of, copied_of, copies_of}
 use Rattle.v_binding.specs.Names.{within}
 use Rattle.v_binding.specs.Steps.{through}
 use Rattle.v_binding.specs.Signals.{unnumbered, begun, with_port, numbered}
-use Rattle.bind_scopes.specs.Seen.{names_in}
+use Rattle.v_binding.specs.Seen.{names_in}
 use Rattle.bind_scopes.specs.Views.{numbered_of}
 use Rattle.bind_signals.specs.Scopings.{scoping_of}
 use Rattle.bind_signals.specs.Grounds.{ground_in, prefix_of}

@@ -2,8 +2,8 @@ use Rattle.std.proofs.Common.{◌≡◌, [], map, drop}
 use Rattle.v_hierarchy.specs.Views.{instance_of}
 use Rattle.v_binding.specs.Steps.{through}
 use Rattle.v_binding.specs.Signals.{with_instance, signals_of}
-use Rattle.bind_scopes.specs.Seen.{names_in}
-use Rattle.bind_scopes.specs.Standing.{InstancesStand}
+use Rattle.v_binding.specs.Seen.{names_in}
+use Rattle.v_binding.specs.Standing.{InstancesStand}
 use Rattle.bind_scopes.specs.Views.{scope_of, numbered_of}
 use Rattle.bind_signals.proofs.instances.signals_of.Given as goal
 

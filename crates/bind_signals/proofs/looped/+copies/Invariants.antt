@@ -1,6 +1,6 @@
 use Rattle.std.proofs.Common.{◌≡◌, map, drop}
 use Rattle.v_hierarchy.specs.Views.{copied_of, copies_of}
-use Rattle.bind_scopes.specs.Standing.{CopiesStand}
+use Rattle.v_binding.specs.Standing.{CopiesStand}
 use Rattle.bind_signals.specs.LoopNames.{listed, with_copies}
 use Rattle.bind_signals.proofs.looped.+copies.Given as goal
 

@@ -1,8 +1,8 @@
 use Rattle.std.proofs.Common.{◌≡◌, ◌++◌, map, drop}
 use Rattle.v_hierarchy.specs.Views.{entry_of}
 use Rattle.v_binding.specs.Signals.{fixed_all}
-use Rattle.bind_scopes.specs.Held.{known_of}
-use Rattle.bind_scopes.specs.Standing.{EntriesStand}
+use Rattle.v_binding.specs.Held.{known_of}
+use Rattle.v_binding.specs.Standing.{EntriesStand}
 use Rattle.bind_signals.proofs.met.fixed_scope.Given as goal
 
 abbrev pub invariant-loop-entry : goal.invariant-loop-entry

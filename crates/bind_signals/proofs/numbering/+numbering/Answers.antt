@@ -3,7 +3,7 @@ use Rattle.v_hierarchy.specs.Items.{inner}
 use Rattle.v_hierarchy.specs.Views.{entry_of, copied_of, copies_of}
 use Rattle.v_binding.specs.Names.{within}
 use Rattle.v_binding.specs.Signals.{unnumbered, begun, ended, numbered, numbered_copy}
-use Rattle.bind_scopes.specs.Seen.{names_in}
+use Rattle.v_binding.specs.Seen.{names_in}
 use Rattle.bind_scopes.specs.Views.{numbered_of}
 use Rattle.bind_scopes.proofs.CopiedViews.{block_of_block}
 use Rattle.bind_signals.specs.Scopings.{scoping, scoping_of}

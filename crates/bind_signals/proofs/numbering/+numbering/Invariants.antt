@@ -1,8 +1,8 @@
 use Rattle.std.proofs.Common.{◌≡◌, map, drop}
 use Rattle.v_hierarchy.specs.Views.{copied_of, copies_of}
 use Rattle.v_binding.specs.Signals.{numbered}
-use Rattle.bind_scopes.specs.Seen.{names_in}
-use Rattle.bind_scopes.specs.Standing.{CopiesStand}
+use Rattle.v_binding.specs.Seen.{names_in}
+use Rattle.v_binding.specs.Standing.{CopiesStand}
 use Rattle.bind_signals.specs.Scopings.{scoping_of}
 use Rattle.bind_signals.specs.Grounds.{ground_in}
 use Rattle.bind_signals.proofs.numbering.+numbering.Given as goal

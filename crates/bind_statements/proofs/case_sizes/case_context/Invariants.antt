@@ -3,7 +3,7 @@ use Rattle.v_syntax.specs.Tree.{tree_of}
 use Rattle.v_hierarchy.specs.Views.{arm_of, arms_of}
 use Rattle.v_binding.specs.Cases.{with_arms}
 use Rattle.v_binding.specs.Cases as case
-use Rattle.bind_scopes.specs.Seen.{names_in}
+use Rattle.v_binding.specs.Seen.{names_in}
 use Rattle.bind_statements.specs.Contexts.{context_of}
 use Rattle.bind_statements.proofs.case_sizes.case_context.Given as goal
 

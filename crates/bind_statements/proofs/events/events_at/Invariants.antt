@@ -2,7 +2,7 @@ use Rattle.std.proofs.Common.{◌≡◌, drop, map}
 use Rattle.v_syntax.specs.ItemTree.{event_of}
 use Rattle.v_binding.specs.Blocks.{event_at}
 use Rattle.v_binding.specs.Steps.{each}
-use Rattle.bind_scopes.specs.Seen.{names_in}
+use Rattle.v_binding.specs.Seen.{names_in}
 use Rattle.bind_statements.proofs.events.events_at.Given as goal
 
 abbrev pub invariant-loop-event : goal.invariant-loop-event

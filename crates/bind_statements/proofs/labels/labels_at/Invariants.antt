@@ -2,7 +2,7 @@ use Rattle.std.proofs.Common.{◌≡◌, [], map, drop}
 use Rattle.v_syntax.specs.Tree.{tree_of}
 use Rattle.v_binding.specs.Steps.{each}
 use Rattle.v_binding.specs.Cases.{label_at}
-use Rattle.bind_scopes.specs.Seen.{names_in}
+use Rattle.v_binding.specs.Seen.{names_in}
 use Rattle.bind_statements.specs.Contexts.{context_of}
 use Rattle.bind_statements.proofs.labels.labels_at.Given as goal
 

@@ -1,11 +1,11 @@
 use Rattle.std.proofs.Common.{◌≡◌, [], map, drop}
 use Rattle.v_hierarchy.specs.Views.{steps_of, arm_of, turn_of, step_list_of, arms_of, turns_of}
 use Rattle.v_binding.specs.Statements.{nothing_chosen, bound_all, bound_turns, bound_arms}
-use Rattle.bind_scopes.specs.Seen.{names_in}
+use Rattle.v_binding.specs.Seen.{names_in}
 use Rattle.v_binding.specs.Homes.{home_of}
 use Rattle.bind_statements.specs.Arms.{chosen_of}
 use Rattle.bind_statements.specs.Contexts.{context_of}
-use Rattle.bind_scopes.specs.Turns.{AllFit, ArmsFit, TurnsFit}
+use Rattle.v_binding.specs.Turns.{AllFit, ArmsFit, TurnsFit}
 use Rattle.bind_statements.proofs.statement.+statements.Given as goal
 
 abbrev pub invariant-block-loop-step : goal.invariant-block-loop-step

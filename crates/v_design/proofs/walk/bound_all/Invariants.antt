@@ -1,7 +1,7 @@
 use Rattle.std.proofs.Common.{◌≡◌, map, drop}
 use Rattle.v_hierarchy.specs.Views.{instance_of}
 use Rattle.v_binding.specs.Binding.{bound_from}
-use Rattle.bind_scopes.specs.Standing.{InstancesStand}
+use Rattle.v_binding.specs.Standing.{InstancesStand}
 use Rattle.bind_scopes.specs.Views.{scope_of, socket_of}
 use Rattle.v_design.proofs.walk.bound_all.Given as goal
 

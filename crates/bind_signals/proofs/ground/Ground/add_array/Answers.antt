@@ -3,9 +3,9 @@ use Rattle.std.proofs.lemmas.List.{length-map}
 use Rattle.v_hierarchy.specs.Constants.{width}
 use Rattle.v_binding.specs.declared.known.Use.TheVariants.{Stands as stands}
 use Rattle.v_binding.specs.Names.{known}
-use Rattle.bind_scopes.specs.Held.{known_of}
-use Rattle.bind_scopes.specs.Seen.{names_in}
-use Rattle.bind_lefts.specs.Addressed.{addresses_of}
+use Rattle.v_binding.specs.Held.{known_of}
+use Rattle.v_binding.specs.Seen.{names_in}
+use Rattle.bind_scopes.specs.Addressed.{addresses_of}
 use Rattle.bind_scopes.specs.Views.{numbered_of}
 use Rattle.bind_signals.specs.Scopings.{scoping_of}
 use Rattle.bind_signals.specs.Grounds.{ground_in}

@@ -2,7 +2,7 @@ use Rattle.std.proofs.Common.{◌≡◌, map, drop}
 use Rattle.v_syntax.specs.ItemTree.{declarator_of}
 use Rattle.v_binding.specs.Steps.{through}
 use Rattle.v_binding.specs.Signals.{with_declarator}
-use Rattle.bind_scopes.specs.Seen.{names_in}
+use Rattle.v_binding.specs.Seen.{names_in}
 use Rattle.bind_signals.specs.Scopings.{scoping_of}
 use Rattle.bind_signals.specs.Grounds.{ground_in}
 use Rattle.bind_signals.proofs.ground.Ground.add_declarators.Given as goal

@@ -1,5 +1,5 @@
 use Rattle.std.proofs.Common.{◌+◌, arith}
-use Rattle.bind_scopes.specs.Seen.{names_in}
+use Rattle.v_binding.specs.Seen.{names_in}
 use Rattle.bind_signals.proofs.ScopingLaws.{drop_next, some_left}
 use Rattle.bind_signals.proofs.met.Met.leave.Goals as goal
 

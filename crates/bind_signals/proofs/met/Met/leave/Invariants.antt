@@ -1,5 +1,5 @@
 use Rattle.std.proofs.Common.{◌≡◌, drop}
-use Rattle.bind_scopes.specs.Seen.{names_in}
+use Rattle.v_binding.specs.Seen.{names_in}
 use Rattle.bind_signals.specs.Scopings.{scoping_of}
 use Rattle.bind_signals.proofs.met.Met.leave.Given as goal
 

@@ -2,8 +2,8 @@ use Rattle.std.proofs.Common.{◌≡◌, map, drop}
 use Rattle.v_hierarchy.specs.Views.{entry_of}
 use Rattle.v_binding.specs.Names.{within}
 use Rattle.v_binding.specs.Signals.{unnumbered}
-use Rattle.bind_scopes.specs.Seen.{names_in}
-use Rattle.bind_scopes.specs.Standing.{EntriesStand}
+use Rattle.v_binding.specs.Seen.{names_in}
+use Rattle.v_binding.specs.Standing.{EntriesStand}
 use Rattle.bind_signals.specs.Scopings.{scoping_of}
 use Rattle.bind_signals.proofs.met.Met.see.Given as goal
 

@@ -1,3 +1,0 @@
-pub mod Addressed
-pub mod Written
-pub mod TreeTargets
