@@ -9,7 +9,7 @@ use Rattle.bind_scopes.proofs.expressions.named.Goals as goal
 
 pub returns-in-Ok-clause-ok : goal.returns-in-Ok-clause-ok
 returns-in-Ok-clause-ok c =
-    accepted (names_in c.args.self.now) (written.name c.args.site c.args.name.now (selections_of (map selection_of c.args.selects.now)))
+    accepted (names_in c.args.names.now) (written.name c.args.site c.args.name.now (selections_of (map selection_of c.args.selects.now)))
     (look_of c.scope.result.now) c.in-Ok.typed c.scope.ensures c.in-Ok.ensures.ok c.in-Ok.ensures.accepted
 
 pub returns-in-Ok-clause-most : goal.returns-in-Ok-clause-most
@@ -20,5 +20,5 @@ returns-in-Ok-clause-most c =
 pub returns-in-Err-clause-err : goal.returns-in-Err-clause-err
 returns-in-Err-clause-err c =
     let e = written.name c.args.site c.args.name.now (selections_of (map selection_of c.args.selects.now)) in
-    refused-by (names_in c.args.self.now) e (look_of c.scope.result.now) c.in-Err.wrong c.fault_of_name.result
+    refused-by (names_in c.args.names.now) e (look_of c.scope.result.now) c.in-Err.wrong c.fault_of_name.result
     c.scope.ensures c.in-Err.ensures.refused (c.fault_of_name.ensures c.args.site)
