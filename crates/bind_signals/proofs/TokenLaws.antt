@@ -3,11 +3,11 @@ use Rattle.std.proofs.Common.{◌≡◌, ℕ, Bool, true, false, ◌&&◌, ◌||
 use Rattle.std.specs.Prelude.{if◌then◌else◌, nat_lt, max}
 use Rattle.std.specs.Option.{option_or, option_map_or}
 use Rattle.std.proofs.lemmas.Slice.Eq.{bytes_eq-Decides}
+use Rattle.loc_base.proofs.ShelfBools.{or-assoc}
 use Rattle.v_hierarchy.specs.Names.{Entry, same_name}
 use Rattle.v_hierarchy.specs.Places.{with_place}
 use Rattle.v_binding.specs.Signals.{declared_at, hides}
 use Rattle.bind_signals.specs.Tables.{last_with}
-use Rattle.bind_signals.proofs.LoopLaws.{or-assoc}
 
 abbrev behind : Option ℕ → ℕ → Bool
 behind o token = option_map_or (λ last. nat_lt token last) o false

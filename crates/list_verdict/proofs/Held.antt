@@ -13,7 +13,8 @@ use Rattle.list_verdict.specs.Conditions.{Holds, IsFirstToHold}
 use Rattle.list_verdict.specs.Judging.{AreAscending, FirstHeld, FirstToHold, NoneWithin, shares_gap}
 use Rattle.list_verdict.proofs.Comparing.{before-few, before-self}
 use Rattle.list_verdict.proofs.Gaps.{Upto, before-upto, gap-outside, upto-self}
-use Rattle.list_verdict.proofs.Ordered.{got-same, got-within, set-at}
+use Rattle.std.proofs.lemmas.Option.{slice_get_within}
+use Rattle.list_verdict.proofs.Ordered.{got-same, set-at}
 
 pub ascends : (sets : List ReportSet) → AreAscending sets → (i : ℕ) (set : ReportSet) → slice_get sets i ≡ Some set
     → IsStrictlyIncreasing set.members
@@ -153,7 +154,7 @@ hold-more sets place before none n o low = by (cases_lt place n)
 
 pub hold-none : (sets : List ReportSet) (place : ℕ) → length sets ≤ place → NoneBelow sets place → FirstToHold sets None
 hold-none sets place past before n o holds =
-    before n o (omega (arith, got-within sets (n - 1) holds.set holds.is_set.is, past)) holds
+    before n o (omega (arith, slice_get_within sets (n - 1) holds.set holds.is_set.is, past)) holds
 
 pub hold-first : (sets : List ReportSet) (place other : ℕ) (holding : Holding) → NoneBelow sets place → FirstHeld sets place (Some other)
     → holding.set ≡ place + 1 → holding.other ≡ other + 1 → FirstToHold sets (Some holding)

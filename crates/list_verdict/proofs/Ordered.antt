@@ -5,6 +5,7 @@ use Rattle.loc_base.specs.declared.memory.NoMemory.{NoMemory}
 use Rattle.std.specs.List.Sorted.{IsStrictlyIncreasing}
 use Rattle.std.proofs.lemmas.Bool.{cases_lt}
 use Rattle.std.proofs.lemmas.List.{length-map}
+use Rattle.std.proofs.lemmas.Option.{slice_get_within}
 use Rattle.loc_base.proofs.ShelfLists.{slice_get-some}
 use Rattle.design_core.specs.declared.values.SetWithValues.{SetWithValues}
 use Rattle.design_core.specs.declared.values.Values.{Values}
@@ -19,11 +20,6 @@ use Rattle.list_verdict.specs.Judging.{AreAscending, AreFound, AreMembers, Found
 use Rattle.list_verdict.proofs.Comparing.{before-trans}
 
 -- ---- lists
-pub got-within : {X : Type 0} (xs : List X) (i : ℕ) (x : X) → slice_get xs i ≡ Some x → i < length xs
-got-within [] i x there = cc
-got-within (y ∷ xs) zero x there = omega arith
-got-within (y ∷ xs) (suc i) x there = omega (arith, got-within xs i x there)
-
 got-none : {X : Type 0} (i : ℕ) (x : X) → slice_get [] i ≡ Some x → ⊥
 got-none i x there = cc
 
@@ -170,7 +166,7 @@ found-more c place old new found before is grown = record {
         → (at < length old) ⊎ (length old ≤ at) → IsFound c at set f
     by at set f there got (inl low) = before.each at set f there (got-front old found at f got low)
     by at set f there got (inr past) =
-        let within = got-within (old ++ found ∷ []) at f got in
+        let within = slice_get_within (old ++ found ∷ []) at f got in
         let here : place ≡ at = omega (arith, before.long, past, within, length-append old (found ∷ [])) in
         subst (λ (x : SetWithValues). IsFound c at set x) (sym (got-last old found at f got past))
         (subst (λ n. IsFound c n set found) here (is set (ap (slice_get c.sets) here ∙ there)))
@@ -187,7 +183,7 @@ pub all-found : (c : Claim) (place : ℕ) (found : List SetWithValues) → lengt
     → AreInOrder c × AreFound c (length c.sets) found
 all-found c place found past most are =
     let whole : place ≡ length c.sets = omega (arith, past, most) in (
-      λ number set is. in-order c place found are number set (omega (arith, got-within c.sets (number - 1) set is.is, past)) is,
+      λ number set is. in-order c place found are number set (omega (arith, slice_get_within c.sets (number - 1) set is.is, past)) is,
       subst (λ n. AreFound c n found) whole are,
     )
 
@@ -215,7 +211,7 @@ rises c all i zero one other here there =
     let is : IsSetAt c.sets (i + 1 + 1) other = set-at c.sets (i + 1) other there in
     (all (i + 1 + 1) other is).after one (record { counted = omega arith; is = ap (slice_get c.sets) (omega arith) ∙ here })
 rises c all i (suc more) one other here there =
-    let (mid, between) = slice_get-some c.sets (i + suc more) (omega (arith, got-within c.sets (i + suc (suc more)) other there)) in
+    let (mid, between) = slice_get-some c.sets (i + suc more) (omega (arith, slice_get_within c.sets (i + suc (suc more)) other there)) in
     let is : IsSetAt c.sets (i + suc (suc more) + 1) other = set-at c.sets (i + suc (suc more)) other there in
     before-trans one.members mid.members other.members (rises c all i more one mid here between)
     ((all (i + suc (suc more) + 1) other is).after mid (record { counted = omega arith; is = ap (slice_get c.sets) (omega arith) ∙ between }))

@@ -14,13 +14,14 @@ use Rattle.debug_core.specs.Problems.{IsProblem, suspects_of}
 use Rattle.list_verdict.specs.Claims.{AreItsValues, Claim, IsSetAt}
 use Rattle.list_verdict.specs.Conditions.{AreRight, IsFirstToMiss, IsRightSet}
 use Rattle.list_verdict.specs.Judging.{AreFound, IsFound}
-use Rattle.list_verdict.proofs.Ordered.{got-within, set-at}
+use Rattle.std.proofs.lemmas.Option.{slice_get_within}
+use Rattle.list_verdict.proofs.Ordered.{set-at}
 
 module _ (c : Claim) (can : IsProblem c.problem) (found : List SetWithValues) (are : AreFound c (length c.sets) found) where
   found-is : (place : ℕ) (f : SetWithValues) → slice_get found place ≡ Some f
       → (set : ReportSet) × (slice_get c.sets place ≡ Some set) × IsFound c place set f
   found-is place f there =
-      let (set, at) = slice_get-some c.sets place (omega (arith, are.long, got-within found place f there)) in
+      let (set, at) = slice_get-some c.sets place (omega (arith, are.long, slice_get_within found place f there)) in
       (set, at, are.each place set f at there)
 
   written-for : (set : ReportSet) (values : Values) → AreItsValues c set values → AreValuesFor c.problem.design c.problem.traces values
@@ -55,7 +56,7 @@ module _ (c : Claim) (can : IsProblem c.problem) (found : List SetWithValues) (a
   pub all-right : FirstToMiss c.problem.design c.problem.traces found 0 (length found) None → AreRight c
   all-right all number set is =
       right-below (length found) (omega arith) all number set
-      (omega (arith, are.long, got-within c.sets (number - 1) set is.is, is.counted)) is
+      (omega (arith, are.long, slice_get_within c.sets (number - 1) set is.is, is.counted)) is
 
   pub first-misses : (place number : ℕ) (miss : Miss) → FirstToMiss c.problem.design c.problem.traces found 0 (length found) (Some (place, miss))
       → number ≡ place + 1 → IsFirstToMiss c number miss
@@ -69,10 +70,10 @@ module _ (c : Claim) (can : IsProblem c.problem) (found : List SetWithValues) (a
         are_its = is.values;
         misses = first.misses;
         first = λ other before low there.
-            right-below place (omega (arith, got-within found place first.set first.is_set)) first.first other before (omega (arith, low)) there;
+            right-below place (omega (arith, slice_get_within found place first.set first.is_set)) first.first other before (omega (arith, low)) there;
       })
 
   -- the number of the set that misses
   pub miss-within : (place : ℕ) (miss : Miss) → FirstToMiss c.problem.design c.problem.traces found 0 (length found) (Some (place, miss))
       → place < length c.sets
-  miss-within place miss first = omega (arith, are.long, got-within found place first.set first.is_set)
+  miss-within place miss first = omega (arith, are.long, slice_get_within found place first.set first.is_set)

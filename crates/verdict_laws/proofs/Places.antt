@@ -1,15 +1,11 @@
 -- Lists and what stands at their places.
 use Rattle.std.proofs.Common.{ℕ, zero, suc, ◌≡◌, ◌<◌, List, [], ◌∷◌, length, get_or, map, Some, refl, ap, subst, arith}
 use Rattle.std.specs.Prelude.{All, AllPairs, slice_get}
+use Rattle.std.proofs.lemmas.Option.{slice_get_within}
 use Rattle.loc_base.proofs.ShelfLists.{All-member, Contains-at}
 
 some-same : {X : Type 0} (x y : X) → Some x ≡ Some y → x ≡ y
 some-same x y e = cc
-
-pub got-within : {X : Type 0} (xs : List X) (i : ℕ) (x : X) → slice_get xs i ≡ Some x → i < length xs
-got-within [] i x there = cc
-got-within (y ∷ xs) zero x there = omega arith
-got-within (y ∷ xs) (suc i) x there = omega (arith, got-within xs i x there)
 
 got-or : {X : Type 0} (xs : List X) (i : ℕ) (x d : X) → slice_get xs i ≡ Some x → get_or xs i d ≡ x
 got-or [] i x d there = cc
@@ -24,7 +20,7 @@ pub got-pair : {X : Type 0} (R : X → X → Type 0) (xs : List X) (i j : ℕ) (
     → slice_get xs i ≡ Some x → slice_get xs j ≡ Some y → R x y
 got-pair R xs i j x y all less here there =
     subst (λ a. R a y) (got-or xs i x x here)
-    (subst (λ b. R (get_or xs i x) b) (got-or xs j y x there) (all i j x less (got-within xs j y there)))
+    (subst (λ b. R (get_or xs i x) b) (got-or xs j y x there) (all i j x less (slice_get_within xs j y there)))
 
 -- an element of a list that is made of another
 pub got-map : {X Y : Type 0} (f : X → Y) (xs : List X) (i : ℕ) (x : X) → slice_get xs i ≡ Some x → slice_get (map f xs) i ≡ Some (f x)
