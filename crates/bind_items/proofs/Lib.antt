@@ -5,4 +5,3 @@ pub mod OutputLaws
 pub mod OrderLaws
 pub mod PlainNames
 pub mod RegisterLaws
-pub mod StatementViews

@@ -54,7 +54,7 @@ fn initial_at(
 
 /// The start values that a statement of an initial block gives.
 #[cycle(initial)]
-#[tactic(auto, using(crate::proofs::StatementViews::statement_views, bind_scopes::proofs::LeftSteps::left_steps))]
+#[tactic(auto, using(bind_scopes::proofs::StatementViews::statement_views, bind_scopes::proofs::LeftSteps::left_steps))]
 pub(crate) fn initial_block(
     names: &Names<'_>,
     statement: &Statement,

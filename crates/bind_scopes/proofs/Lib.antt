@@ -12,3 +12,4 @@ pub mod NodeParts
 pub mod Rows
 pub mod LeftSteps
 pub mod WrittenLefts
+pub mod StatementViews

@@ -1,4 +1,3 @@
-pub mod StatementViews
 pub mod StepViews
 pub mod WildSteps
 pub mod Carried

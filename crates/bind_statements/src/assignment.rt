@@ -76,7 +76,7 @@ fn set(
 }
 
 /// A statement that stands as it is written: an assignment, with its place behind those before it.
-#[tactic(auto, using(crate::proofs::StatementViews::statement_views))]
+#[tactic(auto, using(bind_scopes::proofs::StatementViews::statement_views))]
 pub(crate) fn still(
     home: Home<'_>,
     names: &Names<'_>,
