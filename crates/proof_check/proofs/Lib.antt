@@ -15,3 +15,4 @@ pub mod StepLines
 pub mod Struck
 pub mod Texts
 pub mod Written
+pub mod Parts

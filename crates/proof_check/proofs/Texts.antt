@@ -22,10 +22,10 @@ use Rattle.proof_check.specs.declared.types.LogErr.{LogErr}
 use Rattle.proof_check.specs.declared.types.LogErr.TheVariants.{LogSyntax, NoMemory}
 use Rattle.proof_check.specs.Errors.{AtLine, OnSyntax}
 
-abbrev Lacks : List ℕ → Type 0
+abbrev pub Lacks : List ℕ → Type 0
 Lacks text = All (λ c. eqb c 10 ≡ false) text
 
-abbrev ended : List ℕ → List ℕ
+abbrev pub ended : List ℕ → List ℕ
 ended line = line ++ 10 ∷ []
 
 -- ---- lines without a newline in them
@@ -61,7 +61,7 @@ lines_lack value is =
 
 -- ---- a text's pieces are its lines
 
-pieces_of : (lines : List (List ℕ)) → All Lacks lines → pieces (flat_map ended lines) ≡ lines ++ [] ∷ []
+pub pieces_of : (lines : List (List ℕ)) → All Lacks lines → pieces (flat_map ended lines) ≡ lines ++ [] ∷ []
 pieces_of [] all = refl
 pieces_of (line ∷ lines) all =
     ap pieces (append_assoc line (10 ∷ []) (flat_map ended lines))
@@ -71,7 +71,7 @@ pieces_of (line ∷ lines) all =
 pub pieces-text_of : (value : LogText) → IsLogText value → pieces (text_of value) ≡ lines_of value ++ [] ∷ []
 pieces-text_of value is = pieces_of (lines_of value) (lines_lack value is)
 
-join_ended : (lines : List (List ℕ)) → join_with_byte 10 (lines ++ [] ∷ []) ≡ flat_map ended lines
+pub join_ended : (lines : List (List ℕ)) → join_with_byte 10 (lines ++ [] ∷ []) ≡ flat_map ended lines
 join_ended [] = refl
 join_ended (line ∷ []) = sym (append-nil (line ++ 10 ∷ []))
 join_ended (line ∷ next ∷ lines) = ap (λ (rest : List ℕ). line ++ 10 ∷ rest) (join_ended (next ∷ lines)) ∙ sym (append_assoc line (10 ∷ []) (flat_map ended (next ∷ lines)))

@@ -20,4 +20,4 @@ pub use checker::Checker;
 pub use claim::BadStep;
 pub use laws::one_answer;
 pub use parallel::check_log_parallel;
-pub use text::{log_text, read_log};
+pub use text::{log_text, read_log, read_log_parallel};

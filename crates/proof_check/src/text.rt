@@ -4,7 +4,7 @@
 //! the literals of a block, or `l` or `d` with the literals of a learned or a derived clause, a colon and the chain.
 //! Every word stands after one space, and every line ends with a newline.
 
-ghost use Rattle.std.specs.Prelude.{◌≡◌, ◌≢◌, ◌∷◌, All, IfOk, MatchOption};
+ghost use Rattle.std.specs.Prelude.{◌≡◌, ◌≢◌, ◌<◌, ◌∷◌, All, IfOk, MatchOption};
 ghost use Rattle.proof_check.specs.Text.{pieces, head_line, inputs_line, text_of, CanBeWritten, IsDigest, IsLogText, IsFirstBadLine};
 ghost use Rattle.proof_check.specs.Lines.{LacksLine};
 ghost use Rattle.proof_check.specs.Errors.{OnSyntax};
@@ -14,6 +14,7 @@ mod cut;
 mod inputs;
 mod line_reader;
 mod number;
+mod parts;
 mod seen;
 mod steps;
 mod words;
@@ -21,11 +22,13 @@ mod write;
 
 use crate::text::cut::cut_at;
 use crate::text::inputs::digest_of;
+use crate::text::parts::read_steps_by;
 use crate::text::steps::read_steps;
 use crate::text::write::{write_inputs, write_step};
 use crate::types::{LogErr, LogText};
 use loc_base::{Bytes, Digest, NoMemory};
 use std::alloc::Global;
+use std::thread::Threads;
 
 /// The first line.
 const HEAD: &[u8; 14] = b"localise-log 1";
@@ -62,6 +65,29 @@ pub fn read_log(alloc: Global, text: &[u8]) -> Result<LogText, LogErr>
         return Err(LogErr::LogSyntax { line: 2 });
     };
     let log = read_steps(alloc, rest)?;
+    Ok(LogText { inputs, log })
+}
+
+/// What `read_log` reads, by so many workers, each of which reads a part of the text: the same for every number of workers. Where
+/// some line isn't of the form, one worker reads the whole text again, for the first that isn't.
+pub fn read_log_parallel<R: Threads + Sync>(
+    rt: &R,
+    alloc: Global,
+    text: &[u8],
+    workers: u32,
+) -> Result<LogText, LogErr>
+    requires { 0 < workers }
+    ensures ok { IfOk result (λ value. IsLogText value × (text.now ≡ text_of value)) }
+    ensures syntax { OnSyntax result (λ line. IsFirstBadLine text.now line) }
+    ensures refused { OnSyntax result (λ _. (value : LogText) → IsLogText value → text.now ≢ text_of value) }
+{
+    let Some(rest) = after_head(text) else {
+        return Err(LogErr::LogSyntax { line: 1 });
+    };
+    let Some((inputs, rest)) = after_inputs(rest) else {
+        return Err(LogErr::LogSyntax { line: 2 });
+    };
+    let log = read_steps_by(rt, alloc, rest, workers)?;
     Ok(LogText { inputs, log })
 }
 
