@@ -157,7 +157,7 @@ pub(crate) fn gather<F: FrontEnd, R: Threads + Sync, G: Gate + Sync, S: Shelf>(
         → IfErr result IsSpared }
 {
     let posed = pose(alloc, tools, request, shelf)?;
-    let log = load_log(alloc, request, shelf)?;
+    let log = load_log(tools.runtime, alloc, request, shelf)?;
     same_inputs(
         alloc,
         &Digests {

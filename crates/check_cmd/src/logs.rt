@@ -14,9 +14,10 @@ use io_ports::Shelf;
 use list_inputs::Refusal;
 use loc_base::{Bytes, NoMemory};
 use printed_text::{push_bytes, push_number};
-use proof_check::read_log;
+use proof_check::read_log_parallel;
 use proof_check::types::{LogErr, LogText};
 use std::alloc::Global;
+use std::thread::Threads;
 
 /// The line that names a line of a log.
 fn bad_line_text(alloc: Global, line: u64) -> Result<Vec<u8>, NoMemory>
@@ -40,26 +41,34 @@ fn refusal_of(alloc: Global, fault: LogErr) -> Refusal
     }
 }
 
-/// The log that a text is.
-fn log_in(alloc: Global, text: &Bytes) -> Result<LogText, Refusal>
+/// The log that a text is, read by so many workers.
+fn log_in<R: Threads + Sync>(
+    rt: &R,
+    alloc: Global,
+    text: &Bytes,
+    workers: u32,
+) -> Result<LogText, Refusal>
+    requires some { 0 < workers }
     requires short { length text.now ≤ most_bytes }
     ensures means { IfOk result (IsLogOf text.now) }
     ensures few { IfOk result (λ log. length log.log + 1 < 2 ^ 32) }
     ensures refused { IfErr result (HasCause (LogTextRefused text.now)) }
     ensures only { (log : SomeLog) → IsLogOf text.now log → IfErr result IsMemory }
 {
-    match read_log(alloc, text.as_slice()) {
+    match read_log_parallel(rt, alloc, text.as_slice(), workers) {
         Ok(log) => Ok(log),
         Err(fault) => Err(refusal_of(alloc, fault)),
     }
 }
 
-/// The log of the text under its name.
-pub(crate) fn load_log<S: Shelf>(
+/// The log of the text under its name, read by as many workers as are asked for.
+pub(crate) fn load_log<R: Threads + Sync, S: Shelf>(
+    rt: &R,
     alloc: Global,
     request: &Request,
     shelf: &mut S,
 ) -> Result<LogText, Refusal>
+    requires { 0 < request.now.workers }
     ensures tells { S.tells shelf.new ≡ S.tells shelf.old }
     ensures texts { S.texts shelf.new ≡ S.texts shelf.old }
     ensures written { S.written shelf.new ≡ S.written shelf.old }
@@ -73,5 +82,5 @@ pub(crate) fn load_log<S: Shelf>(
         → MeansLog (asked_of request.now) (S.texts shelf.old) log → IfErr result IsSpared }
 {
     let text = load(alloc, request.log.as_str(), shelf)?;
-    log_in(alloc, &text)
+    log_in(rt, alloc, &text, request.workers)
 }

@@ -20,7 +20,7 @@ pub struct Request {
     pub log: String,
     /// The names of the traces' texts, 1 to 256.
     pub traces: Vec<String>,
-    /// How many workers check the log, 1 to 64. No answer depends on their number.
+    /// How many workers read and check the log, 1 to 64. No answer depends on their number.
     pub workers: u32,
 }
 

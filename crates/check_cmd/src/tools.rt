@@ -8,8 +8,8 @@ pub struct Tools<'a, F, R, G> {
     pub front: &'a F,
     /// The kinds of suspects that a report may name.
     pub kinds: &'a [Box<dyn Granularity>],
-    /// What starts the workers that check the log.
+    /// What starts the workers that read and check the log.
     pub runtime: &'a R,
-    /// The gate that they pass.
+    /// The gate that those pass that check it.
     pub gate: &'a G,
 }

@@ -3,6 +3,7 @@
 ghost use Rattle.std.specs.Prelude.{◌≡◌};
 
 mod naive;
+mod parts;
 mod pieces;
 
 use clause_base::{Clause, Clauses, Form, Lit, Log, are_within, blocks_are_within};

@@ -15,7 +15,7 @@ use std::test::Fail;
 use std::thread::Threads;
 
 /// How many workers there are.
-const WORKERS: [u32; 4] = [1, 2, 7, 64];
+pub(super) const WORKERS: [u32; 4] = [1, 2, 7, 64];
 
 /// How many turns a held piece waits for at most.
 const TURNS: u32 = 100_000_000;

@@ -7,18 +7,18 @@ use Rattle.check_cmd.proofs.LoadedTexts.{few-steps, log-cause, log-memory}
 use Rattle.check_cmd.proofs.logs.log_in.Goals as goal
 
 pub returns-in-Ok-clause-few : goal.returns-in-Ok-clause-few
-returns-in-Ok-clause-few c =
+returns-in-Ok-clause-few g c =
     few-steps c.args.text.now c.in-Ok.log
     (subst (λ (t : List ℕ). IsLogOf t c.in-Ok.log) c.as_slice.ensures c.in-Ok.ensures.ok) c.requires.short
 
 pub returns-in-Err-clause-refused : goal.returns-in-Err-clause-refused
-returns-in-Err-clause-refused c =
+returns-in-Err-clause-refused g c =
     subst (λ (t : List ℕ). HasCause (LogTextRefused t) c.refusal_of.result) c.as_slice.ensures
     (log-cause c.as_slice.result.now c.in-Err.fault c.refusal_of.result c.in-Err.ensures.syntax c.refusal_of.ensures.status
     c.refusal_of.ensures.says)
 
 pub returns-in-Err-clause-only : goal.returns-in-Err-clause-only
-returns-in-Err-clause-only c =
+returns-in-Err-clause-only g c =
     subst (λ (t : List ℕ). (value : LogText) → IsLogOf t value → IsMemory c.refusal_of.result) c.as_slice.ensures
     (λ value is. log-memory c.as_slice.result.now c.in-Err.fault c.refusal_of.result value c.in-Err.ensures.refused
     c.refusal_of.ensures.status c.refusal_of.ensures.says is)
