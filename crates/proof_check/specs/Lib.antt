@@ -10,3 +10,4 @@ pub mod Lines
 pub mod Errors
 pub mod Claims
 pub mod Pieced
+pub mod Named
