@@ -1,17 +1,16 @@
 -- The clauses that the chains of a log name: their marks, and that no answer rests on others.
-use Rattle.std.proofs.Common.{◌≡◌, ◌≢◌, ℕ, zero, suc, ◌+◌, ◌-◌, ◌<◌, ◌≤◌, ◌==◌, ◌||◌, Bool, true, false, not, cond, if◌then◌else◌, List, [], ◌∷◌, ◌++◌, length, get_or, take, set, map, Option, Some, None, replicate, refl, sym, ◌∙◌, ap, ap₂, subst, arith, ◌⊎◌, inl, inr, All, IsTrue}
-use Rattle.std.specs.List.{list_any}
-use Rattle.std.proofs.lemmas.Bool.{eq-eqb, ne_eqb, cases_eq, cases_lt, cases_Bool}
-use Rattle.std.proofs.lemmas.List.{get_or-set_same, get_or-set_other, get_or_append_left, get_or-append_right, get_or_past, get_or-replicate, take_all}
+use Rattle.std.proofs.Common.{◌≡◌, ℕ, zero, suc, ◌+◌, ◌-◌, ◌<◌, ◌≤◌, ◌==◌, ◌||◌, Bool, true, false, not, cond, if◌then◌else◌, List, [], ◌∷◌, ◌++◌, length, get_or, take, set, map, Option, Some, None, refl, sym, ◌∙◌, ap, ap₂, subst, arith, ◌⊎◌, inl, inr, All, IsTrue}
+use Rattle.std.proofs.lemmas.Bool.{eq-eqb, ne_eqb, cases_eq, cases_lt}
+use Rattle.std.proofs.lemmas.List.{get_or-set_same, get_or-set_other, get_or_append_left, get_or-append_right, get_or_past}
 use Rattle.std.proofs.lemmas.List.Elements.{All-head, All-tail, All-cons, All-nil}
-use Rattle.std.proofs.lemmas.List.Folds.{list_any_at, list_any_more}
-use Rattle.loc_base.proofs.ShelfBools.{or-assoc, or-false, or-true, if-true}
+use Rattle.std.proofs.lemmas.List.Folds.{list_any_at}
+use Rattle.loc_base.proofs.ShelfBools.{or-false, or-true, if-true}
 use Rattle.clause_base.specs.declared.literal.Lit.{Lit}
 use Rattle.clause_base.specs.declared.log.Step.{Step}
 use Rattle.clause_base.specs.declared.log.StepKind.{StepKind}
 use Rattle.clause_base.specs.declared.log.StepKind.TheVariants.{Block, Learned, Derived}
-use Rattle.clause_base.specs.Literal.{positive, negative, AllDistinct, has_distinct_variables}
-use Rattle.clause_base.specs.Satisfaction.{Satisfies, SatisfiesClause, is_satisfied}
+use Rattle.clause_base.specs.Literal.{AllDistinct, has_distinct_variables}
+use Rattle.clause_base.specs.Satisfaction.{Satisfies, SatisfiesClause}
 use Rattle.clause_base.specs.Resolution.{IsResult}
 use Rattle.clause_base.specs.Steps.{step_at, no_step}
 use Rattle.clause_base.specs.Acceptance.{clauses_of, numbered, blocks_in, Follows, IsAccepted, IsAcceptedAs, IsAcceptedAt, IsAcceptedChain, IsLeastRefused}
@@ -54,23 +53,6 @@ module _ (marks : List Bool) (number place : ℕ) where
 
 pub ruleset marking = (mark-zero, mark-past, mark-set)
 
--- one more number of a chain
-pub chain-more : (before after : Bool) (chain : List ℕ) (i place : ℕ) → i < length chain → (was : Bool)
-    → before ≡ (was || is_in (take i chain) place) → after ≡ (before || (get_or chain i 0 == place))
-    → after ≡ (was || is_in (take (i + 1) chain) place)
-chain-more before after chain i place within was is next =
-    next ∙ ap (λ b. b || (get_or chain i 0 == place)) is
-    ∙ or-assoc was (is_in (take i chain) place) (get_or chain i 0 == place)
-    ∙ ap (λ b. was || b) (sym (list_any_more (λ n. n == place) chain i 0 within))
-
--- one more step of a log
-pub log-more : (before after : Bool) (log : List Step) (i place : ℕ) → i < length log
-    → before ≡ is_named (take i log) place → after ≡ (before || is_in (step_at log i).chain place)
-    → after ≡ is_named (take (i + 1) log) place
-log-more before after log i place within is next =
-    next ∙ ap (λ b. b || is_in (step_at log i).chain place) is
-    ∙ sym (list_any_more (λ (step : Step). is_in step.chain place) log i no_step within)
-
 -- ---- two forms that agree
 agree-sym : (log : List Step) (one other : List (List Lit)) → AgreeFor log one other → AgreeFor log other one
 agree-sym log one other agree = record { long = sym agree.long; same = λ n least named. sym (agree.same n least named) }
@@ -106,8 +88,7 @@ module _ (log : List Step) (one other : List (List Lit)) (agree : AgreeFor log o
       → IsAcceptedChain (clauses_of one earlier) chain clause → IsAcceptedChain (clauses_of other earlier) chain clause
   chain-same earlier chain clause named (within, result) =
       let long : length (clauses_of one earlier) ≡ length (clauses_of other earlier) =
-      omega (arith, length-clauses_of one earlier, length-clauses_of other earlier, agree.long) in
-      (
+      omega (arith, length-clauses_of one earlier, length-clauses_of other earlier, agree.long) in (
         λ k d low. ((within k d low).0, omega (arith, (within k d low).1, long)),
         subst (λ cs. IsResult cs clause)
             (map-same (numbered (clauses_of one earlier)) (numbered (clauses_of other earlier)) chain
