@@ -1,5 +1,5 @@
 -- The clauses of an AND whose literals are no constants.
-use Rattle.std.proofs.Common.{◌≡◌, ℕ, zero, suc, ◌+◌, ◌<◌, ◌≤◌, ◌^◌, Bool, true, false, not, if◌then◌else◌, List, [], ◌∷◌, ◌++◌, Option, Some, None, refl, sym, ◌∙◌, ap, ap₂, subst, arith, append_assoc, All}
+use Rattle.std.proofs.Common.{◌≡◌, ℕ, ◌+◌, ◌<◌, ◌^◌, Bool, true, false, List, [], ◌∷◌, ◌++◌, length, Some, refl, sym, subst, arith}
 use Rattle.std.specs.Prelude.{IsTrue}
 use Rattle.std.proofs.lemmas.List.Elements.{All-append}
 use Rattle.loc_base.proofs.ShelfOptions.{Some-same}
@@ -9,11 +9,12 @@ use Rattle.clause_base.specs.Literal.{opposite as negated_of}
 use Rattle.gate_base.specs.declared.literal.Literal.{Literal}
 use Rattle.gate_base.specs.declared.literal.Literal.TheVariants.{Known, Of}
 use Rattle.gate_base.specs.declared.node.Node.TheVariants.{And}
-use Rattle.gate_base.specs.Literals.{opposite, IsBelow, AreOfTwo}
+use Rattle.gate_base.specs.Literals.{opposite, IsBelow}
 use Rattle.gate_base.specs.Nodes.{NodeFits}
 use Rattle.clause_form.specs.Clauses.{simplified, clause_of, and_clauses, defined, literals_in}
-use Rattle.clause_form.specs.Fields.{Sunk, after}
+use Rattle.clause_form.specs.Named.{named_from}
 use Rattle.clause_form.specs.Variables.{HaveVariables, gate_clauses, literal_of}
+use Rattle.clause_form.proofs.NamedSteps.{then-named}
 use Rattle.clause_form.proofs.SinkSteps.{after-all}
 use Rattle.clause_form.proofs.WalkSteps.{have-below}
 use Rattle.clause_form.proofs.Distinct.{pair-distinct, triple-distinct}
@@ -51,12 +52,15 @@ pub gate-parts : (v x y : Lit) → AllDistinct (gate_clauses v x y)
 unfolding gate_clauses
 gate-parts v x y all = (all 0 [] (omega arith), all 1 [] (omega arith), all 2 [] (omega arith))
 
-pub gate-kept : (v x y : Lit) (clauses : List (List Lit))
-    → ((clauses ++ (negated_of v ∷ x ∷ []) ∷ []) ++ (negated_of v ∷ y ∷ []) ∷ []) ++ (v ∷ negated_of x ∷ negated_of y ∷ []) ∷ [] ≡ clauses ++ gate_clauses v x y
+pub gate-kept : (named : List Bool) (v x y : Lit) (clauses one two three : List (List Lit))
+    → one ≡ clauses ++ named_from named (length clauses) ((negated_of v ∷ x ∷ []) ∷ [])
+    → two ≡ one ++ named_from named (length one) ((negated_of v ∷ y ∷ []) ∷ [])
+    → three ≡ two ++ named_from named (length two) ((v ∷ negated_of x ∷ negated_of y ∷ []) ∷ [])
+    → three ≡ clauses ++ named_from named (length clauses) (gate_clauses v x y)
 unfolding gate_clauses
-gate-kept v x y clauses =
-    append_assoc (clauses ++ (negated_of v ∷ x ∷ []) ∷ []) ((negated_of v ∷ y ∷ []) ∷ []) ((v ∷ negated_of x ∷ negated_of y ∷ []) ∷ [])
-    ∙ append_assoc clauses ((negated_of v ∷ x ∷ []) ∷ []) ((negated_of v ∷ y ∷ []) ∷ (v ∷ negated_of x ∷ negated_of y ∷ []) ∷ [])
+gate-kept named v x y clauses one two three is_one is_two is_three =
+    then-named named clauses two three ((negated_of v ∷ x ∷ []) ∷ (negated_of v ∷ y ∷ []) ∷ []) ((v ∷ negated_of x ∷ negated_of y ∷ []) ∷ [])
+    (then-named named clauses one two ((negated_of v ∷ x ∷ []) ∷ []) ((negated_of v ∷ y ∷ []) ∷ []) is_one is_two) is_three
 
 pub ruleset kept = (gate-parts, gate-kept)
 

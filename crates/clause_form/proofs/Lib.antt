@@ -1,3 +1,4 @@
+pub mod NamedSteps
 pub mod SinkSteps
 pub mod SelectorSteps
 pub mod WalkSteps

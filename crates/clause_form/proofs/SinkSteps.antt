@@ -9,7 +9,9 @@ use Rattle.gate_base.specs.declared.literal.Literal.TheVariants.{Known, Of}
 use Rattle.gate_base.proofs.Chains.{drop-literal}
 use Rattle.clause_form.specs.Clauses.{simplified, with_literal, with_selectors, clause_of, defined, literals_in, weight_of}
 use Rattle.clause_form.specs.Fields.{Sunk, after}
+use Rattle.clause_form.specs.Named.{named_from}
 use Rattle.clause_form.specs.Variables.{HaveVariables, size_of}
+use Rattle.clause_form.proofs.NamedSteps.{named-nothing, named-then, skipped}
 
 -- literals before those of a clause, where there is one
 abbrev pub behind : List Lit → Option (List Lit) → Option (List Lit)
@@ -137,31 +139,34 @@ unfolding literals_in
 literals_in-append [] b = omega arith
 literals_in-append (clause ∷ a) b = omega (arith, literals_in-append a b)
 
-if-append : (writes : Bool) (clauses a b : List (List Lit))
-    → (if writes then (if writes then clauses ++ a else clauses) ++ b else (if writes then clauses ++ a else clauses))
-    ≡ (if writes then clauses ++ (a ++ b) else clauses)
-if-append true clauses a b = append_assoc clauses a b
-if-append false clauses a b = refl
+if-append : (writes : Bool) (named : List Bool) (clauses a b : List (List Lit))
+    → (if writes then (if writes then clauses ++ named_from named (length clauses) a else clauses)
+    ++ named_from named (length (if writes then clauses ++ named_from named (length clauses) a else clauses)) b
+    else (if writes then clauses ++ named_from named (length clauses) a else clauses))
+    ≡ (if writes then clauses ++ named_from named (length clauses) (a ++ b) else clauses)
+if-append true named clauses a b = named-then named clauses a b
+if-append false named clauses a b = refl
 
 -- what is kept, by its parts
-abbrev pub sunk : ℕ → Bool → ℕ → List (List Lit) → Sunk
-sunk base writes count clauses = record { base = base; writes = writes; count = count; clauses = clauses }
+abbrev pub sunk : ℕ → Bool → List Bool → ℕ → List (List Lit) → Sunk
+sunk base writes named count clauses = record { base = base; writes = writes; named = named; count = count; clauses = clauses }
 
 -- clauses after clauses
 pub after-after : (s : Sunk) (a b : List (List Lit)) → after (after s a) b ≡ after s (a ++ b)
-after-after s a b = ap₂ (sunk s.base s.writes) count (if-append s.writes s.clauses a b)
+after-after s a b = ap₂ (sunk s.base s.writes s.named) count (if-append s.writes s.named s.clauses a b)
   where
     count : s.count + literals_in a + literals_in b ≡ s.count + literals_in (a ++ b)
     count = omega (arith, literals_in-append a b)
 
-if-none : (writes : Bool) (clauses : List (List Lit)) → (if writes then clauses ++ [] else clauses) ≡ clauses
-if-none true clauses = append-nil clauses
-if-none false clauses = refl
+if-none : (writes : Bool) (named : List Bool) (clauses : List (List Lit))
+    → (if writes then clauses ++ named_from named (length clauses) [] else clauses) ≡ clauses
+if-none true named clauses = ap (λ cs. clauses ++ cs) (named-nothing named (length clauses)) ∙ append-nil clauses
+if-none false named clauses = refl
 
 -- no clauses change nothing
 pub after-none : (s : Sunk) → after s [] ≡ s
 unfolding literals_in
-after-none s = ap₂ (sunk s.base s.writes) count (if-none s.writes s.clauses)
+after-none s = ap₂ (sunk s.base s.writes s.named) count (if-none s.writes s.named s.clauses)
   where
     count : s.count + 0 ≡ s.count
     count = omega arith
@@ -171,11 +176,14 @@ pub literals_in-one : (clause : List Lit) → literals_in (clause ∷ []) ≡ ma
 unfolding literals_in
 literals_in-one clause = omega arith
 
-pub after-all : (s : Sunk) (clauses : List (List Lit)) (of : Sunk) → of.base ≡ s.base → of.writes ≡ s.writes
-    → of.count ≡ s.count + literals_in clauses → of.clauses ≡ (if s.writes then s.clauses ++ clauses else s.clauses)
+pub after-all : (s : Sunk) (clauses : List (List Lit)) (of : Sunk) → of.base ≡ s.base → of.writes ≡ s.writes → of.named ≡ s.named
+    → of.count ≡ s.count + literals_in clauses
+    → of.clauses ≡ (if s.writes then s.clauses ++ named_from s.named (length s.clauses) clauses else s.clauses)
     → of ≡ after s clauses
-after-all s clauses of base writes count kept =
-    ap₂ (λ b w. sunk b w of.count of.clauses) base writes ∙ ap₂ (sunk s.base s.writes) count kept
+after-all s clauses of base writes named count kept =
+    ap₂ (λ b w. sunk b w of.named of.count of.clauses) base writes
+    ∙ ap (λ m. sunk s.base s.writes m of.count of.clauses) named
+    ∙ ap₂ (sunk s.base s.writes s.named) count kept
 
 -- so many literals are in the clause with its selectors
 pub literals-sized : (base : ℕ) (xs : List Literal) (selectors : List Lit) (size : ℕ) → size_of xs ≡ Some size
@@ -186,6 +194,15 @@ literals-sized base xs selectors size some = at (simplified base xs) (sym some �
     at None e = cc
     at (Some clause) e = omega (arith, literals_in-one (clause ++ selectors), length-append clause selectors, Some-same e)
 
+-- there is a clause
+pub one-sized : (base : ℕ) (xs : List Literal) (selectors : List Lit) (size : ℕ) → size_of xs ≡ Some size
+    → length (clause_of base xs selectors) ≡ 1
+one-sized base xs selectors size some = at (simplified base xs) (sym some ∙ size-simplified base xs)
+  where
+    at : (o : Option (List Lit)) → Some size ≡ option_map length o → length (with_selectors o selectors) ≡ 1
+    at None e = cc
+    at (Some clause) e = refl
+
 -- what is kept of clauses that were made
 pub kept-off : (writes : Bool) (clauses made : List (List Lit)) → writes ≡ false → (if writes then clauses ++ made else clauses) ≡ clauses
 kept-off true clauses made off = cc
@@ -195,11 +212,13 @@ pub kept-on : (writes : Bool) (clauses made : List (List Lit)) → writes ≡ tr
 kept-on true clauses made on = refl
 kept-on false clauses made on = cc
 
-pub kept-none : (writes : Bool) (clauses made : List (List Lit)) → made ≡ [] → (if writes then clauses ++ made else clauses) ≡ clauses
-kept-none writes clauses made none =
-    ap (λ (cs : List (List Lit)). if writes then clauses ++ cs else clauses) none ∙ if-none writes clauses
+pub kept-none : (writes : Bool) (named : List Bool) (clauses made : List (List Lit)) → made ≡ []
+    → (if writes then clauses ++ named_from named (length clauses) made else clauses) ≡ clauses
+kept-none writes named clauses made none =
+    ap (λ (cs : List (List Lit)). if writes then clauses ++ named_from named (length clauses) cs else clauses) none
+    ∙ if-none writes named clauses
 
-pub ruleset keeps = (kept-off, kept-on, kept-none)
+pub ruleset keeps = (kept-off, kept-on, kept-none, skipped)
 
 -- ---- how many literals clauses have
 

@@ -1,4 +1,5 @@
 pub mod Clauses
 pub mod Limits
 pub mod Variables
+pub mod Named
 pub mod Fields

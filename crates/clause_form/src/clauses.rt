@@ -5,11 +5,10 @@ ghost use Rattle.unroller.specs.Unrolls.{base_of, variables_of};
 ghost use Rattle.clause_form.specs.Clauses.{form_clauses, literals_in};
 ghost use Rattle.clause_form.specs.Limits.{IsRefused};
 
+use crate::beginning::Beginning;
 use crate::error::FormErr;
-use crate::selectors::{selector_rows, selectors};
-use crate::sink::{Sink, literals_of};
-use card_counter::counter;
 use clause_base::Form;
+use loc_base::Items;
 use std::alloc::Global;
 use suspect_map::Groups;
 use unroller::Unrolled;
@@ -24,19 +23,8 @@ pub fn form(alloc: Global, u: &Unrolled, groups: &Groups, k: u32) -> Result<Form
     ensures err { IfErr result (λ e. IsRefused e (64000000 < literals_in (form_clauses u.now groups.now k))) }
 {
     let vars = u.variables();
-    let suspects = groups.len() as u32;
-    let all = selectors(alloc, suspects)?;
-    let counting = counter(alloc, &all, k, suspects + 1)?;
-    let count = match literals_of(&counting) {
-        Some(count) => count,
-        None => return Err(FormErr::Literals),
-    };
-    let rows = selector_rows(alloc, groups)?;
-    Sink::counting(alloc, u.base(), count).cycles(u, &rows)?;
-    let mut sink = Sink::keeping(alloc, u.base(), count, counting);
-    sink.cycles(u, &rows)?;
-    Ok(Form {
-        vars,
-        clauses: sink.into_clauses(),
-    })
+    let beginning = Beginning::new(alloc, groups, k)?;
+    beginning.literals(alloc, u)?;
+    let clauses = beginning.clauses(alloc, u, Items::new(alloc))?;
+    Ok(Form { vars, clauses })
 }

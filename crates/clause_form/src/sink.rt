@@ -1,15 +1,17 @@
 //! Clauses that are counted, or counted and kept.
 
-ghost use Rattle.std.specs.Prelude.{[], ◌∷◌, ◌++◌, ◌≡◌, ◌<◌, ◌≤◌, IfErr, IfOk, MatchOption, None, OnOk, Some, false, if◌then◌else◌, true};
+ghost use Rattle.std.specs.Prelude.{[], ◌∷◌, ◌++◌, ◌≡◌, ◌<◌, ◌≤◌, IfErr, IfOk, MatchOption, None, OnOk, Some, false, length, if◌then◌else◌, true};
 ghost use Rattle.clause_base.specs.Literal.{AllDistinct};
 ghost use Rattle.clause_form.specs.Clauses.{clause_of, literals_in, simplified};
 ghost use Rattle.clause_form.specs.Limits.{IsRefused};
+ghost use Rattle.clause_form.specs.Named.{named_from};
 ghost use Rattle.clause_form.specs.Variables.{HaveVariables, gate_clauses, literal_of, size_of};
 
 use crate::error::FormErr;
+use crate::kept::Kept;
 use clause_base::{Clauses, Lit};
 use gate_base::Literal;
-use loc_base::NoMemory;
+use loc_base::{Items, NoMemory};
 use std::alloc::Global;
 
 /// How many literals the clauses of a form may have.
@@ -24,7 +26,7 @@ pub(crate) struct Sink {
     pub base: u32,
     pub writes: bool,
     pub count: u64,
-    pub clauses: Clauses,
+    pub kept: Kept,
     /// The literals of the clause that is kept.
     pub literals: Vec<Lit>,
     pub ghost within: { count ≤ 64000000 },
@@ -36,7 +38,7 @@ impl Drop for Sink {
             base: _,
             writes: _,
             count: _,
-            clauses: _,
+            kept: _,
             literals: _,
         } = self;
     }
@@ -132,61 +134,80 @@ impl Sink {
     /// Clauses that are only counted, behind so many literals.
     pub(crate) fn counting(alloc: Global, base: u32, count: u64) -> Sink
         requires { count ≤ 64000000 }
-        ensures { sunk_of result ≡ record { base = base; writes = false; count = count; clauses = [] } }
+        ensures { sunk_of result ≡ record { base = base; writes = false; named = []; count = count; clauses = [] } }
     {
         Sink {
             base,
             writes: false,
             count,
-            clauses: Clauses::new(alloc),
+            kept: Kept::new(alloc, Items::new(alloc)),
             literals: Vec::new(alloc),
         }
     }
 
     /// Clauses that are kept, behind some with so many literals.
-    pub(crate) fn keeping(alloc: Global, base: u32, count: u64, clauses: Clauses) -> Sink
+    pub(crate) fn keeping(alloc: Global, base: u32, count: u64, kept: Kept) -> Sink
         requires { count ≤ 64000000 }
-        ensures { sunk_of result ≡ record { base = base; writes = true; count = count; clauses = clauses } }
+        ensures { sunk_of result ≡ record { base = base; writes = true; named = kept.named; count = count; clauses = kept.clauses } }
     {
         Sink {
             base,
             writes: true,
             count,
-            clauses,
+            kept,
             literals: Vec::new(alloc),
         }
     }
 
+    /// How many literals there were.
+    pub(crate) fn into_count(self) -> u64
+        ensures count { result ≡ self.count }
+        ensures few { result ≤ 64000000 }
+    {
+        let Sink {
+            base: _,
+            writes: _,
+            count,
+            kept: _,
+            literals: _,
+        } = self;
+        count
+    }
+
     /// The clauses that were kept.
     pub(crate) fn into_clauses(self) -> Clauses
-        ensures clauses { result ≡ self.clauses }
-        ensures within { self.count ≤ 64000000 }
+        ensures { result ≡ self.kept.clauses }
     {
         let Sink {
             base: _,
             writes: _,
             count: _,
-            clauses,
+            kept,
             literals: _,
         } = self;
-        clauses
+        kept.into_clauses()
     }
 
-    /// Keeps the clause of some literals and selectors, where clauses are kept.
+    /// Keeps the clause of some literals and selectors, where clauses are kept. There is one.
     #[tactic(auto, using(crate::proofs::SinkSteps::keeps))]
     fn keep(&mut self, literals: &[Literal], selectors: &[Lit]) -> Result<(), NoMemory>
         requires variables { HaveVariables self.old.base literals.now }
         requires distinct { AllDistinct (clause_of self.old.base literals.now selectors.now) }
-        ensures kept { OnOk result (self.new.clauses ≡ (if self.old.writes then self.old.clauses ++ clause_of self.old.base literals.now selectors.now else self.old.clauses)) }
+        requires one { length (clause_of self.old.base literals.now selectors.now) ≡ 1 }
+        ensures kept { OnOk result (self.new.kept.clauses ≡ (if self.old.writes then self.old.kept.clauses ++ named_from self.old.kept.named (length self.old.kept.clauses) (clause_of self.old.base literals.now selectors.now) else self.old.kept.clauses)) }
         ensures base { self.new.base ≡ self.old.base }
         ensures writes { self.new.writes ≡ self.old.writes }
+        ensures named { self.new.kept.named ≡ self.old.kept.named }
         ensures count { self.new.count ≡ self.old.count }
     {
         if !self.writes {
             return Ok(());
         }
+        if !self.kept.takes() {
+            return self.kept.push(&[]);
+        }
         if draft(&mut self.literals, self.base, literals, selectors)? {
-            self.clauses.push(&self.literals)?;
+            self.kept.push(&self.literals)?;
         }
         Ok(())
     }
@@ -225,14 +246,15 @@ impl Sink {
     #[tactic(auto, using(crate::proofs::GateSteps::kept))]
     fn keep_gate(&mut self, v: Lit, x: Lit, y: Lit) -> Result<(), NoMemory>
         requires distinct { AllDistinct (gate_clauses v x y) }
-        ensures kept { OnOk result (self.new.clauses ≡ self.old.clauses ++ gate_clauses v x y) }
+        ensures kept { OnOk result (self.new.kept.clauses ≡ self.old.kept.clauses ++ named_from self.old.kept.named (length self.old.kept.clauses) (gate_clauses v x y)) }
         ensures base { self.new.base ≡ self.old.base }
         ensures writes { self.new.writes ≡ self.old.writes }
+        ensures named { self.new.kept.named ≡ self.old.kept.named }
         ensures count { self.new.count ≡ self.old.count }
     {
-        self.clauses.push(&[v.opposite(), x])?;
-        self.clauses.push(&[v.opposite(), y])?;
-        self.clauses.push(&[v, x.opposite(), y.opposite()])
+        self.kept.push(&[v.opposite(), x])?;
+        self.kept.push(&[v.opposite(), y])?;
+        self.kept.push(&[v, x.opposite(), y.opposite()])
     }
 
     /// Takes the clauses of v = AND(x, y), of which none is a constant: no clause is looked at twice.

@@ -6,6 +6,7 @@ pub mod Digests
 pub mod Increasing
 pub mod Lexed
 pub mod Merged
+pub mod Mentioned
 pub mod OneAnswer
 pub mod Pieced
 pub mod Reading

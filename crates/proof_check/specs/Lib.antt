@@ -11,3 +11,4 @@ pub mod Errors
 pub mod Claims
 pub mod Pieced
 pub mod Parts
+pub mod Named

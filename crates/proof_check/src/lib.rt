@@ -9,6 +9,7 @@ mod checker;
 mod claim;
 mod laws;
 mod marks;
+mod naming;
 mod parallel;
 mod piece;
 mod resolve;
@@ -18,6 +19,7 @@ pub mod types;
 
 pub use checker::Checker;
 pub use claim::BadStep;
-pub use laws::one_answer;
+pub use laws::{named_follow, one_answer, same_answer};
+pub use naming::named;
 pub use parallel::check_log_parallel;
 pub use text::{log_text, read_log, read_log_parallel};
