@@ -2,8 +2,8 @@
 ghost use Rattle.std.specs.Prelude.{◌≡◌};
 ghost use Rattle.bind_rules.specs.Beside.{clock_fault};
 
-use v_binding::Initial;
 use loc_base::Span;
+use v_binding::Initial;
 
 /// What the rules want to know beside a design: for each signal the first word of its array, and the signal itself where it is no word
 /// of one, and the name that declares it; the start values of initial blocks; and where the rule of the clock is broken.

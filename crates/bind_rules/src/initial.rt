@@ -8,9 +8,9 @@ ghost use Rattle.bind_rules.specs.Views.{beside_of};
 use crate::beside::Beside;
 use crate::spans::no_span;
 use assign_rules::is_variable;
-use v_binding::Initial;
 use design_core::Design;
 use loc_base::Span;
+use v_binding::Initial;
 
 /// The name in the first initial block that assigns a signal.
 pub(crate) fn initial_span(signal: usize, starts: &[Initial]) -> Span

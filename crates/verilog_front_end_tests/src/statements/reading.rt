@@ -1,14 +1,13 @@
 //! The names of the tests' statements, and the statement of a text, bound.
 ghost use Rattle.v_sizes.specs.Context.{IsMeaning};
 
-use v_binding::Names;
 use bind_statements::bound;
 use design_core::{Place, Stmt};
 use loc_base::{Items, Name, NoMemory};
 use std::alloc::Global;
 use std::process::Abort;
 use std::test::Fail;
-use v_binding::{BindErr, Home, Known, Use};
+use v_binding::{BindErr, Home, Known, Names, Use};
 use v_hierarchy::{Arm, Steps};
 use v_lexer::{few_tokens, tokens};
 use v_sizes::Meaning;
