@@ -1,5 +1,5 @@
 -- Which refusals below are which refusals of a problem, and what is made where there is none.
-use Rattle.std.proofs.Common.{◌≡◌, ◌<◌, ◌≤◌, List, [], ◌∷◌, length, max, refl, ap, ◌∙◌, subst, arith}
+use Rattle.std.proofs.Common.{◌≡◌, ℕ, ◌<◌, ◌≤◌, List, [], ◌∷◌, length, max, refl, ap, ◌∙◌, subst, arith}
 use Rattle.gate_base.specs.Nodes.{counted}
 use Rattle.clause_base.specs.declared.form.Form.{Form}
 use Rattle.clause_base.specs.declared.literal.Lit.{Lit}
@@ -18,7 +18,7 @@ use Rattle.clause_form.specs.declared.error.FormErr.TheVariants as form
 use Rattle.clause_form.specs.Clauses.{form_clauses, literals_in}
 use Rattle.clause_form.specs.Limits.{IsRefused as IsFormRefused}
 use Rattle.debug_core.specs.Causes.{blast_cause, form_cause, unroll_cause}
-use Rattle.debug_core.specs.Problems.{IsCircuitFor, IsProblem, IsRefused, Problem, unrolling_for}
+use Rattle.debug_core.specs.Problems.{IsCircuitFor, IsFormFor, IsProblem, IsRefused, Problem, unrolling_for}
 use Rattle.debug_core.specs.Standing.{IsEncodingOf, IsUnrollingFor}
 
 module _ (p : Problem) (net : Net) (kept : IsNet net) (of_design : IsNetOf p.design p.order net) where
@@ -67,6 +67,13 @@ module _ (p : Problem) (u : Unrolling) (is : IsUnrollingFor p u) where
     vars_are = vars;
     clauses_are = clauses;
   }
+
+-- the form of a plan of the problem
+pub planned : (p : Problem) (u : Unrolling) → IsUnrollingFor p u → IsProblem p → (vars : ℕ) (clauses : List (List Lit)) → vars ≡ variables_of u
+    → clauses ≡ form_clauses u p.groups p.k → literals_in clauses ≤ 64000000 → IsFormFor p vars clauses
+planned p u is can vars clauses vars_are clauses_are few =
+    let made : Form = record { vars = vars; clauses = clauses } in
+    (encoded p u is made can vars_are clauses_are few).form
 
 -- a clause counts for one literal at least
 pub clauses-few : (clauses : List (List Lit)) → length clauses ≤ literals_in clauses

@@ -9,7 +9,7 @@ use crate::error::DebugErr;
 use crate::question::Question;
 use bit_circuit::{Circuit, blast};
 use clause_base::Form;
-use clause_form::form;
+use clause_form::{FormPlan, form};
 use design_core::Values;
 use form_values::values;
 use loc_base::NoMemory;
@@ -71,19 +71,6 @@ impl<'a> Encoding<'a> {
         })
     }
 
-    /// The form alone.
-    fn into_form(self) -> Form
-        requires { IsEncoding self }
-        ensures { IsFormFor (problem_in self.entry) result.vars result.clauses }
-    {
-        let Encoding {
-            question: _,
-            form,
-            unrolled: _,
-        } = self;
-        form
-    }
-
     /// The values that a model of the form gives to the places of a set.
     pub(crate) fn values(
         &self,
@@ -99,13 +86,19 @@ impl<'a> Encoding<'a> {
     }
 }
 
-/// The form of what is asked, in which a debugger searches; no solver is made. It is refused where `Debugger::new` refuses: exactly
-/// where, in this order, the circuit of the design would have more than 4,000,000 AND and free nodes, the form more than 4,000,000
-/// variables, or its clauses more than 64,000,000 literals.
-pub fn form_of(alloc: Global, question: &Question<'_>) -> Result<Form, DebugErr>
+/// The plan of the form of what is asked, in which a debugger searches: no clause is made, and no solver. It is refused where
+/// `Debugger::new` refuses: exactly where, in this order, the circuit of the design would have more than 4,000,000 AND and free nodes,
+/// the form more than 4,000,000 variables, or its clauses more than 64,000,000 literals.
+pub fn plan_of(alloc: Global, question: &Question<'_>) -> Result<FormPlan, DebugErr>
     requires { IsProblem (problem_of question.now) }
-    ensures form { IfOk result (λ form. IsFormFor (problem_of question.now) form.vars form.clauses) }
+    ensures form { IfOk result (λ plan. IsFormFor (problem_of question.now) plan.vars plan.clauses) }
     ensures err { IfErr result (IsRefused (problem_of question.now)) }
 {
-    Ok(Encoding::new(alloc, question)?.into_form())
+    let unrolled = unrolled(alloc, question)?;
+    Ok(FormPlan::new(
+        alloc,
+        unrolled,
+        question.groups,
+        question.k,
+    )?)
 }

@@ -13,7 +13,8 @@ mod found;
 mod question;
 
 pub use debugger::Debugger;
-pub use encoding::form_of;
+pub use clause_form::FormPlan;
+pub use encoding::plan_of;
 pub use error::DebugErr;
 pub use fits::have_few_cycles;
 pub use found::Found;
