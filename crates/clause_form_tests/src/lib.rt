@@ -10,3 +10,5 @@ mod forms;
 mod limits;
 #[cfg(test)]
 mod models;
+#[cfg(test)]
+mod plans;

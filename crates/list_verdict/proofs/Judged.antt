@@ -45,15 +45,6 @@ blocks-within c vars few all =
     (all (k + 1) set (set-at c.sets k set (got-itself c.sets k d low))).suspects.numbers))
 
 -- ---- what is said
-pub log-says : (c : Claim) (blocks : List (List Lit)) (r : Result (Option BadStep) NoMemory) → blocks ≡ blocks_for c.sets
-    → IfOk r (λ found. IsNone found ↔ IsAccepted c.form blocks c.log)
-    → IfOk r (λ found. IfSome found (λ bad. IsLeastRefused c.form blocks c.log bad.n))
-    → IfOk r (λ found. IsNone found → Follows c.form blocks c.log) → IfOk r (LogSays c)
-log-says c blocks (Ok None) same accepted least sound =
-    (subst (λ bs. IsAccepted c.form bs c.log) same (accepted.0 refl), subst (λ bs. Follows c.form bs c.log) same (sound refl))
-log-says c blocks (Ok (Some bad)) same accepted least sound = subst (λ bs. IsLeastRefused c.form bs c.log bad.n) same least
-log-says c blocks (Err e) same accepted least sound = tt
-
 pub values-say : (c : Claim) (can : IsProblem c.problem) (found : List SetWithValues) (are : AreFound c (length c.sets) found)
     (r : Result (Option (ℕ × Miss)) NoMemory)
     → IfOk r (λ answer. IsSimulable c.problem.design c.problem.order → FirstToMiss c.problem.design c.problem.traces found 0 (length found) answer)

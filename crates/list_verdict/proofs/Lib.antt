@@ -3,6 +3,7 @@ pub mod Ordered
 pub mod Gaps
 pub mod Held
 pub mod Logs
+pub mod NamedForms
 pub mod Asked
 pub mod Replayed
 pub mod Closing

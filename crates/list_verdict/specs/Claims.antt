@@ -17,7 +17,7 @@ pub record Claim : Type 0 where
 abbrev pub claim_of : Listed → Claim
 claim_of l = record {
   problem = problem_of l.question.now;
-  form = l.form.now.clauses;
+  form = l.plan.now.clauses;
   sets = l.sets.now;
   log = l.log.now;
 }
@@ -26,7 +26,7 @@ claim_of l = record {
 -- the traces and the outputs
 pub record CanBeJudged (l : Listed) : Type 0 where
   pub problem : IsProblem (problem_of l.question.now)
-  pub form : IsFormFor (problem_of l.question.now) l.form.now.vars l.form.now.clauses
+  pub form : IsFormFor (problem_of l.question.now) l.plan.now.vars l.plan.now.clauses
   pub few_sets : length l.sets.now < 2 ^ 32
   pub few_steps : length l.log.now + 1 < 2 ^ 32
   pub few_traces : length l.question.now.traces.now < 2 ^ 32

@@ -12,6 +12,11 @@ use Rattle.list_verdict.specs.declared.order.Order.{Order}
 use Rattle.list_verdict.specs.declared.order.Order.TheVariants as order
 use Rattle.list_verdict.specs.Claims.{AreItsValues, Claim}
 use Rattle.clause_base.specs.Acceptance.{Follows}
+use Rattle.clause_base.specs.declared.form.Form.{Form}
+use Rattle.clause_base.specs.declared.log.Step.{Step}
+use Rattle.clause_base.specs.Literal.{AreWithin}
+use Rattle.clause_form.specs.Named.{Planned}
+use Rattle.proof_check.specs.Named.{AgreeFor}
 use Rattle.cycle_sim.specs.declared.miss.Miss.{Miss}
 use Rattle.proof_check.specs.declared.claim.BadStep.{BadStep}
 use Rattle.list_verdict.specs.declared.verdict.Verdict.{Verdict}
@@ -91,6 +96,12 @@ ValuesSay c (Some (place, miss)) = (place < length c.sets) × IsFirstToMiss c (p
 abbrev pub LogSays : Claim → Option BadStep → Type 0
 LogSays c None = IsAcceptedLog c × Follows c.form (blocks_for c.sets) c.log
 LogSays c (Some bad) = IsFirstRefusedStep c bad.n
+
+-- a form of a plan's variables, that agrees with the plan's clauses where the log names them, and has empty ones else
+pub record IsNamedForm (plan : Planned) (log : List Step) (made : Form) : Type 0 where
+  pub variables : made.vars ≡ plan.vars
+  pub agree : AgreeFor log made.clauses plan.clauses
+  pub within : AreWithin plan.vars plan.clauses → AreWithin made.vars made.clauses
 
 -- an answer, and what it says where it is that the list is whole
 pub record Judges (c : Claim) (verdict : Verdict) : Type 0 where

@@ -3,22 +3,34 @@
 ghost use Rattle.std.specs.Prelude.{◌<◌, ◌≤◌, ◌↔◌, IfOk, IsTrue, length};
 ghost use Rattle.list_verdict.specs.Claims.{CanBeJudged, claim_of};
 ghost use Rattle.list_verdict.specs.Conditions.{AreInOrder, AreRight, Closes, NoneHolds};
-ghost use Rattle.list_verdict.specs.Judging.{AreFound, Judges, LogSays, ValuesSay};
+ghost use Rattle.list_verdict.specs.Judging.{AreFound, IsNamedForm, Judges, LogSays, ValuesSay};
 ghost use Rattle.list_verdict.specs.Verdicts.{IsVerdict, IsWholeListIf};
 
 use crate::holding::first_to_hold;
 use crate::log::{blocks_of, closes};
 use crate::order::{Order, ordered};
 use crate::verdict::{Listed, Verdict, Workers};
+use clause_base::Form;
 use cycle_sim::Miss;
 use design_core::SetWithValues;
 use loc_base::{Gate, NoMemory};
-use proof_check::{BadStep, check_log_parallel};
+use proof_check::{BadStep, check_log_parallel, named};
 use set_replays::replay_all;
 use std::alloc::Global;
 use std::thread::Threads;
 
-/// The first step of the log that is refused, after the form and with the blocks of all sets.
+/// The form of what was asked, in which only the clauses that the log names are made: the others are empty.
+fn named_form(alloc: Global, listed: &Listed<'_>) -> Result<Form, NoMemory>
+    requires { CanBeJudged listed.now }
+    ensures { IfOk result (IsNamedForm listed.now.plan.now listed.now.log.now) }
+{
+    let most = listed.plan.literals() as usize;
+    let marks = named(alloc, listed.log, most)?;
+    listed.plan.named(alloc, marks)
+}
+
+/// The first step of the log that is refused, after the form and with the blocks of all sets. Of the form it looks only at the clauses
+/// that the log names.
 fn first_refused<R: Threads + Sync, G: Gate + Sync>(
     alloc: Global,
     workers: &Workers<'_, R, G>,
@@ -31,10 +43,14 @@ fn first_refused<R: Threads + Sync, G: Gate + Sync>(
     ensures { IfOk result (LogSays (claim_of listed.now)) }
 {
     let blocks = blocks_of(alloc, listed.sets)?;
+    let form = named_form(alloc, listed)?;
+    // With the number of clauses and steps comes that no clause has a variable twice.
+    let _clauses = form.clauses.len();
+    let _steps = listed.log.len();
     check_log_parallel(
         workers.runtime,
         alloc,
-        listed.form,
+        &form,
         &blocks,
         listed.log,
         workers.count,

@@ -1,6 +1,6 @@
-use clause_base::{Form, Log};
+use clause_base::Log;
 use cycle_sim::Miss;
-use debug_core::Question;
+use debug_core::{FormPlan, Question};
 use report_doc::types::ReportSet;
 
 /// What is judged of a list: the first condition that fails, with the first set or step by which it does. Sets and steps are
@@ -22,12 +22,12 @@ pub enum Verdict {
     Open,
 }
 
-/// A list that is to be judged: what was asked, the form of that, the sets of a report, and the log that is to show that they are
+/// A list that is to be judged: what was asked, the plan of its form, the sets of a report, and the log that is to show that they are
 /// the list.
 #[derive(Clone, Copy)]
 pub struct Listed<'a> {
     pub question: &'a Question<'a>,
-    pub form: &'a Form,
+    pub plan: &'a FormPlan,
     pub sets: &'a [ReportSet],
     pub log: &'a Log,
 }

@@ -7,7 +7,7 @@ ghost use Rattle.suspect_map.specs.Groups.{AreWithin};
 ghost use Rattle.debug_core.specs.Problems.{IsProblem, problem_of};
 
 use clause_base::{Log, StepKind, has_distinct_variables};
-use debug_core::{Debugger, Found, Question, form_of, have_few_cycles};
+use debug_core::{Debugger, Found, Question, have_few_cycles, plan_of};
 use design_core::{Design, Trace};
 use front_end::Ordered;
 use list_verdict::{Listed, Verdict, Workers, judge};
@@ -156,7 +156,7 @@ pub(super) fn judged<R: Threads + Sync>(
         k: 2,
     };
     let log = changed(alloc, &log_of(alloc, &question)?, change)?;
-    let Ok(form) = form_of(alloc, &question) else {
+    let Ok(plan) = plan_of(alloc, &question) else {
         return Err(Fail::new("no form"));
     };
     if log.len() > 1000 || workers == 0 || workers > 64 {
@@ -169,7 +169,7 @@ pub(super) fn judged<R: Threads + Sync>(
     };
     let listed = Listed {
         question: &question,
-        form: &form,
+        plan: &plan,
         sets,
         log: &log,
     };

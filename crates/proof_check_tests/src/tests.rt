@@ -1,6 +1,6 @@
 //! Small logs, written and read, and checked beside a second checker that searches through lists.
 
-ghost use Rattle.std.specs.Prelude.{◌≡◌};
+ghost use Rattle.std.specs.Prelude.{◌≡◌, IfOk};
 
 mod naive;
 mod parts;
@@ -9,7 +9,7 @@ mod pieces;
 use clause_base::{Clause, Clauses, Form, Lit, Log, are_within, blocks_are_within};
 use loc_base::NoMemory;
 use proof_check::types::LogErr;
-use proof_check::{Checker, log_text, read_log};
+use proof_check::{Checker, log_text, named, read_log};
 use std::alloc::Global;
 use std::process::Abort;
 use std::test::Fail;
@@ -72,8 +72,26 @@ fn refused(rt: &impl Abort, checker: &mut Checker, form: &Form, blocks: &[Clause
     }
 }
 
+/// The form with the clauses that the log names, and empty ones else.
+fn named_form(alloc: Global, form: &Form, log: &Log) -> Result<Form, NoMemory>
+    ensures { IfOk result (λ some. some.vars ≡ form.now.vars) }
+{
+    let marks = named(alloc, log, form.clauses.len())?;
+    let mut clauses = Clauses::new(alloc);
+    for place in 0..form.clauses.len() {
+        match marks.get(place) {
+            Some(true) => clauses.push(form.clauses.clause(place))?,
+            _ => clauses.push(&[])?,
+        }
+    }
+    Ok(Form {
+        vars: form.vars,
+        clauses,
+    })
+}
+
 /// The number of the least refused step of the log whose text this is, over `square`, where the text is a log's; both
-/// checkers say the same, and so do the workers.
+/// checkers say the same, and so do the workers, and a check over the clauses that the log names.
 fn checked(
     rt: &(impl Abort + AllocGlobal + Threads + Sync),
     text: &[u8],
@@ -87,6 +105,8 @@ fn checked(
     let slow = naive::least_refused(alloc, &form.clauses, blocks, &read.log)?;
     assert!(rt; slow.unwrap_or(0) == answer as usize);
     pieces::assert_all_say(rt, &form, blocks, &read.log, answer)?;
+    let some = named_form(alloc, &form, &read.log)?;
+    assert!(rt; refused(rt, &mut checker, &some, blocks, &read.log) == answer);
     Ok(answer)
 }
 
@@ -128,6 +148,21 @@ fn the_least_refused_step_is_named(rt: HostRuntime) -> Result<(), Fail> {
         let blocks = if *is_listed { listed.as_slice() } else { &[] };
         assert!(rt; steps_checked(&rt, steps, blocks)? == *want, "{steps:?}");
     }
+    Ok(())
+}
+
+/// The steps' chains name the clauses 1 to 5 and 7, of which the form has four.
+#[test]
+fn the_numbers_of_all_chains_are_marked(rt: HostRuntime) -> Result<(), Fail> {
+    let text = with_front(rt.alloc(), STEPS)?;
+    let read = read_log(rt.alloc(), text.as_slice())?;
+    let marks = named(rt.alloc(), &read.log, 8)?;
+    let want = [true, true, true, true, true, false, true, false];
+    assert_eq!(rt; marks.as_slice(), want.as_slice());
+    assert_eq!(rt;
+        named(rt.alloc(), &read.log, 2)?.as_slice(),
+        [true, true].as_slice()
+    );
     Ok(())
 }
 
