@@ -95,10 +95,5 @@ pub fn plan_of(alloc: Global, question: &Question<'_>) -> Result<FormPlan, Debug
     ensures err { IfErr result (IsRefused (problem_of question.now)) }
 {
     let unrolled = unrolled(alloc, question)?;
-    Ok(FormPlan::new(
-        alloc,
-        unrolled,
-        question.groups,
-        question.k,
-    )?)
+    Ok(FormPlan::new(alloc, unrolled, question.groups, question.k)?)
 }

@@ -12,8 +12,8 @@ mod fits;
 mod found;
 mod question;
 
-pub use debugger::Debugger;
 pub use clause_form::FormPlan;
+pub use debugger::Debugger;
 pub use encoding::plan_of;
 pub use error::DebugErr;
 pub use fits::have_few_cycles;

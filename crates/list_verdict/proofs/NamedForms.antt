@@ -85,8 +85,7 @@ pub log-says : (c : Claim) (made : List (List Lit)) (blocks : List (List Lit)) (
     → IfOk r (λ found. IsNone found ↔ IsAccepted made blocks c.log)
     → IfOk r (λ found. IfSome found (λ bad. IsLeastRefused made blocks c.log bad.n)) → IfOk r (LogSays c)
 log-says c made blocks (Ok None) agree of_made of_log same accepted least =
-    let is : IsAccepted c.form blocks c.log = same-answer c.log made c.form agree blocks None (accepted.0 refl) in
-    (
+    let is : IsAccepted c.form blocks c.log = same-answer c.log made c.form agree blocks None (accepted.0 refl) in (
       subst (λ bs. IsAccepted c.form bs c.log) same is,
       subst (λ bs. Follows c.form bs c.log) same (named-follow c.log made c.form agree blocks of_made of_log is),
     )

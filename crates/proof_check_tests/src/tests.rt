@@ -158,7 +158,10 @@ fn the_numbers_of_all_chains_are_marked(rt: HostRuntime) -> Result<(), Fail> {
     let marks = named(rt.alloc(), &read.log, 8)?;
     let want = [true, true, true, true, true, false, true, false];
     assert_eq!(rt; marks.as_slice(), want.as_slice());
-    assert_eq!(rt; named(rt.alloc(), &read.log, 2)?.as_slice(), [true, true].as_slice());
+    assert_eq!(rt;
+        named(rt.alloc(), &read.log, 2)?.as_slice(),
+        [true, true].as_slice()
+    );
     Ok(())
 }
 
