@@ -43,7 +43,12 @@ fn clauses_without_a_mark_are_made(rt: HostRuntime) -> Result<(), Fail> {
     let form = marked(&rt, rt.alloc(), &[])?;
     assert_eq!(rt; form.vars, 13);
     assert_eq!(rt; form.clauses.len(), 20);
-    assert!(rt; begins_with(&form, &[&[-1, 3], &[-3, 4], &[-2, 4], &[-2, -3, 5], &[-6, 1]]));
+    assert!(rt;
+        begins_with(
+            &form,
+            &[&[-1, 3], &[-3, 4], &[-2, 4], &[-2, -3, 5], &[-6, 1]]
+        )
+    );
     Ok(())
 }
 
