@@ -90,8 +90,8 @@ posed_of p = record {
   report = p.report;
   problem = problem_in p.inputs p.report.size;
   inputs = p.inputs.digest;
-  vars = p.form.vars;
-  form = p.form.clauses;
+  vars = p.plan.vars;
+  form = p.plan.clauses;
 }
 
 abbrev pub given_of : Evidence → Given

@@ -1,4 +1,5 @@
-//! What is judged: a report, the inputs of its list, the form of their problem, and a log.
+//! What is judged: a report, the inputs of its list, the plan of the form of their problem, and a log. The form's clauses are made when
+//! the log is judged.
 ghost use Rattle.std.specs.Prelude.{◌≡◌, IfErr, IfOk, None, map, true};
 ghost use Rattle.suspect_map.specs.Choose.{joined, unknown};
 ghost use Rattle.report_doc.specs.Shape.{IsReport};
@@ -18,8 +19,7 @@ use crate::reports::load_report;
 use crate::request::Request;
 use crate::sessions::{Digests, same_inputs};
 use crate::tools::Tools;
-use clause_base::Form;
-use debug_core::form_of;
+use debug_core::{FormPlan, plan_of};
 use front_end::FrontEnd;
 use io_ports::Shelf;
 use list_inputs::{Inputs, Refusal, read};
@@ -30,12 +30,12 @@ use std::alloc::Global;
 use std::thread::Threads;
 use suspect_map::Granularity;
 
-/// A report, the inputs of its list, and the form of their problem.
+/// A report, the inputs of its list, and the plan of the form of their problem.
 #[derive(Drop)]
 pub(crate) struct Posed {
     pub(crate) report: Report,
     pub(crate) inputs: Inputs,
-    pub(crate) form: Form,
+    pub(crate) plan: FormPlan,
 }
 
 /// The same with a log.
@@ -45,16 +45,16 @@ pub(crate) struct Evidence {
     pub(crate) log: LogText,
 }
 
-/// The form of the problem of inputs, by the greatest size of a set.
-fn form_in(alloc: Global, inputs: &Inputs, size: u32) -> Result<Form, Refusal>
+/// The plan of the form of the problem of inputs, by the greatest size of a set. No clause is made.
+fn plan_in(alloc: Global, inputs: &Inputs, size: u32) -> Result<FormPlan, Refusal>
     requires { IsProblem (problem_in inputs.now size) }
-    ensures form { IfOk result (λ form. IsFormFor (problem_in inputs.now size) form.vars form.clauses) }
+    ensures form { IfOk result (λ plan. IsFormFor (problem_in inputs.now size) plan.vars plan.clauses) }
     ensures refused { IfErr result (HasCause (FormRefused (problem_in inputs.now size))) }
     ensures only { ((fault : SomeErr) → IsRefused (problem_in inputs.now size) fault → fault ≡ WantOfMemory)
         → IfErr result IsMemory }
 {
-    match form_of(alloc, &inputs.question(size)) {
-        Ok(form) => Ok(form),
+    match plan_of(alloc, &inputs.question(size)) {
+        Ok(plan) => Ok(plan),
         Err(fault) => Err(Refusal::of_problem(alloc, fault)),
     }
 }
@@ -122,16 +122,16 @@ fn pose<F: FrontEnd, R: Threads + Sync, G: Gate + Sync, S: Shelf>(
         gate: tools.gate,
     };
     let inputs = read(alloc, &reading, &request.wanted(&report), shelf)?;
-    let form = form_in(alloc, &inputs, report.size)?;
+    let plan = plan_in(alloc, &inputs, report.size)?;
     Ok(Posed {
         report,
         inputs,
-        form,
+        plan,
     })
 }
 
 /// All that is judged. The first that is refused ends the reading, in this order: the report's text and its kinds of suspects, what
-/// its list is asked of, the form of the problem, the log's text, the digests.
+/// its list is asked of, the limits of the form, the log's text, the digests.
 pub(crate) fn gather<F: FrontEnd, R: Threads + Sync, G: Gate + Sync, S: Shelf>(
     alloc: Global,
     tools: &Tools<'_, F, R, G>,

@@ -52,7 +52,7 @@ fn judgement<R: Threads + Sync, G: Gate + Sync>(
         workers,
         &Listed {
             question: &question,
-            form: &posed.form,
+            plan: &posed.plan,
             sets,
             log: &evidence.log.log,
         },

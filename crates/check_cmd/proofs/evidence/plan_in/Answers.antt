@@ -2,7 +2,7 @@ use Rattle.std.proofs.Common.{subst}
 use Rattle.debug_core.specs.Problems.{IsFormFor, IsProblem, IsRefused, Problem}
 use Rattle.list_inputs.specs.Ends.{problem_in}
 use Rattle.check_cmd.proofs.WholeCauses.{form-cause, form-memory}
-use Rattle.check_cmd.proofs.evidence.form_in.Goals as goal
+use Rattle.check_cmd.proofs.evidence.plan_in.Goals as goal
 
 pub returns-in-Err-clause-refused : goal.returns-in-Err-clause-refused
 returns-in-Err-clause-refused c =

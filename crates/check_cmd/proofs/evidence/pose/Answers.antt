@@ -52,47 +52,47 @@ returns-in_err-inputs-clause-only g c = λ told ready.
     (moved-back (λ w ts. IsReadyList g.F.FrontEnd.means S w ts) _ (wanted_by asked c.in_ok-report.report) _ texts
     c.wanted.ensures c.in_ok-report.ensures.texts (ready.list c.in_ok-report.report (c.in_ok-report.ensures.asks told).means)))
 
-pub form_in-requires : goal.form_in-requires
-form_in-requires g c =
+pub plan_in-requires : goal.plan_in-requires
+plan_in-requires g c =
     subst (λ n. IsProblem (problem_in c.in_ok-inputs.inputs n)) (ap (λ (w : Wanted). w.size) c.wanted.ensures) c.in_ok-inputs.ensures.problem
 
-pub returns-in_err-form-clause-counts : goal.returns-in_err-form-clause-counts
-returns-in_err-form-clause-counts g c =
-    counts-passed _ _ c.from_residual-in_err-form.result c.in_err-form.field-0.0 c.from_residual-in_err-form.ensures.1
-    (low-counts (FormRefused _) (form-low _) _ _ c.in_err-form.field-0.0 c.in_err-form.ensures.refused
+pub returns-in_err-plan-clause-counts : goal.returns-in_err-plan-clause-counts
+returns-in_err-plan-clause-counts g c =
+    counts-passed _ _ c.from_residual-in_err-plan.result c.in_err-plan.field-0.0 c.from_residual-in_err-plan.ensures.1
+    (low-counts (FormRefused _) (form-low _) _ _ c.in_err-plan.field-0.0 c.in_err-plan.ensures.refused
     (c.in_ok-inputs.ensures.counts ∙ c.in_ok-report.ensures.counts))
 
-pub returns-in_err-form-clause-status : goal.returns-in_err-form-clause-status
-returns-in_err-form-clause-status g c =
-    passed_on HasStatus c.from_residual-in_err-form.result c.in_err-form.field-0.0 c.from_residual-in_err-form.ensures.1
-    (low-status (FormRefused _) (form-low _) c.in_err-form.field-0.0 c.in_err-form.ensures.refused)
+pub returns-in_err-plan-clause-status : goal.returns-in_err-plan-clause-status
+returns-in_err-plan-clause-status g c =
+    passed_on HasStatus c.from_residual-in_err-plan.result c.in_err-plan.field-0.0 c.from_residual-in_err-plan.ensures.1
+    (low-status (FormRefused _) (form-low _) c.in_err-plan.field-0.0 c.in_err-plan.ensures.refused)
 
-pub returns-in_err-form-clause-refused : goal.returns-in_err-form-clause-refused
-returns-in_err-form-clause-refused g c = λ told.
+pub returns-in_err-plan-clause-refused : goal.returns-in_err-plan-clause-refused
+returns-in_err-plan-clause-refused g c = λ told.
     let asked = asked_of c.args.request.now in
     let S : Suspecting = joined (λ k. (goal.Granularity-dyn g (k.vtable, k.value)).called k.value)
     (λ k. (goal.Granularity-dyn g (k.vtable, k.value)).lists k.value) c.args.tools.now.kinds.now in
     let texts = g.S.Shelf.texts c.args.shelf.now in
     let report = c.in_ok-report.report in
-    let why = c.in_err-form.field-0.0 in
-    passed_on (HasCause (Refused g.F.FrontEnd.means g.F.FrontEnd.refuses _ _ asked texts)) c.from_residual-in_err-form.result why
-    c.from_residual-in_err-form.ensures.1
+    let why = c.in_err-plan.field-0.0 in
+    passed_on (HasCause (Refused g.F.FrontEnd.means g.F.FrontEnd.refuses _ _ asked texts)) c.from_residual-in_err-plan.result why
+    c.from_residual-in_err-plan.ensures.1
     (whole-form g.F.FrontEnd.means g.F.FrontEnd.refuses _ _ asked texts report (problem_in c.in_ok-inputs.inputs report.size) why
     (c.in_ok-report.ensures.asks told)
     (moved-means g.F.FrontEnd.means S _ (wanted_by asked report) _ texts c.in_ok-inputs.inputs c.wanted.ensures
     c.in_ok-report.ensures.texts (c.in_ok-inputs.ensures.means (c.in_ok-report.ensures.tells ∙ told)))
-    c.in_err-form.ensures.refused)
+    c.in_err-plan.ensures.refused)
 
-pub returns-in_err-form-clause-only : goal.returns-in_err-form-clause-only
-returns-in_err-form-clause-only g c = λ told ready.
+pub returns-in_err-plan-clause-only : goal.returns-in_err-plan-clause-only
+returns-in_err-plan-clause-only g c = λ told ready.
     let asked = asked_of c.args.request.now in
     let S : Suspecting = joined (λ k. (goal.Granularity-dyn g (k.vtable, k.value)).called k.value)
     (λ k. (goal.Granularity-dyn g (k.vtable, k.value)).lists k.value) c.args.tools.now.kinds.now in
     let texts = g.S.Shelf.texts c.args.shelf.now in
     let report = c.in_ok-report.report in
-    passed_on IsSpared c.from_residual-in_err-form.result c.in_err-form.field-0.0 c.from_residual-in_err-form.ensures.1
-    (memory-spared c.in_err-form.field-0.0
-    (c.in_err-form.ensures.only
+    passed_on IsSpared c.from_residual-in_err-plan.result c.in_err-plan.field-0.0 c.from_residual-in_err-plan.ensures.1
+    (memory-spared c.in_err-plan.field-0.0
+    (c.in_err-plan.ensures.only
     (λ fault refused.
     (ready.list report (c.in_ok-report.ensures.asks told).means).no_limit (problem_in c.in_ok-inputs.inputs report.size) fault
     (moved-means g.F.FrontEnd.means S _ (wanted_by asked report) _ texts c.in_ok-inputs.inputs c.wanted.ensures
@@ -103,7 +103,7 @@ pub returns-clause-can : goal.returns-clause-can
 returns-clause-can g c = record {
   problem = subst (λ n. IsProblem (problem_in c.in_ok-inputs.inputs n)) (ap (λ (w : Wanted). w.size) c.wanted.ensures)
       c.in_ok-inputs.ensures.problem;
-  form = c.in_ok-form.ensures.form;
+  form = c.in_ok-plan.ensures.form;
   numbers = c.in_ok-inputs.ensures.numbers;
 }
 
@@ -120,5 +120,5 @@ returns-clause-poses g c = λ told.
           c.in_ok-report.ensures.texts (c.in_ok-inputs.ensures.means (c.in_ok-report.ensures.tells ∙ told));
       inputs = moved (λ w ts. IsDigestOf w ts c.in_ok-inputs.inputs.digest) _ (wanted_by asked report) _ texts c.wanted.ensures
           c.in_ok-report.ensures.texts (c.in_ok-inputs.ensures.digest (c.in_ok-report.ensures.tells ∙ told));
-      form = c.in_ok-form.ensures.form;
+      form = c.in_ok-plan.ensures.form;
     }
