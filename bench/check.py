@@ -9,16 +9,19 @@ Printed are the sets, the lines of the log, the numbers of its chains and its by
 runs (3) each but for the first. They are the processor's, where it isn't said that they are the clock's:
 
     find s     the making or finding (one run)
-    form s     the circuit, the unrolling and the clauses: of a run of `print_form` (crates/print_form, built beside) the share that it says
-    read s     reading the texts: `check` on the log of other inputs, which ends behind reading and the form, without the form
-    sets s     simulating the sets: `check` on the log with a wrong first step, which ends at that step, without what stands before
-    log s      checking the log: what is left of `check 1`
+    form s     the circuit and the unrolling: of a run of `print_form` (crates/print_form, built beside) the share that it says
+    read s     reading the texts: `check` on the log of other inputs, which ends behind reading and the unrolling, without form s
+    sets s     simulating the sets, and the pass over the form's clauses that makes none: `check` on a log without steps, less `check` on
+               the same of other inputs
+    log s      checking the log, with the clauses that it names: what is left of `check 1`
     check 1    `check` with one worker
-    x work     how many times that is read s and sets s together
+    x work     how many times that is read s and sets s together, and in brackets read s alone; what the pass takes isn't known, so how many
+               times it is reading and simulating lies between the two
     cpu 4      `check` with four workers, all threads together
     clock 1, 4 the clock's seconds with one worker and with four
     x four     how many times as fast four are by the clock, and in brackets without reading and the form, which one worker does
     at most    how many times as fast four can be, by the processor's seconds: where sets s and log s come to a quarter, and the rest stays
+               (they share the reading of the log, too, which isn't told apart here)
     sim s      `sim` on the same design and dump, which reads both, simulates once, and prints a line a cycle
 
 and the most memory that `check` held with one worker, in MB. PROGRAM is crates/localise/out/localise where it isn't given. The status is
@@ -73,17 +76,20 @@ def of_other_inputs(line):
     return "inputs " + ("1" if line[7] == "0" else "0") + line[8:]
 
 
-def with_wrong_step(line):
-    return line + "d : 4294967295\n"
+def without_steps(room, name, change):
+    """Writes the first two lines of the log under another name, the second changed."""
+    with open(os.path.join(room, "localise.log")) as log, open(os.path.join(room, name), "w") as other:
+        other.write(log.readline())
+        other.write(change(log.readline()))
 
 
 def form_of(words, room, runs):
-    """The seconds of the circuit, the unrolling and the clauses."""
+    """The seconds of the circuit and the unrolling."""
     least_seconds = []
     for _ in range(runs):
         said, _, clock, processor, _ = measured(["sh", "-c", 'exec "$@" 2>&1', "sh", FORMS, "counts", *words], room)
         told = re.search(r"circuit (\d+) unrolling (\d+) clauses (\d+)", said)
-        least_seconds.append(sum(map(int, told.groups())) / 1000 * processor / clock)
+        least_seconds.append(sum(map(int, told.groups()[:2])) / 1000 * processor / clock)
     return min(least_seconds)
 
 
@@ -98,14 +104,18 @@ def until(check, log, wanted, room, runs):
 
 def times_of(check, form, room, runs):
     """The seconds of each part, and what `check` says with one worker and with four."""
-    changed(room, "other.log", of_other_inputs), changed(room, "wrong.log", with_wrong_step)
+    changed(room, "other.log", of_other_inputs)
+    without_steps(room, "none.log", lambda line: line), without_steps(room, "none-other.log", of_other_inputs)
     before, read = until(check, "other.log", "input other", room, runs)
-    _, simulated = until(check, "wrong.log", "no step 1", room, runs)
+    _, unread = until(check, "none-other.log", "input other", room, runs)
+    _, simulated = until(check, "none.log", "no step 1", room, runs)
+    sets = simulated - unread
     one, alone, processor, memory = least(check + ["--workers", "1"], room, runs)
     four, together, threads, _ = least(check + ["--workers", "4"], room, runs)
     times = "%.2f (%.2f)" % (alone / together, (alone - before) / max(together - before, 0.001))
     most = processor / (read + (processor - read) / 4)
-    parts = (read - form, simulated - read, processor - simulated, processor, processor / (simulated - form), threads, alone, together, times, most)
+    work = "%.2f (%.2f)" % (processor / (read - form + sets), processor / (read - form))
+    parts = (read - form, sets, processor - read - sets, processor, work, threads, alone, together, times, most)
     return parts, memory, [last_line(one), last_line(four)]
 
 
@@ -124,7 +134,7 @@ def row_of(asked, name, top, files, words, room):
     log = numbers_of(os.path.join(room, "localise.log"))
     sizes = [os.path.getsize(os.path.join(room, file)) for file in ("localise.log", "localise.json")]
     number = sum(sizes_of(printed).values())
-    print("%-12s %4d %7d %9d %9d %8d %8.3f %7.3f %7.3f %7.3f %7.3f %7.3f %6.2f %7.3f %7.3f %7.3f %12s %7.2f %7.3f %5.0f" % (
+    print("%-12s %4d %7d %9d %9d %8d %8.3f %7.3f %7.3f %7.3f %7.3f %7.3f %13s %7.3f %7.3f %7.3f %12s %7.2f %7.3f %5.0f" % (
         name, number, *log, *sizes, found, form, *parts, simulated, memory), flush=True)
     wanted = "yes %d" % number if ending[0].startswith("complete") else "no closing"
     if said != [wanted, wanted]:
@@ -142,7 +152,7 @@ def main():
     asked = parser.parse_args()
     asked.program, rights = os.path.abspath(asked.program), []
     size = ["--size", str(asked.size)]
-    print("%-12s %4s %7s %9s %9s %8s %8s %7s %7s %7s %7s %7s %6s %7s %7s %7s %12s %7s %7s %5s" % (
+    print("%-12s %4s %7s %9s %9s %8s %8s %7s %7s %7s %7s %7s %13s %7s %7s %7s %12s %7s %7s %5s" % (
         "list", "sets", "lines", "numbers", "log bytes", "report", "find s", "form s", "read s", "sets s", "log s", "check 1", "x work", "cpu 4",
         "clock 1", "clock 4", "x four", "at most", "sim s", "MB"))
     for number in [it for it in asked.made.split(",") if it]:
