@@ -31,6 +31,11 @@ unfolding shape-the_row-Typed-0 hidden-the_row-Typed-0 hidden
 unary-fits signals width n signed op arg is h =
     subst (λ k. IsTrue (unary_fits op width k)) (sym is) (second_of_three (is_width width) (unary_fits op width arg.width) (typed_fits signals arg) h)
 
+pub unary-arg : (signals : List Signal) (width : ℕ) (signed : Bool) (op : UnaryOp) (arg : Typed) → IsTrue (node_fits signals width signed (node.Unary op arg))
+    → IsTrue (typed_fits signals arg)
+unfolding shape-the_row-Typed-0 hidden-the_row-Typed-0 hidden
+unary-arg signals width signed op arg h = third_of_three (is_width width) (unary_fits op width arg.width) (typed_fits signals arg) h
+
 pub binary-fits : (signals : List Signal) (width n m : ℕ) (signed : Bool) (op : BinaryOp) (left right : Typed) → n ≡ left.width → m ≡ right.width
     → IsTrue (node_fits signals width signed (node.Binary op left right)) → IsTrue (binary_fits op width n m)
 unfolding shape-the_row-Typed-0 hidden-the_row-Typed-0 hidden
@@ -90,11 +95,20 @@ choose-widths signals width signed test on_true on_false h =
 second_in_four : (a b c d : Bool) → IsTrue (a && b && c && d) → IsTrue b
 second_in_four a b c d h = grind (arith, nat_tests)
 
+third_in_four : (a b c d : Bool) → IsTrue (a && b && c && d) → IsTrue c
+third_in_four a b c d h = grind (arith, nat_tests)
+
 pub choose-test : (signals : List Signal) (width : ℕ) (signed : Bool) (test on_true on_false : Typed) → IsTrue (node_fits signals width signed (node.Choose test on_true on_false))
     → IsTrue (typed_fits signals test)
 unfolding shape-the_row-Typed-0 hidden-the_row-Typed-0 hidden
 choose-test signals width signed test on_true on_false h =
     second_in_four (width == on_true.width && width == on_false.width) (typed_fits signals test) (typed_fits signals on_true) (typed_fits signals on_false) h
+
+pub choose-second : (signals : List Signal) (width : ℕ) (signed : Bool) (test on_true on_false : Typed) → IsTrue (node_fits signals width signed (node.Choose test on_true on_false))
+    → IsTrue (typed_fits signals on_true)
+unfolding shape-the_row-Typed-0 hidden-the_row-Typed-0 hidden
+choose-second signals width signed test on_true on_false h =
+    third_in_four (width == on_true.width && width == on_false.width) (typed_fits signals test) (typed_fits signals on_true) (typed_fits signals on_false) h
 
 pub choose-last : (signals : List Signal) (width : ℕ) (signed : Bool) (test on_true on_false : Typed) → IsTrue (node_fits signals width signed (node.Choose test on_true on_false))
     → IsTrue (typed_fits signals on_false)

@@ -9,6 +9,7 @@ use Rattle.loc_base.specs.declared.bits.Bits.{Bits}
 use Rattle.loc_base.specs.Bits.{width_of}
 use Rattle.design_core.specs.declared.signal.Signal.{Signal}
 use Rattle.design_core.specs.declared.statement.Part.{Part}
+use Rattle.design_core.specs.declared.statement.Part.TheVariants.{Whole}
 use Rattle.design_core.specs.Valuation.{Valuation, bit, width_at, distance_of, position_of}
 use Rattle.design_core.specs.Store.{part_width, parts_width, with_bits, with_bit, with_picked, store_part, store}
 use Rattle.design_core.specs.After.{Updates, after_set}
@@ -92,6 +93,21 @@ assigned_now signals now later now' later' S parts left last v w high true e who
 assigned_now signals now later now' later' S parts left last v w high false e whole width shifted before after =
     same_updates (after_set signals parts (bit v) false (updates now later)) S later'
     (stored-last signals now now now' S parts left last v w high whole width shifted (ap (λ m. m.now) before) after) (ap (λ m. m.later) before)
+
+-- a whole signal alone
+pub whole_later : (signals : List Signal) (now later S : Valuation) (s v width : ℕ) (is_later : Bool) → is_later ≡ true → width ≡ width_at signals s
+    → S ≡ with_bits later s 0 width (bit v) → updates now S ≡ after_set signals (Whole s ∷ []) (bit v) is_later (updates now later)
+whole_later signals now later S s v width true e same stored =
+    same_updates (after_set signals (Whole s ∷ []) (bit v) true (updates now later)) now S refl
+    (stored ∙ ap (λ w. with_bits later s 0 w (bit v)) same ∙ sym (store-last signals now later [] (Whole s) (bit v)))
+whole_later signals now later S s v width false e same stored = absurd cc
+
+pub whole_now : (signals : List Signal) (now later S : Valuation) (s v width : ℕ) (is_later : Bool) → is_later ≡ false → width ≡ width_at signals s
+    → S ≡ with_bits now s 0 width (bit v) → updates S later ≡ after_set signals (Whole s ∷ []) (bit v) is_later (updates now later)
+whole_now signals now later S s v width true e same stored = absurd cc
+whole_now signals now later S s v width false e same stored =
+    same_updates (after_set signals (Whole s ∷ []) (bit v) false (updates now later)) S later
+    (stored ∙ ap (λ w. with_bits now s 0 w (bit v)) same ∙ sym (store-last signals now now [] (Whole s) (bit v))) refl
 
 -- ---- bits by a variable index
 one_bit : (M : Valuation) (signal position : ℕ) (bits : ℕ → Bool) → with_bits M signal position 1 bits ≡ with_bits M signal position 1 (λ _. bits 0)

@@ -5,4 +5,5 @@ pub mod EvaluateParts
 pub mod EvaluateNodes
 pub mod EvaluateStatement
 pub mod EvaluateStore
+pub mod EvaluateTests
 pub mod EvaluateValue

@@ -1,4 +1,5 @@
 ghost use Rattle.std.specs.Prelude.{◌≡◌, ◌*◌, ◌<◌, ◌≤◌, length, IsTrue};
+ghost use Rattle.design_core.specs.Operator.{is_true};
 ghost use Rattle.std.specs.List.{list_all};
 ghost use Rattle.loc_base.specs.Bits.{width_of, value_of};
 ghost use Rattle.design_core.specs.Value.{value};
@@ -9,13 +10,30 @@ ghost use Rattle.plain_values.specs.Evaluate.{is_select, join_parts, parts_sum};
 use crate::operator::{binary, repeated, resized, unary};
 use crate::select::{array_word, picked};
 use crate::words::{is_true, word_at};
-use design_core::{Node, Signal, Typed};
+use design_core::{BinaryOp, Node, Signal, Typed, UnaryOp};
 use loc_base::Bits;
 
 /// The value of an expression (IEEE 1364-2005, clause 5) where the signals have these words. The word has the width
-/// of the expression. Takes no memory.
+/// of the expression. Takes no memory. Most operands are constants and whole signals, and take no further call.
 #[cycle(value)]
+#[inline(always)]
 pub fn value(signals: &[Signal], words: &[Bits], e: &Typed) -> Bits
+    requires words { AreWordsOf signals.now words.now }
+    requires fits { IsTrue (typed_fits signals.now e.now) }
+    ensures width { width_of result ≡ e.now.width }
+    ensures value { value_of result ≡ value signals.now (valuation_of words.now) e.now }
+{
+    match &e.node {
+        Node::Const(word) => *word,
+        Node::Whole(signal) => word_at(words, *signal as usize),
+        _ => computed(signals, words, e),
+    }
+}
+
+/// The value of an expression, by what its node is.
+#[cycle(value)]
+#[inline(never)]
+fn computed(signals: &[Signal], words: &[Bits], e: &Typed) -> Bits
     requires words { AreWordsOf signals.now words.now }
     requires fits { IsTrue (typed_fits signals.now e.now) }
     ensures width { width_of result ≡ e.now.width }
@@ -37,7 +55,7 @@ pub fn value(signals: &[Signal], words: &[Bits], e: &Typed) -> Bits
             binary(*op, high, left.signed, low, right.signed)
         }
         Node::Choose { cond, yes, no } => {
-            if is_true(value(signals, words, cond)) {
+            if holds(signals, words, cond) {
                 value(signals, words, yes)
             } else {
                 value(signals, words, no)
@@ -100,4 +118,32 @@ fn joined(signals: &[Signal], words: &[Bits], parts: &[Typed]) -> Bits
         word = word.join(value(signals, words, part));
     }
     word
+}
+
+/// Whether the value of an expression is not 0. The tests that conditions are made of need no word of their result, and the
+/// right operand of `&&` and `||` counts only where the left one doesn't decide.
+#[cycle(value)]
+pub(crate) fn holds(signals: &[Signal], words: &[Bits], e: &Typed) -> bool
+    requires words { AreWordsOf signals.now words.now }
+    requires fits { IsTrue (typed_fits signals.now e.now) }
+    ensures { result ≡ is_true (value signals.now (valuation_of words.now) e.now) }
+{
+    match &e.node {
+        Node::Unary { op, arg } => match op {
+            UnaryOp::LogicalNot => !holds(signals, words, arg),
+            _ => is_true(value(signals, words, e)),
+        },
+        Node::Binary { op, left, right } => match op {
+            BinaryOp::Equal => {
+                value(signals, words, left).value() == value(signals, words, right).value()
+            }
+            BinaryOp::NotEqual => {
+                value(signals, words, left).value() != value(signals, words, right).value()
+            }
+            BinaryOp::LogicalAnd => holds(signals, words, left) && holds(signals, words, right),
+            BinaryOp::LogicalOr => holds(signals, words, left) || holds(signals, words, right),
+            _ => is_true(value(signals, words, e)),
+        },
+        _ => is_true(value(signals, words, e)),
+    }
 }

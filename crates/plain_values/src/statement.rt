@@ -7,9 +7,8 @@ ghost use Rattle.design_core.specs.WellFormed.{label_fits, statement_fits};
 ghost use Rattle.design_core.specs.Words.{valuation_of, AreWordsOf, choice_of};
 ghost use Rattle.plain_values.specs.Evaluate.{item_matches, item_fits, after_list};
 
-use crate::expression::value;
+use crate::expression::{holds, value};
 use crate::store::assign;
-use crate::words::is_true;
 use design_core::{CaseItem, Design, Label, Signal, Stmt};
 use loc_base::Bits;
 
@@ -100,7 +99,7 @@ pub fn run_statement(
         Stmt::Nothing => {}
         Stmt::Block(statements) => run_all(design, freed, chosen, now, later, statements),
         Stmt::If { cond, yes, no } => {
-            if is_true(value(&design.signals, now, cond)) {
+            if holds(&design.signals, now, cond) {
                 run_statement(design, freed, chosen, now, later, yes);
             } else {
                 run_statement(design, freed, chosen, now, later, no);

@@ -5,6 +5,7 @@ ghost use Rattle.design_core.specs.Operator.{integer_of};
 ghost use Rattle.design_core.specs.Valuation.{Valuation, bit};
 ghost use Rattle.design_core.specs.Store.{part_width, store_part, with_picked};
 ghost use Rattle.design_core.specs.After.{after_set};
+ghost use Rattle.design_core.specs.declared.statement.Part.TheVariants.{Whole};
 ghost use Rattle.design_core.specs.WellFormed.{part_fits};
 ghost use Rattle.design_core.specs.Words.{valuation_of, AreWordsOf};
 ghost use Rattle.plain_values.specs.Evaluate.{part_index, as_index};
@@ -119,8 +120,35 @@ fn store_part(signals: &[Signal], words: &mut [Bits], part: &Part, at: Bits, val
     }
 }
 
-/// Assigns a value to a left side of one part, whose index is read before it is stored.
-fn assign_one(
+/// Assigns a value to a signal as a whole.
+fn assign_whole(
+    signals: &[Signal],
+    now: &mut [Bits],
+    later: &mut [Bits],
+    signal: u32,
+    value: Bits,
+    is_later: bool,
+)
+    requires now { AreWordsOf signals.now now.old }
+    requires later { AreWordsOf signals.now later.old }
+    requires signal { signal < length signals.now }
+    ensures now_words { AreWordsOf signals.now now.new }
+    ensures later_words { AreWordsOf signals.now later.new }
+    ensures value { record { now = valuation_of now.new; later = valuation_of later.new }
+        ≡ after_set signals.now (Whole signal ∷ []) (bit (value_of value)) is_later
+        (record { now = valuation_of now.old; later = valuation_of later.old }) }
+{
+    let width = signal_at(signals, signal as usize).width;
+    if is_later {
+        write(later, signal as usize, 0, width, value);
+    } else {
+        write(now, signal as usize, 0, width, value);
+    }
+}
+
+/// Assigns a value to a left side of one part by its index, which is read before it is stored.
+#[inline(never)]
+fn assign_part(
     signals: &[Signal],
     now: &mut [Bits],
     later: &mut [Bits],
@@ -142,6 +170,30 @@ fn assign_one(
         store_part(signals, later, part, at, value);
     } else {
         store_part(signals, now, part, at, value);
+    }
+}
+
+/// Assigns a value to a left side of one part, whose index is read before it is stored. Most are whole signals, which have none.
+fn assign_one(
+    signals: &[Signal],
+    now: &mut [Bits],
+    later: &mut [Bits],
+    part: &Part,
+    value: Bits,
+    is_later: bool,
+)
+    requires now { AreWordsOf signals.now now.old }
+    requires later { AreWordsOf signals.now later.old }
+    requires fits { IsTrue (part_fits signals.now part.now) }
+    ensures now_words { AreWordsOf signals.now now.new }
+    ensures later_words { AreWordsOf signals.now later.new }
+    ensures value { record { now = valuation_of now.new; later = valuation_of later.new }
+        ≡ after_set signals.now (part.now ∷ []) (bit (value_of value)) is_later
+        (record { now = valuation_of now.old; later = valuation_of later.old }) }
+{
+    match part {
+        Part::Whole(signal) => assign_whole(signals, now, later, *signal, value, is_later),
+        _ => assign_part(signals, now, later, part, value, is_later),
     }
 }
 

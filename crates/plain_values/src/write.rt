@@ -30,6 +30,7 @@ fn below(word: Bits, to: u8) -> Bits
 }
 
 /// A word with `width` of its bits from a position on replaced by the lowest bits of a value, by masks.
+#[inline(never)]
 fn masked(word: Bits, from: u8, width: u8, value: Bits) -> Bits
     requires { from + width ≤ width_of word }
     ensures width { width_of result ≡ width_of word }
@@ -42,6 +43,7 @@ fn masked(word: Bits, from: u8, width: u8, value: Bits) -> Bits
 
 /// A word with `width` of its bits from a position on replaced by the lowest bits of a value. Most stores are of whole words,
 /// which need no masks.
+#[inline(always)]
 fn replaced(word: Bits, from: u8, width: u8, value: Bits) -> Bits
     requires { from + width ≤ width_of word }
     ensures width { width_of result ≡ width_of word }
@@ -57,6 +59,7 @@ fn replaced(word: Bits, from: u8, width: u8, value: Bits) -> Bits
 
 /// Replaces `width` bits of a signal, from a position on, by the lowest bits of a value.
 #[tactic(auto, using(crate::proofs::EvaluateWrite::written))]
+#[inline(always)]
 pub(crate) fn write(words: &mut [Bits], signal: usize, from: u8, width: u8, value: Bits)
     requires signal { signal < length words.old }
     requires within { (word : Bits) → slice_get words.old signal ≡ Some word → from + width ≤ width_of word }

@@ -1,5 +1,5 @@
 use Rattle.std.proofs.Common.{◌≡◌, ℕ, List, length, arith, sym, ◌∙◌, rules, ap}
-use Rattle.std.specs.Prelude.{Some, None, ℤ, if◌then◌else◌}
+use Rattle.std.specs.Prelude.{Some, None, ℤ, if◌then◌else◌, ◌==◌, not, true, false}
 use Rattle.std.proofs.Common.{w32}
 use Rattle.std.proofs.lemmas.Int.{to_z-of_z}
 use mir.Val.{SFits, to_z, of_z}
@@ -16,34 +16,46 @@ use Rattle.design_core.specs.Value.{value, word_value, index_value, picked}
 use Rattle.design_core.specs.Words.{valuation_of}
 use Rattle.plain_values.specs.Evaluate.{parts_sum, join_parts}
 use Rattle.plain_values.proofs.EvaluateWords.{word-width, words-length, number-word, number-word_part}
-use Rattle.plain_values.proofs.EvaluateNodes.{unary-fits, binary-fits, both-fit, takes-fits, choose-widths, choose-test, choose-last, repeat-fits, pick-width, word-index}
+use Rattle.plain_values.proofs.EvaluateNodes.{unary-fits, unary-arg, binary-fits, both-fit, takes-fits, choose-widths, choose-test, choose-second, choose-last, repeat-fits, pick-width, word-index}
+use Rattle.plain_values.proofs.EvaluateTests.{not-holds, equal-holds, not_equal-holds, and-holds, or-holds}
 use Rattle.plain_values.proofs.EvaluateParts.{join-value, join-fits}
 use Rattle.plain_values.proofs.EvaluateValue.{slice-within, whole-width, array-fits, word_at-within, words-within}
 use Rattle.plain_values.proofs.expression.+value.Goals as goal
 
-pub value-part-requires-clause-within : goal.value-part-requires-clause-within
-value-part-requires-clause-within t c =
+pub computed-part-requires-clause-within : goal.computed-part-requires-clause-within
+computed-part-requires-clause-within t c =
     let fits = slice-within c.args.signals.now c.in-Slice.signal c.in-Slice.from c.in-Slice.width c.args.e.now.width (rw c.in-Slice.is at c.requires.fits) in
     omega (arith, fits.0, word-width _ _ _ _ c.requires.words c.word_at-in-Slice.ensures)
 
-pub value-joined-requires : goal.value-joined-requires
-value-joined-requires t c =
+pub computed-joined-requires : goal.computed-joined-requires
+computed-joined-requires t c =
     let fits = join-fits c.args.signals.now c.args.e.now.width c.args.e.now.signed c.in-Join.parts (rw c.in-Join.is at c.requires.fits) in
     let items = c.deref-in-Join.ensures in
     (search (rules, the_lemmas), (c.requires.words, (rw items fits.fits, (rw items fits.some, rw items (omega (arith, fits.width, fits.most))))))
 
-pub value-returns-in-Join-clause-width : goal.value-returns-in-Join-clause-width
-value-returns-in-Join-clause-width t c =
+pub computed-returns-in-Join-clause-width : goal.computed-returns-in-Join-clause-width
+computed-returns-in-Join-clause-width t c =
     let fits = join-fits c.args.signals.now c.args.e.now.width c.args.e.now.signed c.in-Join.parts (rw c.in-Join.is at c.requires.fits) in
     c.joined.ensures.width ∙ ap parts_sum c.deref-in-Join.ensures ∙ fits.width
 
-pub value-returns-in-Join-clause-value : goal.value-returns-in-Join-clause-value
-value-returns-in-Join-clause-value t c =
+pub computed-returns-in-Join-clause-value : goal.computed-returns-in-Join-clause-value
+computed-returns-in-Join-clause-value t c =
     let V : Valuation = valuation_of c.args.words.now in
     rw c.in-Join.is
     (c.joined.ensures.value
     ∙ ap (join_parts c.args.signals.now V 0) c.deref-in-Join.ensures
     ∙ sym (join-value c.args.signals.now V c.args.e.now.width c.in-Join.parts))
+
+pub computed-returns-in-Whole-clause-width : goal.computed-returns-in-Whole-clause-width
+computed-returns-in-Whole-clause-width t c =
+    whole-width c.args.signals.now c.args.words.now c.in-Whole.signal c.args.e.now.width c.word_at.result c.requires.words c.word_at.ensures (rw c.in-Whole.is at c.requires.fits)
+
+pub computed-returns-in-Whole-clause-value : goal.computed-returns-in-Whole-clause-value
+computed-returns-in-Whole-clause-value t c =
+    let width = whole-width c.args.signals.now c.args.words.now c.in-Whole.signal c.args.e.now.width c.word_at.result c.requires.words c.word_at.ensures (rw c.in-Whole.is at c.requires.fits) in
+    rw c.in-Whole.is
+    (sym (number-word c.args.words.now c.in-Whole.signal c.word_at.result c.word_at.ensures)
+    ∙ ap (λ w. number w (valuation_of c.args.words.now c.in-Whole.signal)) width)
 
 pub value-returns-in-Whole-clause-width : goal.value-returns-in-Whole-clause-width
 value-returns-in-Whole-clause-width t c =
@@ -56,8 +68,8 @@ value-returns-in-Whole-clause-value t c =
     (sym (number-word c.args.words.now c.in-Whole.signal c.word_at.result c.word_at.ensures)
     ∙ ap (λ w. number w (valuation_of c.args.words.now c.in-Whole.signal)) width)
 
-pub value-returns-in-Slice-clause-value : goal.value-returns-in-Slice-clause-value
-value-returns-in-Slice-clause-value t c =
+pub computed-returns-in-Slice-clause-value : goal.computed-returns-in-Slice-clause-value
+computed-returns-in-Slice-clause-value t c =
     rw c.in-Slice.is
     (c.part.ensures.value
     ∙ sym (number-word_part c.args.words.now c.in-Slice.signal c.in-Slice.from c.in-Slice.width c.word_at-in-Slice.result c.word_at-in-Slice.ensures))
@@ -129,71 +141,73 @@ pub selected-zero-requires-clause-most : goal.selected-zero-requires-clause-most
 unfolding shape-the_row-Typed-0 hidden-the_row-Typed-0 hidden
 selected-zero-requires-clause-most t c = first_of (search rules, grind (arith, common_steps))
 
-pub value-value-requires : goal.value-value-requires
+pub computed-value-requires : goal.computed-value-requires
 unfolding shape-the_row-Typed-0 hidden-the_row-Typed-0 hidden
-value-value-requires t c = search (rules, the_lemmas)
+computed-value-requires t c = search (rules, the_lemmas)
 
-pub value-value-low-requires : goal.value-value-low-requires
+pub computed-value-low-requires : goal.computed-value-low-requires
 unfolding shape-the_row-Typed-0 hidden-the_row-Typed-0 hidden
-value-value-low-requires t c =
+computed-value-low-requires t c =
     let fits = both-fit c.args.signals.now c.args.e.now.width c.args.e.now.signed c.in-Binary.op c.in-Binary.left c.in-Binary.right (rw c.in-Binary.is at c.requires.fits) in
     (search (rules, the_lemmas), (c.requires.words, rw c.deref-in-Binary.ensures fits.1))
 
-pub value-value-high-requires : goal.value-value-high-requires
+pub computed-value-high-requires : goal.computed-value-high-requires
 unfolding shape-the_row-Typed-0 hidden-the_row-Typed-0 hidden
-value-value-high-requires t c =
+computed-value-high-requires t c =
     let fits = both-fit c.args.signals.now c.args.e.now.width c.args.e.now.signed c.in-Binary.op c.in-Binary.left c.in-Binary.right (rw c.in-Binary.is at c.requires.fits) in
     (search (rules, the_lemmas), (c.requires.words, rw c.deref-in-Binary-2.ensures fits.0))
 
-pub value-binary-requires : goal.value-binary-requires
+pub computed-binary-requires : goal.computed-binary-requires
 unfolding shape-the_row-Typed-0 hidden-the_row-Typed-0 hidden
-value-binary-requires t c =
+computed-binary-requires t c =
     let left : width_of c.value-high.result ≡ c.in-Binary.left.width = search rules in
     let right : width_of c.value-low.result ≡ c.in-Binary.right.width = search rules in
     let fits = binary-fits c.args.signals.now c.args.e.now.width (width_of c.value-high.result) (width_of c.value-low.result) c.args.e.now.signed c.in-Binary.op c.in-Binary.left c.in-Binary.right left right (rw c.in-Binary.is at c.requires.fits) in
     takes-fits c.in-Binary.op c.args.e.now.width (width_of c.value-high.result) (width_of c.value-low.result) fits
 
-pub value-value-requires-in-Choose : goal.value-value-requires-in-Choose
+pub computed-holds-requires : goal.computed-holds-requires
 unfolding shape-the_row-Typed-0 hidden-the_row-Typed-0 hidden
-value-value-requires-in-Choose t c =
+computed-holds-requires t c =
     let fits = choose-test c.args.signals.now c.args.e.now.width c.args.e.now.signed c.in-Choose.cond c.in-Choose.yes c.in-Choose.no (rw c.in-Choose.is at c.requires.fits) in
     (search (rules, the_lemmas), (c.requires.words, rw c.deref-in-Choose.ensures fits))
 
-pub value-value-requires-then-is_true : goal.value-value-requires-then-is_true
+pub computed-value-requires-then-holds : goal.computed-value-requires-then-holds
 unfolding shape-the_row-Typed-0 hidden-the_row-Typed-0 hidden
-value-value-requires-then-is_true t c = search (rules, the_lemmas)
+computed-value-requires-then-holds t c =
+    let fits = choose-second c.args.signals.now c.args.e.now.width c.args.e.now.signed c.in-Choose.cond c.in-Choose.yes c.in-Choose.no (rw c.in-Choose.is at c.requires.fits) in
+    (search (rules, the_lemmas), (c.requires.words, rw c.deref-then-holds.ensures fits))
 
-pub value-value-requires-else-is_true : goal.value-value-requires-else-is_true
+pub computed-value-requires-else-holds : goal.computed-value-requires-else-holds
 unfolding shape-the_row-Typed-0 hidden-the_row-Typed-0 hidden
-value-value-requires-else-is_true t c =
+computed-value-requires-else-holds t c =
     let fits = choose-last c.args.signals.now c.args.e.now.width c.args.e.now.signed c.in-Choose.cond c.in-Choose.yes c.in-Choose.no (rw c.in-Choose.is at c.requires.fits) in
-    (search (rules, the_lemmas), (c.requires.words, rw c.deref-else-is_true.ensures fits))
+    (search (rules, the_lemmas), (c.requires.words, rw c.deref-else-holds.ensures fits))
 
-pub value-value-requires-in-Repeat : goal.value-value-requires-in-Repeat
+pub computed-value-requires-in-Repeat : goal.computed-value-requires-in-Repeat
 unfolding shape-the_row-Typed-0 hidden-the_row-Typed-0 hidden
-value-value-requires-in-Repeat t c = search (rules, the_lemmas)
+computed-value-requires-in-Repeat t c = search (rules, the_lemmas)
 
-pub value-repeated-requires-clause-some : goal.value-repeated-requires-clause-some
+pub computed-repeated-requires-clause-some : goal.computed-repeated-requires-clause-some
 unfolding shape-the_row-Typed-0 hidden-the_row-Typed-0 hidden
-value-repeated-requires-clause-some t c = first_of (search rules, grind (arith, common_steps))
+computed-repeated-requires-clause-some t c = first_of (search rules, grind (arith, common_steps))
 
-pub value-repeated-requires-clause-fits : goal.value-repeated-requires-clause-fits
+pub computed-repeated-requires-clause-fits : goal.computed-repeated-requires-clause-fits
 unfolding shape-the_row-Typed-0 hidden-the_row-Typed-0 hidden
-value-repeated-requires-clause-fits t c =
+computed-repeated-requires-clause-fits t c =
     let wide : width_of c.value-in-Repeat.result ≡ c.in-Repeat.part.width = search rules in
     let fits = repeat-fits c.args.signals.now c.args.e.now.width c.in-Repeat.times (width_of c.value-in-Repeat.result) c.args.e.now.signed c.in-Repeat.part wide (rw c.in-Repeat.is at c.requires.fits) in omega (arith, fits.0, fits.1)
 
-pub value-value-requires-in-Resize : goal.value-value-requires-in-Resize
+pub computed-value-requires-in-Resize : goal.computed-value-requires-in-Resize
 unfolding shape-the_row-Typed-0 hidden-the_row-Typed-0 hidden
-value-value-requires-in-Resize t c = search (rules, the_lemmas)
+computed-value-requires-in-Resize t c = search (rules, the_lemmas)
 
-pub value-resized-requires-clause-least : goal.value-resized-requires-clause-least
+pub computed-resized-requires-clause-least : goal.computed-resized-requires-clause-least
 unfolding shape-the_row-Typed-0 hidden-the_row-Typed-0 hidden
-value-resized-requires-clause-least t c = first_of (search rules, grind (arith, common_steps))
+computed-resized-requires-clause-least t c = first_of (search rules, grind (arith, common_steps))
 
-pub value-resized-requires-clause-most : goal.value-resized-requires-clause-most
+pub computed-resized-requires-clause-most : goal.computed-resized-requires-clause-most
 unfolding shape-the_row-Typed-0 hidden-the_row-Typed-0 hidden
-value-resized-requires-clause-most t c = first_of (search rules, grind (arith, common_steps))
+computed-resized-requires-clause-most t c = first_of (search rules, grind (arith, common_steps))
 
 pub selected-returns-in-Pick-clause-width : goal.selected-returns-in-Pick-clause-width
 unfolding shape-the_row-Typed-0 hidden-the_row-Typed-0 hidden
@@ -244,16 +258,16 @@ selected-returns-in-None-clause-value t c =
     rw c.in-Word.is
     (c.zero.ensures.value ∙ ap (word_value V c.in-Word.from c.in-Word.width) (found ∙ ap (word_at c.in-Word.first c.in-Word.count c.in-Word.low) same))
 
-pub value-returns-in-Unary-clause-width : goal.value-returns-in-Unary-clause-width
+pub computed-returns-in-Unary-clause-width : goal.computed-returns-in-Unary-clause-width
 unfolding shape-the_row-Typed-0 hidden-the_row-Typed-0 hidden
-value-returns-in-Unary-clause-width t c =
+computed-returns-in-Unary-clause-width t c =
     let wide : width_of c.value.result ≡ c.in-Unary.arg.width = search rules in
     c.unary.ensures.width c.args.e.now.width
     (unary-fits c.args.signals.now c.args.e.now.width (width_of c.value.result) c.args.e.now.signed c.in-Unary.op c.in-Unary.arg wide (rw c.in-Unary.is at c.requires.fits))
 
-pub value-returns-in-Unary-clause-value : goal.value-returns-in-Unary-clause-value
+pub computed-returns-in-Unary-clause-value : goal.computed-returns-in-Unary-clause-value
 unfolding shape-the_row-Typed-0 hidden-the_row-Typed-0 hidden
-value-returns-in-Unary-clause-value t c =
+computed-returns-in-Unary-clause-value t c =
     let S : List Signal = c.args.signals.now in
     let V : Valuation = valuation_of c.args.words.now in
     let arg : Typed = c.in-Unary.arg in
@@ -263,17 +277,17 @@ value-returns-in-Unary-clause-value t c =
     ∙ ap (λ w. unary c.in-Unary.op w (value_of c.value.result)) (c.value.ensures.width ∙ ap (λ e. e.width) is)
     ∙ ap (unary c.in-Unary.op arg.width) (c.value.ensures.value ∙ ap (value S V) is))
 
-pub value-returns-in-Binary-clause-width : goal.value-returns-in-Binary-clause-width
+pub computed-returns-in-Binary-clause-width : goal.computed-returns-in-Binary-clause-width
 unfolding shape-the_row-Typed-0 hidden-the_row-Typed-0 hidden
-value-returns-in-Binary-clause-width t c =
+computed-returns-in-Binary-clause-width t c =
     let left : width_of c.value-high.result ≡ c.in-Binary.left.width = search rules in
     let right : width_of c.value-low.result ≡ c.in-Binary.right.width = search rules in
     let fits = binary-fits c.args.signals.now c.args.e.now.width (width_of c.value-high.result) (width_of c.value-low.result) c.args.e.now.signed c.in-Binary.op c.in-Binary.left c.in-Binary.right left right (rw c.in-Binary.is at c.requires.fits) in
     c.binary.ensures.width c.args.e.now.width fits
 
-pub value-returns-in-Binary-clause-value : goal.value-returns-in-Binary-clause-value
+pub computed-returns-in-Binary-clause-value : goal.computed-returns-in-Binary-clause-value
 unfolding shape-the_row-Typed-0 hidden-the_row-Typed-0 hidden
-value-returns-in-Binary-clause-value t c =
+computed-returns-in-Binary-clause-value t c =
     let S : List Signal = c.args.signals.now in
     let V : Valuation = valuation_of c.args.words.now in
     let left : Typed = c.in-Binary.left in
@@ -291,49 +305,49 @@ value-returns-in-Binary-clause-value t c =
     ∙ ap (λ n. binary c.in-Binary.op left.width left.signed right.signed n b) (c.value-high.ensures.value ∙ ap (value S V) one)
     ∙ ap (binary c.in-Binary.op left.width left.signed right.signed (value S V left)) (c.value-low.ensures.value ∙ ap (value S V) other))
 
-pub value-returns-then-is_true-clause-width : goal.value-returns-then-is_true-clause-width
+pub computed-returns-then-holds-clause-width : goal.computed-returns-then-holds-clause-width
 unfolding shape-the_row-Typed-0 hidden-the_row-Typed-0 hidden
-value-returns-then-is_true-clause-width t c =
+computed-returns-then-holds-clause-width t c =
     let fits = choose-widths c.args.signals.now c.args.e.now.width c.args.e.now.signed c.in-Choose.cond c.in-Choose.yes c.in-Choose.no (rw c.in-Choose.is at c.requires.fits) in
-    let wide : width_of c.value-then-is_true.result ≡ c.in-Choose.yes.width = search rules in wide ∙ fits.0
+    let wide : width_of c.value-then-holds.result ≡ c.in-Choose.yes.width = search rules in wide ∙ fits.0
 
-pub value-returns-then-is_true-clause-value : goal.value-returns-then-is_true-clause-value
+pub computed-returns-then-holds-clause-value : goal.computed-returns-then-holds-clause-value
 unfolding shape-the_row-Typed-0 hidden-the_row-Typed-0 hidden
-value-returns-then-is_true-clause-value t c =
+computed-returns-then-holds-clause-value t c =
     let S : List Signal = c.args.signals.now in
     let V : Valuation = valuation_of c.args.words.now in
-    let test = c.value-in-Choose.ensures.value ∙ ap (value S V) c.deref-in-Choose.ensures in
+    let test = c.if-holds.ensures ∙ ap (λ e. is_true (value S V e)) c.deref-in-Choose.ensures in
     rw c.in-Choose.is
-    (c.value-then-is_true.ensures.value
-    ∙ ap (value S V) c.deref-then-is_true.ensures
-    ∙ ap (λ b. if b then value S V c.in-Choose.yes else value S V c.in-Choose.no) (c.if-is_true.ensures ∙ ap is_true test))
+    (c.value-then-holds.ensures.value
+    ∙ ap (value S V) c.deref-then-holds.ensures
+    ∙ ap (λ b. if b then value S V c.in-Choose.yes else value S V c.in-Choose.no) test)
 
-pub value-returns-else-is_true-clause-width : goal.value-returns-else-is_true-clause-width
+pub computed-returns-else-holds-clause-width : goal.computed-returns-else-holds-clause-width
 unfolding shape-the_row-Typed-0 hidden-the_row-Typed-0 hidden
-value-returns-else-is_true-clause-width t c =
+computed-returns-else-holds-clause-width t c =
     let fits = choose-widths c.args.signals.now c.args.e.now.width c.args.e.now.signed c.in-Choose.cond c.in-Choose.yes c.in-Choose.no (rw c.in-Choose.is at c.requires.fits) in
-    let wide : width_of c.value-else-is_true.result ≡ c.in-Choose.no.width = search rules in wide ∙ fits.1
+    let wide : width_of c.value-else-holds.result ≡ c.in-Choose.no.width = search rules in wide ∙ fits.1
 
-pub value-returns-else-is_true-clause-value : goal.value-returns-else-is_true-clause-value
+pub computed-returns-else-holds-clause-value : goal.computed-returns-else-holds-clause-value
 unfolding shape-the_row-Typed-0 hidden-the_row-Typed-0 hidden
-value-returns-else-is_true-clause-value t c =
+computed-returns-else-holds-clause-value t c =
     let S : List Signal = c.args.signals.now in
     let V : Valuation = valuation_of c.args.words.now in
-    let test = c.value-in-Choose.ensures.value ∙ ap (value S V) c.deref-in-Choose.ensures in
+    let test = c.if-holds.ensures ∙ ap (λ e. is_true (value S V e)) c.deref-in-Choose.ensures in
     rw c.in-Choose.is
-    (c.value-else-is_true.ensures.value
-    ∙ ap (value S V) c.deref-else-is_true.ensures
-    ∙ ap (λ b. if b then value S V c.in-Choose.yes else value S V c.in-Choose.no) (c.if-is_true.ensures ∙ ap is_true test))
+    (c.value-else-holds.ensures.value
+    ∙ ap (value S V) c.deref-else-holds.ensures
+    ∙ ap (λ b. if b then value S V c.in-Choose.yes else value S V c.in-Choose.no) test)
 
-pub value-returns-in-Repeat-clause-width : goal.value-returns-in-Repeat-clause-width
+pub computed-returns-in-Repeat-clause-width : goal.computed-returns-in-Repeat-clause-width
 unfolding shape-the_row-Typed-0 hidden-the_row-Typed-0 hidden
-value-returns-in-Repeat-clause-width t c =
+computed-returns-in-Repeat-clause-width t c =
     let wide : width_of c.value-in-Repeat.result ≡ c.in-Repeat.part.width = search rules in
     let fits = repeat-fits c.args.signals.now c.args.e.now.width c.in-Repeat.times (width_of c.value-in-Repeat.result) c.args.e.now.signed c.in-Repeat.part wide (rw c.in-Repeat.is at c.requires.fits) in c.repeated.ensures.width ∙ fits.0
 
-pub value-returns-in-Repeat-clause-value : goal.value-returns-in-Repeat-clause-value
+pub computed-returns-in-Repeat-clause-value : goal.computed-returns-in-Repeat-clause-value
 unfolding shape-the_row-Typed-0 hidden-the_row-Typed-0 hidden
-value-returns-in-Repeat-clause-value t c =
+computed-returns-in-Repeat-clause-value t c =
     let S : List Signal = c.args.signals.now in
     let V : Valuation = valuation_of c.args.words.now in
     let part : Typed = c.in-Repeat.part in
@@ -343,6 +357,146 @@ value-returns-in-Repeat-clause-value t c =
     ∙ ap (λ w. repeated c.in-Repeat.times w (value_of c.value-in-Repeat.result)) (c.value-in-Repeat.ensures.width ∙ ap (λ e. e.width) is)
     ∙ ap (repeated c.in-Repeat.times part.width) (c.value-in-Repeat.ensures.value ∙ ap (value S V) is))
 
-pub value-returns-in-Resize-clause-value : goal.value-returns-in-Resize-clause-value
+pub computed-returns-in-Resize-clause-value : goal.computed-returns-in-Resize-clause-value
 unfolding shape-the_row-Typed-0 hidden-the_row-Typed-0 hidden
-value-returns-in-Resize-clause-value t c = first_of (search rules, grind (arith, common_steps))
+computed-returns-in-Resize-clause-value t c = first_of (search rules, grind (arith, common_steps))
+
+pub holds-holds-requires : goal.holds-holds-requires
+unfolding shape-the_row-Typed-0 hidden-the_row-Typed-0 hidden
+holds-holds-requires t c =
+    let fits = unary-arg c.args.signals.now c.args.e.now.width c.args.e.now.signed c.in-Unary.op c.in-Unary.arg (rw c.in-Unary.is at c.requires.fits) in
+    (search (rules, the_lemmas), (c.requires.words, rw c.deref.ensures fits))
+
+pub holds-value-requires-in-NotEqual : goal.holds-value-requires-in-NotEqual
+unfolding shape-the_row-Typed-0 hidden-the_row-Typed-0 hidden
+holds-value-requires-in-NotEqual t c =
+    let fits = both-fit c.args.signals.now c.args.e.now.width c.args.e.now.signed c.in-Binary.op c.in-Binary.left c.in-Binary.right (rw c.in-Binary.is at c.requires.fits) in
+    (search (rules, the_lemmas), (c.requires.words, rw c.deref-in-NotEqual.ensures fits.0))
+
+pub holds-value-requires-in-NotEqual-3 : goal.holds-value-requires-in-NotEqual-3
+unfolding shape-the_row-Typed-0 hidden-the_row-Typed-0 hidden
+holds-value-requires-in-NotEqual-3 t c =
+    let fits = both-fit c.args.signals.now c.args.e.now.width c.args.e.now.signed c.in-Binary.op c.in-Binary.left c.in-Binary.right (rw c.in-Binary.is at c.requires.fits) in
+    (search (rules, the_lemmas), (c.requires.words, rw c.deref-in-NotEqual-2.ensures fits.1))
+
+pub holds-holds-requires-in-LogicalAnd : goal.holds-holds-requires-in-LogicalAnd
+unfolding shape-the_row-Typed-0 hidden-the_row-Typed-0 hidden
+holds-holds-requires-in-LogicalAnd t c =
+    let fits = both-fit c.args.signals.now c.args.e.now.width c.args.e.now.signed c.in-Binary.op c.in-Binary.left c.in-Binary.right (rw c.in-Binary.is at c.requires.fits) in
+    (search (rules, the_lemmas), (c.requires.words, rw c.deref-in-LogicalAnd.ensures fits.0))
+
+pub holds-holds-requires-then-holds : goal.holds-holds-requires-then-holds
+unfolding shape-the_row-Typed-0 hidden-the_row-Typed-0 hidden
+holds-holds-requires-then-holds t c =
+    let fits = both-fit c.args.signals.now c.args.e.now.width c.args.e.now.signed c.in-Binary.op c.in-Binary.left c.in-Binary.right (rw c.in-Binary.is at c.requires.fits) in
+    (search (rules, the_lemmas), (c.requires.words, rw c.deref-then-holds.ensures fits.1))
+
+pub holds-holds-requires-in-LogicalOr : goal.holds-holds-requires-in-LogicalOr
+unfolding shape-the_row-Typed-0 hidden-the_row-Typed-0 hidden
+holds-holds-requires-in-LogicalOr t c =
+    let fits = both-fit c.args.signals.now c.args.e.now.width c.args.e.now.signed c.in-Binary.op c.in-Binary.left c.in-Binary.right (rw c.in-Binary.is at c.requires.fits) in
+    (search (rules, the_lemmas), (c.requires.words, rw c.deref-in-LogicalOr.ensures fits.0))
+
+pub holds-holds-requires-else-holds-2 : goal.holds-holds-requires-else-holds-2
+unfolding shape-the_row-Typed-0 hidden-the_row-Typed-0 hidden
+holds-holds-requires-else-holds-2 t c =
+    let fits = both-fit c.args.signals.now c.args.e.now.width c.args.e.now.signed c.in-Binary.op c.in-Binary.left c.in-Binary.right (rw c.in-Binary.is at c.requires.fits) in
+    (search (rules, the_lemmas), (c.requires.words, rw c.deref-else-holds-2.ensures fits.1))
+
+pub holds-value-requires-in-Equal : goal.holds-value-requires-in-Equal
+unfolding shape-the_row-Typed-0 hidden-the_row-Typed-0 hidden
+holds-value-requires-in-Equal t c =
+    let fits = both-fit c.args.signals.now c.args.e.now.width c.args.e.now.signed c.in-Binary.op c.in-Binary.left c.in-Binary.right (rw c.in-Binary.is at c.requires.fits) in
+    (search (rules, the_lemmas), (c.requires.words, rw c.deref-in-Equal.ensures fits.0))
+
+pub holds-value-requires-in-Equal-3 : goal.holds-value-requires-in-Equal-3
+unfolding shape-the_row-Typed-0 hidden-the_row-Typed-0 hidden
+holds-value-requires-in-Equal-3 t c =
+    let fits = both-fit c.args.signals.now c.args.e.now.width c.args.e.now.signed c.in-Binary.op c.in-Binary.left c.in-Binary.right (rw c.in-Binary.is at c.requires.fits) in
+    (search (rules, the_lemmas), (c.requires.words, rw c.deref-in-Equal-2.ensures fits.1))
+
+pub holds-returns-in-LogicalNot : goal.holds-returns-in-LogicalNot
+unfolding shape-the_row-Typed-0 hidden-the_row-Typed-0 hidden
+holds-returns-in-LogicalNot t c =
+    let S : List Signal = c.args.signals.now in
+    let V : Valuation = valuation_of c.args.words.now in
+    let arg : Typed = c.in-Unary.arg in
+    rw c.in-Unary.is
+    (ap not (c.holds.ensures ∙ ap (λ e. is_true (value S V e)) c.deref.ensures)
+    ∙ not-holds c.in-Unary.op arg.width (value S V arg) c.in-LogicalNot.is)
+
+pub holds-returns-in-Equal : goal.holds-returns-in-Equal
+unfolding shape-the_row-Typed-0 hidden-the_row-Typed-0 hidden
+holds-returns-in-Equal t c =
+    let S : List Signal = c.args.signals.now in
+    let V : Valuation = valuation_of c.args.words.now in
+    let left : Typed = c.in-Binary.left in
+    let right : Typed = c.in-Binary.right in
+    let a = c.value-in-Equal-2.ensures ∙ c.value-in-Equal.ensures.value ∙ ap (value S V) c.deref-in-Equal.ensures in
+    let b = c.value-in-Equal-4.ensures ∙ c.value-in-Equal-3.ensures.value ∙ ap (value S V) c.deref-in-Equal-2.ensures in
+    rw c.in-Binary.is
+    (ap (λ n. (n == c.value-in-Equal-4.result)) a
+    ∙ ap (λ n. (value S V left == n)) b
+    ∙ equal-holds c.in-Binary.op left.width (value S V left) (value S V right) left.signed right.signed c.in-Equal.is)
+
+pub holds-returns-in-NotEqual : goal.holds-returns-in-NotEqual
+unfolding shape-the_row-Typed-0 hidden-the_row-Typed-0 hidden
+holds-returns-in-NotEqual t c =
+    let S : List Signal = c.args.signals.now in
+    let V : Valuation = valuation_of c.args.words.now in
+    let left : Typed = c.in-Binary.left in
+    let right : Typed = c.in-Binary.right in
+    let a = c.value-in-NotEqual-2.ensures ∙ c.value-in-NotEqual.ensures.value ∙ ap (value S V) c.deref-in-NotEqual.ensures in
+    let b = c.value-in-NotEqual-4.ensures ∙ c.value-in-NotEqual-3.ensures.value ∙ ap (value S V) c.deref-in-NotEqual-2.ensures in
+    rw c.in-Binary.is
+    (ap (λ n. not (n == c.value-in-NotEqual-4.result)) a
+    ∙ ap (λ n. not (value S V left == n)) b
+    ∙ not_equal-holds c.in-Binary.op left.width (value S V left) (value S V right) left.signed right.signed c.in-NotEqual.is)
+
+pub holds-returns-then-holds : goal.holds-returns-then-holds
+unfolding shape-the_row-Typed-0 hidden-the_row-Typed-0 hidden
+holds-returns-then-holds t c =
+    let S : List Signal = c.args.signals.now in
+    let V : Valuation = valuation_of c.args.words.now in
+    let left : Typed = c.in-Binary.left in
+    let right : Typed = c.in-Binary.right in
+    let known = sym (c.holds-in-LogicalAnd.ensures ∙ ap (λ e. is_true (value S V e)) c.deref-in-LogicalAnd.ensures) ∙ c.if-holds.true in
+    rw c.in-Binary.is
+    (c.holds-then-holds.ensures
+    ∙ ap (λ e. is_true (value S V e)) c.deref-then-holds.ensures
+    ∙ and-holds c.in-Binary.op left.width (value S V left) (value S V right) left.signed right.signed true c.in-LogicalAnd.is known)
+
+pub holds-returns-else-holds : goal.holds-returns-else-holds
+unfolding shape-the_row-Typed-0 hidden-the_row-Typed-0 hidden
+holds-returns-else-holds t c =
+    let S : List Signal = c.args.signals.now in
+    let V : Valuation = valuation_of c.args.words.now in
+    let left : Typed = c.in-Binary.left in
+    let right : Typed = c.in-Binary.right in
+    let known = sym (c.holds-in-LogicalAnd.ensures ∙ ap (λ e. is_true (value S V e)) c.deref-in-LogicalAnd.ensures) ∙ c.if-holds.false in
+    rw c.in-Binary.is
+    (c.if-holds.false ∙ and-holds c.in-Binary.op left.width (value S V left) (value S V right) left.signed right.signed false c.in-LogicalAnd.is known)
+
+pub holds-returns-else-holds-2 : goal.holds-returns-else-holds-2
+unfolding shape-the_row-Typed-0 hidden-the_row-Typed-0 hidden
+holds-returns-else-holds-2 t c =
+    let S : List Signal = c.args.signals.now in
+    let V : Valuation = valuation_of c.args.words.now in
+    let left : Typed = c.in-Binary.left in
+    let right : Typed = c.in-Binary.right in
+    let known = sym (c.holds-in-LogicalOr.ensures ∙ ap (λ e. is_true (value S V e)) c.deref-in-LogicalOr.ensures) ∙ c.if-holds-2.false in
+    rw c.in-Binary.is
+    (c.holds-else-holds-2.ensures
+    ∙ ap (λ e. is_true (value S V e)) c.deref-else-holds-2.ensures
+    ∙ or-holds c.in-Binary.op left.width (value S V left) (value S V right) left.signed right.signed false c.in-LogicalOr.is known)
+
+pub holds-returns-then-holds-2 : goal.holds-returns-then-holds-2
+unfolding shape-the_row-Typed-0 hidden-the_row-Typed-0 hidden
+holds-returns-then-holds-2 t c =
+    let S : List Signal = c.args.signals.now in
+    let V : Valuation = valuation_of c.args.words.now in
+    let left : Typed = c.in-Binary.left in
+    let right : Typed = c.in-Binary.right in
+    let known = sym (c.holds-in-LogicalOr.ensures ∙ ap (λ e. is_true (value S V e)) c.deref-in-LogicalOr.ensures) ∙ c.if-holds-2.true in
+    rw c.in-Binary.is
+    (c.if-holds-2.true ∙ or-holds c.in-Binary.op left.width (value S V left) (value S V right) left.signed right.signed true c.in-LogicalOr.is known)

@@ -105,8 +105,8 @@ run_statement-assigned-word-requires-clause-chosen t c =
     let within = place-within places (parts_width signals c.in-Set.target.parts) c.in-Set.place (assignment_fits signals c.in-Set.target.parts c.in-Set.computed) (rw c.in-Set.is at c.requires.fits) in
     omega (arith, within, c.requires.chosen)
 
-pub run_statement-value-requires-clause-fits : goal.run_statement-value-requires-clause-fits
-run_statement-value-requires-clause-fits t c =
+pub run_statement-holds-requires-clause-fits : goal.run_statement-holds-requires-clause-fits
+run_statement-holds-requires-clause-fits t c =
     let signals : List Signal = c.args.design.now.signals.items in
     let places : List Place = c.args.design.now.places.items in
     let fits = if-fits signals places c.in-If.cond c.in-If.yes c.in-If.no (rw c.in-If.is at c.requires.fits) in rw c.deref-in-If.ensures.value fits.0
@@ -116,14 +116,14 @@ run_statement-run_statement-requires t c =
     let signals : List Signal = c.args.design.now.signals.items in
     let places : List Place = c.args.design.now.places.items in
     let fits = if-fits signals places c.in-If.cond c.in-If.yes c.in-If.no (rw c.in-If.is at c.requires.fits) in
-    (search (rules, the_lemmas), (c.requires.now, (c.requires.later, (c.requires.freed, (c.requires.chosen, rw c.deref-then-is_true.ensures fits.1.0)))))
+    (search (rules, the_lemmas), (c.requires.now, (c.requires.later, (c.requires.freed, (c.requires.chosen, rw c.deref-then-holds.ensures fits.1.0)))))
 
-pub run_statement-run_statement-requires-else-is_true : goal.run_statement-run_statement-requires-else-is_true
-run_statement-run_statement-requires-else-is_true t c =
+pub run_statement-run_statement-requires-else-holds : goal.run_statement-run_statement-requires-else-holds
+run_statement-run_statement-requires-else-holds t c =
     let signals : List Signal = c.args.design.now.signals.items in
     let places : List Place = c.args.design.now.places.items in
     let fits = if-fits signals places c.in-If.cond c.in-If.yes c.in-If.no (rw c.in-If.is at c.requires.fits) in
-    (search (rules, the_lemmas), (c.requires.now, (c.requires.later, (c.requires.freed, (c.requires.chosen, rw c.deref-else-is_true.ensures fits.1.1)))))
+    (search (rules, the_lemmas), (c.requires.now, (c.requires.later, (c.requires.freed, (c.requires.chosen, rw c.deref-else-holds.ensures fits.1.1)))))
 
 pub run_statement-value-subject-requires-clause-fits : goal.run_statement-value-subject-requires-clause-fits
 run_statement-value-subject-requires-clause-fits t c =
@@ -138,26 +138,26 @@ run_statement-run_statement-requires-in-None t c =
     let fits = case-ends signals places c.in-Case.subject c.in-Case.items c.in-Case.other c.in-Case.wild (rw c.in-Case.is at c.requires.fits) in
     (search (rules, the_lemmas), (c.requires.now, (c.requires.later, (c.requires.freed, (c.requires.chosen, rw c.deref-in-None.ensures fits.1)))))
 
-pub run_statement-returns-then-is_true-clause-value : goal.run_statement-returns-then-is_true-clause-value
-run_statement-returns-then-is_true-clause-value t c =
+pub run_statement-returns-then-holds-clause-value : goal.run_statement-returns-then-holds-clause-value
+run_statement-returns-then-holds-clause-value t c =
     let signals : List Signal = c.args.design.now.signals.items in
     let choice : Choice = choice_of c.args.freed.now c.args.chosen.now in
     let m : Updates = updates (valuation_of c.args.now.now) (valuation_of c.args.later.now) in
-    let test = c.value.ensures.value ∙ ap (λ ss. value ss m.now c.in-If.cond) c.deref-in-If.ensures.value in
+    let test = c.if-holds.ensures ∙ ap (λ ss. is_true (value ss m.now c.in-If.cond)) c.deref-in-If.ensures.value in
     rw c.in-If.is
     (c.run_statement.ensures.value
-    ∙ ap (λ s. after signals choice s m) c.deref-then-is_true.ensures
-    ∙ ap (λ b. if b then after signals choice c.in-If.yes m else after signals choice c.in-If.no m) (c.if-is_true.ensures ∙ ap is_true test)
+    ∙ ap (λ s. after signals choice s m) c.deref-then-holds.ensures
+    ∙ ap (λ b. if b then after signals choice c.in-If.yes m else after signals choice c.in-If.no m) test
     ∙ sym (after_if signals choice c.in-If.cond c.in-If.yes c.in-If.no m))
 
-pub run_statement-returns-else-is_true-clause-value : goal.run_statement-returns-else-is_true-clause-value
-run_statement-returns-else-is_true-clause-value t c =
+pub run_statement-returns-else-holds-clause-value : goal.run_statement-returns-else-holds-clause-value
+run_statement-returns-else-holds-clause-value t c =
     let signals : List Signal = c.args.design.now.signals.items in
     let choice : Choice = choice_of c.args.freed.now c.args.chosen.now in
     let m : Updates = updates (valuation_of c.args.now.now) (valuation_of c.args.later.now) in
-    let test = c.value.ensures.value ∙ ap (λ ss. value ss m.now c.in-If.cond) c.deref-in-If.ensures.value in
+    let test = c.if-holds.ensures ∙ ap (λ ss. is_true (value ss m.now c.in-If.cond)) c.deref-in-If.ensures.value in
     rw c.in-If.is
-    (c.run_statement-else-is_true.ensures.value
-    ∙ ap (λ s. after signals choice s m) c.deref-else-is_true.ensures
-    ∙ ap (λ b. if b then after signals choice c.in-If.yes m else after signals choice c.in-If.no m) (c.if-is_true.ensures ∙ ap is_true test)
+    (c.run_statement-else-holds.ensures.value
+    ∙ ap (λ s. after signals choice s m) c.deref-else-holds.ensures
+    ∙ ap (λ b. if b then after signals choice c.in-If.yes m else after signals choice c.in-If.no m) test
     ∙ sym (after_if signals choice c.in-If.cond c.in-If.yes c.in-If.no m))
