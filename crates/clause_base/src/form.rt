@@ -68,6 +68,15 @@ impl Clauses {
     {
         self.rows.push(literals)
     }
+
+    /// Appends the clause of no literals. Unchanged after `NoMemory`.
+    #[inline(always)]
+    pub fn push_empty(&mut self) -> Result<(), NoMemory>
+        ensures ok { OnOk result (self.new ≡ self.old ++ [] ∷ []) }
+        ensures err { OnErr result (self.new ≡ self.old) }
+    {
+        self.rows.push_empty()
+    }
 }
 
 /// A formula: clauses over the variables from 1 to `vars`.

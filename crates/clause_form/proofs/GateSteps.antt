@@ -1,5 +1,5 @@
 -- The clauses of an AND whose literals are no constants.
-use Rattle.std.proofs.Common.{◌≡◌, ℕ, ◌+◌, ◌<◌, ◌^◌, Bool, true, false, List, [], ◌∷◌, ◌++◌, length, Some, refl, sym, subst, arith}
+use Rattle.std.proofs.Common.{◌≡◌, ℕ, ◌+◌, ◌<◌, ◌^◌, Bool, true, false, List, [], ◌∷◌, ◌++◌, length, Some, refl, sym, subst, ◌∙◌, ap, arith}
 use Rattle.std.specs.Prelude.{IsTrue}
 use Rattle.std.proofs.lemmas.List.Elements.{All-append}
 use Rattle.loc_base.proofs.ShelfOptions.{Some-same}
@@ -12,9 +12,9 @@ use Rattle.gate_base.specs.declared.node.Node.TheVariants.{And}
 use Rattle.gate_base.specs.Literals.{opposite, IsBelow}
 use Rattle.gate_base.specs.Nodes.{NodeFits}
 use Rattle.clause_form.specs.Clauses.{simplified, clause_of, and_clauses, defined, literals_in}
-use Rattle.clause_form.specs.Named.{named_from}
+use Rattle.clause_form.specs.Named.{named_from, skips_three}
 use Rattle.clause_form.specs.Variables.{HaveVariables, gate_clauses, literal_of}
-use Rattle.clause_form.proofs.NamedSteps.{then-named}
+use Rattle.clause_form.proofs.NamedSteps.{then-named, skipped-three}
 use Rattle.clause_form.proofs.SinkSteps.{after-all}
 use Rattle.clause_form.proofs.WalkSteps.{have-below}
 use Rattle.clause_form.proofs.Distinct.{pair-distinct, triple-distinct}
@@ -62,7 +62,13 @@ gate-kept named v x y clauses one two three is_one is_two is_three =
     then-named named clauses two three ((negated_of v ∷ x ∷ []) ∷ (negated_of v ∷ y ∷ []) ∷ []) ((v ∷ negated_of x ∷ negated_of y ∷ []) ∷ [])
     (then-named named clauses one two ((negated_of v ∷ x ∷ []) ∷ []) ((negated_of v ∷ y ∷ []) ∷ []) is_one is_two) is_three
 
-pub ruleset kept = (gate-parts, gate-kept)
+pub gate-skipped : (named : List Bool) (v x y : Lit) (clauses next : List (List Lit)) → skips_three named (length clauses) ≡ true
+    → next ≡ clauses ++ [] ∷ [] ∷ [] ∷ [] → next ≡ clauses ++ named_from named (length clauses) (gate_clauses v x y)
+unfolding gate_clauses
+gate-skipped named v x y clauses next skips is =
+    is ∙ ap (λ cs. clauses ++ cs) (sym (skipped-three named (length clauses) (negated_of v ∷ x ∷ []) (negated_of v ∷ y ∷ []) (v ∷ negated_of x ∷ negated_of y ∷ []) skips))
+
+pub ruleset kept = (gate-parts, gate-kept, gate-skipped)
 
 -- ---- so many literals
 

@@ -1,8 +1,20 @@
 -- Clauses of which those that aren't wanted are empty.
-use Rattle.std.proofs.Common.{◌≡◌, ℕ, suc, ◌+◌, ◌<◌, ◌≤◌, Bool, true, false, if◌then◌else◌, List, [], ◌∷◌, ◌++◌, length, get_or, take, refl, sym, ◌∙◌, ap, arith, append_assoc, append-nil}
+use Rattle.std.proofs.Common.{◌≡◌, ℕ, suc, ◌+◌, ◌-◌, ◌<◌, ◌≤◌, Bool, true, false, not, ◌||◌, if◌then◌else◌, List, [], ◌∷◌, ◌++◌, length, get_or, take, refl, sym, subst, ◌∙◌, ap, arith, append_assoc, append-nil}
 use Rattle.std.proofs.lemmas.List.{get_or_past, length-append, take_all, take_more}
 use Rattle.clause_base.specs.declared.literal.Lit.{Lit}
-use Rattle.clause_form.specs.Named.{named_from}
+use Rattle.clause_form.specs.Named.{named_from, skips_three}
+
+none-of : (a b c : Bool) → not (a || (b || c)) ≡ true → (a ≡ false) × (b ≡ false) × (c ≡ false)
+none-of true b c is = cc
+none-of false true c is = cc
+none-of false false true is = cc
+none-of false false false is = (refl, refl, refl)
+
+last-of : (a b c : Bool) → c ≡ true → not (a || (b || c)) ≡ false
+last-of true b c is = refl
+last-of false true c is = refl
+last-of false false true is = refl
+last-of false false false is = cc
 
 module _ (named : List Bool) where
   pub length-named : (place : ℕ) (clauses : List (List Lit)) → length (named_from named place clauses) ≡ length clauses
@@ -51,6 +63,23 @@ module _ (named : List Bool) where
   skipped place (clause ∷ []) one is = unnamed-one place [] is ∙ sym (unnamed-one place clause is)
   skipped place (clause ∷ next ∷ clauses) one is = absurd (omega (arith, one))
 
+  -- three empty ones for three that aren't wanted
+  pub skipped-three : (place : ℕ) (a b c : List Lit) → skips_three named place ≡ true
+      → named_from named place (a ∷ b ∷ c ∷ []) ≡ [] ∷ [] ∷ [] ∷ []
+  unfolding named_from skips_three
+  skipped-three place a b c is =
+      let none = none-of (get_or named place true) (get_or named (place + 1) true) (get_or named (place + 2) true) is in
+      let next : place + 2 ≡ place + 1 + 1 = omega arith in
+      ap (λ m. (if m then a else []) ∷ named_from named (place + 1) (b ∷ c ∷ [])) none.0
+      ∙ ap (λ m. [] ∷ (if m then b else []) ∷ named_from named (place + 1 + 1) (c ∷ [])) none.1
+      ∙ ap (λ (cs : List (List Lit)). [] ∷ [] ∷ cs) (unnamed-one (place + 1 + 1) c (subst (λ p. get_or named p true ≡ false) next none.2))
+
+  -- where one has no mark, it is wanted
+  pub short-three : (place : ℕ) → length named - place < 3 → skips_three named place ≡ false
+  unfolding skips_three
+  short-three place few =
+      last-of (get_or named place true) (get_or named (place + 1) true) (get_or named (place + 2) true) (get_or_past named (place + 2) true (omega (arith, few)))
+
   pub named-nothing : (place : ℕ) → named_from named place [] ≡ []
   unfolding named_from
   named-nothing place = refl
@@ -77,6 +106,8 @@ module _ (named : List Bool) where
   unmarked place past = get_or_past named place true past
 
 pub ruleset ones = (named-one, unnamed-one, unmarked)
+
+pub ruleset threes = (short-three)
 
 -- without marks each clause is kept
 pub named-whole : (place : ℕ) (clauses : List (List Lit)) → named_from [] place clauses ≡ clauses

@@ -2,7 +2,7 @@
 
 ghost use Rattle.std.specs.Prelude.{◌≡◌, ◌∷◌, ◌++◌, [], IfOk, IsTrue, OnOk, get_or, length, true};
 ghost use Rattle.clause_base.specs.Literal.{has_distinct_variables};
-ghost use Rattle.clause_form.specs.Named.{named_from};
+ghost use Rattle.clause_form.specs.Named.{named_from, skips_three};
 
 use clause_base::{Clauses, Lit};
 use loc_base::{Items, NoMemory};
@@ -57,6 +57,28 @@ impl Kept {
         }
     }
 
+    /// Whether none of the next three clauses is kept as it is.
+    #[inline(always)]
+    #[tactic(auto, unfolding(crate::specs::Named::skips_three), using(crate::proofs::NamedSteps::threes))]
+    pub(crate) fn skips_three(&self) -> bool
+        ensures { result ≡ skips_three self.now.named (length self.now.clauses) }
+    {
+        let marks = self.named.as_slice();
+        let place = self.clauses.len();
+        marks.len().saturating_sub(place) >= 3
+            && !(marks[place] || (marks[place + 1] || marks[place + 2]))
+    }
+
+    /// Appends three empty clauses.
+    pub(crate) fn push_three_empty(&mut self) -> Result<(), NoMemory>
+        ensures clauses { OnOk result (self.new.clauses ≡ self.old.clauses ++ [] ∷ [] ∷ [] ∷ []) }
+        ensures named { self.new.named ≡ self.old.named }
+    {
+        self.clauses.push_empty()?;
+        self.clauses.push_empty()?;
+        self.clauses.push_empty()
+    }
+
     /// Appends a clause, or an empty one in its place.
     pub(crate) fn push(&mut self, clause: &[Lit]) -> Result<(), NoMemory>
         requires { IsTrue (has_distinct_variables clause.now) }
@@ -66,7 +88,7 @@ impl Kept {
         if self.takes() {
             self.clauses.push(clause)
         } else {
-            self.clauses.push(&[])
+            self.clauses.push_empty()
         }
     }
 

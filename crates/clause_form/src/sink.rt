@@ -252,6 +252,9 @@ impl Sink {
         ensures named { self.new.kept.named ≡ self.old.kept.named }
         ensures count { self.new.count ≡ self.old.count }
     {
+        if self.kept.skips_three() {
+            return self.kept.push_three_empty();
+        }
         self.kept.push(&[v.opposite(), x])?;
         self.kept.push(&[v.opposite(), y])?;
         self.kept.push(&[v, x.opposite(), y.opposite()])

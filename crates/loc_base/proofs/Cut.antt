@@ -63,6 +63,13 @@ cut-push items row ends h =
     ∙ ap (λ last. cut (items ++ row) 0 ends ++ last ∷ []) (last_row items row)
     ∙ ap (λ rows. rows ++ row ∷ []) (cut-append items row 0 ends h)
 
+-- what one more row without elements leaves
+pub cut-empty : {T : Type 0} (items : List T) (ends : List ℕ) → EndsAscend 0 ends (length items) → cut items 0 (ends ++ length items ∷ []) ≡ cut items 0 ends ++ [] ∷ []
+cut-empty items ends h =
+    let none : length items - length items ≡ 0 = omega arith in
+    cut-one_more items 0 ends (length items) (length items) h
+    ∙ ap (λ n. cut items 0 ends ++ take n (drop (length items) items) ∷ []) none
+
 slice_range-take : {T : Type 0} (items : List T) (n a b : ℕ) → b ≤ n → slice_range (take n items) a b ≡ slice_range items a b
 slice_range-take items n a b le =
     between_is (take n items) a b ∙ ap (drop a) (take-take b n items le) ∙ sym (between_is items a b)
@@ -89,4 +96,4 @@ pub cut-pop : {T : Type 0} (items : List T) (ends : List ℕ) (total n : ℕ) �
 cut-pop items ends total n h lt =
     cut-take_items items _ 0 (take n ends) (EndsAscend-take 0 ends total n h lt) ∙ cut-take_ends items 0 ends n
 
-pub ruleset cuts = (length-cut, start-le, end-le, get_or-cut, cut-push, EndsAscend-push, cut-pop, EndsAscend-take, nil_from_length, length-take-le)
+pub ruleset cuts = (length-cut, start-le, end-le, get_or-cut, cut-push, cut-empty, EndsAscend-push, cut-pop, EndsAscend-take, nil_from_length, length-take-le)

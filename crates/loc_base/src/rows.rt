@@ -85,6 +85,17 @@ impl<T: Copy> Rows<T> {
         Ok(())
     }
 
+    /// Appends a row without elements. Unchanged after `NoMemory`.
+    #[inline(always)]
+    pub fn push_empty(&mut self) -> Result<(), NoMemory>
+        ensures ok { OnOk result (self.new ≡ self.old ++ [] ∷ []) }
+        ensures err { OnErr result (self.new ≡ self.old) }
+    {
+        let end = self.items.len();
+        self.ends.push(end)?;
+        Ok(())
+    }
+
     /// Takes the last row off.
     pub fn pop(&mut self)
         requires { 0 < length self.old }
