@@ -18,7 +18,7 @@ use Rattle.sat_core.specs.SolverState.{SolverState, IsSolver, blocks_of}
 use Rattle.sat_core.specs.Calls.{MayFollow, told_after, with_steps}
 use Rattle.sat_core.specs.Searching.{form_of, state_of, IsReady}
 use Rattle.sat_core.proofs.Growing.{IsLogged, logged, IsLogged-push, IsLogged-block}
-use Rattle.sat_core.proofs.SearchLemmas.{StaysFit, IsReady-same, IsReady-pushed}
+use Rattle.sat_core.proofs.SearchLemmas.{stays, IsReady-same, IsReady-pushed}
 
 -- a step that is no block is accepted whatever the blocks are
 other_blocks : (kind : StepKind) (form a b : List (List Lit)) (earlier : List Step) (step : Step) → is_block_kind kind ≡ false → IsAcceptedAs kind form a earlier step → IsAcceptedAs kind form b earlier step
@@ -61,9 +61,6 @@ with_more s now next steps place l a b =
     ∙ (ap (λ ls. record s { log = ls; told = None }) (append_assoc s.log (take place steps) (x ∷ []))
     ∙ (ap (λ o. record s { log = s.log ++ (take place steps ++ x ∷ []); told = o }) (sym (none_told (take place steps) x s.told))
     ∙ ap (with_steps s) (sym (take_more steps place no_step l)))))
-
-stays : (e : Engine) (log : List Step) → IsReady e log → StaysFit e e
-stays e log r = record { fit = r.fit; vars = refl; size = refl; preferred = refl; model = refl }
 
 taken_as : (vars : ℕ) (form : List (List Lit)) (log after : List Step) (s : Step) (k : StepKind) → s.kind ≡ k → IsLogged vars form log → (is_block s ≡ false → IsAcceptedStep form (blocks_of log) log s) → IsWithin vars s.clause → has_distinct_variables s.clause ≡ true → after ≡ log ++ s ∷ [] → IsLogged vars form after
 taken_as vars form log after s Block k h a w d e = IsLogged-block vars form log after s h k w d e

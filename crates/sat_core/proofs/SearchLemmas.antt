@@ -57,6 +57,9 @@ pub record StaysFit (old new : Engine) : Type 0 where
 pub StaysFit-from : (old new : Engine) → IsFit new → new.trail.vars ≡ old.trail.vars → new.form_len ≡ old.form_len → new.preferred ≡ old.preferred → new.model ≡ old.model → StaysFit old new
 StaysFit-from old new h v n p m = record { fit = h; vars = v; size = n; preferred = ap (λ x. x.items) p; model = ap (λ x. length x.items) m }
 
+pub stays : (e : Engine) (log : List Step) → IsReady e log → StaysFit e e
+stays e log r = record { fit = r.fit; vars = refl; size = refl; preferred = refl; model = refl }
+
 pub Keeps-from : (old new : Engine) (log more : List Step) → IsReady old log → StaysFit old new → new.trail.clauses ≡ clauses_of (form_of old) more → Keeps old new
 Keeps-from old new log more r s c = record { vars = s.vars; size = s.size; form = form_kept old new log more r s.size c; preferred = s.preferred }
 

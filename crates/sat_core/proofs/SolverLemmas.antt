@@ -20,10 +20,7 @@ use Rattle.sat_core.specs.Calls.{with_steps}
 use Rattle.sat_core.specs.Analyses.{IsEmpty}
 use Rattle.sat_core.specs.Searching.{form_of, state_of, seen_of, IsReady, Keeps, StandsBy, StandsTold}
 use Rattle.sat_core.proofs.Growing.{IsLogged, logged, solver_from, IsLogged-block, Grows-none}
-use Rattle.sat_core.proofs.SearchLemmas.{StaysFit, IsReady-same, IsReady-pushed}
-
-stays : (e : Engine) (log : List Step) → IsReady e log → StaysFit e e
-stays e log r = record { fit = r.fit; vars = refl; size = refl; preferred = refl; model = refl }
+use Rattle.sat_core.proofs.SearchLemmas.{stays, IsReady-same, IsReady-pushed}
 
 -- a block more, or none
 pub IsReady-blocked : {T : Type 0} (e : Engine) (log after : List Step) (found : List Lit) (r : Result T NoMemory) → IsReady e log → IsWithin e.trail.vars found → has_distinct_variables found ≡ true → OnOk r (after ≡ log ++ record { kind = Block; clause = found; chain = [] } ∷ []) → OnErr r (after ≡ log) → IsReady e after
