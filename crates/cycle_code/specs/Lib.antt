@@ -1,0 +1,5 @@
+pub mod Program
+pub mod Cells
+pub mod Effects
+pub mod Running
+pub mod Fitting

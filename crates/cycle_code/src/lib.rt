@@ -1,0 +1,11 @@
+//! A flat list of instructions on cells, each a word, and its run: what the expressions and statements of a design are turned
+//! into, so that a cycle takes no walk over trees. What an instruction does is one definition by cases (`specs/Effects`).
+#![tactic(auto)]
+
+mod code;
+mod instruction;
+mod running;
+
+pub use code::Code;
+pub use instruction::Instruction;
+pub use running::run;

@@ -1,0 +1,16 @@
+pub mod Leading
+pub mod Jumping
+pub mod Outcomes
+pub mod Carrying
+pub mod Assigning
+pub mod Labelling
+pub mod Statements
+pub mod Placing
+pub mod Wide
+pub mod Computing
+pub mod Operating
+pub mod OperatorFits
+pub mod Widened
+pub mod Deciding
+pub mod Choosing
+pub mod Joining
