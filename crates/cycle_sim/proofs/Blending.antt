@@ -39,7 +39,7 @@ xor_of (suc (suc a)) b ha hb = absurd (omega (arith, ha))
 xor_of zero (suc (suc b)) ha hb = absurd (omega (arith, hb))
 xor_of (suc zero) (suc (suc b)) ha hb = absurd (omega (arith, hb))
 
-bit-and : (a b p : ℕ) → bit (bit_and a b) p ≡ (bit a p && bit b p)
+pub bit-and : (a b p : ℕ) → bit (bit_and a b) p ≡ (bit a p && bit b p)
 bit-and a b p = ap (λ n. n == 1) (bit_at_and a b p) ∙ and_of (bit_at a p) (bit_at b p) (bit_at-lt a p) (bit_at-lt b p)
 
 bit-xor : (a b p : ℕ) → bit (bit_xor a b) p ≡ (if bit a p then not (bit b p) else bit b p)

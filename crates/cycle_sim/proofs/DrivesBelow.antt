@@ -22,7 +22,8 @@ use Rattle.cycle_sim.proofs.Collecting.{drives-below}
 abbrev set_test : List Signal → ℕ → ℕ → List Part → Bool → Bool
 set_test signals s b parts later = list_any (part_drives signals s b) parts
 
-parts-below : (signals : List Signal) (s b : ℕ) (parts : List Part) → list_all (part_fits signals) parts ≡ true → list_any (part_drives signals s b) parts ≡ true → b < width_at signals s
+-- a bit that a left side assigns is one of its signal
+pub parts-below : (signals : List Signal) (s b : ℕ) (parts : List Part) → list_all (part_fits signals) parts ≡ true → list_any (part_drives signals s b) parts ≡ true → b < width_at signals s
 parts-below signals s b [] fits h = cc
 parts-below signals s b (part ∷ parts) fits h =
     let both = and_parts (part_fits signals part) (list_all (part_fits signals) parts) fits in

@@ -1,4 +1,5 @@
 pub mod Blending
+pub mod WholeRegisters
 pub mod ConstantReads
 pub mod StatementNow
 pub mod Resets
@@ -17,3 +18,12 @@ pub mod Running
 pub mod Chosen
 pub mod Replayed
 pub mod Wholes
+pub mod CellWords
+pub mod Pushing
+pub mod Leaving
+pub mod Assigned
+pub mod Clearing
+pub mod Storing
+pub mod OwnDrivers
+pub mod Ranges
+pub mod Held

@@ -1,17 +1,13 @@
 -- What a step leaves is the cycle.
-use Rattle.std.proofs.Common.{ℕ, ◌≡◌, ◌<◌, ◌≤◌, Bool, true, false, not, ◌&&◌, ◌||◌, List, length, refl, ap, sym, subst, ◌∙◌, ◌⊎◌, inl, inr, arith}
+use Rattle.std.proofs.Common.{ℕ, ◌≡◌, ◌<◌, ◌≤◌, Bool, true, false, not, ◌&&◌, ◌||◌, List, refl, ap, sym, subst, ◌∙◌, ◌⊎◌, inl, inr}
 use Rattle.std.specs.Prelude.{if◌then◌else◌, slice_get, Contains, nat_lt}
 use Rattle.std.proofs.Math.Path.{fun_ext}
 use Rattle.std.proofs.lemmas.Bool.{and_parts, and_from, cases_Bool, both_ways, cases_lt, lt-ltb, le-ltb}
 use Rattle.loc_base.specs.declared.bits.Bits.{Bits}
 use Rattle.design_core.specs.declared.driver.Clocked.{Clocked}
-use Rattle.design_core.specs.declared.signal.Signal.{Signal}
 use Rattle.design_core.specs.declared.design.Design.{Design}
 use Rattle.design_core.specs.Valuation.{Valuation, width_at}
-use Rattle.design_core.specs.Words.{valuation_of, AreWordsOf}
 use Rattle.design_core.specs.WellFormed.{IsWellFormed}
-use Rattle.plain_sim.proofs.EvaluateSweep.{valuation-high}
-use Rattle.plain_values.proofs.EvaluateWords.{words-length}
 use Rattle.cycle_sim.specs.declared.mask.Mask.{Mask}
 use Rattle.design_core.specs.After.{Choice}
 use Rattle.design_core.specs.Drives.{is_driven, is_listed, block_drives, is_register_bit}
@@ -168,10 +164,3 @@ cycle-quiet d samples state choice V N c s b none other undriven = c.other s b (
     all false true z p q r = cc
     all false false true p q r = cc
     all false false false p q r = refl
-
-pub words-narrow : (d : Design) (words : List Bits) → AreWordsOf d.signals.items words → IsNarrow d (valuation_of words)
-words-narrow d words fit s b high = valuation-high d.signals.items words s b fit high
-
--- words of the same signals are as many
-pub as-many : (signals : List Signal) (one other : List Bits) → AreWordsOf signals one → AreWordsOf signals other → length other ≡ length one
-as-many signals one other fit fits = omega (arith, words-length signals one fit, words-length signals other fits)

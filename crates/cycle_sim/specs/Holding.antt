@@ -7,10 +7,12 @@ use Rattle.design_core.specs.declared.design.Design.{Design}
 use Rattle.design_core.specs.Valuation.{Valuation}
 use Rattle.design_core.specs.Drives.{is_driven, is_listed, is_register_bit}
 use Rattle.design_core.specs.Steps.{kept}
-use Rattle.design_core.specs.Words.{valuation_of, AreWordsOf}
+use Rattle.design_core.specs.Words.{valuation_of}
+use Rattle.cycle_code.specs.Program.{program_of}
 use Rattle.cycle_sim.specs.declared.machine.Machine.{Machine}
 use Rattle.cycle_sim.specs.declared.plan.Plan.{Plan}
-use Rattle.cycle_sim.specs.Masks.{AreRegisters, AreDriverMasks, AreClockedMasks}
+use Rattle.cycle_sim.specs.Masks.{AreRegisters, AreSplit, AreDriverMasks, AreClockedMasks, widths_of}
+use Rattle.cycle_sim.specs.Compiled.{AreCells, IsCompiled, now_in, later_in}
 use Rattle.cycle_sim.specs.Simulated.{Simulated, IsSimulable, CanSimulate}
 
 -- the start values of the signals, as a valuation
@@ -22,13 +24,14 @@ abbrev pub simulated_of : Machine → Simulated
 simulated_of a = record {
   design = a.design.now;
   order = a.order.now;
-  values = valuation_of a.values.items;
-  state = kept a.design.now (valuation_of a.state.items);
+  values = now_in (program_of a.compiled.code) (valuation_of a.cells.items);
+  state = kept a.design.now (later_in (program_of a.compiled.code) (valuation_of a.cells.items));
 }
 
 -- the masks are those of the design
 pub record IsPlan (d : Design) (plan : Plan) : Type 0 where
-  pub registers : AreRegisters d plan.registers.items
+  pub registers : AreRegisters d plan.registers.masks.items
+  pub split : AreSplit (widths_of d.signals.items) plan.registers
   pub drivers : AreDriverMasks d plan.drivers
   pub blocks : AreClockedMasks d plan.blocks.own plan.blocks.at_once plan.blocks.now
 
@@ -40,7 +43,7 @@ AreQuiet d V = (s b : ℕ) → is_listed d s ≡ false → is_register_bit d s b
 pub record IsHolding (a : Machine) : Type 0 where
   pub can : CanSimulate a.design.now a.order.now
   pub plan : IsPlan a.design.now a.plan
-  pub values : AreWordsOf a.design.now.signals.items a.values.items
-  pub state : AreWordsOf a.design.now.signals.items a.state.items
-  pub room : AreWordsOf a.design.now.signals.items a.room.items
-  pub quiet : IsSimulable a.design.now a.order.now → AreQuiet a.design.now (valuation_of a.values.items)
+  pub compiled : IsCompiled a.design.now a.order.now a.compiled
+  pub cells : AreCells (program_of a.compiled.code) a.cells.items
+  pub quiet : IsSimulable a.design.now a.order.now
+      → AreQuiet a.design.now (now_in (program_of a.compiled.code) (valuation_of a.cells.items))

@@ -4,6 +4,7 @@ pub mod Masks
 pub mod Blocks
 pub mod Collected
 pub mod Planned
+pub mod Compiled
 pub mod Holding
 pub mod Simulator
 pub mod Replaying

@@ -1,7 +1,8 @@
 -- Masks: some bits of the signals, each mask those of one signal where its word has 1.
-use Rattle.std.specs.Prelude.{ℕ, ◌≡◌, ◌==◌, Bool, false, not, ◌&&◌, if◌then◌else◌, List, map, length, slice_get, slice_index_or, nat_lt, [], Some}
+use Rattle.std.specs.Prelude.{ℕ, ◌≡◌, ◌==◌, ◌<◌, Bool, false, not, ◌&&◌, ◌||◌, if◌then◌else◌, IsTrue, List, All, map, length, slice_get, slice_index_or, nat_lt, [], Some}
 use Rattle.std.specs.List.{list_any}
 use Rattle.std.specs.Option.{option_map_or}
+use Rattle.loc_base.specs.declared.bits.Bits.{Bits}
 use Rattle.loc_base.specs.Bits.{bit_of, width_of}
 use Rattle.design_core.specs.declared.signal.Signal.{Signal}
 use Rattle.design_core.specs.declared.statement.Stmt.{Stmt}
@@ -13,6 +14,7 @@ use Rattle.design_core.specs.After.{Choice, after}
 use Rattle.design_core.specs.Cycle.{driven}
 use Rattle.design_core.specs.Drives.{some_set, part_drives, driver_drives, block_drives, block_assigns_later, is_register_bit}
 use Rattle.cycle_sim.specs.declared.mask.Mask.{Mask}
+use Rattle.cycle_sim.specs.declared.registers.Registers.{Registers}
 
 -- whether a mask has a bit
 abbrev pub in_mask : Mask → ℕ → ℕ → Bool
@@ -77,6 +79,24 @@ pub record AreClockedMasks (d : Design) (own at_once now : List (List Mask)) : T
 pub record AreRegisters (d : Design) (masks : List Mask) : Type 0 where
   pub widths : AreMasksOf (widths_of d.signals.items) masks
   pub same : (s b : ℕ) → covers masks s b ≡ (is_register_bit d s b && nat_lt b (width_at d.signals.items s))
+
+-- each bit of a word is 1
+abbrev pub IsFull : Bits → Type 0
+IsFull bits = (b : ℕ) → b < width_of bits → IsTrue (bit_of bits b)
+
+-- whether a signal is one of some
+abbrev pub is_among : List ℕ → ℕ → Bool
+is_among signals s = list_any (λ k. k == s) signals
+
+-- some masks have the bits of the words of some signals, and those of some other masks
+pub record IsSplit (widths : List ℕ) (masks : List Mask) (signals : List ℕ) (others : List Mask) : Type 0 where
+  pub whole : All (λ s. s < length widths) signals
+  pub parts : AreMasksOf widths others
+  pub same : (s b width : ℕ) → slice_get widths s ≡ Some width → b < width → covers masks s b ≡ (is_among signals s || covers others s b)
+
+-- the bits of registers are those of the whole words and of the parts
+abbrev pub AreSplit : List ℕ → Registers → Type 0
+AreSplit widths registers = IsSplit widths registers.masks.items registers.whole.items registers.parts.items
 
 -- what a statement of a clocked block leaves in the words of states, begun with V and S: the later updates, but what is
 -- read in the registers' bits that it does not assign by `<=`

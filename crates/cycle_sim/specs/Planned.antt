@@ -11,7 +11,7 @@ use Rattle.design_core.specs.Drives.{is_reg, some_set, block_assigns_later}
 use Rattle.cycle_sim.specs.declared.mask.Mask.{Mask}
 use Rattle.cycle_sim.specs.declared.block.BlockMasks.{BlockMasks}
 use Rattle.cycle_sim.specs.Collected.{set_drives}
-use Rattle.cycle_sim.specs.Masks.{AreBlockMasks, AreMasksOf, covers, in_mask}
+use Rattle.cycle_sim.specs.Masks.{AreBlockMasks, AreMasksOf, IsSplit, covers, in_mask}
 
 -- whether a bit is a variable's
 abbrev pub is_full_bit : List Signal → ℕ → ℕ → Bool
@@ -42,3 +42,8 @@ pub record ListedSoFar (words : List Bits) (masks : List Mask) (k : ℕ) : Type 
 pub record Keeps (block : Clocked) (m : Mask) (old new : List Mask) : Type 0 where
   pub widths : (widths : List ℕ) → slice_get widths m.signal ≡ Some (width_of m.bits) → AreMasksOf widths old → AreMasksOf widths new
   pub same : (s b : ℕ) → covers new s b ≡ (covers old s b || (in_mask m s b && not (block_assigns_later s block)))
+
+-- masks stay split where one more is put to their whole words or to their parts
+abbrev pub Splits : Mask → List ℕ → List Mask → List ℕ → List Mask → Type 0
+Splits m whole parts whole' parts' = (widths : List ℕ) (masks : List Mask) → slice_get widths m.signal ≡ Some (width_of m.bits)
+    → IsSplit widths masks whole parts → IsSplit widths (masks ++ m ∷ []) whole' parts'

@@ -143,7 +143,7 @@ pub(crate) fn add_statement(
     }
 }
 
-/// Adds those of statements.
+/// Adds the masks of the bits that statements assign.
 #[cycle(collect)]
 fn add_statements(
     design: &Design,
@@ -161,7 +161,7 @@ fn add_statements(
     Ok(())
 }
 
-/// Adds those of the items of a case.
+/// Adds the masks of the bits that the items of a case assign.
 #[cycle(collect)]
 fn add_items(
     design: &Design,

@@ -5,12 +5,13 @@
 mod begin;
 mod block;
 mod collect;
-mod drive;
+mod compiled;
 mod machine;
 mod mask;
 mod miss;
 mod miss_search;
 mod plan;
+mod registers;
 mod sim;
 mod suited;
 mod whole;

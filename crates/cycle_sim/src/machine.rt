@@ -10,14 +10,18 @@ ghost use Rattle.design_core.specs.WellFormed.{signal_fits};
 ghost use Rattle.design_core.specs.Words.{choice_of, valuation_of, AreWordsOf};
 ghost use Rattle.design_core.specs.Given.{AreChosen};
 ghost use Rattle.cycle_sim.specs.Simulated.{CanSimulate, IsSimulable, at_start, Steps};
+ghost use Rattle.cycle_code.specs.Program.{program_of};
+ghost use Rattle.cycle_code.specs.Fitting.{IsSound};
+ghost use Rattle.cycle_sim.specs.Compiled.{AreCells, IsCompiled, now_in, later_in};
 ghost use Rattle.cycle_sim.specs.Holding.{IsHolding, IsPlan, AreQuiet, simulated_of, starts};
 ghost use Rattle.design_core.specs.Cycle.{Cycle};
 ghost use Rattle.design_core.specs.Steps.{kept};
 
-use crate::begin::begin;
+use crate::begin::begin_cells;
 use crate::block::{reset_blocks, run_blocks};
-use crate::drive::drive_all;
+use crate::compiled::{Compiled, compile};
 use crate::plan::{Plan, plan_of, signal_at};
+use cycle_code::{Code, run};
 use design_core::types::Order;
 use design_core::{Design, Signal};
 use loc_base::{Bits, NoMemory};
@@ -29,23 +33,21 @@ pub(crate) struct Machine<'a> {
     pub(crate) design: &'a Design,
     order: &'a [u32],
     plan: Plan,
-    pub(crate) values: Vec<Bits>,
-    state: Vec<Bits>,
-    /// Room for the bits that a clocked block assigns by `=`.
-    room: Vec<Bits>,
+    compiled: Compiled<'a>,
+    /// The values of the signals, their states, and as much room for the bits that a clocked block assigns by `=`; then the cells
+    /// of the instructions.
+    cells: Vec<Bits>,
 }
 
-/// A word of 0 for each signal.
-fn zero_words(alloc: Global, signals: &[Signal]) -> Result<Vec<Bits>, NoMemory>
-    requires { IsTrue (list_all signal_fits signals.now) }
-    ensures words { IfOk result (λ words. AreWordsOf signals.now words.items) }
-    ensures value { IfOk result (λ words. valuation_of words.items ≡ zeros) }
+/// A copy of words.
+fn copied(alloc: Global, words: &[Bits]) -> Result<Vec<Bits>, NoMemory>
+    ensures { IfOk result (λ copy. copy.items ≡ words.now) }
 {
-    let mut words = Vec::new(alloc);
-    for k in 0..signals.len() {
-        words.push(Bits::zero(signal_at(signals, k).width))?;
+    let mut copy = Vec::new(alloc);
+    for word in words {
+        copy.push(*word)?;
     }
-    Ok(words)
+    Ok(copy)
 }
 
 /// Puts every word at the start value of its signal.
@@ -60,17 +62,6 @@ fn restart(signals: &[Signal], words: &mut [Bits])
     }
 }
 
-/// The start value of each signal.
-fn start_words(alloc: Global, signals: &[Signal]) -> Result<Vec<Bits>, NoMemory>
-    requires { IsTrue (list_all signal_fits signals.now) }
-    ensures words { IfOk result (λ words. AreWordsOf signals.now words.items) }
-    ensures value { IfOk result (λ words. valuation_of words.items ≡ starts signals.now) }
-{
-    let mut words = zero_words(alloc, signals)?;
-    restart(signals, &mut words);
-    Ok(words)
-}
-
 /// Puts every word at 0.
 fn clear(signals: &[Signal], words: &mut [Bits])
     requires words { AreWordsOf signals.now words.old }
@@ -82,37 +73,60 @@ fn clear(signals: &[Signal], words: &mut [Bits])
     }
 }
 
-/// Makes a cycle on the words: inputs and registers first, then the resets that are active, the drivers in their order, and
+/// Puts the values at 0 and the states at the start values.
+fn restart_cells(code: &Code, cells: &mut [Bits])
+    requires sound { IsSound (program_of code.now) }
+    requires signals { IsTrue (list_all signal_fits code.now.design.now.signals.items) }
+    requires cells { AreCells (program_of code.now) cells.old }
+    ensures cells { AreCells (program_of code.now) cells.new }
+    ensures now { now_in (program_of code.now) (valuation_of cells.new) ≡ zeros }
+    ensures later { later_in (program_of code.now) (valuation_of cells.new) ≡ starts code.now.design.now.signals.items }
+{
+    let design = code.design;
+    let count = design.signals.len();
+    let (values, rest) = cells.split_at_mut(count);
+    let (state, _) = rest.split_at_mut(count);
+    clear(&design.signals, values);
+    restart(&design.signals, state);
+}
+
+/// Makes a cycle on the cells: inputs and registers first, then the resets that are active, the drivers in their order, and
 /// the bodies of the blocks without an active reset.
 fn make_cycle(
-    design: &Design,
+    compiled: &Compiled,
     order: &[u32],
     plan: &Plan,
     samples: &[Bits],
     freed: &[bool],
     chosen: &[Bits],
-    values: &mut [Bits],
-    state: &mut [Bits],
-    room: &mut [Bits],
+    cells: &mut [Bits],
 )
-    requires can { CanSimulate design.now order.now }
-    requires plan { IsPlan design.now plan.now }
-    requires samples { IsTrue (samples_fit design.now.signals.items design.now.inputs.items samples.now) }
-    requires chosen { AreChosen design.now freed.now chosen.now }
-    requires values { AreWordsOf design.now.signals.items values.old }
-    requires state { AreWordsOf design.now.signals.items state.old }
-    requires room { AreWordsOf design.now.signals.items room.old }
-    ensures values { AreWordsOf design.now.signals.items values.new }
-    ensures state { AreWordsOf design.now.signals.items state.new }
-    ensures room { AreWordsOf design.now.signals.items room.new }
-    ensures cycle { IsSimulable design.now order.now → AreQuiet design.now (valuation_of values.old)
-        → Cycle design.now samples.now (kept design.now (valuation_of state.old)) (choice_of freed.now chosen.now)
-        (valuation_of values.new) (kept design.now (valuation_of state.new)) }
+    requires can { CanSimulate compiled.now.code.design.now order.now }
+    requires compiled { IsCompiled compiled.now.code.design.now order.now compiled.now }
+    requires plan { IsPlan compiled.now.code.design.now plan.now }
+    requires samples { IsTrue (samples_fit compiled.now.code.design.now.signals.items compiled.now.code.design.now.inputs.items samples.now) }
+    requires chosen { AreChosen compiled.now.code.design.now freed.now chosen.now }
+    requires cells { AreCells (program_of compiled.now.code) cells.old }
+    ensures cells { AreCells (program_of compiled.now.code) cells.new }
+    ensures cycle { IsSimulable compiled.now.code.design.now order.now
+        → AreQuiet compiled.now.code.design.now (now_in (program_of compiled.now.code) (valuation_of cells.old))
+        → Cycle compiled.now.code.design.now samples.now
+        (kept compiled.now.code.design.now (later_in (program_of compiled.now.code) (valuation_of cells.old))) (choice_of freed.now chosen.now)
+        (now_in (program_of compiled.now.code) (valuation_of cells.new))
+        (kept compiled.now.code.design.now (later_in (program_of compiled.now.code) (valuation_of cells.new))) }
 {
-    begin(design, &plan.registers, samples, state, values);
-    reset_blocks(design, &plan.blocks, freed, chosen, values, state, room);
-    drive_all(design, order, &plan.drivers, freed, chosen, values, state);
-    run_blocks(design, &plan.blocks, freed, chosen, values, state, room);
+    let code = &compiled.code;
+    begin_cells(code, &plan.registers, samples, cells);
+    reset_blocks(code, &compiled.resets, &plan.blocks, freed, chosen, cells);
+    run(
+        code,
+        compiled.drivers.from,
+        compiled.drivers.to,
+        cells,
+        freed,
+        chosen,
+    );
+    run_blocks(code, &compiled.bodies, &plan.blocks, freed, chosen, cells);
 }
 
 impl<'a> Machine<'a> {
@@ -127,16 +141,15 @@ impl<'a> Machine<'a> {
         ensures start { IfOk result (λ machine. simulated_of machine ≡ at_start design.now order.now) }
     {
         let plan = plan_of(alloc, design)?;
-        let values = zero_words(alloc, &design.signals)?;
-        let state = start_words(alloc, &design.signals)?;
-        let room = zero_words(alloc, &design.signals)?;
+        let compiled = compile(alloc, design, order.as_slice(), &plan.drivers)?;
+        let mut cells = copied(alloc, &compiled.code.cells)?;
+        restart_cells(&compiled.code, &mut cells);
         Ok(Machine {
             design,
             order: order.as_slice(),
             plan,
-            values,
-            state,
-            room,
+            compiled,
+            cells,
         })
     }
 
@@ -146,9 +159,7 @@ impl<'a> Machine<'a> {
         ensures holding { IsHolding self.new }
         ensures start { simulated_of self.new ≡ at_start self.old.design.now self.old.order.now }
     {
-        let design = self.design;
-        clear(&design.signals, &mut self.values);
-        restart(&design.signals, &mut self.state);
+        restart_cells(&self.compiled.code, &mut self.cells);
     }
 
     /// The value of a signal in the last step, 0 before the first one. Takes no memory.
@@ -158,7 +169,16 @@ impl<'a> Machine<'a> {
         ensures width { width_of result ≡ width_at self.now.design.now.signals.items signal }
         ensures bits { (b : ℕ) → bit_of result b ≡ (simulated_of self.now).values signal b }
     {
-        self.values[signal as usize]
+        self.cells[signal as usize]
+    }
+
+    /// The values of all signals in the last step.
+    pub(crate) fn values(&self) -> &[Bits]
+        requires { IsHolding self.now }
+        ensures words { AreWordsOf self.now.design.now.signals.items result.now }
+        ensures value { valuation_of result.now ≡ (simulated_of self.now).values }
+    {
+        &self.cells[..self.design.signals.len()]
     }
 
     /// Makes the cycle for these samples of the inputs, one for each: leaves its values to be read, and moves the states to
@@ -172,15 +192,13 @@ impl<'a> Machine<'a> {
         ensures step { Steps samples.now (choice_of freed.now chosen.now) (simulated_of self.old) (simulated_of self.new) }
     {
         make_cycle(
-            self.design,
+            &self.compiled,
             self.order,
             &self.plan,
             samples,
             freed,
             chosen,
-            &mut self.values,
-            &mut self.state,
-            &mut self.room,
+            &mut self.cells,
         );
     }
 }

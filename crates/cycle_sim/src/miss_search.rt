@@ -12,7 +12,7 @@ ghost use Rattle.cycle_sim.specs.Misses.{AreValuesFor, Replays};
 ghost use Rattle.cycle_sim.specs.Replaying.{FirstWrong, CycleReplays, TraceReplays, AreReady, chosen_at, choices_from};
 ghost use Rattle.cycle_sim.specs.Simulator.{IsSim, held_by};
 
-use crate::drive::number_at;
+use crate::compiled::number_at;
 use crate::machine::Machine;
 use crate::miss::Miss;
 use crate::sim::Sim;
@@ -112,7 +112,7 @@ fn replay_cycle(
     let samples = row(&trace.inputs, design.inputs.len(), t as usize);
     machine.step(samples, freed, choice);
     let expected = row(&trace.expected, design.outputs.len(), t as usize);
-    first_wrong(design, expected, &machine.values)
+    first_wrong(design, expected, machine.values())
 }
 
 /// The first cycle of a trace in which an output is not right, with the first such output, the machine being where it began.
@@ -216,7 +216,7 @@ fn replay_traces(
 
 /// The least miss of the traces, by the trace, then the cycle, then the output, where the values are chosen for their places:
 /// one word for each place in each cycle, first all cycles of the first trace. None where each trace is right. Takes no
-/// memory; what the simulator held before is lost.
+/// memory; what the simulator held before is lost. Where the design is not simulable, nothing is said of the answer.
 pub fn replay(sim: &mut Sim, traces: &[Trace], values: &Values) -> Option<Miss>
     requires sim { IsSim sim.old }
     requires traces { All (IsTraceOf (held_by sim.old).design) traces.now }

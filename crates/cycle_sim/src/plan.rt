@@ -16,6 +16,7 @@ ghost use Rattle.cycle_sim.specs.Holding.{IsPlan};
 use crate::block::BlockMasks;
 use crate::collect::{add_parts, add_statement};
 use crate::mask::{Mask, clear_bits, mask_at};
+use crate::registers::Registers;
 use design_core::{Clocked, Design, Driver, Signal, SignalKind};
 use loc_base::{Bits, NoMemory, Rows};
 use plain_sim::block_assigns_later;
@@ -25,7 +26,7 @@ use std::alloc::Global;
 #[derive(Drop)]
 pub(crate) struct Plan {
     /// The bits of registers.
-    pub(crate) registers: Vec<Mask>,
+    pub(crate) registers: Registers,
     /// For each driver the bits that it drives.
     pub(crate) drivers: Rows<Mask>,
     pub(crate) blocks: BlockMasks,
@@ -281,7 +282,7 @@ pub(crate) fn plan_of(alloc: Global, design: &Design) -> Result<Plan, NoMemory>
     let drivers = drivers_masks(alloc, design)?;
     let words = register_words(alloc, design, &drivers)?;
     let blocks = blocks_masks(alloc, design, &words)?;
-    let registers = masks_of(alloc, &words)?;
+    let registers = Registers::new(alloc, masks_of(alloc, &words)?)?;
     Ok(Plan {
         registers,
         drivers,

@@ -66,7 +66,7 @@ impl<'a> Sim<'a> {
 
     /// Makes the cycle for these samples of the inputs, one for each: leaves its values to be read, and moves the states to
     /// the next ones. `freed` and `choice` have one entry for each place of the design: whether it is freed, and the value
-    /// that it then takes. Takes no memory.
+    /// that it then takes. Takes no memory. What it leaves is not said where the design is not simulable.
     pub fn step(&mut self, samples: &[Bits], freed: &[bool], choice: &[Bits])
         requires sim { IsSim self.old }
         requires samples { IsTrue (samples_fit (held_by self.old).design.signals.items (held_by self.old).design.inputs.items samples.now) }

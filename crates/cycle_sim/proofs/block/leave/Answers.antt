@@ -1,16 +1,15 @@
 use Rattle.design_core.specs.Words.{valuation_of, choice_of}
-use Rattle.cycle_sim.proofs.BlockSteps.{restored, now-same, left-is}
+use Rattle.cycle_code.specs.Program.{program_of}
+use Rattle.cycle_sim.proofs.Leaving.{AreCells-run, left-by}
 use Rattle.cycle_sim.proofs.block.leave.Goals as goal
 
-pub returns-clause-same : goal.returns-clause-same
-returns-clause-same c =
-    restored c.args.at_once.now (valuation_of c.args.values.now) (valuation_of c.args.room.now) (valuation_of c.run_statement.new.now) (valuation_of c.copy_bits.new.to) (valuation_of c.copy_bits-3.new.to)
-    c.copy_bits.ensures.value c.copy_bits-3.ensures.value
-    (now-same c.args.design.now.signals.items c.args.design.now.places.items (choice_of c.args.freed.now c.args.chosen.now) c.args.statement.now c.args.at_once.now
-    (valuation_of c.args.values.now) (valuation_of c.args.state.now) (valuation_of c.run_statement.new.now) (valuation_of c.run_statement.new.later) c.requires.fits c.requires.all c.run_statement.ensures.value)
+pub settle-requires-clause-cells : goal.settle-requires-clause-cells
+settle-requires-clause-cells c =
+    AreCells-run (program_of c.args.code.now) (choice_of c.args.freed.now c.args.chosen.now) c.args.range.to c.args.range.from c.save.new.cells c.run.new.cells
+    c.requires.sound c.save.ensures.cells c.run.ensures.widths c.run.ensures.value
 
 pub returns-clause-left : goal.returns-clause-left
-returns-clause-left c =
-    left-is c.args.design.now.signals.items (choice_of c.args.freed.now c.args.chosen.now) c.args.statement.now c.args.now.now
-    (valuation_of c.args.values.now) (valuation_of c.args.state.now) (valuation_of c.run_statement.new.now) (valuation_of c.run_statement.new.later) (valuation_of c.copy_bits-2.new.to)
-    c.run_statement.ensures.value c.copy_bits-2.ensures.value
+returns-clause-left c statement within =
+    left-by (program_of c.args.code.now) (choice_of c.args.freed.now c.args.chosen.now) c.args.range c.args.at_once.now c.args.now.now statement
+    (valuation_of c.args.cells.now) (valuation_of c.save.new.cells) (valuation_of c.run.new.cells) (valuation_of c.settle.new.cells)
+    within c.save.ensures.cells.constants c.save.ensures.now c.save.ensures.later c.save.ensures.room c.run.ensures.value c.settle.ensures.now c.settle.ensures.later

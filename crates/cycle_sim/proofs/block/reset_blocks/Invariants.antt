@@ -3,18 +3,18 @@ use Rattle.design_core.specs.Valuation.{Valuation}
 use Rattle.design_core.specs.Drives.{is_driven, is_register_bit}
 use Rattle.design_core.specs.WellFormed.{IsWellFormed}
 use Rattle.design_core.specs.DrivenOnce.{IsDrivenOnce}
-use Rattle.design_core.specs.Words.{valuation_of, AreWordsOf, choice_of}
+use Rattle.design_core.specs.Words.{valuation_of, choice_of}
+use Rattle.cycle_code.specs.Program.{program_of}
+use Rattle.cycle_sim.specs.Compiled.{AreCells, now_in, later_in}
 use Rattle.cycle_sim.proofs.Resets.{ResetSoFar}
 use Rattle.cycle_sim.proofs.block.reset_blocks.Given as goal
 
 abbrev pub invariant-loop-i : goal.invariant-loop-i
 invariant-loop-i l =
     record {
-      values : AreWordsOf l.design.signals.items l.values;
-      state : AreWordsOf l.design.signals.items l.state;
-      room : AreWordsOf l.design.signals.items l.room;
-      reset : IsWellFormed l.design → IsDrivenOnce l.design
-          → ((s b : ℕ) → is_register_bit l.design s b ≡ true → valuation_of l.initial.state s b ≡ valuation_of l.initial.values s b)
-          → (E : Valuation) → ((s b : ℕ) → is_driven l.design s b ≡ false → valuation_of l.initial.values s b ≡ E s b)
-          → ResetSoFar l.design (choice_of l.freed l.chosen) E (valuation_of l.values) (valuation_of l.state) l.i;
+      cells : AreCells (program_of l.code) l.cells;
+      reset : IsWellFormed l.code.design.now → IsDrivenOnce l.code.design.now
+          → ((s b : ℕ) → is_register_bit l.code.design.now s b ≡ true → later_in (program_of l.code) (valuation_of l.initial.cells) s b ≡ now_in (program_of l.code) (valuation_of l.initial.cells) s b)
+          → (E : Valuation) → ((s b : ℕ) → is_driven l.code.design.now s b ≡ false → now_in (program_of l.code) (valuation_of l.initial.cells) s b ≡ E s b)
+          → ResetSoFar l.code.design.now (choice_of l.freed l.chosen) E (now_in (program_of l.code) (valuation_of l.cells)) (later_in (program_of l.code) (valuation_of l.cells)) l.i;
     }

@@ -7,7 +7,7 @@ use Rattle.design_core.specs.Valuation.{Valuation}
 use Rattle.design_core.specs.After.{Choice}
 use Rattle.design_core.specs.Cycle.{Cycle}
 use Rattle.design_core.specs.Run.{samples_at, expected_at, choice_at}
-use Rattle.design_core.specs.Words.{valuation_of, choice_of}
+use Rattle.design_core.specs.Words.{choice_of}
 use Rattle.design_core.specs.Explained.{is_one_of}
 use Rattle.cycle_sim.specs.Holding.{simulated_of}
 use Rattle.cycle_sim.specs.Replaying.{FirstWrong, choices_from}
@@ -18,7 +18,7 @@ pub returns-clause-answer : goal.returns-clause-answer
 returns-clause-answer c k =
     let d : Design = c.args.machine.now.design.now in
     let values : Values = c.args.values.now in
-    let V : Valuation = valuation_of c.step.new.self.values.items in
+    let V : Valuation = (simulated_of c.step.new.self).values in
     let state : Valuation = (simulated_of c.args.machine.now).state in
     let next : Valuation = (simulated_of c.step.new.self).state in
     let samples : c.row-samples.result.now ≡ samples_at d c.args.trace.now c.args.t = rw (c.deref-3.ensures.value, c.len-2.ensures, d.inputs.ok.0) at c.row-samples.ensures in
@@ -32,5 +32,5 @@ returns-clause-answer c k =
       cycle =
           subst (λ (S : List Bits). Cycle d S state (choice_at (is_one_of values.places.items) (choices_from values c.args.first) c.args.t) V next) samples
           (subst (λ (C : Choice). Cycle d c.row-samples.result.now state C V next) choice (c.step.ensures.step.cycle k));
-      wrong = subst (λ (e : List Checked). FirstWrong d e V c.first_wrong.result) expected (rw c.deref-5.ensures.value at c.first_wrong.ensures);
+      wrong = subst (λ (e : List Checked). FirstWrong d e V c.first_wrong.result) expected (rw c.values.ensures.value at c.first_wrong.ensures);
     }

@@ -1,11 +1,28 @@
-use Rattle.std.proofs.Common.{◌++◌, ◌∷◌, [], ◌∙◌, arith, Some, None}
+use Rattle.std.proofs.Common.{◌++◌, ◌∷◌, [], ◌∙◌, ap, refl, arith, Some, None}
 use Rattle.design_core.specs.declared.design.Design.{Design}
 use Rattle.design_core.specs.declared.values.Values.{Values}
 use Rattle.design_core.specs.Explained.{is_one_of}
+use Rattle.cycle_sim.specs.Simulated.{Simulated}
 use Rattle.cycle_sim.specs.Holding.{simulated_of}
 use Rattle.cycle_sim.specs.Replaying.{choices_from}
-use Rattle.cycle_sim.proofs.Running.{run-next, run-end, run-misses, moved}
+use Rattle.cycle_sim.proofs.Running.{run-begin, run-next, run-end, run-misses, moved}
 use Rattle.cycle_sim.proofs.miss_search.replay_trace.Goals as goal
+
+pub loop-t-init : goal.loop-t-init
+loop-t-init c =
+    let values : Values = c.args.values.now in
+    record {
+      holding = c.requires.holding;
+      design = refl;
+      order = refl;
+      length = refl;
+      ready = c.requires.ready;
+      run = λ k. (
+        [],
+        run-begin c.args.machine.now.design.now c.args.trace.now (is_one_of values.places.items) (choices_from values c.args.first) (simulated_of c.args.machine.now).state
+            (ap (λ (s : Simulated). s.state) c.requires.start),
+      );
+    }
 
 pub loop-t-preserved : goal.loop-t-preserved
 loop-t-preserved c =

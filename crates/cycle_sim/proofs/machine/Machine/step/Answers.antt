@@ -1,35 +1,46 @@
 use Rattle.std.proofs.Common.{refl, arith}
 use Rattle.std.proofs.lemmas.List.{with_items_is}
 use Rattle.design_core.specs.declared.design.Design.{Design}
+use Rattle.design_core.specs.Valuation.{Valuation}
+use Rattle.design_core.specs.After.{Choice}
+use Rattle.design_core.specs.Cycle.{Cycle}
 use Rattle.design_core.specs.Words.{valuation_of, choice_of}
 use Rattle.design_core.specs.Steps.{kept}
-use Rattle.cycle_sim.proofs.Stepping.{cycle-quiet, as-many}
+use Rattle.cycle_code.specs.Program.{Program, program_of}
+use Rattle.cycle_sim.specs.Compiled.{now_in, later_in}
+use Rattle.cycle_sim.specs.Simulated.{IsSimulable}
+use Rattle.cycle_sim.proofs.Held.{cells-many, cycle-held}
+use Rattle.cycle_sim.proofs.Stepping.{cycle-quiet}
 use Rattle.cycle_sim.proofs.machine.Machine.step.Goals as goal
 
-pub returns-clause-holding : goal.returns-clause-holding
-returns-clause-holding c =
-    let d : Design = c.args.self.now.design.now in
-    let values = with_items_is c.args.self.now.values c.make_cycle.new.values (omega (arith, as-many d.signals.items c.args.self.now.values.items c.make_cycle.new.values c.requires.holding.values c.make_cycle.ensures.values, c.args.self.now.values.ok.0)) in
-    let state = with_items_is c.args.self.now.state c.make_cycle.new.state (omega (arith, as-many d.signals.items c.args.self.now.state.items c.make_cycle.new.state c.requires.holding.state c.make_cycle.ensures.state, c.args.self.now.state.ok.0)) in
-    let room = with_items_is c.args.self.now.room c.make_cycle.new.room (omega (arith, as-many d.signals.items c.args.self.now.room.items c.make_cycle.new.room c.requires.holding.room c.make_cycle.ensures.room, c.args.self.now.room.ok.0)) in
+pub returns : goal.returns
+returns c =
+    let machine = c.args.self.now in
+    let p : Program = program_of machine.compiled.code in
+    let d : Design = machine.design.now in
+    let choice : Choice = choice_of c.args.freed.now c.args.chosen.now in
+    let O : Valuation = now_in p (valuation_of machine.cells.items) in
+    let S : Valuation = later_in p (valuation_of machine.cells.items) in
+    let V : Valuation = now_in p (valuation_of c.make_cycle.new.cells) in
+    let N : Valuation = later_in p (valuation_of c.make_cycle.new.cells) in
+    let many = cells-many p machine.cells.items c.make_cycle.new.cells
+    c.requires.holding.cells c.make_cycle.ensures.cells in
+    let cells = with_items_is machine.cells c.make_cycle.new.cells (omega (arith, many, machine.cells.ok.0)) in
+    let cycle : IsSimulable d machine.order.now → Cycle d c.args.samples.now (kept d S) choice V (kept d N) =
+    λ k. cycle-held d machine.compiled.code.design.now machine.order.now c.args.samples.now choice O S V N
+    c.requires.holding.compiled.design (rw c.deref_mut.ensures.value at c.make_cycle.ensures.cycle) k
+    (c.requires.holding.quiet k) in
     record {
-      can = c.requires.holding.can;
-      plan = c.requires.holding.plan;
-      values = rw values c.make_cycle.ensures.values;
-      state = rw state c.make_cycle.ensures.state;
-      room = rw room c.make_cycle.ensures.room;
-      quiet = λ k. rw values
-          (cycle-quiet d c.args.samples.now (kept d (valuation_of c.deref_mut-2.result.now)) (choice_of c.args.freed.now c.args.chosen.now) (valuation_of c.make_cycle.new.values) (kept d (valuation_of c.make_cycle.new.state))
-          (c.make_cycle.ensures.cycle k (rw c.deref_mut.ensures.value (c.requires.holding.quiet k))));
-    }
-
-pub returns-clause-step : goal.returns-clause-step
-returns-clause-step c =
-    let d : Design = c.args.self.now.design.now in
-    let values = with_items_is c.args.self.now.values c.make_cycle.new.values (omega (arith, as-many d.signals.items c.args.self.now.values.items c.make_cycle.new.values c.requires.holding.values c.make_cycle.ensures.values, c.args.self.now.values.ok.0)) in
-    let state = with_items_is c.args.self.now.state c.make_cycle.new.state (omega (arith, as-many d.signals.items c.args.self.now.state.items c.make_cycle.new.state c.requires.holding.state c.make_cycle.ensures.state, c.args.self.now.state.ok.0)) in
-    record {
-      design = refl;
-      order = refl;
-      cycle = λ k. rw (values, state) ((rw c.deref_mut-2.ensures.value at c.make_cycle.ensures.cycle) k (rw c.deref_mut.ensures.value (c.requires.holding.quiet k)));
+      holding = record {
+        can = c.requires.holding.can;
+        plan = c.requires.holding.plan;
+        compiled = c.requires.holding.compiled;
+        cells = rw cells c.make_cycle.ensures.cells;
+        quiet = λ k. rw cells (cycle-quiet d c.args.samples.now (kept d S) choice V (kept d N) (cycle k));
+      };
+      step = record {
+        design = refl;
+        order = refl;
+        cycle = λ k. rw cells (cycle k);
+      };
     }

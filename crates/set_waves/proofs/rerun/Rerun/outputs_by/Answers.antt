@@ -1,13 +1,31 @@
-use Rattle.std.proofs.Common.{◌∙◌, ℕ, List, map, subst, arith}
+use Rattle.std.proofs.Common.{◌∙◌, ℕ, List, length, map, ap, subst, arith}
 use Rattle.design_core.specs.declared.design.Design.{Design}
 use Rattle.design_core.specs.Explained.{is_one_of}
+use Rattle.design_core.specs.Run.{start_state}
 use Rattle.cycle_sim.specs.Replaying.{choices_from}
-use Rattle.cycle_sim.specs.Simulated.{IsSimulable}
+use Rattle.cycle_sim.specs.Simulated.{IsSimulable, Simulated}
 use Rattle.cycle_sim.specs.Simulator.{held_by}
 use Rattle.vcd_waves.specs.Lines.{expected}
 use Rattle.set_waves.proofs.RerunLaws.{outputs-more}
-use Rattle.set_waves.proofs.RunOutputs.{stands-last, stands-next}
+use Rattle.set_waves.proofs.RunOutputs.{stands-first, stands-last, stands-next}
 use Rattle.set_waves.proofs.rerun.Rerun.outputs_by.Goals as goal
+
+pub loop-t-init : goal.loop-t-init
+loop-t-init c =
+    let d : Design = c.args.self.now.design.now in
+    record {
+      sim = c.reset.ensures.sim;
+      same = record {
+        design = ap (λ (s : Simulated). s.design) c.reset.ensures.start;
+        order = ap (λ (s : Simulated). s.order) c.reset.ensures.start;
+      };
+      entries = c.requires.entries;
+      count = omega (arith, ap length c.new-outputs.ensures.items);
+      stands = λ run is. rw c.new-outputs.ensures.items
+          (stands-first d c.args.self.now.trace.now (is_one_of c.args.self.now.values.now.places.items)
+          (choices_from c.args.self.now.values.now c.args.self.now.first) run (held_by c.reset.new.self).state
+          (ap (λ (s : Simulated). s.state) c.reset.ensures.start ∙ ap start_state c.requires.simulates.design) is);
+    }
 
 pub loop-t-preserved : goal.loop-t-preserved
 loop-t-preserved c =

@@ -1,5 +1,6 @@
 use Rattle.std.proofs.Common.{◌≡◌, ◌+◌, ◌++◌, ℕ, List, length, map, take, drop, ap, subst, ◌∙◌, arith}
 use Rattle.std.proofs.Math.Seq.{take-append_seam}
+use Rattle.std.proofs.lemmas.List.{with_items_is}
 use Rattle.std.specs.Prelude.{if◌then◌else◌}
 use Rattle.loc_base.specs.declared.bits.Bits.{Bits}
 use Rattle.loc_base.specs.Bits.{value_of}
@@ -13,7 +14,7 @@ use Rattle.design_core.specs.Words.{choice_of}
 use Rattle.cycle_sim.specs.Replaying.{choices_from, chosen_at}
 use Rattle.cycle_sim.specs.Simulated.{Steps}
 use Rattle.cycle_sim.specs.Simulator.{held_by}
-use Rattle.cycle_sim.proofs.Chosen.{choice-is, chosen-is}
+use Rattle.cycle_sim.proofs.Chosen.{choice-is, chosen-is, still-ready}
 use Rattle.set_waves.proofs.rerun.Rerun.step.Goals as goal
 
 pub returns-clause-step : goal.returns-clause-step
@@ -46,3 +47,24 @@ returns-clause-step c =
     (held_by c.args.sim.now) (held_by c.step.new.self)) samples
     (subst (λ (C : Choice). Steps c.row-samples.result.now C (held_by c.args.sim.now) (held_by c.step.new.self)) same
     c.step.ensures.step)
+
+pub returns-clause-entries : goal.returns-clause-entries
+returns-clause-entries c =
+    let values : Values = c.args.self.now.values.now in
+    let old : List Bits = c.args.entries.now.choice.items in
+    let new : List Bits = c.choose.new.choice in
+    let each : (p : ℕ) → chosen_at new p ≡ (if is_one_of values.places.items p
+    then number_for values.places.items (map value_of c.row-chosen.result.now) p else chosen_at old p) =
+    rw (c.deref-2.ensures.value, c.deref_mut.ensures.value) at c.choose.ensures.choice in
+    let whole = with_items_is c.args.entries.now.choice new
+    (omega (arith, c.choose.ensures.length, ap length c.deref_mut.ensures.value, c.args.entries.now.choice.ok.0)) in
+    record {
+      chosen = record {
+        frees = c.requires.entries.chosen.frees;
+        values = rw whole
+            (c.choose.ensures.length ∙ ap length c.deref_mut.ensures.value ∙ c.requires.entries.chosen.values);
+      };
+      ready = rw whole
+          (still-ready values c.args.entries.now.freed.items old new (map value_of c.row-chosen.result.now)
+          c.requires.entries.ready each);
+    }

@@ -1,0 +1,11 @@
+use Rattle.cycle_code.specs.Program.{program_of, Grown}
+use Rattle.cycle_code.specs.Fitting.{IsSound}
+use Rattle.cycle_sim.proofs.Ranges.{RangesSoFar, CarriesBody}
+use Rattle.cycle_sim.proofs.compiled.carry_bodies.Given as goal
+
+abbrev pub invariant-loop-block : goal.invariant-loop-block
+invariant-loop-block l = record {
+  grown : Grown (program_of l.initial.code) (program_of l.code);
+  sound : IsSound (program_of l.code);
+  ranges : RangesSoFar (CarriesBody (program_of l.code)) l.blocks l.ranges.items l.block-index;
+}
