@@ -16,14 +16,18 @@ import sys
 import tempfile
 
 
+def put(source, target):
+    """Links a file of a library that is built, and copies any other, so that one that is changed meanwhile stays as it was."""
+    (os.link if "/out/" in source else shutil.copy2)(source, target)
+
+
 def prepare(folder, names):
     """Copies the repository's crates there, with each edit of these crates under the name by which it is tried."""
     for file in ("crates.txt", "HANDLES"):
         shutil.copy(file, folder)
     # (rt looks for the repository's top)
     subprocess.run(["git", "init", "--quiet", folder], check=True)
-    # libraries that are built are linked, and not copied
-    shutil.copytree("crates", f"{folder}/crates", copy_function=os.link)
+    shutil.copytree("crates", f"{folder}/crates", copy_function=put)
     for name in names:
         edits = f"{folder}/crates/{name}/must-fail"
         for edit in sorted(os.listdir(edits)):
