@@ -11,12 +11,8 @@ use Rattle.loc_base.specs.declared.bits.Bits.{Bits}
 use Rattle.loc_base.specs.Bits.{bit_of, width_of, value_of, value_of-range, width_of-high}
 use Rattle.loc_base.proofs.ShelfLists.{slice_get-some}
 use Rattle.loc_base.proofs.ShelfOptions.{option_map-some}
-use Rattle.design_core.specs.declared.expression.BinaryOp.{BinaryOp}
 use Rattle.design_core.specs.Valuation.{bit, number}
-use Rattle.design_core.specs.WellFormed.{binary_fits}
 use Rattle.design_core.specs.Words.{valuation_of, AreWordsOf}
-use Rattle.plain_values.specs.Evaluate.{takes}
-use Rattle.plain_values.proofs.EvaluateNodes.{takes-fits}
 use Rattle.plain_values.proofs.EvaluateWords.{number-word, number-word_part}
 use Rattle.plain_values.proofs.EvaluateWrite.{written, bit-high}
 use Rattle.plain_values.proofs.EvaluateStore.{updates}
@@ -188,21 +184,10 @@ join-most p cells high low to one other same e f h =
     omega arith
 
 -- a cell that fits a number of times
-pub repeat-most : (p : Program) (cells : List Bits) (times part to : ℕ) (word : Bits) → map width_of cells ≡ p.widths
-    → width_of word ≡ width_in (map width_of cells) part → IsTrue (has_width p to (times * width_in p.widths part)) → times * width_of word ≤ 128
-repeat-most p cells times part to word same e h =
-    subst (λ n. times * n ≤ 128) (sym (e ∙ ap (λ ws. width_in ws part) same)) (has_width-most p cells to (times * width_in p.widths part) same h)
-
--- operands that fit are ones that the operator takes
-pub binary-takes : (p : Program) (cells : List Bits) (op : BinaryOp) (left right to : ℕ) (one other : Bits) → map width_of cells ≡ p.widths
-    → width_of one ≡ width_in (map width_of cells) left → width_of other ≡ width_in (map width_of cells) right
-    → IsTrue (binary_fits op (width_in p.widths to) (width_in p.widths left) (width_in p.widths right))
-    → IsTrue (takes op (width_of one) (width_of other))
-binary-takes p cells op left right to one other same e f h =
-    takes-fits op (width_in p.widths to) (width_of one) (width_of other)
-    (ap (λ n. binary_fits op (width_in p.widths to) n (width_of other)) (e ∙ ap (λ ws. width_in ws left) same)
-    ∙ ap (binary_fits op (width_in p.widths to) (width_in p.widths left)) (f ∙ ap (λ ws. width_in ws right) same)
-    ∙ h)
+pub repeat-most : (p : Program) (cells : List Bits) (times part to : ℕ) → map width_of cells ≡ p.widths
+    → IsTrue (has_width p to (times * width_in p.widths part)) → times * width_in (map width_of cells) part ≤ 128
+repeat-most p cells times part to same h =
+    subst (λ ws. times * width_in ws part ≤ 128) (sym same) (has_width-most p cells to (times * width_in p.widths part) same h)
 
 -- some bits of a cell
 pub slice-value : (cells : List Bits) (arg from width : ℕ) (word : Bits) → arg < length cells

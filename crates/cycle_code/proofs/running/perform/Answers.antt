@@ -1,25 +1,22 @@
-use Rattle.std.proofs.Common.{◌≡◌, ℕ, ◌+◌, ◌*◌, ◌<◌, length, map, List, Bor, refl, sym, ap, ◌∙◌, arith}
+use Rattle.std.proofs.Common.{◌≡◌, ℕ, ◌+◌, ◌*◌, ◌<◌, length, map, List, Bor, refl, sym, ap, ◌∙◌, arith, subst}
 use Rattle.std.specs.Prelude.{nat_le, ◌==◌, IsTrue, slice_get, Some, false}
 use Rattle.std.specs.Option.{option_map_or}
 use Rattle.std.proofs.lemmas.Bool.{and_parts, and_from, eqb-true, eq-eqb}
 use Rattle.std.proofs.lemmas.Option.{slice_get_within}
 use Rattle.loc_base.specs.declared.bits.Bits.{Bits}
-use Rattle.loc_base.specs.Bits.{width_of, value_of}
-use Rattle.design_core.specs.WellFormed.{typed_fits}
+use Rattle.loc_base.specs.Bits.{width_of}
+use Rattle.design_core.specs.WellFormed.{typed_fits, binary_fits}
 use Rattle.design_core.specs.declared.expression.Typed.{Typed}
 use Rattle.design_core.specs.Value.{value}
 use Rattle.design_core.specs.Valuation.{Valuation, number}
-use Rattle.design_core.specs.Words.{valuation_of, choice_of}
-use Rattle.design_core.specs.After.{Choice, assigned}
-use Rattle.design_core.specs.Operator.{resized}
+use Rattle.design_core.specs.Words.{valuation_of}
 use Rattle.cycle_code.specs.Program.{Program, program_of, signals_of, count_of}
 use Rattle.cycle_code.specs.declared.instruction.Instruction.TheVariants.{Value}
 use Rattle.cycle_code.specs.Effects.{with_held_in}
-use Rattle.cycle_code.specs.Cells.{width_in, held, with_held, below}
+use Rattle.cycle_code.specs.Cells.{width_in, with_held, below}
 use Rattle.cycle_code.specs.Fitting.{is_cell, is_own, has_width, tree_fits, fits}
-use Rattle.cycle_code.proofs.CellLaws.{with_held-resized}
 use Rattle.cycle_code.proofs.GrowthLaws.{of_four, of_five, entry-some, operands_fit-parts}
-use Rattle.cycle_code.proofs.WordCells.{cell-within, join-most, repeat-most, binary-takes, slice-value, image-at}
+use Rattle.cycle_code.proofs.WordCells.{cell-within, join-most, repeat-most, slice-value, image-at}
 use Rattle.cycle_code.proofs.StoreLaws.{element-image}
 use Rattle.cycle_code.proofs.running.perform.Goals as goal
 
@@ -31,35 +28,33 @@ join-word-requires c =
     join-most p c.args.cells.now c.in-Join.high c.in-Join.low c.in-Join.to c.read-in-Join.result c.read-in-Join-2.result c.requires.widths
     c.read-in-Join.ensures.width c.read-in-Join-2.ensures.width t.3
 
-pub repeated-word-requires-clause-fits : goal.repeated-word-requires-clause-fits
-repeated-word-requires-clause-fits c =
+pub repeat-requires-clause-fits : goal.repeat-requires-clause-fits
+repeat-requires-clause-fits c =
     let p : Program = program_of c.args.code.now in
     let t = of_four (is_own p c.in-Repeat.to) (is_cell p c.in-Repeat.part) (nat_le 1 c.in-Repeat.times)
     (has_width p c.in-Repeat.to (c.in-Repeat.times * width_in p.widths c.in-Repeat.part)) (rw c.in-Repeat.is at c.requires.fits) in
-    repeat-most p c.args.cells.now c.in-Repeat.times c.in-Repeat.part c.in-Repeat.to c.read-in-Repeat.result c.requires.widths
-    c.read-in-Repeat.ensures.width t.3
+    repeat-most p c.args.cells.now c.in-Repeat.times c.in-Repeat.part c.in-Repeat.to c.requires.widths t.3
 
-pub read-requires-in-Binary : goal.read-requires-in-Binary
-read-requires-in-Binary c =
+pub combine-requires-clause-left : goal.combine-requires-clause-left
+combine-requires-clause-left c =
     let p : Program = program_of c.args.code.now in
     let b = c.in-Binary in
     let t = operands_fit-parts p b.op b.left b.right b.to (rw b.is at c.requires.fits) in
     cell-within p c.args.cells.now b.left c.requires.widths t.1
 
-pub read-requires-in-Binary-2 : goal.read-requires-in-Binary-2
-read-requires-in-Binary-2 c =
+pub combine-requires-clause-right : goal.combine-requires-clause-right
+combine-requires-clause-right c =
     let p : Program = program_of c.args.code.now in
     let b = c.in-Binary in
     let t = operands_fit-parts p b.op b.left b.right b.to (rw b.is at c.requires.fits) in
     cell-within p c.args.cells.now b.right c.requires.widths t.2
 
-pub binary-word-requires : goal.binary-word-requires
-binary-word-requires c =
+pub combine-requires-clause-fits : goal.combine-requires-clause-fits
+combine-requires-clause-fits c =
     let p : Program = program_of c.args.code.now in
     let b = c.in-Binary in
     let t = operands_fit-parts p b.op b.left b.right b.to (rw b.is at c.requires.fits) in
-    binary-takes p c.args.cells.now b.op b.left b.right b.to c.read-in-Binary.result c.read-in-Binary-2.result
-    c.requires.widths c.read-in-Binary.ensures.width c.read-in-Binary-2.ensures.width t.3
+    subst (λ ws. IsTrue (binary_fits b.op (width_in ws b.to) (width_in ws b.left) (width_in ws b.right))) (sym c.requires.widths) t.3
 
 -- the expression that an instruction names
 value-fits : (p : Program) (q tree to : ℕ) → IsTrue (fits p q (Value tree to))
@@ -78,8 +73,8 @@ index-requires c =
     let within : c.in-Value.tree < length c.args.code.now.trees.items = slice_get_within c.args.code.now.trees.items c.in-Value.tree inside.0 inside.1 in
     omega (arith, within, c.args.code.now.trees.ok.0)
 
-pub computed-word-requires-clause-fits : goal.computed-word-requires-clause-fits
-computed-word-requires-clause-fits c =
+pub compute-requires-clause-fits : goal.compute-requires-clause-fits
+compute-requires-clause-fits c =
     let p : Program = program_of c.args.code.now in
     let e = value-fits p c.args.at c.in-Value.tree c.in-Value.to (rw c.in-Value.is at c.requires.fits) in
     let read : Typed = c.index.result.now.now in
@@ -87,14 +82,14 @@ computed-word-requires-clause-fits c =
     element-image (λ (tree : Bor Typed). tree.now) c.args.code.now.trees.items c.in-Value.tree e.0 c.index.result.now e.1 c.index.ensures in
     and_from (typed_fits (signals_of p) read) (read.width == read.width) (ap (typed_fits (signals_of p)) same ∙ e.2) (eq-eqb read.width read.width refl)
 
-pub write-requires-in-Value-clause-width : goal.write-requires-in-Value-clause-width
-write-requires-in-Value-clause-width c =
+pub compute-requires-clause-width : goal.compute-requires-clause-width
+compute-requires-clause-width c =
     let p : Program = program_of c.args.code.now in
     let e = value-fits p c.args.at c.in-Value.tree c.in-Value.to (rw c.in-Value.is at c.requires.fits) in
     let read : Typed = c.index.result.now.now in
     let same : read ≡ e.0 =
     element-image (λ (tree : Bor Typed). tree.now) c.args.code.now.trees.items c.in-Value.tree e.0 c.index.result.now e.1 c.index.ensures in
-    c.computed-word.ensures.width ∙ ap (λ (x : Typed). x.width) same ∙ e.3 ∙ ap (λ ws. width_in ws c.in-Value.to) (sym c.requires.widths)
+    ap (λ (x : Typed). x.width) same ∙ e.3 ∙ ap (λ ws. width_in ws c.in-Value.to) (sym c.requires.widths)
 
 pub returns-in-Value-clause-value : goal.returns-in-Value-clause-value
 returns-in-Value-clause-value c =
@@ -108,8 +103,8 @@ returns-in-Value-clause-value c =
     element-image (λ (tree : Bor Typed). tree.now) c.args.code.now.trees.items c.in-Value.tree e.0 c.index.result.now e.1 c.index.ensures in
     let reads : Valuation = below (count_of p) V in
     rw c.in-Value.is
-    (c.write-in-Value.ensures.value
-    ∙ ap (λ n. with_held (map width_of cells) to n V) (c.computed-word.ensures.value ∙ ap (value (signals_of p) reads) same)
+    (c.compute.ensures.value
+    ∙ ap (λ x. with_held (map width_of cells) to (value (signals_of p) reads x) V) same
     ∙ ap (λ ws. with_held ws to (value (signals_of p) reads e.0) V) c.requires.widths
     ∙ ap (λ o. option_map_or (λ x. with_held_in p to (value (signals_of p) reads x) V) o V) (sym e.1))
 
@@ -121,43 +116,9 @@ returns-in-Slice-clause-value c =
     let t = of_five (is_own p c.in-Slice.to) (is_cell p c.in-Slice.arg) (nat_le 1 c.in-Slice.width) (has_width p c.in-Slice.to c.in-Slice.width)
     (nat_le (c.in-Slice.from + c.in-Slice.width) (width_in p.widths c.in-Slice.arg)) (rw c.in-Slice.is at c.requires.fits) in
     rw c.in-Slice.is
-    (c.write-in-Slice.ensures.value
+    (c.write.ensures.value
     ∙ ap (λ n. with_held (map width_of cells) c.in-Slice.to n V)
     (c.part-word.ensures.value
     ∙ slice-value cells c.in-Slice.arg c.in-Slice.from c.in-Slice.width c.read.result (cell-within p cells c.in-Slice.arg c.requires.widths t.1)
     c.read.ensures.value)
     ∙ ap (λ ws. with_held ws c.in-Slice.to (number c.in-Slice.width (λ b. V c.in-Slice.arg (c.in-Slice.from + b))) V) c.requires.widths)
-
-pub returns-in-Put-clause-value : goal.returns-in-Put-clause-value
-returns-in-Put-clause-value c =
-    let p : Program = program_of c.args.code.now in
-    let cells : List Bits = c.args.cells.now in
-    let V : Valuation = valuation_of cells in
-    let to = c.in-Put.to in
-    let word = c.read-in-Put.result in
-    rw c.in-Put.is
-    (c.write-in-Put.ensures.value
-    ∙ ap (λ n. with_held (map width_of cells) to n V)
-    (c.resized-fitted-in-Put.ensures.value
-    ∙ ap (λ n. resized n false (width_of word) (value_of word)) (c.width-in-Put.ensures ∙ c.read-in-Put-2.ensures.width))
-    ∙ with_held-resized (map width_of cells) to (width_of word) (value_of word) V
-    ∙ ap (λ n. with_held (map width_of cells) to n V) c.read-in-Put.ensures.value
-    ∙ ap (λ ws. with_held ws to (held ws V c.in-Put.value) V) c.requires.widths)
-
-pub returns-in-Set-clause-value : goal.returns-in-Set-clause-value
-returns-in-Set-clause-value c =
-    let p : Program = program_of c.args.code.now in
-    let cells : List Bits = c.args.cells.now in
-    let V : Valuation = valuation_of cells in
-    let choice : Choice = choice_of c.args.freed.now c.args.chosen.now in
-    let to = c.in-Set.to in
-    let word = c.assigned-word.result in
-    rw c.in-Set.is
-    (c.write-in-Set.ensures.value
-    ∙ ap (λ n. with_held (map width_of cells) to n V)
-    (c.resized-fitted.ensures.value
-    ∙ ap (λ n. resized n false (width_of word) (value_of word)) (c.width-in-Set.ensures ∙ c.read-in-Set-2.ensures.width))
-    ∙ with_held-resized (map width_of cells) to (width_of word) (value_of word) V
-    ∙ ap (λ n. with_held (map width_of cells) to n V)
-    (c.assigned-word.ensures.value ∙ ap (assigned choice c.in-Set.place) c.read-in-Set.ensures.value)
-    ∙ ap (λ ws. with_held ws to (assigned choice c.in-Set.place (held ws V c.in-Set.value)) V) c.requires.widths)
