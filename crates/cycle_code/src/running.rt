@@ -41,7 +41,7 @@ fn write(cells: &mut [Bits], cell: u32, word: Bits)
     ensures value { valuation_of cells.new
         ≡ with_held (map width_of cells.old) cell (value_of word) (valuation_of cells.old) }
 {
-    cells[cell as usize] = word;
+    cells[cell as usize].take(word);
 }
 
 /// Puts a word into a cell, extended by zeros or cut to its width.

@@ -26,7 +26,7 @@ fn load(design: &Design, samples: &[Bits], words: &mut [Bits])
     let mut left = samples.len();
     while left > 0 {
         left -= 1;
-        words[design.inputs[left] as usize] = samples[left];
+        words[design.inputs[left] as usize].take(samples[left]);
     }
 }
 

@@ -54,7 +54,8 @@ fn copy_one(mask: Mask, to: &mut [Bits], from: &[Bits])
     ensures value { valuation_of to.new ≡ blended (in_mask mask) (valuation_of from.now) (valuation_of to.old) }
 {
     let signal = mask.signal;
-    to[signal] = blend(mask.bits, from[signal], to[signal]);
+    let word = blend(mask.bits, from[signal], to[signal]);
+    to[signal].take(word);
 }
 
 /// Puts the bits of a mask at 0.
@@ -64,7 +65,8 @@ fn clear_one(mask: Mask, words: &mut [Bits])
     ensures value { valuation_of words.new ≡ blended (in_mask mask) zeros (valuation_of words.old) }
 {
     let signal = mask.signal;
-    words[signal] = clear(mask.bits, words[signal]);
+    let word = clear(mask.bits, words[signal]);
+    words[signal].take(word);
 }
 
 /// Puts the bits of some masks at those of other words.

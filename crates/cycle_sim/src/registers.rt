@@ -65,7 +65,7 @@ fn copy_words(signals: &[u32], to: &mut [Bits], from: &[Bits])
 {
     for signal in signals {
         let signal = *signal as usize;
-        to[signal] = from[signal];
+        to[signal].take(from[signal]);
     }
 }
 

@@ -74,6 +74,16 @@ impl Bits {
         self.value
     }
 
+    /// Takes the value of another word of its width. The width stays where it is, so that less is written than by an assignment
+    /// of the whole word.
+    #[inline(always)]
+    pub fn take(&mut self, other: Bits)
+        requires { width_of self.old ≡ width_of other }
+        ensures { self.new ≡ other }
+    {
+        self.value = other.value;
+    }
+
     /// The low `width` bits of a number.
     #[tactic(auto, using(crate::proofs::Modulo::and_ones))]
     fn low_of(width: u8, value: u128) -> Bits

@@ -66,5 +66,6 @@ pub(crate) fn write(words: &mut [Bits], signal: usize, from: u8, width: u8, valu
     ensures widths { map width_of words.new ≡ map width_of words.old }
     ensures words { valuation_of words.new ≡ with_bits (valuation_of words.old) signal from width (bit (value_of value)) }
 {
-    words[signal] = replaced(words[signal], from, width, value);
+    let word = replaced(words[signal], from, width, value);
+    words[signal].take(word);
 }
