@@ -19,7 +19,8 @@ pub with_held-other : (widths : List ℕ) (cell value : ℕ) (V : Valuation) (c 
 with_held-other widths cell value V c other = fun_ext (λ b. rw (equal-false c cell other) refl)
 
 -- the one that is written holds the low bits of the number
-pub held-with_held : (widths : List ℕ) (cell value : ℕ) (V : Valuation) → held widths (with_held widths cell value V) cell ≡ value % 2 ^ width_in widths cell
+pub held-with_held : (widths : List ℕ) (cell value : ℕ) (V : Valuation)
+    → held widths (with_held widths cell value V) cell ≡ value % 2 ^ width_in widths cell
 held-with_held widths cell value V =
     number-same (width_in widths cell) (with_held widths cell value V cell) (bit value) (λ b low.
     rw (eq-eqb cell cell refl, le-leb 0 b (omega arith), lt-ltb b (0 + width_in widths cell) (omega arith)) (ap (bit value) (omega arith)))

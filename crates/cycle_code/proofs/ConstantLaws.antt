@@ -42,7 +42,8 @@ AreFree-grown p r grown free cell h =
 
 -- ---- an instruction
 -- a write to a cell that is no constant
-constants-written : (p : Program) (cell n : ℕ) (V : Valuation) → IsTrue (is_open p cell) → HasConstants p V → HasConstants p (with_held_in p cell n V)
+constants-written : (p : Program) (cell n : ℕ) (V : Valuation) → IsTrue (is_open p cell) → HasConstants p V
+    → HasConstants p (with_held_in p cell n V)
 constants-written p cell n V unfixed has = record {
   constants = λ c w fixed is.
       let other : c ≢ cell = λ same. absurd (differ (Some-same (sym fixed ∙ ap (slice_get p.fixed) same ∙ is_open-free p cell unfixed))) in
@@ -53,7 +54,8 @@ constants-written p cell n V unfixed has = record {
     differ same = absurd cc
 
 -- a write to the cells of the signals
-constants-assigned : (p : Program) (m : Updates) (V : Valuation) → AreFree p → HasConstants p V → HasConstants p (with_updates (count_of p) m V)
+constants-assigned : (p : Program) (m : Updates) (V : Valuation) → AreFree p → HasConstants p V
+    → HasConstants p (with_updates (count_of p) m V)
 constants-assigned p m V free has = record {
   constants = λ c w fixed is.
       ap (number (width_in p.widths c)) (with_updates-past (count_of p) m V c (past c fixed)) ∙ has.constants c w fixed is;
@@ -69,12 +71,15 @@ constants-assigned p m V free has = record {
     ]
 
 -- a write to the cell of an operator
-constants-operated : (p : Program) (op : BinaryOp) (left right to : ℕ) (V : Valuation) → IsTrue (operands_fit p op left right to) → HasConstants p V
+constants-operated : (p : Program) (op : BinaryOp) (left right to : ℕ) (V : Valuation)
+    → IsTrue (operands_fit p op left right to) → HasConstants p V
     → HasConstants p (with_operated p op left right to V)
-constants-operated p op left right to V h has = constants-written p to _ V (is_own-open p to (operands_fit-parts p op left right to h).0) has
+constants-operated p op left right to V h has =
+    constants-written p to _ V (is_own-open p to (operands_fit-parts p op left right to h).0) has
 
 -- constants stay
-pub constants-effect : (p : Program) (choice : Choice) (q : ℕ) (i : Instruction) (V : Valuation) → IsTrue (fits p q i) → AreFree p → HasConstants p V
+pub constants-effect : (p : Program) (choice : Choice) (q : ℕ) (i : Instruction) (V : Valuation) → IsTrue (fits p q i)
+    → AreFree p → HasConstants p V
     → HasConstants p (effect p choice i V)
 constants-effect p choice q (Jump lower) V h free has = has
 constants-effect p choice q (JumpIf cell lower) V h free has = has
@@ -86,7 +91,8 @@ constants-effect p choice q (Move from to) V h free has =
     let t = of_three (is_own p to) (is_cell p from) (has_width p from (width_in p.widths to)) h in
     constants-written p to _ V (is_own-open p to t.0) has
 constants-effect p choice q (Slice arg from width to) V h free has =
-    let t = of_five (is_own p to) (is_cell p arg) (nat_le 1 width) (has_width p to width) (nat_le (from + width) (width_in p.widths arg)) h in
+    let t = of_five (is_own p to) (is_cell p arg) (nat_le 1 width) (has_width p to width)
+    (nat_le (from + width) (width_in p.widths arg)) h in
     constants-written p to _ V (is_own-open p to t.0) has
 constants-effect p choice q (Join high low to) V h free has =
     let t = of_four (is_own p to) (is_cell p high) (is_cell p low) (has_width p to (width_in p.widths high + width_in p.widths low)) h in
@@ -130,7 +136,8 @@ constants-effect p choice q (Assign target place value later) V h free has = fou
         → HasConstants p (option_map_or (λ parts. with_assigned p parts (assigned choice place (held_in p V value)) later V) o V)
     found None = has
     found (Some parts) =
-        constants-assigned p (after_set (signals_of p) parts (bit (assigned choice place (held_in p V value))) later (updates_in (count_of p) V)) V free has
+        constants-assigned p (after_set (signals_of p) parts (bit (assigned choice place (held_in p V value))) later
+        (updates_in (count_of p) V)) V free has
 constants-effect p choice q (Store target value later) V h free has = found (slice_get p.targets target)
   where
     found : (o : Option (List Part)) → HasConstants p (option_map_or (λ parts. with_assigned p parts (held_in p V value) later V) o V)
@@ -151,16 +158,19 @@ constants-run_for (suc fuel) p choice to at V sound has =
         → HasConstants p (option_map_or (λ i. run_for fuel p choice to (next p i (at - 1) V) (effect p choice i V)) o V)
     found left None is = has
     found left (Some i) is =
-        left (effect p choice i V) (next p i (at - 1) V) (constants-effect p choice (at - 1) i V (sound.instructions (at - 1) i is) sound.signals has)
+        left (effect p choice i V) (next p i (at - 1) V)
+        (constants-effect p choice (at - 1) i V (sound.instructions (at - 1) i is) sound.signals has)
 
     test : ((V' : Valuation) (q : ℕ) → HasConstants p V' → HasConstants p (run_for fuel p choice to q V')) → (b : Bool)
         → HasConstants p
-        (if b then V else option_map_or (λ i. run_for fuel p choice to (next p i (at - 1) V) (effect p choice i V)) (slice_get p.instructions (at - 1)) V)
+        (if b then V else option_map_or (λ i. run_for fuel p choice to (next p i (at - 1) V) (effect p choice i V))
+        (slice_get p.instructions (at - 1)) V)
     test left true = has
     test left false = found left (slice_get p.instructions (at - 1)) refl
 
 -- constants stay through a run
-pub constants-run : (p : Program) (choice : Choice) (to at : ℕ) (V : Valuation) → IsSound p → HasConstants p V → HasConstants p (run p choice to at V)
+pub constants-run : (p : Program) (choice : Choice) (to at : ℕ) (V : Valuation) → IsSound p → HasConstants p V
+    → HasConstants p (run p choice to at V)
 unfolding run
 constants-run p choice to at V sound has = constants-run_for at p choice to at V sound has
 

@@ -28,6 +28,11 @@ Grows-push xs x i y is =
     ∙ sym (slice_get-get_or xs i y within)
     ∙ is
 
+-- what was pushed stands last
+pub last-stands : {X : Type 0} (xs : List X) (x : X) → slice_get (xs ++ x ∷ []) (length xs) ≡ Some x
+last-stands [] x = refl
+last-stands (y ∷ xs) x = last-stands xs x
+
 -- a list that grows does not get shorter
 pub Grows-length : {X : Type 0} (xs ys : List X) → Grows xs ys → (i : ℕ) → i < length xs → i < length ys
 Grows-length xs ys grows i h =
@@ -98,14 +103,16 @@ width_in-grown p r cell grown h =
     ap (λ o. option_map_or (λ width. width) o 0) (grown.widths cell found.0 found.1 ∙ sym found.1)
 
 -- what is known where a test on an entry holds
-pub entry-some : {X : Type 0} (test : X → Bool) (o : Option X) → option_map_or test o false ≡ true → (x : X) × (o ≡ Some x) × (test x ≡ true)
+pub entry-some : {X : Type 0} (test : X → Bool) (o : Option X) → option_map_or test o false ≡ true
+    → (x : X) × (o ≡ Some x) × (test x ≡ true)
 entry-some test None h = absurd cc
 entry-some test (Some x) h = (x, refl, h)
 
 -- a cell that may be written is no constant
 pub is_open-free : (p : Program) (cell : ℕ) → IsTrue (is_open p cell) → slice_get p.fixed cell ≡ Some false
 is_open-free p cell h =
-    let found = entry-some not (slice_get p.fixed cell) (and_parts (is_cell p cell) (option_map_or not (slice_get p.fixed cell) false) h).1 in
+    let found =
+    entry-some not (slice_get p.fixed cell) (and_parts (is_cell p cell) (option_map_or not (slice_get p.fixed cell) false) h).1 in
     found.1 ∙ ap Some (is_false found.0 found.2)
   where
     is_false : (b : Bool) → not b ≡ true → b ≡ false
@@ -133,7 +140,8 @@ is_own-cell p cell h = is_open-cell p cell (is_own-open p cell h)
 -- it stands behind those of the signals
 pub is_own-past : (p : Program) (cell : ℕ) → IsTrue (is_own p cell) → count_of p + count_of p + count_of p ≤ cell
 is_own-past p cell h =
-    leb-true (count_of p + count_of p + count_of p) cell (and_parts (is_open p cell) (nat_le (count_of p + count_of p + count_of p) cell) h).1
+    leb-true (count_of p + count_of p + count_of p) cell
+    (and_parts (is_open p cell) (nat_le (count_of p + count_of p + count_of p) cell) h).1
 
 -- it goes on to be one
 pub is_own-grown : (p r : Program) (cell : ℕ) → Grown p r → IsTrue (is_own p cell) → IsTrue (is_own r cell)
@@ -147,7 +155,8 @@ pub is_place-grown : (p r : Program) (place : ℕ) → Grown p r → IsTrue (is_
 is_place-grown p r place grown h = ap (λ (d : Design). nat_lt place (length d.places.items)) grown.design ∙ h
 
 -- a cell goes on to have its width
-has_width-grown : (p r : Program) (cell width other : ℕ) → Grown p r → IsTrue (is_cell p cell) → other ≡ width → IsTrue (has_width p cell width)
+has_width-grown : (p r : Program) (cell width other : ℕ) → Grown p r → IsTrue (is_cell p cell) → other ≡ width
+    → IsTrue (has_width p cell width)
     → IsTrue (has_width r cell other)
 has_width-grown p r cell width other grown within same h =
     ap (λ n. n == other) (width_in-grown p r cell grown within) ∙ ap (λ n. width_in p.widths cell == n) same ∙ h
@@ -158,7 +167,8 @@ pub operand_fits-parts : (p : Program) (op : UnaryOp) (arg to : ℕ) → IsTrue 
 operand_fits-parts p op arg to h = of_three (is_own p to) (is_cell p arg) (unary_fits op (width_in p.widths to) (width_in p.widths arg)) h
 
 -- they go on to fit
-operand_fits-grown : (p r : Program) (op : UnaryOp) (arg to : ℕ) → Grown p r → IsTrue (operand_fits p op arg to) → IsTrue (operand_fits r op arg to)
+operand_fits-grown : (p r : Program) (op : UnaryOp) (arg to : ℕ) → Grown p r → IsTrue (operand_fits p op arg to)
+    → IsTrue (operand_fits r op arg to)
 operand_fits-grown p r op arg to grown h =
     let t = operand_fits-parts p op arg to h in
     both (both (is_own-grown p r to grown t.0) (is_cell-grown p r arg grown t.1))
@@ -202,17 +212,21 @@ fits-grown p r q (JumpUnlike left right lower) grown h =
     both (both t.0 (is_cell-grown p r left grown t.1)) (is_cell-grown p r right grown t.2)
 fits-grown p r q (JumpNoMatch subject label wild lower) grown h =
     let width = width_in p.widths subject in
-    let t = of_six (nat_le lower q) (is_cell p subject) (is_cell p label) (is_cell p wild) (has_width p label width) (has_width p wild width) h in
+    let t = of_six (nat_le lower q) (is_cell p subject) (is_cell p label) (is_cell p wild) (has_width p label width)
+    (has_width p wild width) h in
     let same = width_in-grown p r subject grown t.1 in
-    both (both (both (both (both t.0 (is_cell-grown p r subject grown t.1)) (is_cell-grown p r label grown t.2)) (is_cell-grown p r wild grown t.3))
+    both (both (both (both (both t.0 (is_cell-grown p r subject grown t.1)) (is_cell-grown p r label grown t.2))
+    (is_cell-grown p r wild grown t.3))
     (has_width-grown p r label width (width_in r.widths subject) grown t.2 same t.4))
     (has_width-grown p r wild width (width_in r.widths subject) grown t.3 same t.5)
 fits-grown p r q (Move from to) grown h =
     let t = of_three (is_own p to) (is_cell p from) (has_width p from (width_in p.widths to)) h in
     both (both (is_own-grown p r to grown t.0) (is_cell-grown p r from grown t.1))
-    (has_width-grown p r from (width_in p.widths to) (width_in r.widths to) grown t.1 (width_in-grown p r to grown (is_own-cell p to t.0)) t.2)
+    (has_width-grown p r from (width_in p.widths to) (width_in r.widths to) grown t.1
+    (width_in-grown p r to grown (is_own-cell p to t.0)) t.2)
 fits-grown p r q (Slice arg from width to) grown h =
-    let t = of_five (is_own p to) (is_cell p arg) (nat_le 1 width) (has_width p to width) (nat_le (from + width) (width_in p.widths arg)) h in
+    let t = of_five (is_own p to) (is_cell p arg) (nat_le 1 width) (has_width p to width)
+    (nat_le (from + width) (width_in p.widths arg)) h in
     both (both (both (both (is_own-grown p r to grown t.0) (is_cell-grown p r arg grown t.1)) t.2)
     (has_width-grown p r to width width grown (is_own-cell p to t.0) refl t.3))
     (ap (nat_le (from + width)) (width_in-grown p r arg grown t.1) ∙ t.4)

@@ -72,15 +72,19 @@ run_for-enough (suc fuel) zero p choice to at V one other = run_for-end (suc fue
 run_for-enough (suc fuel) (suc more) p choice to at V one other =
     test (λ V' q low. run_for-enough fuel more p choice to q V' (omega arith) (omega arith)) (nat_le at to) refl
   where
-    same : ((V' : Valuation) (q : ℕ) → q ≤ at - 1 → run_for fuel p choice to q V' ≡ run_for more p choice to q V') → (o : Option Instruction)
+    same : ((V' : Valuation) (q : ℕ) → q ≤ at - 1 → run_for fuel p choice to q V' ≡ run_for more p choice to q V')
+        → (o : Option Instruction)
         → option_map_or (λ i. run_for fuel p choice to (next p i (at - 1) V) (effect p choice i V)) o V
         ≡ option_map_or (λ i. run_for more p choice to (next p i (at - 1) V) (effect p choice i V)) o V
     same left None = refl
     same left (Some i) = left (effect p choice i V) (next p i (at - 1) V) (next-below p i (at - 1) V)
 
-    test : ((V' : Valuation) (q : ℕ) → q ≤ at - 1 → run_for fuel p choice to q V' ≡ run_for more p choice to q V') → (b : Bool) → nat_le at to ≡ b
-        → (if b then V else option_map_or (λ i. run_for fuel p choice to (next p i (at - 1) V) (effect p choice i V)) (slice_get p.instructions (at - 1)) V)
-        ≡ (if b then V else option_map_or (λ i. run_for more p choice to (next p i (at - 1) V) (effect p choice i V)) (slice_get p.instructions (at - 1)) V)
+    test : ((V' : Valuation) (q : ℕ) → q ≤ at - 1 → run_for fuel p choice to q V' ≡ run_for more p choice to q V')
+        → (b : Bool) → nat_le at to ≡ b
+        → (if b then V else option_map_or (λ i. run_for fuel p choice to (next p i (at - 1) V) (effect p choice i V))
+        (slice_get p.instructions (at - 1)) V)
+        ≡ (if b then V else option_map_or (λ i. run_for more p choice to (next p i (at - 1) V) (effect p choice i V))
+        (slice_get p.instructions (at - 1)) V)
     test left true e = refl
     test left false e = same left (slice_get p.instructions (at - 1))
 
@@ -90,13 +94,15 @@ unfolding run
 run-end p choice to at V h = run_for-end at p choice to at V h
 
 -- one instruction of a run
-pub run-step : (p : Program) (choice : Choice) (to at : ℕ) (i : Instruction) (V : Valuation) → to < at → slice_get p.instructions (at - 1) ≡ Some i
+pub run-step : (p : Program) (choice : Choice) (to at : ℕ) (i : Instruction) (V : Valuation)
+    → to < at → slice_get p.instructions (at - 1) ≡ Some i
     → run p choice to at V ≡ run p choice to (next p i (at - 1) V) (effect p choice i V)
 unfolding run run_for
 run-step p choice to zero i V h is = absurd (omega arith)
 run-step p choice to (suc k) i V h is =
     let low : next p i (suc k - 1) V ≤ suc k - 1 = next-below p i (suc k - 1) V in
-    ap (λ b. if b then V else option_map_or (λ j. run_for k p choice to (next p j (suc k - 1) V) (effect p choice j V)) (slice_get p.instructions (suc k - 1)) V)
+    ap (λ b. if b then V else option_map_or (λ j. run_for k p choice to (next p j (suc k - 1) V) (effect p choice j V))
+    (slice_get p.instructions (suc k - 1)) V)
     (lt-leb (suc k) to h)
     ∙ ap (λ o. option_map_or (λ j. run_for k p choice to (next p j (suc k - 1) V) (effect p choice j V)) o V) is
     ∙ run_for-enough k (next p i (suc k - 1) V) p choice to (next p i (suc k - 1) V) (effect p choice i V) (omega arith) (omega arith)

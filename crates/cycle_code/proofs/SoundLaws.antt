@@ -14,7 +14,7 @@ use Rattle.design_core.specs.declared.design.Design.{Design}
 use Rattle.cycle_code.specs.declared.instruction.Instruction.{Instruction}
 use Rattle.cycle_code.specs.Program.{Program, signals_of, count_of, signal_widths, three_times, Grown, empty_of, with_cell, with_instruction, with_tree, with_target}
 use Rattle.cycle_code.specs.Fitting.{fits, IsSound}
-use Rattle.cycle_code.proofs.GrowthLaws.{Grows-push, fits-grown}
+use Rattle.cycle_code.proofs.GrowthLaws.{Grows-push, fits-grown, last-stands}
 
 -- ---- lists
 -- the last element of a list, or one before it
@@ -27,23 +27,21 @@ push-cases xs x i y is = elim (cases_lt i (length xs)) [
   | inr high ↦
       let within : i < length (xs ++ x ∷ []) = slice_get_within (xs ++ x ∷ []) i y is in
       let last : i ≡ length xs = omega (arith, length-append xs (x ∷ [])) in
-      inr (last, Some-same (sym is ∙ ap (slice_get (xs ++ x ∷ [])) last ∙ at-end xs x))
+      inr (last, Some-same (sym is ∙ ap (slice_get (xs ++ x ∷ [])) last ∙ last-stands xs x))
 ]
-  where
-    at-end : {X : Type 0} (xs : List X) (x : X) → slice_get (xs ++ x ∷ []) (length xs) ≡ Some x
-    at-end [] x = refl
-    at-end (y ∷ xs) x = at-end xs x
 
 -- ---- the cells of the signals
 -- a program has three cells for each signal
 pub sound-cells : (p : Program) → IsSound p → count_of p + count_of p + count_of p ≤ length p.widths
 sound-cells p sound =
     let count = count_of p in
-    let size : length (take count (drop (count + count) p.widths)) ≡ count = ap length sound.room ∙ length-map (signals_of p) (λ s. s.width) in
+    let size : length (take count (drop (count + count) p.widths)) ≡ count =
+    ap length sound.room ∙ length-map (signals_of p) (λ s. s.width) in
     omega (arith, length-take count (drop (count + count) p.widths), length-drop (count + count) p.widths)
 
 -- a piece of a list that grows
-piece-push : {X : Type 0} (count at : ℕ) (xs : List X) (x : X) → at + count ≤ length xs → take count (drop at (xs ++ x ∷ [])) ≡ take count (drop at xs)
+piece-push : {X : Type 0} (count at : ℕ) (xs : List X) (x : X) → at + count ≤ length xs
+    → take count (drop at (xs ++ x ∷ [])) ≡ take count (drop at xs)
 piece-push count at xs x h =
     ap (take count) (drop-append-le at xs (x ∷ []) (omega arith))
     ∙ take-append-le count (drop at xs) (x ∷ []) (omega (arith, length-drop at xs))
@@ -125,9 +123,11 @@ IsSound-instruction instruction p sound here = record {
   instructions = λ q i is. each q i (push-cases p.instructions instruction q i is);
 }
   where
-    each : (q : ℕ) (i : Instruction) → (slice_get p.instructions q ≡ Some i) ⊎ ((q ≡ length p.instructions) × (i ≡ instruction)) → IsTrue (fits p q i)
+    each : (q : ℕ) (i : Instruction)
+        → (slice_get p.instructions q ≡ Some i) ⊎ ((q ≡ length p.instructions) × (i ≡ instruction)) → IsTrue (fits p q i)
     each q i (inl is) = sound.instructions q i is
-    each q i (inr last) = subst (λ n. IsTrue (fits p n i)) (sym last.0) (subst (λ j. IsTrue (fits p (length p.instructions) j)) (sym last.1) here)
+    each q i (inr last) =
+        subst (λ n. IsTrue (fits p n i)) (sym last.0) (subst (λ j. IsTrue (fits p (length p.instructions) j)) (sym last.1) here)
 
 -- with one more expression
 pub IsSound-tree : (tree : Typed) (p : Program) → IsSound p → IsSound (with_tree tree p)
@@ -198,7 +198,8 @@ IsSound-empty d =
     second-piece : {X : Type 0} (count : ℕ) (xs : List X) → length xs ≡ count → take count (drop count (three_times xs)) ≡ xs
     second-piece count xs size =
         ap (λ n. take n (drop n (three_times xs))) (sym size)
-        ∙ ap (take (length xs)) (drop-append-le (length xs) (xs ++ xs) xs (omega (arith, length-append xs xs)) ∙ ap (λ ys. ys ++ xs) (drop-append_seam xs xs))
+        ∙ ap (take (length xs)) (drop-append-le (length xs) (xs ++ xs) xs (omega (arith, length-append xs xs))
+        ∙ ap (λ ys. ys ++ xs) (drop-append_seam xs xs))
         ∙ take-append_seam xs xs
 
     third-piece : {X : Type 0} (count : ℕ) (xs : List X) → length xs ≡ count → take count (drop (count + count) (three_times xs)) ≡ xs

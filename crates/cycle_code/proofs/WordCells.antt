@@ -22,11 +22,13 @@ use Rattle.cycle_code.specs.Fitting.{is_cell, has_width, IsSound}
 use Rattle.cycle_code.proofs.CellLaws.{updates-same}
 
 -- ---- one cell
-pub width_in-word : (cells : List Bits) (c : ℕ) (word : Bits) → slice_get cells c ≡ Some word → width_in (map width_of cells) c ≡ width_of word
+pub width_in-word : (cells : List Bits) (c : ℕ) (word : Bits) → slice_get cells c ≡ Some word
+    → width_in (map width_of cells) c ≡ width_of word
 width_in-word cells c word is = ap (λ o. option_map_or (λ width. width) o 0) (slice_get-map width_of cells c ∙ ap (option_map width_of) is)
 
 -- and the number that it holds is the one of its word
-pub held-word : (cells : List Bits) (c : ℕ) (word : Bits) → slice_get cells c ≡ Some word → held (map width_of cells) (valuation_of cells) c ≡ value_of word
+pub held-word : (cells : List Bits) (c : ℕ) (word : Bits) → slice_get cells c ≡ Some word
+    → held (map width_of cells) (valuation_of cells) c ≡ value_of word
 held-word cells c word is = ap (λ n. number n (valuation_of cells c)) (width_in-word cells c word is) ∙ number-word cells c word is
 
 -- the number of a cell is one of a word
@@ -65,7 +67,8 @@ valuation-written cells c word h same =
     (λ p. whole-bit (width_in (map width_of cells) c) p found.0 word (sym width) same)
 
 -- ---- some cells
-slice_get-take : (n : ℕ) (xs : List Bits) (s : ℕ) → s < n → slice_get (take n xs) s ≡ slice_get xs s
+-- an element of the first of a list
+pub slice_get-take : {X : Type 0} (n : ℕ) (xs : List X) (s : ℕ) → s < n → slice_get (take n xs) s ≡ slice_get xs s
 slice_get-take n xs s h = elim (cases_lt s (length xs)) [
   | inl low ↦
       let found = slice_get-some xs s low in
@@ -76,7 +79,7 @@ slice_get-take n xs s h = elim (cases_lt s (length xs)) [
 ]
 
 -- an element of a list from a place on
-slice_get-drop : (n : ℕ) (xs : List Bits) (s : ℕ) → slice_get (drop n xs) s ≡ slice_get xs (n + s)
+pub slice_get-drop : {X : Type 0} (n : ℕ) (xs : List X) (s : ℕ) → slice_get (drop n xs) s ≡ slice_get xs (n + s)
 slice_get-drop n xs s = elim (cases_lt (n + s) (length xs)) [
   | inl low ↦
       let found = slice_get-some xs (n + s) low in
@@ -140,7 +143,8 @@ valuation-replaced count cells now later one other = fun_ext (λ s. fun_ext (λ 
     at s b = elim (cases_lt s count) [
       | inl low ↦
           rw (lt-ltb s count low)
-          (ap (λ o. option_map_or (λ word. bit_of word b) o false) (slice_get-left now (later ++ drop count (drop count cells)) s (omega arith)))
+          (ap (λ o. option_map_or (λ word. bit_of word b) o false)
+          (slice_get-left now (later ++ drop count (drop count cells)) s (omega arith)))
       | inr past ↦ elim (cases_lt s (count + count)) [
         | inl low ↦
             rw (le-ltb s count past, lt-ltb s (count + count) low)
@@ -161,14 +165,16 @@ valuation-replaced count cells now later one other = fun_ext (λ s. fun_ext (λ 
 
 -- ---- what instructions ask
 pub width_in-most : (cells : List Bits) (c : ℕ) → width_in (map width_of cells) c ≤ 128
-width_in-most cells c = subst (λ o. option_map_or (λ width. width) o 0 ≤ 128) (sym (slice_get-map width_of cells c)) (at (slice_get cells c))
+width_in-most cells c =
+    subst (λ o. option_map_or (λ width. width) o 0 ≤ 128) (sym (slice_get-map width_of cells c)) (at (slice_get cells c))
   where
     at : (o : Option Bits) → option_map_or (λ width. width) (option_map width_of o) 0 ≤ 128
     at None = omega arith
     at (Some word) = width_of-high word
 
 -- a width that a cell has is one of a word
-pub has_width-most : (p : Program) (cells : List Bits) (c width : ℕ) → map width_of cells ≡ p.widths → IsTrue (has_width p c width) → width ≤ 128
+pub has_width-most : (p : Program) (cells : List Bits) (c width : ℕ) → map width_of cells ≡ p.widths
+    → IsTrue (has_width p c width) → width ≤ 128
 has_width-most p cells c width same h =
     let is : width_in p.widths c ≡ width = eqb-true (width_in p.widths c) width h in
     subst (λ n. n ≤ 128) (ap (λ ws. width_in ws c) same ∙ is) (width_in-most cells c)
@@ -178,7 +184,8 @@ pub join-most : (p : Program) (cells : List Bits) (high low to : ℕ) (one other
     → width_of one ≡ width_in (map width_of cells) high → width_of other ≡ width_in (map width_of cells) low
     → IsTrue (has_width p to (width_in p.widths high + width_in p.widths low)) → width_of one + width_of other ≤ 128
 join-most p cells high low to one other same e f h =
-    let most : width_in p.widths high + width_in p.widths low ≤ 128 = has_width-most p cells to (width_in p.widths high + width_in p.widths low) same h in
+    let most : width_in p.widths high + width_in p.widths low ≤ 128 =
+    has_width-most p cells to (width_in p.widths high + width_in p.widths low) same h in
     let left : width_of one ≡ width_in p.widths high = e ∙ ap (λ ws. width_in ws high) same in
     let right : width_of other ≡ width_in p.widths low = f ∙ ap (λ ws. width_in ws low) same in
     omega arith
@@ -199,7 +206,8 @@ slice-value cells arg from width word h e =
     ∙ sym (number-word_part cells arg from width found.0 found.1)
 
 -- the words of the signals
-pub words-now : (p : Program) (cells : List Bits) → IsSound p → map width_of cells ≡ p.widths → AreWordsOf (signals_of p) (take (count_of p) cells)
+pub words-now : (p : Program) (cells : List Bits) → IsSound p → map width_of cells ≡ p.widths
+    → AreWordsOf (signals_of p) (take (count_of p) cells)
 words-now p cells sound same = record { widths = sym (take-map width_of (count_of p) cells) ∙ ap (take (count_of p)) same ∙ sound.now }
 
 -- and those of later updates

@@ -32,6 +32,11 @@ abbrev pub with_assigned : Program → List Part → ℕ → Bool → Valuation 
 with_assigned p parts value later V =
     with_updates (count_of p) (after_set (signals_of p) parts (bit value) later (updates_in (count_of p) V)) V
 
+-- a number assigned to the left side of a number
+abbrev pub with_stored : Program → ℕ → ℕ → Bool → Valuation → Valuation
+with_stored p target value later V =
+    option_map_or (λ parts. with_assigned p parts value later V) (slice_get p.targets target) V
+
 -- what an instruction leaves in the cells
 abbrev pub effect : Program → Choice → Instruction → Valuation → Valuation
 effect p choice (Jump lower) V = V
@@ -61,10 +66,8 @@ effect p choice (Value tree to) V =
     option_map_or (λ e. with_held_in p to (value (signals_of p) (below (count_of p) V) e) V) (slice_get p.trees tree) V
 effect p choice (Set place value to) V = with_held_in p to (assigned choice place (held_in p V value)) V
 effect p choice (Put value to) V = with_held_in p to (held_in p V value) V
-effect p choice (Assign target place value later) V =
-    option_map_or (λ parts. with_assigned p parts (assigned choice place (held_in p V value)) later V) (slice_get p.targets target) V
-effect p choice (Store target value later) V =
-    option_map_or (λ parts. with_assigned p parts (held_in p V value) later V) (slice_get p.targets target) V
+effect p choice (Assign target place value later) V = with_stored p target (assigned choice place (held_in p V value)) later V
+effect p choice (Store target value later) V = with_stored p target (held_in p V value) later V
 
 -- the number at which the run goes on after the instruction of a number: a jump leads down alone
 abbrev pub jumped : ℕ → ℕ → Bool → ℕ

@@ -47,6 +47,10 @@ operands_fit p op left right to =
     is_own p to && is_cell p left && is_cell p right
     && binary_fits op (width_in p.widths to) (width_in p.widths left) (width_in p.widths right)
 
+-- the number of a left side whose parts fit
+abbrev pub target_fits : Program → ℕ → Bool
+target_fits p target = option_map_or (list_all (part_fits (signals_of p))) (slice_get p.targets target) false
+
 -- whether an instruction of a number fits
 abbrev pub fits : Program → ℕ → Instruction → Bool
 fits p q (Jump lower) = nat_le lower q
@@ -78,11 +82,8 @@ fits p q (Unlike left right to) = operands_fit p binary_op.NotEqual left right t
 fits p q (Value tree to) = is_own p to && option_map_or (tree_fits p (width_in p.widths to)) (slice_get p.trees tree) false
 fits p q (Set place value to) = is_open p to && is_cell p value && is_place p place
 fits p q (Put value to) = is_open p to && is_cell p value
-fits p q (Assign target place value later) =
-    is_cell p value && is_place p place
-    && option_map_or (list_all (part_fits (signals_of p))) (slice_get p.targets target) false
-fits p q (Store target value later) =
-    is_cell p value && option_map_or (list_all (part_fits (signals_of p))) (slice_get p.targets target) false
+fits p q (Assign target place value later) = is_cell p value && is_place p place && target_fits p target
+fits p q (Store target value later) = is_cell p value && target_fits p target
 
 -- what a program must be to be run: its first cells are those of the signals and no constants, and each instruction fits
 pub record IsSound (p : Program) : Type 0 where

@@ -2,10 +2,17 @@
 //! into, so that a cycle takes no walk over trees. What an instruction does is one definition by cases (`specs/Effects`).
 #![tactic(auto)]
 
+mod assigning;
+mod cell;
+mod choices;
 mod code;
 mod instruction;
+mod operating;
+mod range;
 mod running;
 
+pub use choices::Choices;
 pub use code::Code;
 pub use instruction::Instruction;
+pub use range::Range;
 pub use running::run;

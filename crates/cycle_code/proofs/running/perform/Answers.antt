@@ -70,7 +70,8 @@ index-requires c =
     let p : Program = program_of c.args.code.now in
     let e = value-fits p c.args.at c.in-Value.tree c.in-Value.to (rw c.in-Value.is at c.requires.fits) in
     let inside = image-at (λ (tree : Bor Typed). tree.now) c.args.code.now.trees.items c.in-Value.tree e.0 e.1 in
-    let within : c.in-Value.tree < length c.args.code.now.trees.items = slice_get_within c.args.code.now.trees.items c.in-Value.tree inside.0 inside.1 in
+    let within : c.in-Value.tree < length c.args.code.now.trees.items =
+    slice_get_within c.args.code.now.trees.items c.in-Value.tree inside.0 inside.1 in
     omega (arith, within, c.args.code.now.trees.ok.0)
 
 pub compute-requires-clause-fits : goal.compute-requires-clause-fits
@@ -80,7 +81,8 @@ compute-requires-clause-fits c =
     let read : Typed = c.index.result.now.now in
     let same : read ≡ e.0 =
     element-image (λ (tree : Bor Typed). tree.now) c.args.code.now.trees.items c.in-Value.tree e.0 c.index.result.now e.1 c.index.ensures in
-    and_from (typed_fits (signals_of p) read) (read.width == read.width) (ap (typed_fits (signals_of p)) same ∙ e.2) (eq-eqb read.width read.width refl)
+    and_from (typed_fits (signals_of p) read) (read.width == read.width) (ap (typed_fits (signals_of p)) same ∙ e.2)
+    (eq-eqb read.width read.width refl)
 
 pub compute-requires-clause-width : goal.compute-requires-clause-width
 compute-requires-clause-width c =
@@ -113,12 +115,14 @@ returns-in-Slice-clause-value c =
     let p : Program = program_of c.args.code.now in
     let cells : List Bits = c.args.cells.now in
     let V : Valuation = valuation_of cells in
-    let t = of_five (is_own p c.in-Slice.to) (is_cell p c.in-Slice.arg) (nat_le 1 c.in-Slice.width) (has_width p c.in-Slice.to c.in-Slice.width)
+    let t = of_five (is_own p c.in-Slice.to) (is_cell p c.in-Slice.arg) (nat_le 1 c.in-Slice.width)
+    (has_width p c.in-Slice.to c.in-Slice.width)
     (nat_le (c.in-Slice.from + c.in-Slice.width) (width_in p.widths c.in-Slice.arg)) (rw c.in-Slice.is at c.requires.fits) in
     rw c.in-Slice.is
     (c.write.ensures.value
     ∙ ap (λ n. with_held (map width_of cells) c.in-Slice.to n V)
     (c.part-word.ensures.value
-    ∙ slice-value cells c.in-Slice.arg c.in-Slice.from c.in-Slice.width c.read.result (cell-within p cells c.in-Slice.arg c.requires.widths t.1)
+    ∙ slice-value cells c.in-Slice.arg c.in-Slice.from c.in-Slice.width c.read.result
+    (cell-within p cells c.in-Slice.arg c.requires.widths t.1)
     c.read.ensures.value)
     ∙ ap (λ ws. with_held ws c.in-Slice.to (number c.in-Slice.width (λ b. V c.in-Slice.arg (c.in-Slice.from + b))) V) c.requires.widths)

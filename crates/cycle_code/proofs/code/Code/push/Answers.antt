@@ -10,8 +10,10 @@ returns-clause-value c = first_of (search rules, grind (arith, common_steps))
 
 pub returns-clause-sound : goal.returns-clause-sound
 returns-clause-sound c =
-    subst IsSound (sym (returns-clause-value c)) (IsSound-instruction c.args.instruction (program_of c.args.self.now) c.requires.sound c.requires.fits)
+    subst IsSound (sym (returns-clause-value c))
+    (IsSound-instruction c.args.instruction (program_of c.args.self.now) c.requires.sound c.requires.fits)
 
 pub returns-clause-grown : goal.returns-clause-grown
 returns-clause-grown c =
-    subst (Grown (program_of c.args.self.now)) (sym (returns-clause-value c)) (Grown-instruction c.args.instruction (program_of c.args.self.now))
+    subst (Grown (program_of c.args.self.now)) (sym (returns-clause-value c))
+    (Grown-instruction c.args.instruction (program_of c.args.self.now))

@@ -14,4 +14,5 @@ returns-clause-sound c =
 
 pub returns-clause-grown : goal.returns-clause-grown
 returns-clause-grown c =
-    subst (Grown (program_of c.args.self.now)) (sym (returns-clause-value c)) (Grown-target c.args.target.now.parts (program_of c.args.self.now))
+    subst (Grown (program_of c.args.self.now)) (sym (returns-clause-value c))
+    (Grown-target c.args.target.now.parts (program_of c.args.self.now))

@@ -7,7 +7,7 @@ use Rattle.design_core.specs.Words.{valuation_of}
 use Rattle.design_core.specs.Operator.{resized}
 use Rattle.cycle_code.specs.Cells.{with_held}
 use Rattle.cycle_code.proofs.CellLaws.{with_held-resized}
-use Rattle.cycle_code.proofs.running.fit.Goals as goal
+use Rattle.cycle_code.proofs.cell.fit.Goals as goal
 
 pub returns-clause-value : goal.returns-clause-value
 returns-clause-value c =

@@ -3,7 +3,7 @@ use Rattle.design_core.specs.Value.{value}
 use Rattle.design_core.specs.Words.{valuation_of, AreWordsOf}
 use Rattle.cycle_code.specs.Program.{program_of, signals_of, count_of}
 use Rattle.cycle_code.proofs.WordCells.{words-now, valuation-take}
-use Rattle.cycle_code.proofs.running.computed.Goals as goal
+use Rattle.cycle_code.proofs.operating.computed.Goals as goal
 
 pub value-requires-clause-words : goal.value-requires-clause-words
 value-requires-clause-words c =

@@ -1,8 +1,0 @@
-use Rattle.cycle_code.proofs.WordCells.{widths-written, valuation-written}
-use Rattle.cycle_code.proofs.running.write.Goals as goal
-
-pub returns-clause-widths : goal.returns-clause-widths
-returns-clause-widths c = widths-written c.args.cells.now c.args.cell c.args.word c.requires.within c.requires.width
-
-pub returns-clause-value : goal.returns-clause-value
-returns-clause-value c = valuation-written c.args.cells.now c.args.cell c.args.word c.requires.within c.requires.width
