@@ -1,11 +1,10 @@
 -- What an assignment leaves in the cells of the signals.
-use Rattle.std.proofs.Common.{◌≡◌, ◌≢◌, ℕ, zero, suc, ◌+◌, ◌-◌, ◌<◌, ◌≤◌, List, [], ◌∷◌, length, take, drop, zero-add, ◌+ℤ◌, arith, sym, refl, ◌∙◌, ap, subst}
-use Rattle.std.specs.Prelude.{Bool, true, false, ◌&&◌, ◌==◌, if◌then◌else◌, nat_le, nat_lt, IsTrue, ℤ, slice_get, Option, Some, None, option_map}
+use Rattle.std.proofs.Common.{◌≡◌, ◌≢◌, ℕ, ◌+◌, ◌-◌, ◌<◌, ◌≤◌, List, [], ◌∷◌, length, take, drop, ◌+ℤ◌, arith, sym, refl, ◌∙◌, ap, subst}
+use Rattle.std.specs.Prelude.{Bool, true, false, ◌&&◌, ◌==◌, if◌then◌else◌, nat_le, nat_lt, IsTrue, ℤ, slice_get, Option, Some, None}
 use Rattle.std.specs.Option.{option_map_or}
 use Rattle.std.specs.List.{list_all}
 use Rattle.std.proofs.Math.Path.{fun_ext}
 use Rattle.std.proofs.lemmas.Bool.{and_parts, lt-ltb, le-ltb, ltb-true, ltb-false, leb-true, eqb-true, eq-eqb}
-use Rattle.std.proofs.lemmas.Option.{slice_get-map}
 use Rattle.loc_base.proofs.ShelfBools.{equal-false}
 use Rattle.design_core.specs.declared.signal.Signal.{Signal}
 use Rattle.design_core.specs.declared.design.Design.{Design}
@@ -19,50 +18,17 @@ use Rattle.design_core.specs.WellFormed.{is_width, is_signal, slice_fits, words_
 use Rattle.plain_values.proofs.EvaluateValue.{word_at-within}
 use Rattle.plain_values.proofs.EvaluateStore.{whole_now, whole_later}
 use Rattle.cycle_code.specs.declared.instruction.Instruction.TheVariants as instruction
-use Rattle.cycle_code.specs.Program.{Program, Grown, signals_of, count_of, signal_widths, with_instruction, with_target}
+use Rattle.cycle_code.specs.Program.{Program, Grown, signals_of, count_of, with_instruction, with_target}
 use Rattle.cycle_code.specs.Cells.{width_in, with_held, below, updates_in, with_updates}
 use Rattle.cycle_code.specs.Effects.{held_in, with_assigned, effect}
 use Rattle.cycle_code.specs.Fitting.{is_cell, is_place, IsSound}
 use Rattle.cycle_code.proofs.CellLaws.{updates-same, below-with_held, with_held-other, with_updates-past}
-use Rattle.cycle_code.proofs.GrowthLaws.{Grown-trans, both, of_three, of_four, is_cell-grown, is_place-grown, width_in-grown}
+use Rattle.cycle_code.proofs.GrowthLaws.{Grown-trans, both, of_three, of_four, is_cell-grown, is_place-grown, width_in-grown, last-stands}
 use Rattle.cycle_code.proofs.SoundLaws.{sound-cells}
 use Rattle.cycle_compile.specs.Compiling.{Leads}
 use Rattle.cycle_compile.specs.Carrying.{Carries, set_left, whole_of}
-use Rattle.cycle_compile.proofs.Leading.{Leads-pushed, count-grown, last-stands}
-
--- ---- the widths of the signals' cells
-slice_get-take : {X : Type 0} (n : ℕ) (xs : List X) (i : ℕ) → i < n → slice_get (take n xs) i ≡ slice_get xs i
-slice_get-take zero xs i h = absurd (omega (arith, h))
-slice_get-take (suc n) [] i h = refl
-slice_get-take (suc n) (x ∷ xs) zero h = refl
-slice_get-take (suc n) (x ∷ xs) (suc i) h = slice_get-take n xs i (omega (arith, h))
-
-slice_get-drop : {X : Type 0} (n : ℕ) (xs : List X) (i : ℕ) → slice_get (drop n xs) i ≡ slice_get xs (n + i)
-slice_get-drop zero xs i = ap (slice_get xs) (sym (zero-add i))
-slice_get-drop (suc n) [] i = refl
-slice_get-drop (suc n) (x ∷ xs) i =
-    let next : suc n + i ≡ suc (n + i) = omega arith in
-    slice_get-drop n xs i ∙ ap (slice_get (x ∷ xs)) (sym next)
-
-width-of : (signals : List Signal) (widths : List ℕ) (s : ℕ) → s < length signals → take (length signals) widths ≡ signal_widths signals
-    → option_map_or (λ width. width) (slice_get widths s) 0 ≡ width_at signals s
-width-of signals widths s h is =
-    ap (λ o. option_map_or (λ width. width) o 0)
-    (sym (slice_get-take (length signals) widths s h) ∙ ap (λ ws. slice_get ws s) is ∙ slice_get-map (λ (x : Signal). x.width) signals s)
-    ∙ mapped (slice_get signals s)
-  where
-    mapped : (o : Option Signal) → option_map_or (λ width. width) (option_map (λ (x : Signal). x.width) o) 0 ≡ option_map_or (λ (x : Signal). x.width) o 0
-    mapped None = refl
-    mapped (Some x) = refl
-
--- the cell of a signal's word has the signal's width
-pub now-width : (p : Program) (s : ℕ) → IsSound p → s < count_of p → width_in p.widths s ≡ width_at (signals_of p) s
-now-width p s sound h = width-of (signals_of p) p.widths s h sound.now
-
-pub later-width : (p : Program) (s : ℕ) → IsSound p → s < count_of p → width_in p.widths (count_of p + s) ≡ width_at (signals_of p) s
-later-width p s sound h =
-    ap (λ o. option_map_or (λ width. width) o 0) (sym (slice_get-drop (count_of p) p.widths s))
-    ∙ width-of (signals_of p) (drop (count_of p) p.widths) s h sound.later
+use Rattle.cycle_compile.proofs.Leading.{Leads-pushed, count-grown}
+use Rattle.cycle_compile.proofs.Placing.{width_in-signal, later-width}
 
 -- ---- one cell of a signal
 -- the words that are read, where one is written
@@ -112,13 +78,16 @@ written-whole signals widths s to n true V h is same =
     let count : ℕ = length signals in
     ap (λ c. updates_in count (with_held widths c n V)) is
     ∙ updates-same (below-with_held count widths (count + s) n V (omega arith)) refl
-    ∙ whole_later signals (below count V) (below count (λ k. V (count + k))) (below count (λ k. with_held widths (count + s) n V (count + k))) s n
-    (width_in widths (count + s)) true refl (ap (width_in widths) (sym is) ∙ same) (later-written count s (width_in widths (count + s)) (bit n) V h)
+    ∙ whole_later signals (below count V) (below count (λ k. V (count + k)))
+    (below count (λ k. with_held widths (count + s) n V (count + k))) s n
+    (width_in widths (count + s)) true refl (ap (width_in widths) (sym is) ∙ same)
+    (later-written count s (width_in widths (count + s)) (bit n) V h)
 written-whole signals widths s to n false V h is same =
     let count : ℕ = length signals in
     ap (λ c. updates_in count (with_held widths c n V)) is
     ∙ updates-same refl (later-kept count widths s n V h)
-    ∙ whole_now signals (below count V) (below count (λ k. V (count + k))) (below count (with_held widths s n V)) s n (width_in widths s) false refl
+    ∙ whole_now signals (below count V) (below count (λ k. V (count + k))) (below count (with_held widths s n V)) s n
+    (width_in widths s) false refl
     (ap (width_in widths) (sym is) ∙ same) (below-written count s (width_in widths s) (bit n) V h)
 
 -- that cell has the signal's width, in every program that a sound one grows into
@@ -132,16 +101,19 @@ word-width-grown old p s to later sound grown h is =
   where
     at : (l : Bool) → count_of old + count_of old ≤ length old.widths
         → width_in p.widths (if l then count_of old + s else s) ≡ width_at (signals_of old) s
-    at true most = width_in-grown old p (count_of old + s) grown (lt-ltb (count_of old + s) (length old.widths) (omega (arith, most, h))) ∙ later-width old s sound h
-    at false most = width_in-grown old p s grown (lt-ltb s (length old.widths) (omega (arith, most, h))) ∙ now-width old s sound h
+    at true most = width_in-grown old p (count_of old + s) grown
+        (lt-ltb (count_of old + s) (length old.widths) (omega (arith, most, h))) ∙ later-width old s sound h
+    at false most = width_in-grown old p s grown (lt-ltb s (length old.widths) (omega (arith, most, h))) ∙ width_in-signal old s sound h
 
 word-low : (count s to : ℕ) (later : Bool) → s < count → to ≡ (if later then count + s else s) → to < count + count
 word-low count s to true h is = omega (arith, h, is)
 word-low count s to false h is = omega (arith, h, is)
 
 -- the instruction of a whole signal
-pub set-carries : (old new : Program) (place cell s to : ℕ) (later : Bool) → IsSound old → s < count_of old → to ≡ (if later then count_of old + s else s)
-    → new ≡ with_instruction (instruction.Set place cell to) old → IsSound new → Grown old new → Carries old new (set_left place (Whole s ∷ []) cell later)
+pub set-carries : (old new : Program) (place cell s to : ℕ) (later : Bool) → IsSound old → s < count_of old
+    → to ≡ (if later then count_of old + s else s)
+    → new ≡ with_instruction (instruction.Set place cell to) old → IsSound new → Grown old new
+    → Carries old new (set_left place (Whole s ∷ []) cell later)
 set-carries old new place cell s to later sound h at is fine grown = record {
   grown = grown;
   leaves = λ p choice V more has.
@@ -153,7 +125,8 @@ set-carries old new place cell s to later sound h at is fine grown = record {
       record {
         W = effect p choice (instruction.Set place cell to) V;
         leads = Leads-pushed (instruction.Set place cell to) old new p choice V is fine more has;
-        updates = written-whole (signals_of p) p.widths s to n later V (omega (arith, h, same)) at' (word-width-grown old p s to later sound from h at);
+        updates = written-whole (signals_of p) p.widths s to n later V (omega (arith, h, same)) at'
+            (word-width-grown old p s to later sound from h at);
         keeps = λ c b past within.
             let other : c ≢ to = λ equal. absurd (omega (arith, equal, past, low, same)) in
             ap (λ f. f b) (with_held-other p.widths to n V c other);
@@ -175,30 +148,36 @@ is-below count M h = fun_ext (λ c. fun_ext (λ b. at c b (nat_lt c count) refl)
     at c b true e = refl
     at c b false e = sym (h c b (ltb-false c count e))
 
-bits-below : (count s from width : ℕ) (bits : ℕ → Bool) (M : Valuation) → s < count → IsBelow count M → IsBelow count (with_bits M s from width bits)
+bits-below : (count s from width : ℕ) (bits : ℕ → Bool) (M : Valuation) → s < count → IsBelow count M
+    → IsBelow count (with_bits M s from width bits)
 bits-below count s from width bits M h low c b past =
     let apart : c ≢ s = λ same. absurd (omega (arith, same, past, h)) in
     ap (λ t. if t && nat_le from b && nat_lt b (from + width) then bits (b - from) else M c b) (equal-false c s apart) ∙ low c b past
 
-bit-below : (count s : ℕ) (position : Option ℕ) (on : Bool) (M : Valuation) → s < count → IsBelow count M → IsBelow count (with_bit M s position on)
+bit-below : (count s : ℕ) (position : Option ℕ) (on : Bool) (M : Valuation) → s < count → IsBelow count M
+    → IsBelow count (with_bit M s position on)
 bit-below count s None on M h low = low
 bit-below count s (Some position) on M h low = bits-below count s position 1 (λ _. on) M h low
 
-picked-below : (count : ℕ) (signals : List Signal) (s : ℕ) (index : ℤ) (b : ℕ) (offsets : List ℤ) (bits : ℕ → Bool) (M : Valuation) → s < count → IsBelow count M
+picked-below : (count : ℕ) (signals : List Signal) (s : ℕ) (index : ℤ) (b : ℕ) (offsets : List ℤ) (bits : ℕ → Bool)
+    (M : Valuation) → s < count → IsBelow count M
     → IsBelow count (with_picked signals M s index b offsets bits)
 picked-below count signals s index b [] bits M h low = low
 picked-below count signals s index b (offset ∷ offsets) bits M h low =
     picked-below count signals s index (b + 1) offsets bits (with_bit M s (position_at signals s (index +ℤ offset)) (bits b)) h
     (bit-below count s (position_at signals s (index +ℤ offset)) (bits b) M h low)
 
-word-below : (count : ℕ) (word : Option ℕ) (from width : ℕ) (bits : ℕ → Bool) (M : Valuation) → ((s : ℕ) → word ≡ Some s → s < count) → IsBelow count M
+word-below : (count : ℕ) (word : Option ℕ) (from width : ℕ) (bits : ℕ → Bool) (M : Valuation)
+    → ((s : ℕ) → word ≡ Some s → s < count) → IsBelow count M
     → IsBelow count (with_word M word from width bits)
 word-below count None from width bits M h low = low
 word-below count (Some s) from width bits M h low = bits-below count s from width bits M (h s refl) low
 
-part-below : (signals : List Signal) (E M : Valuation) (part : Part) (bits : ℕ → Bool) → IsTrue (part_fits signals part) → IsBelow (length signals) M
+part-below : (signals : List Signal) (E M : Valuation) (part : Part) (bits : ℕ → Bool) → IsTrue (part_fits signals part)
+    → IsBelow (length signals) M
     → IsBelow (length signals) (store_part signals E M part bits)
-part-below signals E M (Whole s) bits fits low = bits-below (length signals) s 0 (width_at signals s) bits M (ltb-true s (length signals) fits) low
+part-below signals E M (Whole s) bits fits low =
+    bits-below (length signals) s 0 (width_at signals s) bits M (ltb-true s (length signals) fits) low
 part-below signals E M (Slice s from width) bits fits low =
     let t = of_three (is_signal signals s) (is_width width) (nat_le (from + width) (width_at signals s)) fits in
     bits-below (length signals) s from width bits M (ltb-true s (length signals) t.0) low
@@ -221,9 +200,11 @@ store-below signals E M (part ∷ parts) bits fits low =
     store-below signals E (store_part signals E M part (λ b. bits (parts_width signals parts + b))) parts bits t.1
     (part-below signals E M part (λ b. bits (parts_width signals parts + b)) t.0 low)
 
-set-below : (signals : List Signal) (parts : List Part) (bits : ℕ → Bool) (later : Bool) (m : Updates) → IsTrue (list_all (part_fits signals) parts)
+set-below : (signals : List Signal) (parts : List Part) (bits : ℕ → Bool) (later : Bool) (m : Updates)
+    → IsTrue (list_all (part_fits signals) parts)
     → IsBelow (length signals) m.now → IsBelow (length signals) m.later
-    → IsBelow (length signals) (after_set signals parts bits later m).now × IsBelow (length signals) (after_set signals parts bits later m).later
+    → IsBelow (length signals) (after_set signals parts bits later m).now × IsBelow (length signals)
+    (after_set signals parts bits later m).later
 set-below signals parts bits true m fits now later = (now, store-below signals m.now m.later parts bits fits later)
 set-below signals parts bits false m fits now later = (store-below signals m.now m.now parts bits fits now, later)
 
@@ -239,7 +220,8 @@ updates_in-with_updates count m V now later =
     first c b true e = rw e refl
     first c b false e = rw e refl
 
-    second : (k b : ℕ) (t : Bool) → nat_lt k count ≡ t → (nat_lt k count && with_updates count m V (count + k) b) ≡ (nat_lt k count && m.later k b)
+    second : (k b : ℕ) (t : Bool) → nat_lt k count ≡ t
+        → (nat_lt k count && with_updates count m V (count + k) b) ≡ (nat_lt k count && m.later k b)
     second k b true e =
         let low : k < count = ltb-true k count e in
         let back : count + k - count ≡ k = omega arith in
@@ -248,7 +230,8 @@ updates_in-with_updates count m V now later =
 
 -- the instruction of any left side
 pub assign-carries : (old mid new : Program) (place cell target : ℕ) (parts : List Part) (later : Bool) → target ≡ length old.targets
-    → mid ≡ with_target parts old → new ≡ with_instruction (instruction.Assign target place cell later) mid → IsSound new → Grown old mid → Grown mid new
+    → mid ≡ with_target parts old → new ≡ with_instruction (instruction.Assign target place cell later) mid → IsSound new
+    → Grown old mid → Grown mid new
     → IsTrue (list_all (part_fits (signals_of old)) parts) → Carries old new (set_left place parts cell later)
 assign-carries old mid new place cell target parts later at there is fine placed grown fits = record {
   grown = Grown-trans old mid new placed grown;
@@ -257,15 +240,19 @@ assign-carries old mid new place cell target parts later at there is fine placed
       let n : ℕ = assigned choice place (held_in p V cell) in
       let m : Updates = after_set (signals_of p) parts (bit n) later (updates_in (count_of p) V) in
       let found : slice_get p.targets target ≡ Some parts = (Grown-trans mid new p grown more).targets target parts
-      (ap (λ (q : Program). slice_get q.targets target) there ∙ ap (slice_get (with_target parts old).targets) at ∙ last-stands old.targets parts) in
+      (ap (λ (q : Program). slice_get q.targets target) there ∙ ap (slice_get (with_target parts old).targets)
+      at ∙ last-stands old.targets parts) in
       let left : effect p choice (instruction.Assign target place cell later) V ≡ with_updates (count_of p) m V =
       ap (λ o. option_map_or (λ ps. with_assigned p ps n later V) o V) found in
-      let fits' : IsTrue (list_all (part_fits (signals_of p)) parts) = ap (λ (d : Design). list_all (part_fits d.signals.items) parts) from.design ∙ fits in
-      let low = set-below (signals_of p) parts (bit n) later (updates_in (count_of p) V) fits' (below-is (count_of p) V) (below-is (count_of p) (λ k. V (count_of p + k))) in
+      let fits' : IsTrue (list_all (part_fits (signals_of p)) parts) =
+      ap (λ (d : Design). list_all (part_fits d.signals.items) parts) from.design ∙ fits in
+      let low = set-below (signals_of p) parts (bit n) later (updates_in (count_of p) V) fits' (below-is (count_of p) V)
+      (below-is (count_of p) (λ k. V (count_of p + k))) in
       let size : length mid.instructions ≡ length old.instructions = ap (λ (q : Program). length q.instructions) there in
       record {
         W = effect p choice (instruction.Assign target place cell later) V;
-        leads = subst (λ k. Leads p choice (length new.instructions) V k (effect p choice (instruction.Assign target place cell later) V)) size
+        leads = subst (λ k. Leads p choice (length new.instructions) V k
+            (effect p choice (instruction.Assign target place cell later) V)) size
             (Leads-pushed (instruction.Assign target place cell later) mid new p choice V is fine more has);
         updates = ap (updates_in (count_of p)) left ∙ updates_in-with_updates (count_of p) m V low.0 low.1;
         keeps = λ c b past within. ap (λ (U : Valuation). U c b) left ∙ ap (λ f. f b) (with_updates-past (count_of p) m V c past);
@@ -284,18 +271,22 @@ whole_of-some (Slice signal from width ∷ part ∷ parts) s is = absurd cc
 whole_of-some (Pick signal index offsets ∷ part ∷ parts) s is = absurd cc
 whole_of-some (Word first count lowest index from width ∷ part ∷ parts) s is = absurd cc
 
-pub whole-within : (signals : List Signal) (parts : List Part) (s : ℕ) → parts ≡ Whole s ∷ [] → IsTrue (list_all (part_fits signals) parts) → s < length signals
+pub whole-within : (signals : List Signal) (parts : List Part) (s : ℕ) → parts ≡ Whole s ∷ []
+    → IsTrue (list_all (part_fits signals) parts) → s < length signals
 whole-within signals parts s is fits =
     let one : IsTrue (list_all (part_fits signals) (Whole s ∷ [])) = ap (list_all (part_fits signals)) (sym is) ∙ fits in
     ltb-true s (length signals) (and_parts (is_signal signals s) true one).0
 
 -- the instruction of any left side fits
-pub target-fits : (old mid : Program) (place cell target : ℕ) (parts : List Part) → target ≡ length old.targets → mid ≡ with_target parts old → Grown old mid
+pub target-fits : (old mid : Program) (place cell target : ℕ) (parts : List Part) → target ≡ length old.targets
+    → mid ≡ with_target parts old → Grown old mid
     → IsTrue (is_place old place) → IsTrue (is_cell old cell) → IsTrue (list_all (part_fits (signals_of old)) parts)
-    → IsTrue (is_cell mid cell && is_place mid place && option_map_or (list_all (part_fits (signals_of mid))) (slice_get mid.targets target) false)
+    → IsTrue (is_cell mid cell && is_place mid place && option_map_or (list_all (part_fits (signals_of mid)))
+    (slice_get mid.targets target) false)
 target-fits old mid place cell target parts at there grown is_there is_one fits =
     let found : slice_get mid.targets target ≡ Some parts =
-    ap (λ (q : Program). slice_get q.targets target) there ∙ ap (slice_get (with_target parts old).targets) at ∙ last-stands old.targets parts in
+    ap (λ (q : Program). slice_get q.targets target) there ∙ ap (slice_get (with_target parts old).targets) at ∙ last-stands
+    old.targets parts in
     let last = ap (λ o. option_map_or (list_all (part_fits (signals_of mid))) o false) found
     ∙ ap (λ (d : Design). list_all (part_fits d.signals.items) parts) grown.design ∙ fits in
     both (both (is_cell-grown old mid cell grown is_one) (is_place-grown old mid place grown is_there)) last

@@ -15,9 +15,9 @@ use Rattle.cycle_code.specs.Program.{Program, Grown, signals_of, count_of}
 use Rattle.cycle_code.specs.Cells.{below, updates_in, HasConstants}
 use Rattle.cycle_code.specs.Effects.{held_in}
 use Rattle.cycle_code.specs.Fitting.{IsSound}
-use Rattle.cycle_code.proofs.GrowthLaws.{Grown-trans, is_cell-grown, is_own-grown, width_in-grown}
+use Rattle.cycle_code.proofs.GrowthLaws.{Grown-trans}
 use Rattle.cycle_code.proofs.SoundLaws.{sound-cells}
-use Rattle.cycle_compile.specs.Compiling.{is_leaf, value_in, IsPlaceFor, Leads, Keeps, Values, Decides, Leaves, Runs}
+use Rattle.cycle_compile.specs.Compiling.{is_leaf, value_in, Leads, Keeps, Values, Decides, Leaves, Runs}
 use Rattle.cycle_compile.specs.Carrying.{Jumps, Passes, Carried, Carries, list_left, assigned_left, Tests, some_equal, first_equal, TakesItem, TakesFirst}
 use Rattle.cycle_compile.specs.Computing.{IsBare}
 use Rattle.cycle_compile.proofs.Leading.{Leads-none, Leads-on, count-grown, widths-grown, updates_in-kept, below-kept, held-kept, Keeps-placed}
@@ -36,8 +36,10 @@ Carried-fewer fewer count less one = record {
   keeps = λ cell b past h. one.keeps cell b past (omega (arith, h, less));
 }
 
-pub Carried-on : {p : Program} {choice : Choice} {at middle lower : ℕ} (fewer count : ℕ) {left left' : Updates} {V : Valuation} → fewer ≤ count
-    → (one : Carried p choice at middle count left V) → Carried p choice middle lower fewer left' one.W → Carried p choice at lower fewer left' V
+pub Carried-on : {p : Program} {choice : Choice} {at middle lower : ℕ} (fewer count : ℕ) {left left' : Updates}
+    {V : Valuation} → fewer ≤ count
+    → (one : Carried p choice at middle count left V) → Carried p choice middle lower fewer left' one.W
+    → Carried p choice at lower fewer left' V
 Carried-on fewer count less one other = record {
   W = other.W;
   leads = Leads-on one.leads other.leads;
@@ -64,13 +66,16 @@ pub Carried-none : {p : Program} {choice : Choice} (at count : ℕ) {V : Valuati
 Carried-none at count {V} has = record { W = V; leads = Leads-none at has; updates = refl; keeps = λ cell b past h. refl }
 
 -- ---- statements
-abbrev pub Leaves-carried : {p : Program} {choice : Choice} {old new : Program} {statement : Stmt} {V : Valuation} → (one : Leaves p choice old new statement V)
-    → Carried p choice (length new.instructions) (length old.instructions) (length old.widths) (after (signals_of p) choice statement (updates_in (count_of p) V)) V
+abbrev pub Leaves-carried : {p : Program} {choice : Choice} {old new : Program} {statement : Stmt} {V : Valuation}
+    → (one : Leaves p choice old new statement V)
+    → Carried p choice (length new.instructions) (length old.instructions) (length old.widths)
+    (after (signals_of p) choice statement (updates_in (count_of p) V)) V
 Leaves-carried one = record { W = one.W; leads = one.leads; updates = one.updates; keeps = one.keeps }
 
 -- what carries out other things that leave the same carries out a statement
 pub Runs-carries : {old new : Program} {left : Program → Choice → Valuation → Updates} (statement : Stmt)
-    → ((p : Program) (choice : Choice) (V : Valuation) → left p choice V ≡ after (signals_of p) choice statement (updates_in (count_of p) V))
+    → ((p : Program) (choice : Choice) (V : Valuation) → left p choice V
+    ≡ after (signals_of p) choice statement (updates_in (count_of p) V))
     → Carries old new left → Runs old new statement
 Runs-carries statement same carries = record {
   grown = carries.grown;
@@ -122,7 +127,8 @@ either-runs old p1 p2 p3 new test on_true on_false sound otherwise jumps carried
     by : (p : Program) (choice : Choice) (V : Valuation) → Grown new p → (W : Valuation) → Keeps (length p3.widths) V W → (t : Bool)
         → Leads p choice (length new.instructions) V (if t then length p3.instructions else length p1.instructions) W
         → Carried p choice (length new.instructions) (length old.instructions) (length old.widths)
-        (if t then after (signals_of p) choice on_true (updates_in (count_of p) V) else after (signals_of p) choice on_false (updates_in (count_of p) V)) V
+        (if t then after (signals_of p) choice on_true (updates_in (count_of p) V) else after (signals_of p) choice on_false
+        (updates_in (count_of p) V)) V
     by p choice V grown W keeps true leads =
         let from3 : Grown p3 p = Grown-trans p3 new p decides.grown grown in
         let from2 : Grown p2 p = Grown-trans p2 p3 p carried.grown from3 in
@@ -143,17 +149,9 @@ either-runs old p1 p2 p3 new test on_true on_false sound otherwise jumps carried
         (record { W = W; leads = leads; keeps = keeps }) (Leaves-carried one))
 
 -- ---- what depends on the value of an expression
--- a place for an expression stays one
-pub IsPlaceFor-grown : (p q : Program) (e : Typed) (cell : ℕ) → Grown p q → IsPlaceFor p e cell → IsPlaceFor q e cell
-IsPlaceFor-grown p q e cell grown place = record {
-  is_there = is_cell-grown p q cell grown place.is_there;
-  width = width_in-grown p q cell grown place.is_there ∙ place.width;
-  stands = λ leaf r V more has. place.stands leaf r V (Grown-trans p q r grown more) has;
-  own = λ inner. is_own-grown p q cell grown (place.own inner);
-}
-
 -- the updates that depend on what a cell holds, where the value of an expression was put into it
-pub placed-carries : (left : Program → Choice → Updates → ℕ → Updates) (old p0 p1 new : Program) (e : Typed) (cell : ℕ) → IsSound old → Grown old p0
+pub placed-carries : (left : Program → Choice → Updates → ℕ → Updates) (old p0 p1 new : Program) (e : Typed) (cell : ℕ)
+    → IsSound old → Grown old p0
     → p0.instructions ≡ old.instructions → (is_leaf e.node ≡ false → length old.widths ≤ cell)
     → Carries p0 p1 (λ p choice V. left p choice (updates_in (count_of p) V) (held_in p V cell)) → Values p1 new e cell
     → Carries old new (λ p choice V. left p choice (updates_in (count_of p) V) (value_in p V e))
@@ -163,10 +161,12 @@ placed-carries left old p0 p1 new e cell sound placed same fresh carries values 
       let from1 : Grown p1 p = Grown-trans p1 new p values.grown grown in
       let one = values.leaves p choice V grown has in
       let keeps = Keeps-placed old first fresh one in
-      let kept = updates_in-kept (count_of p) (length old.widths) V one.W (signals-within old p sound (Grown-trans old p1 p first from1)) keeps in
+      let kept = updates_in-kept (count_of p) (length old.widths) V one.W
+      (signals-within old p sound (Grown-trans old p1 p first from1)) keeps in
       let other = carries.leaves p choice one.W from1 one.leads.constants in
       let low : length p0.instructions ≡ length old.instructions = ap length same in
-      subst (λ n. Carried p choice (length new.instructions) n (length old.widths) (left p choice (updates_in (count_of p) V) (value_in p V e)) V) low
+      subst (λ n. Carried p choice (length new.instructions) n (length old.widths)
+      (left p choice (updates_in (count_of p) V) (value_in p V e)) V) low
       (Carried-same (ap (λ m. left p choice m (held_in p one.W cell)) kept ∙ ap (left p choice (updates_in (count_of p) V)) one.value)
       (Passes-on (length old.widths) (length old.widths) (omega arith) (record { W = one.W; leads = one.leads; keeps = keeps })
       (Carried-fewer (length old.widths) (length p0.widths) (widths-grown old p0 placed) other)));
@@ -202,7 +202,8 @@ abbrev pub case_left : Typed → List CaseItem → Stmt → Program → Choice �
 case_left subject items other p choice V = first_left items other p choice (updates_in (count_of p) V) (value_in p V subject)
 
 -- the same item is the first where nothing was changed that it is found by
-first-kept : (old p : Program) (subject : ℕ) (items : List CaseItem) (V W : Valuation) → IsSound old → Grown old p → subject < length old.widths
+first-kept : (old p : Program) (subject : ℕ) (items : List CaseItem) (V W : Valuation) → IsSound old → Grown old p
+    → subject < length old.widths
     → Keeps (length old.widths) V W → first_equal subject items p W ≡ first_equal subject items p V
 first-kept old p subject items V W sound grown within keeps =
     let most = signals-within old p sound grown in
@@ -211,7 +212,8 @@ first-kept old p subject items V W sound grown within keeps =
     ap (λ U. find (item_matches (signals_of p) U (held_in p W subject)) items) words
     ∙ ap (λ n. find (item_matches (signals_of p) (below (count_of p) V) n) items) held
 
-pub first-more : (old mid new : Program) (next subject : ℕ) (item : CaseItem) (rest : List CaseItem) → IsSound mid → subject < length mid.widths
+pub first-more : (old mid new : Program) (next subject : ℕ) (item : CaseItem) (rest : List CaseItem) → IsSound mid
+    → subject < length mid.widths
     → TakesFirst old mid next subject rest → TakesItem mid new next subject item → TakesFirst old new next subject (item ∷ rest)
 first-more old mid new next subject item rest sound within rests takes = record {
   grown = Grown-trans old mid new rests.grown takes.grown;
@@ -224,16 +226,19 @@ first-more old mid new next subject item rest sound within rests takes = record 
 
     found : (p : Program) (choice : Choice) (V : Valuation) → Grown new p → HasConstants p V → (one : CaseItem) → (t : Bool)
         → some_equal subject item.labels p V ≡ t → cond t (Some item) (first_equal subject rest p V) ≡ Some one
-        → Carried p choice (length new.instructions) next (length old.widths) (after (signals_of p) choice one.body (updates_in (count_of p) V)) V
+        → Carried p choice (length new.instructions) next (length old.widths)
+        (after (signals_of p) choice one.body (updates_in (count_of p) V)) V
     found p choice V grown has one true is e =
-        subst (λ (i : CaseItem). Carried p choice (length new.instructions) next (length old.widths) (after (signals_of p) choice i.body (updates_in (count_of p) V)) V)
+        subst (λ (i : CaseItem). Carried p choice (length new.instructions) next (length old.widths)
+        (after (signals_of p) choice i.body (updates_in (count_of p) V)) V)
         (Some-same e)
         (Carried-fewer (length old.widths) (length mid.widths) less (takes.taken p choice V grown has is))
     found p choice V grown has one false is e =
         let from : Grown mid p = Grown-trans mid new p takes.grown grown in
         let past = takes.missed p choice V grown has is in
         let kept = updates_in-kept (count_of p) (length mid.widths) V past.W (signals-within mid p sound from) past.keeps in
-        let last = rests.taken p choice past.W from past.leads.constants one (first-kept mid p subject rest V past.W sound from within past.keeps ∙ e) in
+        let last = rests.taken p choice past.W from past.leads.constants one
+        (first-kept mid p subject rest V past.W sound from within past.keeps ∙ e) in
         Carried-same (ap (after (signals_of p) choice one.body) kept) (Passes-on (length old.widths) (length mid.widths) less past last)
 
     none : (p : Program) (choice : Choice) (V : Valuation) → Grown new p → HasConstants p V → (t : Bool)
@@ -244,7 +249,8 @@ first-more old mid new next subject item rest sound within rests takes = record 
         let few = less in
         let from : Grown mid p = Grown-trans mid new p takes.grown grown in
         let past = takes.missed p choice V grown has is in
-        let last = rests.missed p choice past.W from past.leads.constants (first-kept mid p subject rest V past.W sound from within past.keeps ∙ e) in
+        let last = rests.missed p choice past.W from past.leads.constants
+        (first-kept mid p subject rest V past.W sound from within past.keeps ∙ e) in
         record {
           W = last.W;
           leads = Leads-on past.leads last.leads;
@@ -262,9 +268,11 @@ items-carry old mid new subject items other sound runs takes = record {
     less : length old.widths ≤ length mid.widths
     less = widths-grown old mid runs.grown
 
-    by : (p : Program) (choice : Choice) (V : Valuation) → Grown new p → HasConstants p V → (o : Option CaseItem) → first_equal subject items p V ≡ o
+    by : (p : Program) (choice : Choice) (V : Valuation) → Grown new p → HasConstants p V → (o : Option CaseItem)
+        → first_equal subject items p V ≡ o
         → Carried p choice (length new.instructions) (length old.instructions) (length old.widths)
-        (option_map_or (λ i. after (signals_of p) choice i.body (updates_in (count_of p) V)) o (after (signals_of p) choice other (updates_in (count_of p) V))) V
+        (option_map_or (λ i. after (signals_of p) choice i.body (updates_in (count_of p) V)) o
+        (after (signals_of p) choice other (updates_in (count_of p) V))) V
     by p choice V grown has (Some item) e =
         Carried-fewer (length old.widths) (length mid.widths) less (takes.taken p choice V grown has item e)
     by p choice V grown has None e =
@@ -272,7 +280,8 @@ items-carry old mid new subject items other sound runs takes = record {
         let past = takes.missed p choice V grown has e in
         let kept = updates_in-kept (count_of p) (length mid.widths) V past.W (signals-within mid p sound from) past.keeps in
         Carried-same (ap (after (signals_of p) choice other) kept)
-        (Passes-on (length old.widths) (length mid.widths) less past (Leaves-carried (runs.leaves p choice past.W from past.leads.constants)))
+        (Passes-on (length old.widths) (length mid.widths) less past
+        (Leaves-carried (runs.leaves p choice past.W from past.leads.constants)))
 
 pub item-takes : (mid p1 p2 new : Program) (next subject : ℕ) (item : CaseItem) → IsSound p2 → Jumps mid p1 next → Runs p1 p2 item.body
     → Tests p2 new (length new.instructions) (some_equal subject item.labels) (length p2.instructions) (length mid.instructions)
@@ -283,16 +292,19 @@ item-takes mid p1 p2 new next subject item sound jumps runs tests = record {
       let from2 : Grown p2 p = Grown-trans p2 new p tests.grown grown in
       let from1 : Grown p1 p = Grown-trans p1 p2 p runs.grown from2 in
       let goes = tests.goes p choice V grown has in
-      let leads = subst (λ (t : Bool). Leads p choice (length new.instructions) V (if t then length p2.instructions else length mid.instructions) goes.W) e goes.leads in
+      let leads = subst (λ (t : Bool). Leads p choice (length new.instructions) V
+      (if t then length p2.instructions else length mid.instructions) goes.W) e goes.leads in
       let same = updates_in-kept (count_of p) (length p2.widths) V goes.W (signals-within p2 p sound from2) goes.keeps in
       let one = runs.leaves p choice goes.W from2 goes.leads.constants in
       let done = Carried-fewer (length mid.widths) (length p1.widths) (widths-grown mid p1 jumps.grown)
       (Carried-jump (Leaves-carried one) (jumps.goes p choice one.W from1 one.leads.constants)) in
       Carried-same (ap (after (signals_of p) choice item.body) same)
-      (Passes-on (length mid.widths) (length p2.widths) (widths-grown mid p2 first) (record { W = goes.W; leads = leads; keeps = goes.keeps }) done);
+      (Passes-on (length mid.widths) (length p2.widths) (widths-grown mid p2 first)
+      (record { W = goes.W; leads = leads; keeps = goes.keeps }) done);
   missed = λ p choice V grown has e.
       let goes = tests.goes p choice V grown has in
-      let leads = subst (λ (t : Bool). Leads p choice (length new.instructions) V (if t then length p2.instructions else length mid.instructions) goes.W) e goes.leads in
+      let leads = subst (λ (t : Bool). Leads p choice (length new.instructions) V
+      (if t then length p2.instructions else length mid.instructions) goes.W) e goes.leads in
       let more : length mid.widths ≤ length p2.widths = widths-grown mid p2 first in
       record { W = goes.W; leads = leads; keeps = λ cell b h. goes.keeps cell b (omega (arith, h, more)) };
 }

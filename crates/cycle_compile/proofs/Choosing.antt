@@ -38,7 +38,8 @@ Fills-computed old new e cell values = record {
 
 -- a copy of what stands in another cell
 pub Fills-copied : (before placed new : Program) (e : Typed) (from cell : ℕ) → is_leaf e.node ≡ true → IsPlaced before placed e from
-    → placed.instructions ≡ before.instructions → IsTrue (is_cell before cell) → width_in before.widths cell ≡ e.width → IsTrue (typed_fits (signals_of before) e)
+    → placed.instructions ≡ before.instructions → IsTrue (is_cell before cell) → width_in before.widths cell ≡ e.width
+    → IsTrue (typed_fits (signals_of before) e)
     → new ≡ with_instruction (instruction.Move from cell) placed → IsSound new → Grown placed new → Fills before new e cell
 Fills-copied before placed new e from cell leaf at same there size fits made sound grown = record {
   grown = Grown-trans before placed new at.grown grown;
@@ -68,7 +69,8 @@ pub record ChooseKnown (signals : List Signal) (e test on_true on_false : Typed)
   pub true_width : on_true.width ≡ e.width
   pub false_width : on_false.width ≡ e.width
 
-pub choose-known : (signals : List Signal) (e test on_true on_false : Typed) → e.node ≡ node.Choose test on_true on_false → IsTrue (typed_fits signals e)
+pub choose-known : (signals : List Signal) (e test on_true on_false : Typed) → e.node ≡ node.Choose test on_true on_false
+    → IsTrue (typed_fits signals e)
     → ChooseKnown signals e test on_true on_false
 choose-known signals e test on_true on_false is fits =
     let known = node-known signals e (node.Choose test on_true on_false) is fits in
@@ -106,7 +108,8 @@ Values-choose before second jumped first last e cell test on_true on_false is so
         let g = decides.goes p choice V grown has in
         let most = widths-grown before jumped (Grown-trans before second jumped falses.grown jumps.grown) in
         let more = widths-grown jumped first trues.grown in
-        let keeps : Keeps (length before.widths) V g.W = Keeps-fewer (length before.widths) (length first.widths) V g.W (omega arith) g.keeps in
+        let keeps : Keeps (length before.widths) V g.W =
+        Keeps-fewer (length before.widths) (length first.widths) V g.W (omega arith) g.keeps in
         let f = trues.leaves p choice g.W all g.leads.constants in
         let value : value_in p V e ≡ value_in p V on_true =
         ap (node_value (signals_of p) (below (count_of p) V) e.width) is
@@ -115,7 +118,8 @@ Values-choose before second jumped first last e cell test on_true on_false is so
         record {
           W = f.W;
           leads = Leads-on
-              (subst (λ t. Leads p choice (length last.instructions) V (if t then length first.instructions else length second.instructions) g.W) known g.leads)
+              (subst (λ t. Leads p choice (length last.instructions) V
+              (if t then length first.instructions else length second.instructions) g.W) known g.leads)
               (Leads-on f.leads (jumps.goes p choice f.W later f.leads.constants));
           value = f.value ∙ value_in-kept before p V g.W on_true sound whole keeps ∙ sym value;
           keeps = λ c b h other. f.keeps c b (omega arith) other ∙ keeps c b h;
@@ -126,8 +130,10 @@ Values-choose before second jumped first last e cell test on_true on_false is so
         let later : Grown second p = Grown-trans second jumped p jumps.grown (Grown-trans jumped first p trues.grown all) in
         let whole : Grown before p = Grown-trans before second p falses.grown later in
         let g = decides.goes p choice V grown has in
-        let most = widths-grown before first (Grown-trans before second first falses.grown (Grown-trans second jumped first jumps.grown trues.grown)) in
-        let keeps : Keeps (length before.widths) V g.W = Keeps-fewer (length before.widths) (length first.widths) V g.W (omega arith) g.keeps in
+        let most = widths-grown before first (Grown-trans before second first falses.grown
+        (Grown-trans second jumped first jumps.grown trues.grown)) in
+        let keeps : Keeps (length before.widths) V g.W =
+        Keeps-fewer (length before.widths) (length first.widths) V g.W (omega arith) g.keeps in
         let f = falses.leaves p choice g.W later g.leads.constants in
         let value : value_in p V e ≡ value_in p V on_false =
         ap (node_value (signals_of p) (below (count_of p) V) e.width) is
@@ -136,7 +142,8 @@ Values-choose before second jumped first last e cell test on_true on_false is so
         record {
           W = f.W;
           leads = Leads-on
-              (subst (λ t. Leads p choice (length last.instructions) V (if t then length first.instructions else length second.instructions) g.W) known g.leads)
+              (subst (λ t. Leads p choice (length last.instructions) V
+              (if t then length first.instructions else length second.instructions) g.W) known g.leads)
               f.leads;
           value = f.value ∙ value_in-kept before p V g.W on_false sound whole keeps ∙ sym value;
           keeps = λ c b h other. f.keeps c b h other ∙ keeps c b h;

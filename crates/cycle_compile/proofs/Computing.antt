@@ -15,14 +15,14 @@ use Rattle.cycle_code.specs.Cells.{width_in, below, HasConstants}
 use Rattle.cycle_code.specs.Effects.{held_in, with_held_in, effect, next}
 use Rattle.cycle_code.specs.Fitting.{IsSound}
 use Rattle.cycle_code.proofs.CellLaws.{held-with_small, with_held-other}
-use Rattle.cycle_code.proofs.GrowthLaws.{width_in-grown, Grown-trans, Grown-refl}
+use Rattle.cycle_code.proofs.GrowthLaws.{width_in-grown, Grown-trans, Grown-refl, last-stands}
 use Rattle.cycle_compile.specs.Compiling.{is_leaf, value_in, IsPlaceFor, Leads, Keeps, LeavesValue, Values}
-use Rattle.cycle_compile.proofs.Leading.{Leads-none, Leads-on, Leads-at, Leads-pushed, last-stands, widths-grown, Keeps-on, Keeps-fewer, held-kept, value_in-kept, Keeps-placed}
+use Rattle.cycle_compile.proofs.Leading.{Leads-none, Leads-on, Leads-at, Leads-pushed, widths-grown, Keeps-on, Keeps-fewer, held-kept, value_in-kept, Keeps-placed}
 use Rattle.cycle_compile.proofs.Wide.{fits-grown_program, value_in-small}
 
 -- ---- the instruction
--- an instruction that was pushed for an expression: `before` is the program where its cell is known, `old` the one with the cells of its operands, and
--- `new` the one with the instruction
+-- an instruction that was pushed for an expression: `before` is the program where its cell is known, `old` the one with the cells
+-- of its operands, and `new` the one with the instruction
 pub record IsOwn (i : Instruction) (before old new : Program) (e : Typed) (cell : ℕ) : Type 0 where
   pub made : new ≡ with_instruction i old
   pub sound : IsSound new
@@ -82,7 +82,8 @@ pub Values-own : (i : Instruction) (before old new : Program) (e : Typed) (cell 
 Values-own i before old new e cell own puts = record {
   grown = own.grown;
   leaves = λ p choice V grown has.
-      leaves-own i before old new new p choice V V e cell own grown (Leads-none (length new.instructions) has) (λ c b h. refl) (puts p choice V grown);
+      leaves-own i before old new new p choice V V e cell own grown (Leads-none (length new.instructions) has) (λ c b h. refl)
+      (puts p choice V grown);
 }
 
 -- ---- one operand
@@ -94,7 +95,8 @@ pub record IsPlaced (before placed : Program) (e : Typed) (cell : ℕ) : Type 0 
 
 pub Values-one : (i : Instruction) (before old new last : Program) (e : Typed) (cell : ℕ) (arg : Typed) (operand : ℕ)
     → IsOwn i before old new e cell → IsPlaced before old arg operand → Grown old new → Values new last arg operand
-    → ((p : Program) (choice : Choice) (V W : Valuation) → Grown old p → width_in p.widths operand ≡ arg.width → held_in p W operand ≡ value_in p V arg
+    → ((p : Program) (choice : Choice) (V W : Valuation) → Grown old p → width_in p.widths operand ≡ arg.width
+    → held_in p W operand ≡ value_in p V arg
     → Puts p choice i (length old.instructions) V W e cell)
     → Values before last e cell
 Values-one i before old new last e cell arg operand own one more values puts = record {
@@ -110,7 +112,8 @@ Values-one i before old new last e cell arg operand own one more values puts = r
 
 -- ---- two operands
 -- a run leaves the values of two operands in their cells, and keeps each cell that was there before these were given
-pub record LeavesBoth (p : Program) (choice : Choice) (before new last : Program) (left : Typed) (high : ℕ) (right : Typed) (low : ℕ) (V : Valuation) : Type 0 where
+pub record LeavesBoth (p : Program) (choice : Choice) (before new last : Program) (left : Typed) (high : ℕ) (right : Typed)
+    (low : ℕ) (V : Valuation) : Type 0 where
   pub W : Valuation
   pub leads : Leads p choice (length last.instructions) V (length new.instructions) W
   pub keeps : Keeps (length before.widths) V W
@@ -120,7 +123,8 @@ pub record LeavesBoth (p : Program) (choice : Choice) (before new last : Program
 pub both-left : (before between old new middle last : Program) (left : Typed) (high : ℕ) (right : Typed) (low : ℕ)
     → IsSound before → IsPlaced before between left high → IsPlaced between old right low → Grown old new
     → Values new middle right low → Values middle last left high
-    → (p : Program) (choice : Choice) (V : Valuation) → Grown last p → HasConstants p V → LeavesBoth p choice before new last left high right low V
+    → (p : Program) (choice : Choice) (V : Valuation) → Grown last p → HasConstants p V
+    → LeavesBoth p choice before new last left high right low V
 both-left before between old new middle last left high right low sound one other more rights_values lefts_values p choice V grown has =
     let after_right : Grown middle p = Grown-trans middle last p lefts_values.grown grown in
     let later : Grown new p = Grown-trans new middle p rights_values.grown after_right in
@@ -142,7 +146,8 @@ both-left before between old new middle last left high right low sound one other
       low_held = rights.value ∙ value_in-kept before p V lefts.W right sound (Grown-trans before new p first later) left_keeps;
     }
 
-pub Values-two : (i : Instruction) (before between old new middle last : Program) (e : Typed) (cell : ℕ) (left : Typed) (high : ℕ) (right : Typed) (low : ℕ)
+pub Values-two : (i : Instruction) (before between old new middle last : Program) (e : Typed) (cell : ℕ) (left : Typed)
+    (high : ℕ) (right : Typed) (low : ℕ)
     → IsSound before → IsOwn i before old new e cell → IsPlaced before between left high → IsPlaced between old right low → Grown old new
     → Values new middle right low → Values middle last left high
     → ((p : Program) (choice : Choice) (V W : Valuation) → Grown old p
@@ -150,18 +155,20 @@ pub Values-two : (i : Instruction) (before between old new middle last : Program
     → width_in p.widths low ≡ right.width → held_in p W low ≡ value_in p V right
     → Puts p choice i (length old.instructions) V W e cell)
     → Values before last e cell
-Values-two i before between old new middle last e cell left high right low sound own one other more rights_values lefts_values puts = record {
-  grown = Grown-trans before new last own.grown (Grown-trans new middle last rights_values.grown lefts_values.grown);
-  leaves = λ p choice V grown has.
-      let later : Grown new p = Grown-trans new middle p rights_values.grown (Grown-trans middle last p lefts_values.grown grown) in
-      let all : Grown old p = Grown-trans old new p more later in
-      let second : Grown between p = Grown-trans between old p other.grown all in
-      let both = both-left before between old new middle last left high right low sound one other more rights_values lefts_values p choice V grown has in
-      leaves-own i before old new last p choice V both.W e cell own later both.leads both.keeps
-      (puts p choice V both.W all
-      (width_in-grown between p high second one.place.is_there ∙ one.place.width) both.high_held
-      (width_in-grown old p low all other.place.is_there ∙ other.place.width) both.low_held);
-}
+Values-two i before between old new middle last e cell left high right low sound own one other more rights_values lefts_values
+    puts = record {
+      grown = Grown-trans before new last own.grown (Grown-trans new middle last rights_values.grown lefts_values.grown);
+      leaves = λ p choice V grown has.
+          let later : Grown new p = Grown-trans new middle p rights_values.grown (Grown-trans middle last p lefts_values.grown grown) in
+          let all : Grown old p = Grown-trans old new p more later in
+          let second : Grown between p = Grown-trans between old p other.grown all in
+          let both = both-left before between old new middle last left high right low sound one other more rights_values
+          lefts_values p choice V grown has in
+          leaves-own i before old new last p choice V both.W e cell own later both.leads both.keeps
+          (puts p choice V both.W all
+          (width_in-grown between p high second one.place.is_there ∙ one.place.width) both.high_held
+          (width_in-grown old p low all other.place.is_there ∙ other.place.width) both.low_held);
+    }
 
 -- ---- the whole expression by one instruction
 pub Values-tree : (before old new : Program) (e : Typed) (tree cell : ℕ) → tree ≡ length before.trees → old ≡ with_tree e before

@@ -28,9 +28,11 @@ use Rattle.cycle_compile.proofs.Computing.{IsPlaced, both-left}
 
 -- ---- branches
 -- an instruction that jumps to one number where a test of the cells passes; else the run goes on at the other already
-pub Branches-jump : (i : Instruction) (old new : Program) (test : Program → Valuation → Bool) (hit miss : ℕ) → miss ≡ length old.instructions
+pub Branches-jump : (i : Instruction) (old new : Program) (test : Program → Valuation → Bool) (hit miss : ℕ)
+    → miss ≡ length old.instructions
     → new ≡ with_instruction i old → IsSound new → Grown old new
-    → ((p : Program) (choice : Choice) (V : Valuation) → (next p i (length old.instructions) V ≡ (if test p V then hit else length old.instructions)) × (effect p choice i V ≡ V))
+    → ((p : Program) (choice : Choice) (V : Valuation)
+    → (next p i (length old.instructions) V ≡ (if test p V then hit else length old.instructions)) × (effect p choice i V ≡ V))
     → Branches old new test hit miss
 Branches-jump i old new test hit miss here is sound grown steps = record {
   grown = grown;
@@ -44,7 +46,8 @@ Branches-jump i old new test hit miss here is sound grown steps = record {
 -- behind a jump to the one number, an instruction that jumps to the other unless the test passes
 pub Branches-either : (i : Instruction) (before old new : Program) (test : Program → Valuation → Bool) (hit miss : ℕ) → Jumps before old hit
     → new ≡ with_instruction i old → IsSound new → Grown old new
-    → ((p : Program) (choice : Choice) (V : Valuation) → (next p i (length old.instructions) V ≡ (if test p V then length old.instructions else miss)) × (effect p choice i V ≡ V))
+    → ((p : Program) (choice : Choice) (V : Valuation)
+    → (next p i (length old.instructions) V ≡ (if test p V then length old.instructions else miss)) × (effect p choice i V ≡ V))
     → Branches before new test hit miss
 Branches-either i before old new test hit miss jumps is sound grown steps = record {
   grown = Grown-trans before old new jumps.grown grown;
@@ -52,7 +55,8 @@ Branches-either i before old new test hit miss jumps is sound grown steps = reco
       let step = steps p choice V in
       let first : Leads p choice (length new.instructions) V (if test p V then length old.instructions else miss) V =
       subst (λ U. Leads p choice (length new.instructions) V (if test p V then length old.instructions else miss) U) step.1
-      (Leads-at (length new.instructions) (if test p V then length old.instructions else miss) refl step.0 (Leads-pushed i old new p choice V is sound more has)) in
+      (Leads-at (length new.instructions) (if test p V then length old.instructions else miss) refl step.0
+      (Leads-pushed i old new p choice V is sound more has)) in
       by p choice V (Grown-trans old new p grown more) has (test p V) first;
 }
   where
@@ -94,7 +98,8 @@ pub Branches-unlike : (before old new : Program) (left right hit miss : ℕ) →
     → Branches before new (λ p V. held_in p V left == held_in p V right) hit miss
 Branches-unlike before old new left right hit miss jumps low is sound grown =
     let most = more-instructions before old jumps.grown in
-    Branches-either (instruction.JumpUnlike left right miss) before old new (λ p V. held_in p V left == held_in p V right) hit miss jumps is sound grown
+    Branches-either (instruction.JumpUnlike left right miss) before old new (λ p V. held_in p V left == held_in p V right) hit
+    miss jumps is sound grown
     (λ p choice V. (jumped-unless (length old.instructions) miss (held_in p V left == held_in p V right) (omega arith), refl))
 
 -- ---- the value of an expression
@@ -111,7 +116,8 @@ Decides-value before placed old last e cell hit miss at branches values =
           record {
             W = leaves.W;
             leads = Leads-on leaves.leads
-                (subst (λ n. Leads p choice (length old.instructions) leaves.W (if is_true n then hit else miss) leaves.W) leaves.value branch);
+                (subst (λ n. Leads p choice (length old.instructions) leaves.W (if is_true n then hit else miss) leaves.W)
+                leaves.value branch);
             keeps = Keeps-placed before first at.fresh leaves;
           };
     }
@@ -119,7 +125,8 @@ Decides-value before placed old last e cell hit miss at branches values =
 -- the same, of an expression whose test is that of another one
 Decides-as : (before last : Program) (e : Typed) (hit miss : ℕ) → Grown before last
     → ((p : Program) (choice : Choice) (V : Valuation) → Grown last p → HasConstants p V
-    → (test : Bool) × (is_true (value_in p V e) ≡ test) × (W : Valuation) × Leads p choice (length last.instructions) V (if test then hit else miss) W × Keeps (length before.widths) V W)
+    → (test : Bool) × (is_true (value_in p V e) ≡ test) × (W : Valuation) × Leads p choice (length last.instructions) V
+    (if test then hit else miss) W × Keeps (length before.widths) V W)
     → Decides before last e hit miss
 Decides-as before last e hit miss grown goes = record {
   grown = grown;
@@ -140,7 +147,8 @@ swapped last p choice V W true hit miss leads = leads
 swapped last p choice V W false hit miss leads = leads
 
 -- ---- a condition that holds where another one does, or where it doesn't
-pub Decides-same : (before last : Program) (e arg : Typed) (hit miss : ℕ) → ((p : Program) (V : Valuation) → is_true (value_in p V e) ≡ is_true (value_in p V arg))
+pub Decides-same : (before last : Program) (e arg : Typed) (hit miss : ℕ)
+    → ((p : Program) (V : Valuation) → is_true (value_in p V e) ≡ is_true (value_in p V arg))
     → Decides before last arg hit miss → Decides before last e hit miss
 Decides-same before last e arg hit miss holds decides =
     Decides-as before last e hit miss decides.grown (λ p choice V more has.
@@ -156,7 +164,8 @@ Decides-opposite before last e arg hit miss fails decides =
     (not (is_true (value_in p V arg)), fails p V, g.W, swapped last p choice V g.W (is_true (value_in p V arg)) hit miss g.leads, g.keeps))
 
 -- ---- `!`
-pub Decides-not : (before last : Program) (e arg : Typed) (hit miss : ℕ) → e.node ≡ node.Unary unary_op.LogicalNot arg → Decides before last arg miss hit
+pub Decides-not : (before last : Program) (e arg : Typed) (hit miss : ℕ) → e.node ≡ node.Unary unary_op.LogicalNot arg
+    → Decides before last arg miss hit
     → Decides before last e hit miss
 Decides-not before last e arg hit miss is =
     Decides-opposite before last e arg hit miss (λ p V.
@@ -165,7 +174,8 @@ Decides-not before last e arg hit miss is =
     ∙ sym (not-holds unary_op.LogicalNot arg.width (value_in p V arg) refl))
 
 -- ---- `&&` and `||`: the right operand counts only where the left one doesn't decide
-pub Decides-and : (before middle last : Program) (e left right : Typed) (hit miss : ℕ) → e.node ≡ node.Binary binary_op.LogicalAnd left right → IsSound before
+pub Decides-and : (before middle last : Program) (e left right : Typed) (hit miss : ℕ)
+    → e.node ≡ node.Binary binary_op.LogicalAnd left right → IsSound before
     → Decides before middle right hit miss → Decides middle last left (length middle.instructions) miss → Decides before last e hit miss
 Decides-and before middle last e left right hit miss is sound rights lefts =
     Decides-as before last e hit miss (Grown-trans before middle last rights.grown lefts.grown) (λ p choice V more has.
@@ -177,10 +187,12 @@ Decides-and before middle last e left right hit miss is sound rights lefts =
     let keeps : Keeps (length before.widths) V g.W = Keeps-fewer (length before.widths) (length middle.widths) V g.W fewer g.keeps in
     let after_left : Grown middle p = Grown-trans middle last p lefts.grown more in
     let h = rights.goes p choice g.W after_left g.leads.constants in
-    let same : value_in p g.W right ≡ value_in p V right = value_in-kept before p V g.W right sound (Grown-trans before middle p rights.grown after_left) keeps in
+    let same : value_in p g.W right ≡ value_in p V right =
+    value_in-kept before p V g.W right sound (Grown-trans before middle p rights.grown after_left) keeps in
     let both : is_true (value_in p V e) ≡ (is_true (value_in p V left) && is_true (value_in p V right)) =
     ap is_true value
-    ∙ sym (and-holds binary_op.LogicalAnd left.width (value_in p V left) (value_in p V right) left.signed right.signed (is_true (value_in p V left)) refl refl) in
+    ∙ sym (and-holds binary_op.LogicalAnd left.width (value_in p V left) (value_in p V right) left.signed right.signed
+    (is_true (value_in p V left)) refl refl) in
     let end = by p choice V g.W h.W (is_true (value_in p V left)) (is_true (value_in p V right)) g.leads
     (subst (λ n. Leads p choice (length middle.instructions) g.W (if is_true n then hit else miss) h.W) same h.leads)
     keeps (Keeps-on (length before.widths) V g.W h.W keeps h.keeps) in
@@ -194,7 +206,8 @@ Decides-and before middle last e left right hit miss is sound rights lefts =
     by p choice V W X true b one other first second = (X, Leads-on one other, second)
     by p choice V W X false b one other first second = (W, one, first)
 
-pub Decides-or : (before middle last : Program) (e left right : Typed) (hit miss : ℕ) → e.node ≡ node.Binary binary_op.LogicalOr left right → IsSound before
+pub Decides-or : (before middle last : Program) (e left right : Typed) (hit miss : ℕ)
+    → e.node ≡ node.Binary binary_op.LogicalOr left right → IsSound before
     → Decides before middle right hit miss → Decides middle last left hit (length middle.instructions) → Decides before last e hit miss
 Decides-or before middle last e left right hit miss is sound rights lefts =
     Decides-as before last e hit miss (Grown-trans before middle last rights.grown lefts.grown) (λ p choice V more has.
@@ -206,10 +219,12 @@ Decides-or before middle last e left right hit miss is sound rights lefts =
     let keeps : Keeps (length before.widths) V g.W = Keeps-fewer (length before.widths) (length middle.widths) V g.W fewer g.keeps in
     let after_left : Grown middle p = Grown-trans middle last p lefts.grown more in
     let h = rights.goes p choice g.W after_left g.leads.constants in
-    let same : value_in p g.W right ≡ value_in p V right = value_in-kept before p V g.W right sound (Grown-trans before middle p rights.grown after_left) keeps in
+    let same : value_in p g.W right ≡ value_in p V right =
+    value_in-kept before p V g.W right sound (Grown-trans before middle p rights.grown after_left) keeps in
     let either : is_true (value_in p V e) ≡ (is_true (value_in p V left) || is_true (value_in p V right)) =
     ap is_true value
-    ∙ sym (or-holds binary_op.LogicalOr left.width (value_in p V left) (value_in p V right) left.signed right.signed (is_true (value_in p V left)) refl refl) in
+    ∙ sym (or-holds binary_op.LogicalOr left.width (value_in p V left) (value_in p V right) left.signed right.signed
+    (is_true (value_in p V left)) refl refl) in
     let end = by p choice V g.W h.W (is_true (value_in p V left)) (is_true (value_in p V right)) g.leads
     (subst (λ n. Leads p choice (length middle.instructions) g.W (if is_true n then hit else miss) h.W) same h.leads)
     keeps (Keeps-on (length before.widths) V g.W h.W keeps h.keeps) in
@@ -228,20 +243,23 @@ Decides-or before middle last e left right hit miss is sound rights lefts =
 pub Tests-equal : (before between placed old middle last : Program) (left right : Typed) (high low hit miss : ℕ) → IsSound before
     → IsPlaced before between left high → IsPlaced between placed right low
     → Branches placed old (λ p V. held_in p V high == held_in p V low) hit miss
-    → Values old middle right low → Values middle last left high → Tests before last (length last.instructions) (same_values left right) hit miss
+    → Values old middle right low → Values middle last left high
+    → Tests before last (length last.instructions) (same_values left right) hit miss
 Tests-equal before between placed old middle last left right high low hit miss sound one other branches rights lefts = record {
   grown = Grown-trans before placed last (Grown-trans before between placed one.grown other.grown)
       (Grown-trans placed old last branches.grown (Grown-trans old middle last rights.grown lefts.grown));
   within = omega arith;
   goes = λ p choice V more has.
-      let g = both-left before between placed old middle last left high right low sound one other branches.grown rights lefts p choice V more has in
+      let g = both-left before between placed old middle last left high right low sound one other branches.grown rights lefts
+      p choice V more has in
       let later : Grown old p = Grown-trans old middle p rights.grown (Grown-trans middle last p lefts.grown more) in
       let branch = branches.goes p choice g.W later g.leads.constants in
       record {
         W = g.W;
         leads = Leads-on g.leads
             (subst (λ n. Leads p choice (length old.instructions) g.W (if n == value_in p V right then hit else miss) g.W) g.high_held
-            (subst (λ n. Leads p choice (length old.instructions) g.W (if held_in p g.W high == n then hit else miss) g.W) g.low_held branch));
+            (subst (λ n. Leads p choice (length old.instructions) g.W (if held_in p g.W high == n then hit else miss) g.W)
+            g.low_held branch));
         keeps = g.keeps;
       };
 }
@@ -257,7 +275,8 @@ Decides-tests before last e test hit miss holds tests =
 
 -- and one that holds where it fails
 pub Decides-fails : (before last : Program) (e : Typed) (test : Program → Valuation → Bool) (hit miss : ℕ)
-    → ((p : Program) (V : Valuation) → is_true (value_in p V e) ≡ not (test p V)) → Tests before last (length last.instructions) test miss hit
+    → ((p : Program) (V : Valuation) → is_true (value_in p V e) ≡ not (test p V))
+    → Tests before last (length last.instructions) test miss hit
     → Decides before last e hit miss
 Decides-fails before last e test hit miss fails tests =
     Decides-as before last e hit miss tests.grown (λ p choice V more has.

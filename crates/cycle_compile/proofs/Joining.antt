@@ -61,7 +61,8 @@ pub Joins-part : (before placed old new middle last : Program) (parts : List Typ
     → IsTrue (is_cell old high) → width_in before.widths cell ≡ width_in old.widths high + part.width
     → old.instructions ≡ before.instructions → new ≡ with_instruction (instruction.Join high low cell) old → IsSound new → Grown old new
     → Values new middle part low → Joins middle last parts high → Joins before last (parts ++ part ∷ []) cell
-Joins-part before placed old new middle last parts part cell high low sound own at more past there sizes same made sound_new grown_new values joins =
+Joins-part before placed old new middle last parts part cell high low sound own at more past there sizes same made sound_new
+    grown_new values joins =
     let to_old : Grown before old = Grown-trans before placed old at.grown more in
     let to_new : Grown before new = Grown-trans before old new to_old grown_new in
     let to_middle : Grown before middle = Grown-trans before new middle to_new values.grown in
@@ -86,7 +87,8 @@ Joins-part before placed old new middle last parts part cell high low sound own 
           let low_wide : width_in p.widths low ≡ part.width =
           width_in-grown placed p low (Grown-trans placed old p more later_old) at.place.is_there ∙ at.place.width in
           let wide : width_in p.widths cell ≡ width_in p.widths low + width_in p.widths high =
-          width-sum (width_in p.widths cell) (width_in before.widths cell) (width_in old.widths high) (width_in p.widths high) (width_in p.widths low) part.width
+          width-sum (width_in p.widths cell) (width_in before.widths cell) (width_in old.widths high) (width_in p.widths high)
+          (width_in p.widths low) part.width
           (width_in-grown before p cell whole (is_own-cell before cell own)) sizes (width_in-grown old p high later_old there) low_wide in
           let n = held_in p others.W high * 2 ^ width_in p.widths low + held_in p others.W low in
           let small : n < 2 ^ width_in p.widths cell = joined-small p others.W cell high low wide in
@@ -104,10 +106,12 @@ Joins-part before placed old new middle last parts part cell high low sound own 
           };
     }
   where
-    width-sum : (cell before_cell old_high high low part : ℕ) → cell ≡ before_cell → before_cell ≡ old_high + part → high ≡ old_high → low ≡ part → cell ≡ low + high
+    width-sum : (cell before_cell old_high high low part : ℕ) → cell ≡ before_cell → before_cell ≡ old_high + part
+        → high ≡ old_high → low ≡ part → cell ≡ low + high
     width-sum cell before_cell old_high high low part one second third last = omega arith
 
-    high-stays : (p : Program) (choice : Choice) (V : Valuation) (others : LeavesValue p choice new middle part low V) (leaf : Bool) → is_leaf part.node ≡ leaf
+    high-stays : (p : Program) (choice : Choice) (V : Valuation) (others : LeavesValue p choice new middle part low V)
+        (leaf : Bool) → is_leaf part.node ≡ leaf
         → (b : ℕ) → others.W high b ≡ V high b
     high-stays p choice V others true known b =
         let inside : high < length old.widths = ltb-true high (length old.widths) there in
@@ -120,21 +124,26 @@ Joins-part before placed old new middle last parts part cell high low sound own 
         others.keeps high b (omega arith) (λ e. absurd (omega arith))
 
 -- the instruction that joins the first two parts: `placed` has the cells of both
-Joins-pair : (before between placed new middle last : Program) (left right : Typed) (cell high low : ℕ) → IsSound before → IsTrue (is_own before cell)
+Joins-pair : (before between placed new middle last : Program) (left right : Typed) (cell high low : ℕ) → IsSound before
+    → IsTrue (is_own before cell)
     → IsPlaced before between left high → IsPlaced between placed right low → width_in before.widths cell ≡ left.width + right.width
-    → placed.instructions ≡ before.instructions → new ≡ with_instruction (instruction.Join high low cell) placed → IsSound new → Grown placed new
+    → placed.instructions ≡ before.instructions → new ≡ with_instruction (instruction.Join high low cell) placed → IsSound new
+    → Grown placed new
     → Values new middle right low → Values middle last left high → Joins before last (left ∷ right ∷ []) cell
 Joins-pair before between placed new middle last left right cell high low sound own one other sizes same made sound_new grown rights lefts =
     let to_new : Grown before new = Grown-trans before between new one.grown (Grown-trans between placed new other.grown grown) in
     record {
       grown = Grown-trans before new last to_new (Grown-trans new middle last rights.grown lefts.grown);
       leaves = λ p choice V more has.
-          let both = both-left before between placed new middle last left high right low sound one other grown rights lefts p choice V more has in
+          let both = both-left before between placed new middle last left high right low sound one other grown rights lefts p
+          choice V more has in
           let later : Grown new p = Grown-trans new middle p rights.grown (Grown-trans middle last p lefts.grown more) in
           let after_low : Grown placed p = Grown-trans placed new p grown later in
           let after_high : Grown between p = Grown-trans between placed p other.grown after_low in
-          let high_wide : width_in p.widths high ≡ left.width = width_in-grown between p high after_high one.place.is_there ∙ one.place.width in
-          let low_wide : width_in p.widths low ≡ right.width = width_in-grown placed p low after_low other.place.is_there ∙ other.place.width in
+          let high_wide : width_in p.widths high ≡ left.width =
+          width_in-grown between p high after_high one.place.is_there ∙ one.place.width in
+          let low_wide : width_in p.widths low ≡ right.width =
+          width_in-grown placed p low after_low other.place.is_there ∙ other.place.width in
           let kept : width_in p.widths cell ≡ width_in before.widths cell =
           width_in-grown before p cell (Grown-trans before new p to_new later) (is_own-cell before cell own) in
           let wide : width_in p.widths cell ≡ width_in p.widths low + width_in p.widths high = omega arith in
@@ -156,9 +165,11 @@ Joins-pair before between placed new middle last left right cell high low sound 
     }
 
 -- the same as what a call leaves to be done
-pub AwaitsPair-pushed : (before between placed new : Program) (left right : Typed) (cell high low : ℕ) → IsSound before → IsTrue (is_own before cell)
+pub AwaitsPair-pushed : (before between placed new : Program) (left right : Typed) (cell high low : ℕ) → IsSound before
+    → IsTrue (is_own before cell)
     → IsPlaced before between left high → IsPlaced between placed right low → width_in before.widths cell ≡ left.width + right.width
-    → placed.instructions ≡ before.instructions → new ≡ with_instruction (instruction.Join high low cell) placed → IsSound new → Grown placed new
+    → placed.instructions ≡ before.instructions → new ≡ with_instruction (instruction.Join high low cell) placed → IsSound new
+    → Grown placed new
     → AwaitsPair before new left right cell high low
 AwaitsPair-pushed before between placed new left right cell high low sound own one other sizes same made sound_new grown =
     let later : Grown between new = Grown-trans between placed new other.grown grown in
@@ -171,7 +182,8 @@ AwaitsPair-pushed before between placed new left right cell high low sound own o
     }
 
 -- a concatenation is one of its parts
-pub Values-join : (old new : Program) (e : Typed) (parts : List Typed) (cell : ℕ) → e.node ≡ node.Join parts → Joins old new parts cell → Values old new e cell
+pub Values-join : (old new : Program) (e : Typed) (parts : List Typed) (cell : ℕ) → e.node ≡ node.Join parts
+    → Joins old new parts cell → Values old new e cell
 Values-join old new e parts cell is joins = record {
   grown = joins.grown;
   leaves = λ p choice V grown has.
@@ -180,7 +192,8 @@ Values-join old new e parts cell is joins = record {
         W = leaves.W;
         leads = leaves.leads;
         value = leaves.value
-            ∙ sym (ap (node_value (signals_of p) (below (count_of p) V) e.width) is ∙ join-value (signals_of p) (below (count_of p) V) e.width parts);
+            ∙ sym (ap (node_value (signals_of p) (below (count_of p) V) e.width) is
+            ∙ join-value (signals_of p) (below (count_of p) V) e.width parts);
         keeps = leaves.keeps;
         still = λ leaf. absurd (differ (sym leaf ∙ ap is_leaf is));
       };
@@ -195,15 +208,16 @@ pub AwaitsPart-pushed : (before placed old new : Program) (part : Typed) (cell l
     → IsTrue (is_own old high) → width_in old.widths high ≡ left → width_in before.widths cell ≡ left + part.width
     → old.instructions ≡ before.instructions → new ≡ with_instruction (instruction.Join high low cell) old → IsSound new → Grown old new
     → AwaitsPart before new part cell left high low
-AwaitsPart-pushed before placed old new part cell left high low sound own at more past high_own high_width sizes same made sound_new grown_new = record {
-  grown = Grown-trans before old new (Grown-trans before placed old at.grown more) grown_new;
-  part_place = IsPlaceFor-grown placed new part low (Grown-trans placed old new more grown_new) at.place;
-  high_own = is_own-grown old new high grown_new high_own;
-  high_width = width_in-grown old new high grown_new (is_own-cell old high high_own) ∙ high_width;
-  serves = λ parts middle last values joins.
-      Joins-part before placed old new middle last parts part cell high low sound own at more past (is_own-cell old high high_own)
-      (sizes ∙ ap (λ n. n + part.width) (sym high_width)) same made sound_new grown_new values joins;
-}
+AwaitsPart-pushed before placed old new part cell left high low sound own at more past high_own high_width sizes same made
+    sound_new grown_new = record {
+      grown = Grown-trans before old new (Grown-trans before placed old at.grown more) grown_new;
+      part_place = IsPlaceFor-grown placed new part low (Grown-trans placed old new more grown_new) at.place;
+      high_own = is_own-grown old new high grown_new high_own;
+      high_width = width_in-grown old new high grown_new (is_own-cell old high high_own) ∙ high_width;
+      serves = λ parts middle last values joins.
+          Joins-part before placed old new middle last parts part cell high low sound own at more past (is_own-cell old high high_own)
+          (sizes ∙ ap (λ n. n + part.width) (sym high_width)) same made sound_new grown_new values joins;
+    }
 
 -- ---- the parts of one
 parts_sum-last : (parts : List Typed) (part : Typed) → parts_sum (parts ++ part ∷ []) ≡ parts_sum parts + part.width
@@ -217,7 +231,8 @@ pub record JoinStep (signals : List Signal) (parts : List Typed) (count : ℕ) (
   pub some : 1 ≤ parts_sum (take count parts)
   pub fits : IsTrue (typed_fits signals part)
 
-some-width : (signals : List Signal) (parts : List Typed) (count : ℕ) → 0 < count → 0 < length parts → IsTrue (list_all (typed_fits signals) parts)
+some-width : (signals : List Signal) (parts : List Typed) (count : ℕ) → 0 < count → 0 < length parts
+    → IsTrue (list_all (typed_fits signals) parts)
     → 1 ≤ parts_sum (take count parts)
 some-width signals [] count h more fits = absurd (omega arith)
 some-width signals (x ∷ parts) zero h more fits = absurd (omega arith)
@@ -248,9 +263,11 @@ first-known signals parts part some is fits = (
 )
 
 -- what is known of the only two parts that are left
-pub pair-known : (signals : List Signal) (parts : List Typed) (left right : Typed) (width : ℕ) → 1 < length parts → left ≡ get_or parts 0 left
+pub pair-known : (signals : List Signal) (parts : List Typed) (left right : Typed) (width : ℕ) → 1 < length parts
+    → left ≡ get_or parts 0 left
     → right ≡ get_or parts 1 right → IsTrue (list_all (typed_fits signals) parts) → parts_sum (take 2 parts) ≡ width
-    → (take 2 parts ≡ left ∷ right ∷ []) × (width ≡ left.width + right.width) × IsTrue (typed_fits signals left) × IsTrue (typed_fits signals right)
+    → (take 2 parts ≡ left ∷ right ∷ []) × (width ≡ left.width + right.width) × IsTrue (typed_fits signals left) × IsTrue
+    (typed_fits signals right)
 pair-known signals parts left right width more one other fits sum =
     let first = first-known signals parts left (omega arith) one fits in
     let step = join-step signals parts 1 right width (omega arith) more other fits sum in

@@ -26,11 +26,13 @@ more-instructions p q grown = Grows-most p.instructions q.instructions grown.ins
 pub Jumps-none : (old : Program) (target : ℕ) → target ≡ length old.instructions → Jumps old old target
 Jumps-none old target is = record {
   grown = Grown-refl old;
-  goes = λ p choice V grown has. subst (λ n. Leads p choice (length old.instructions) V n V) (sym is) (Leads-none (length old.instructions) has);
+  goes = λ p choice V grown has. subst (λ n. Leads p choice (length old.instructions) V n V) (sym is)
+      (Leads-none (length old.instructions) has);
 }
 
 -- one is pushed
-pub Jumps-push : (old new : Program) (target : ℕ) → target ≤ length old.instructions → new ≡ with_instruction (Jump target) old → IsSound new → Grown old new
+pub Jumps-push : (old new : Program) (target : ℕ) → target ≤ length old.instructions
+    → new ≡ with_instruction (Jump target) old → IsSound new → Grown old new
     → Jumps old new target
 Jumps-push old new target h is sound grown = record {
   grown = grown;

@@ -15,6 +15,7 @@ use Rattle.design_core.specs.declared.design.Design.{Design}
 use Rattle.design_core.specs.WellFormed.{typed_fits, label_fits, statement_fits}
 use Rattle.design_core.specs.Valuation.{Valuation}
 use Rattle.std.specs.List.{list_any, list_all}
+use Rattle.loc_base.proofs.ShelfBools.{or-true}
 use Rattle.design_core.specs.After.{Choice, matches}
 use Rattle.plain_values.specs.Evaluate.{item_fits}
 use Rattle.cycle_code.specs.declared.instruction.Instruction.TheVariants.{JumpUnlike, JumpNoMatch}
@@ -23,10 +24,10 @@ use Rattle.cycle_code.specs.Cells.{width_in, below, HasConstants}
 use Rattle.cycle_code.specs.Effects.{held_in, jumped}
 use Rattle.cycle_code.specs.Fitting.{is_cell, fits, IsSound}
 use Rattle.cycle_code.proofs.RunSteps.{jumped-at}
-use Rattle.cycle_code.proofs.GrowthLaws.{Grown-refl, Grown-trans, both, of_three, is_cell-grown, width_in-grown}
+use Rattle.cycle_code.proofs.GrowthLaws.{Grown-refl, Grown-trans, both, of_three, is_cell-grown, width_in-grown, last-stands}
 use Rattle.cycle_compile.specs.Compiling.{is_leaf, Leads, Keeps, Values}
 use Rattle.cycle_compile.specs.Carrying.{Jumps, Passes, Tests, equal_outside, label_equal, some_equal, label_suits, item_suits, has_wild}
-use Rattle.cycle_compile.proofs.Leading.{Leads-none, Leads-on, Leads-pushed, last-stands, widths-grown, Keeps-fewer, held-kept, below-kept, Keeps-placed}
+use Rattle.cycle_compile.proofs.Leading.{Leads-none, Leads-on, Leads-pushed, widths-grown, Keeps-fewer, held-kept, below-kept, Keeps-placed}
 use Rattle.cycle_compile.proofs.Jumping.{more-instructions}
 use Rattle.cycle_compile.proofs.Carrying.{signals-within}
 
@@ -74,7 +75,8 @@ no_match-tests old mid new subject cell place width wild miss first at there pla
       let from : Grown mid p = Grown-trans mid new p grown more in
       let left : ℕ = held_in p V subject in
       let right : ℕ = held_in p V cell in
-      let word : held_in p V place ≡ wild = has.constants place wild (from.fixed place true fixed-there) (from.values place wild value-there) in
+      let word : held_in p V place ≡ wild =
+      has.constants place wild (from.fixed place true fixed-there) (from.values place wild value-there) in
       let there' : jumped q miss (not (bit_or left (held_in p V place) == bit_or right (held_in p V place)))
       ≡ (if bit_or left wild == bit_or right wild then length old.instructions else miss) =
       jumped-at q miss (not (bit_or left (held_in p V place) == bit_or right (held_in p V place))) (omega (arith, h, size))
@@ -119,7 +121,8 @@ label-tests old p0 p1 p2 new subject cell label hit miss sound within placed fre
       let same : equal_outside (value_of label.wild) subject cell p one.W ≡ label_equal subject label p V =
       ap (λ n. bit_or n (value_of label.wild) == bit_or (held_in p one.W cell) (value_of label.wild)) held
       ∙ ap (λ n. bit_or (held_in p V subject) (value_of label.wild) == bit_or n (value_of label.wild)) one.value in
-      let leads = by p choice goes.W from1 goes.leads.constants (equal_outside (value_of label.wild) subject cell p one.W) (Leads-on one.leads goes.leads) in
+      let leads = by p choice goes.W from1 goes.leads.constants (equal_outside (value_of label.wild) subject cell p one.W)
+      (Leads-on one.leads goes.leads) in
       let less : length old.widths ≤ length p1.widths = widths-grown old p1 (Grown-trans old p0 p1 placed jumps.grown) in
       record {
         W = goes.W;
@@ -138,7 +141,8 @@ label-tests old p0 p1 p2 new subject cell label hit miss sound within placed fre
     by p choice W from has false leads = leads
 
 -- ---- labels
-pub labels-none : (old : Program) (subject hit miss : ℕ) → miss ≤ length old.instructions → Tests old old miss (some_equal subject []) hit miss
+pub labels-none : (old : Program) (subject hit miss : ℕ) → miss ≤ length old.instructions
+    → Tests old old miss (some_equal subject []) hit miss
 labels-none old subject hit miss h = record {
   grown = Grown-refl old;
   within = h;
@@ -146,7 +150,8 @@ labels-none old subject hit miss h = record {
 }
 
 pub labels-more : (old mid new : Program) (at subject : ℕ) (label : Label) (rest : List Label) (hit miss : ℕ) → subject < length old.widths
-    → IsSound old → Tests old mid at (some_equal subject rest) hit miss → Tests mid new (length new.instructions) (label_equal subject label) hit at
+    → IsSound old → Tests old mid at (some_equal subject rest) hit miss
+    → Tests mid new (length new.instructions) (label_equal subject label) hit at
     → Tests old new (length new.instructions) (some_equal subject (label ∷ rest)) hit miss
 labels-more old mid new at subject label rest hit miss within sound tests one = record {
   grown = Grown-trans old mid new tests.grown one.grown;
@@ -184,7 +189,8 @@ labels-more old mid new at subject label rest hit miss within sound tests one = 
         less-signals : (p : Program) → Grown old p → count_of p ≤ length old.widths
         less-signals p grown = let most = signals-within old p sound grown in omega (arith, most)
 
-pub labels-end : (old mid new : Program) (at subject : ℕ) (labels : List Label) (hit miss : ℕ) → Tests old mid at (some_equal subject labels) hit miss
+pub labels-end : (old mid new : Program) (at subject : ℕ) (labels : List Label) (hit miss : ℕ)
+    → Tests old mid at (some_equal subject labels) hit miss
     → Jumps mid new at → Tests old new (length new.instructions) (some_equal subject labels) hit miss
 labels-end old mid new at subject labels hit miss tests jumps = record {
   grown = Grown-trans old mid new tests.grown jumps.grown;
@@ -197,20 +203,24 @@ labels-end old mid new at subject labels hit miss tests jumps = record {
 
 -- ---- what fits
 -- the instruction of a jump to a label's miss fits
-pub no_match-fits : (old mid : Program) (subject cell place width wild miss : ℕ) → place ≡ length old.widths → mid ≡ with_cell true width wild old → Grown old mid
-    → miss ≤ length old.instructions → IsTrue (is_cell old subject) → IsTrue (is_cell old cell) → width_in old.widths cell ≡ width_in old.widths subject
+pub no_match-fits : (old mid : Program) (subject cell place width wild miss : ℕ) → place ≡ length old.widths
+    → mid ≡ with_cell true width wild old → Grown old mid
+    → miss ≤ length old.instructions → IsTrue (is_cell old subject) → IsTrue (is_cell old cell)
+    → width_in old.widths cell ≡ width_in old.widths subject
     → width ≡ width_in old.widths subject → IsTrue (fits mid (length mid.instructions) (JumpNoMatch subject cell place miss))
 no_match-fits old mid subject cell place width wild miss at there grown low one other same wide =
     let more = more-instructions old mid grown in
     let size : length mid.widths ≡ length old.widths + 1 =
     ap (λ (x : Program). length x.widths) there ∙ length-append old.widths (width ∷ []) in
     let entry : slice_get mid.widths place ≡ Some width =
-    ap (λ (x : Program). slice_get x.widths place) there ∙ ap (slice_get (with_cell true width wild old).widths) at ∙ last-stands old.widths width in
+    ap (λ (x : Program). slice_get x.widths place) there ∙ ap (slice_get (with_cell true width wild old).widths)
+    at ∙ last-stands old.widths width in
     let subject_width : width_in mid.widths subject ≡ width_in old.widths subject = width_in-grown old mid subject grown one in
     both
     (both
     (both
-    (both (both (le-leb miss (length mid.instructions) (omega (arith, low, more))) (is_cell-grown old mid subject grown one)) (is_cell-grown old mid cell grown other))
+    (both (both (le-leb miss (length mid.instructions) (omega (arith, low, more))) (is_cell-grown old mid subject grown one))
+    (is_cell-grown old mid cell grown other))
     (lt-ltb place (length mid.widths) (omega (arith, at, size))))
     (eq-eqb (width_in mid.widths cell) (width_in mid.widths subject) (width_in-grown old mid cell grown other ∙ same ∙ sym subject_width)))
     (eq-eqb (width_in mid.widths place) (width_in mid.widths subject)
@@ -222,22 +232,20 @@ pub label-widths : (signals : List Signal) (width : ℕ) (label : Label) → IsT
 label-widths signals width label suits wild =
     let same : Bool = label.value.width == width && width_of label.wild == width in
     let t = and_parts (typed_fits signals label.value) (value_of label.wild == 0 || same) suits in
-    let u = and_parts (label.value.width == width) (width_of label.wild == width) (ap (λ b. b || same) (sym (ne_eqb (value_of label.wild) 0 wild)) ∙ t.1) in
+    let u = and_parts (label.value.width == width) (width_of label.wild == width)
+    (ap (λ b. b || same) (sym (ne_eqb (value_of label.wild) 0 wild)) ∙ t.1) in
     (eqb-true label.value.width width u.0, eqb-true (width_of label.wild) width u.1)
 
 -- labels that can be compared with a cell go on to be
 pub label-suits-grown : (old mid : Program) (subject : ℕ) (label : Label) → Grown old mid → IsTrue (is_cell old subject)
-    → IsTrue (label_suits (signals_of old) (width_in old.widths subject) label) → IsTrue (label_suits (signals_of mid) (width_in mid.widths subject) label)
+    → IsTrue (label_suits (signals_of old) (width_in old.widths subject) label)
+    → IsTrue (label_suits (signals_of mid) (width_in mid.widths subject) label)
 label-suits-grown old mid subject label grown one suits =
     ap (λ (d : Design). label_suits d.signals.items (width_in mid.widths subject) label) grown.design
     ∙ ap (λ w. label_suits (signals_of old) w label) (width_in-grown old mid subject grown one)
     ∙ suits
 
 -- ---- what a subject's labels can be compared with
-or_true : (b : Bool) → (b || true) ≡ true
-or_true true = refl
-or_true false = refl
-
 -- what passes one test passes another one, where a fact that follows from a mark is known of the marked
 all-where : {X : Type 0} (mark test want : X → Bool) (P : Type 0) → ((x : X) → (mark x ≡ true → P) → IsTrue (test x) → IsTrue (want x))
     → (xs : List X) → (list_any mark xs ≡ true → P) → IsTrue (list_all test xs) → IsTrue (list_all want xs)
@@ -245,7 +253,7 @@ all-where mark test want P each [] known all = refl
 all-where mark test want P each (x ∷ xs) known all =
     let t = and_parts (test x) (list_all test xs) all in
     both (each x (λ h. known (ap (λ b. b || list_any mark xs) h)) t.0)
-    (all-where mark test want P each xs (λ h. known (ap (λ b. mark x || b) h ∙ or_true (mark x))) t.1)
+    (all-where mark test want P each xs (λ h. known (ap (λ b. mark x || b) h ∙ or-true (mark x))) t.1)
 
 label-suits : (signals : List Signal) (width other : ℕ) (label : Label) → (not (value_of label.wild == 0) ≡ true → other ≡ width)
     → IsTrue (label_fits signals width label) → IsTrue (label_suits signals other label)
@@ -258,7 +266,8 @@ label-suits signals width other label same fits =
     by true e wide = refl
     by false e wide = subst (λ n. IsTrue (label.value.width == n && width_of label.wild == n)) (sym (same (ap not e))) wide
 
-pub items-suit : (signals : List Signal) (places : List Place) (width other : ℕ) (items : List CaseItem) → (list_any has_wild items ≡ true → other ≡ width)
+pub items-suit : (signals : List Signal) (places : List Place) (width other : ℕ) (items : List CaseItem)
+    → (list_any has_wild items ≡ true → other ≡ width)
     → IsTrue (list_all (item_fits signals places width) items) → IsTrue (list_all (item_suits signals places other) items)
 items-suit signals places width other =
     all-where has_wild (item_fits signals places width) (item_suits signals places other) (other ≡ width) (λ item same fits.
@@ -267,7 +276,8 @@ items-suit signals places width other =
     (label-suits signals width other) item.labels same t.0) t.1)
 
 -- one entry more of a list that is gone through from its end
-pub drop-back : {X : Type 0} (xs : List X) (i : ℕ) (x : X) → 0 < i → i ≤ length xs → x ≡ get_or xs (i - 1) x → drop (i - 1) xs ≡ x ∷ drop i xs
+pub drop-back : {X : Type 0} (xs : List X) (i : ℕ) (x : X) → 0 < i → i ≤ length xs → x ≡ get_or xs (i - 1) x
+    → drop (i - 1) xs ≡ x ∷ drop i xs
 drop-back xs i x high within is =
     let next : suc (i - 1) ≡ i = omega (arith, high) in
     drop-cons xs (i - 1) x (omega (arith, high, within)) ∙ ap (λ k. get_or xs (i - 1) x ∷ drop k xs) next ∙ ap (λ y. y ∷ drop i xs) (sym is)

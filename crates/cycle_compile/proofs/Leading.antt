@@ -1,5 +1,5 @@
 -- Runs that lead on to one another, an instruction that was pushed as a step of them, and what stays in the cells.
-use Rattle.std.proofs.Common.{◌≡◌, ◌≢◌, ℕ, ◌+◌, ◌-◌, ◌<◌, ◌≤◌, List, [], ◌∷◌, ◌++◌, length, arith, refl, ◌∙◌, ap, subst, inl, inr}
+use Rattle.std.proofs.Common.{◌≡◌, ◌≢◌, ℕ, ◌+◌, ◌-◌, ◌<◌, ◌≤◌, List, [], ◌∷◌, length, arith, refl, ◌∙◌, ap, subst, inl, inr}
 use Rattle.std.specs.Prelude.{Bool, true, false, ◌&&◌, nat_lt, IsTrue, slice_get, Some}
 use Rattle.std.proofs.Math.Path.{fun_ext}
 use Rattle.std.proofs.lemmas.Bool.{cases_lt, ltb-true}
@@ -17,7 +17,7 @@ use Rattle.cycle_code.specs.Fitting.{fits, IsSound}
 use Rattle.cycle_code.specs.Running.{run}
 use Rattle.cycle_code.proofs.RunSteps.{run-step, next-below}
 use Rattle.cycle_code.proofs.CellLaws.{updates-same}
-use Rattle.cycle_code.proofs.GrowthLaws.{Grows-length, fits-grown}
+use Rattle.cycle_code.proofs.GrowthLaws.{Grows-length, fits-grown, last-stands}
 use Rattle.cycle_code.proofs.SoundLaws.{sound-cells}
 use Rattle.cycle_code.proofs.ConstantLaws.{AreFree-grown, constants-effect}
 use Rattle.cycle_compile.specs.Compiling.{is_leaf, value_in, Leads, Keeps, LeavesValue}
@@ -28,7 +28,8 @@ pub Leads-none : {p : Program} {choice : Choice} (at : ℕ) {V : Valuation} → 
 Leads-none at has = record { leads_down = omega arith; run = λ to h. refl; constants = has }
 
 -- one run after another
-pub Leads-on : {p : Program} {choice : Choice} {a b c : ℕ} {V W X : Valuation} → Leads p choice a V b W → Leads p choice b W c X → Leads p choice a V c X
+pub Leads-on : {p : Program} {choice : Choice} {a b c : ℕ} {V W X : Valuation} → Leads p choice a V b W
+    → Leads p choice b W c X → Leads p choice a V c X
 Leads-on {p} {choice} {a} {b} {c} {V} {W} {X} one other =
     let high : b ≤ a = one.leads_down in
     let low : c ≤ b = other.leads_down in
@@ -39,16 +40,14 @@ Leads-on {p} {choice} {a} {b} {c} {V} {W} {X} one other =
     }
 
 -- the same where the numbers are equal
-pub Leads-at : {p : Program} {choice : Choice} {a b : ℕ} {V W : Valuation} (a' b' : ℕ) → a ≡ a' → b ≡ b' → Leads p choice a V b W → Leads p choice a' V b' W
+pub Leads-at : {p : Program} {choice : Choice} {a b : ℕ} {V W : Valuation} (a' b' : ℕ) → a ≡ a' → b ≡ b'
+    → Leads p choice a V b W → Leads p choice a' V b' W
 Leads-at {p} {choice} {a} {b} {V} {W} a' b' one other leads =
     subst (λ n. Leads p choice a' V n W) other (subst (λ n. Leads p choice n V b W) one leads)
 
 -- ---- an instruction that was pushed
-pub last-stands : {X : Type 0} (xs : List X) (x : X) → slice_get (xs ++ x ∷ []) (length xs) ≡ Some x
-last-stands [] x = refl
-last-stands (y ∷ xs) x = last-stands xs x
-
-pub length-pushed : (i : Instruction) (old new : Program) → new ≡ with_instruction i old → length new.instructions ≡ length old.instructions + 1
+pub length-pushed : (i : Instruction) (old new : Program) → new ≡ with_instruction i old
+    → length new.instructions ≡ length old.instructions + 1
 length-pushed i old new is = ap (λ (p : Program). length p.instructions) is ∙ length-append old.instructions (i ∷ [])
 
 -- it stands at the old length
@@ -59,7 +58,8 @@ pushed-stands i old new p is grown =
     (ap (λ (q : Program). slice_get q.instructions (length old.instructions)) is ∙ last-stands old.instructions i)
 
 -- and is the first step from the new length
-pub Leads-pushed : (i : Instruction) (old new p : Program) (choice : Choice) (V : Valuation) → new ≡ with_instruction i old → IsSound new → Grown new p
+pub Leads-pushed : (i : Instruction) (old new p : Program) (choice : Choice) (V : Valuation) → new ≡ with_instruction i old
+    → IsSound new → Grown new p
     → HasConstants p V → Leads p choice (length new.instructions) V (next p i (length old.instructions) V) (effect p choice i V)
 Leads-pushed i old new p choice V is sound grown has =
     let q = length old.instructions in
@@ -75,7 +75,8 @@ Leads-pushed i old new p choice V is sound grown has =
       constants = constants-effect p choice q i V fitting (AreFree-grown new p grown sound.signals) has;
     }
   where
-    step : (to at q : ℕ) → at ≡ q + 1 → slice_get p.instructions q ≡ Some i → to ≤ q → run p choice to at V ≡ run p choice to (next p i q V) (effect p choice i V)
+    step : (to at q : ℕ) → at ≡ q + 1 → slice_get p.instructions q ≡ Some i → to ≤ q
+        → run p choice to at V ≡ run p choice to (next p i q V) (effect p choice i V)
     step to at q e stands h =
         let before : at - 1 ≡ q = omega arith in
         run-step p choice to at i V (omega arith) (ap (slice_get p.instructions) before ∙ stands)
@@ -85,7 +86,8 @@ Leads-pushed i old new p choice V is sound grown has =
 -- a program that has all that another one has has at least as many cells
 pub widths-grown : (p q : Program) → Grown p q → length p.widths ≤ length q.widths
 widths-grown p q grown = elim (cases_lt (length q.widths) (length p.widths)) [
-  | inl less ↦ let more : length q.widths < length q.widths = Grows-length p.widths q.widths grown.widths (length q.widths) less in omega arith
+  | inl less ↦ let more : length q.widths < length q.widths =
+      Grows-length p.widths q.widths grown.widths (length q.widths) less in omega arith
   | inr high ↦ high
 ]
 
@@ -98,7 +100,8 @@ Keeps-on count V W X one other c b h = other c b h ∙ one c b h
 pub Keeps-fewer : (fewer count : ℕ) (V W : Valuation) → fewer ≤ count → Keeps count V W → Keeps fewer V W
 Keeps-fewer fewer count V W less keeps c b h = keeps c b (omega arith)
 
-pub held-kept : (widths : List ℕ) (count : ℕ) (V W : Valuation) (cell : ℕ) → cell < count → Keeps count V W → held widths W cell ≡ held widths V cell
+pub held-kept : (widths : List ℕ) (count : ℕ) (V W : Valuation) (cell : ℕ) → cell < count → Keeps count V W
+    → held widths W cell ≡ held widths V cell
 held-kept widths count V W cell h keeps = ap (number (width_in widths cell)) (fun_ext (λ b. keeps cell b h))
 
 -- the words that are read stay where all cells stay
@@ -110,10 +113,12 @@ below-kept signals count V W less keeps = fun_ext (λ s. fun_ext (λ b. at s b (
     at s b true e = let low : s < signals = ltb-true s signals e in keeps s b (omega arith)
 
 -- and those of later updates
-pub updates_in-kept : (signals count : ℕ) (V W : Valuation) → signals + signals ≤ count → Keeps count V W → updates_in signals W ≡ updates_in signals V
+pub updates_in-kept : (signals count : ℕ) (V W : Valuation) → signals + signals ≤ count → Keeps count V W
+    → updates_in signals W ≡ updates_in signals V
 updates_in-kept signals count V W less keeps =
     updates-same (below-kept signals count V W (omega arith) keeps)
-    (below-kept signals (count - signals) (λ s. V (signals + s)) (λ s. W (signals + s)) (omega arith) (λ c b h. keeps (signals + c) b (omega arith)))
+    (below-kept signals (count - signals) (λ s. V (signals + s)) (λ s. W (signals + s)) (omega arith)
+    (λ c b h. keeps (signals + c) b (omega arith)))
 
 -- the value of an expression, where all cells of a sound program stay
 pub value_in-kept : (old p : Program) (V W : Valuation) (e : Typed) → IsSound old → Grown old p → Keeps (length old.widths) V W

@@ -34,7 +34,8 @@ put-value p V W e cell n at is same =
     ap (λ k. with_held_in p cell k W) (same ∙ ap (node_value (signals_of p) (below (count_of p) V) e.width) (sym is))
 
 -- ---- no operand
-pub Values-slice : (before new : Program) (e : Typed) (cell signal from width : ℕ) → e.node ≡ node.Slice signal from width → signal < count_of before
+pub Values-slice : (before new : Program) (e : Typed) (cell signal from width : ℕ) → e.node ≡ node.Slice signal from width
+    → signal < count_of before
     → IsOwn (instruction.Slice signal from width cell) before before new e cell → Values before new e cell
 Values-slice before new e cell signal from width is low own =
     Values-own (instruction.Slice signal from width cell) before before new e cell own (λ p choice V grown.
@@ -49,7 +50,8 @@ Values-slice before new e cell signal from width is low own =
 -- ---- one operand
 awaits : (i : Instruction) (before old new : Program) (e : Typed) (cell : ℕ) (arg : Typed) (operand : ℕ)
     → IsOwn i before old new e cell → IsPlaced before old arg operand → Grown old new
-    → ((p : Program) (choice : Choice) (V W : Valuation) → Grown old p → width_in p.widths operand ≡ arg.width → held_in p W operand ≡ value_in p V arg
+    → ((p : Program) (choice : Choice) (V W : Valuation) → Grown old p → width_in p.widths operand ≡ arg.width
+    → held_in p W operand ≡ value_in p V arg
     → Puts p choice i (length old.instructions) V W e cell)
     → Awaits before new e cell arg operand
 awaits i before old new e cell arg operand own placed more puts = record {
@@ -94,7 +96,8 @@ Awaits-resize before old new e cell arg operand is own placed more =
     let size : width_in p.widths cell ≡ e.width = width_in-grown before p cell whole own.place.is_there ∙ own.place.width in
     record {
       goes_on = refl;
-      leaves = put-value p V W e cell (resized (width_in p.widths cell) arg.signed (width_in p.widths operand) (held_in p W operand)) (node.Resize arg) is
+      leaves = put-value p V W e cell (resized (width_in p.widths cell) arg.signed (width_in p.widths operand)
+          (held_in p W operand)) (node.Resize arg) is
           (ap (λ w. resized w arg.signed (width_in p.widths operand) (held_in p W operand)) size
           ∙ ap (λ w. resized e.width arg.signed w (held_in p W operand)) wide
           ∙ ap (resized e.width arg.signed arg.width) held
@@ -118,7 +121,8 @@ Awaits-binary i before between old new e cell op left high right low is does sou
         goes_on = does.goes_on p (length old.instructions) W;
         leaves = does.effects p choice W
             ∙ put-value p V W e cell
-            (binary op (width_in p.widths high) left.signed right.signed (held_in p W high) (held_in p W low)) (node.Binary op left right) is
+            (binary op (width_in p.widths high) left.signed right.signed (held_in p W high) (held_in p W low))
+            (node.Binary op left right) is
             (ap (λ w. binary op w left.signed right.signed (held_in p W high) (held_in p W low)) high_wide
             ∙ ap (λ n. binary op left.width left.signed right.signed n (held_in p W low)) high_held
             ∙ ap (binary op left.width left.signed right.signed (value_in p V left)) low_held

@@ -1,5 +1,5 @@
 -- The cells where values of expressions will be found.
-use Rattle.std.proofs.Common.{◌≡◌, ℕ, zero, suc, ◌+◌, ◌<◌, ◌≤◌, List, [], ◌∷◌, ◌++◌, length, take, arith, sym, refl, ◌∙◌, ap, subst}
+use Rattle.std.proofs.Common.{◌≡◌, ℕ, ◌+◌, ◌<◌, ◌≤◌, List, [], ◌∷◌, ◌++◌, length, take, arith, sym, refl, ◌∙◌, ap, subst, drop}
 use Rattle.std.specs.Prelude.{Bool, true, false, not, ◌&&◌, ◌==◌, IsTrue, slice_get, Option, Some, None, option_map, Result, Ok, Err, IfOk, OnOk}
 use Rattle.std.specs.Option.{option_map_or}
 use Rattle.std.proofs.lemmas.Bool.{and_parts, ltb-true, lt-ltb, le-leb, eqb-true}
@@ -14,13 +14,14 @@ use Rattle.design_core.specs.Valuation.{Valuation, number, width_at}
 use Rattle.design_core.specs.Value.{node_value}
 use Rattle.design_core.specs.WellFormed.{is_width, is_signal, node_fits, typed_fits}
 use Rattle.design_core.proofs.NumberLaws.{number-same}
-use Rattle.cycle_code.specs.Program.{Program, signals_of, count_of, Grown, with_cell}
+use Rattle.cycle_code.specs.Program.{Program, signals_of, count_of, Grown, with_cell, signal_widths}
 use Rattle.cycle_code.specs.Cells.{width_in, below}
 use Rattle.cycle_code.specs.Fitting.{is_cell, is_own, IsSound}
-use Rattle.cycle_code.proofs.GrowthLaws.{both, of_three, is_cell-grown, width_in-grown, is_own-grown, is_own-cell, Grown-trans}
+use Rattle.cycle_code.proofs.GrowthLaws.{both, of_three, is_cell-grown, width_in-grown, is_own-grown, is_own-cell, Grown-trans, last-stands}
 use Rattle.cycle_code.proofs.SoundLaws.{sound-cells}
+use Rattle.cycle_code.proofs.WordCells.{slice_get-take, slice_get-drop}
 use Rattle.cycle_compile.specs.Compiling.{is_leaf, IsPlaceFor}
-use Rattle.cycle_compile.proofs.Leading.{last-stands, count-grown}
+use Rattle.cycle_compile.proofs.Leading.{count-grown}
 
 -- a cell is one for an expression in each program that has all that this one has
 pub IsPlaceFor-grown : (p r : Program) (e : Typed) (cell : ℕ) → Grown p r → IsPlaceFor p e cell → IsPlaceFor r e cell
@@ -32,7 +33,8 @@ IsPlaceFor-grown p r e cell grown at = record {
 }
 
 -- one of the code's own, which is no constant, is one for each expression of its width that stands in no cell yet
-pub IsPlaceFor-own : (p : Program) (e : Typed) (cell : ℕ) → is_leaf e.node ≡ false → IsTrue (is_own p cell) → width_in p.widths cell ≡ e.width → IsPlaceFor p e cell
+pub IsPlaceFor-own : (p : Program) (e : Typed) (cell : ℕ) → is_leaf e.node ≡ false → IsTrue (is_own p cell)
+    → width_in p.widths cell ≡ e.width → IsPlaceFor p e cell
 IsPlaceFor-own p e cell inner own width = record {
   is_there = is_own-cell p cell own;
   width = width;
@@ -54,7 +56,8 @@ record IsLast (old new : Program) (fixed : Bool) (width value : ℕ) : Type 0 wh
   is_fixed : slice_get new.fixed (length old.widths) ≡ Some fixed
   has_value : slice_get new.values (length old.widths) ≡ Some value
 
-last-cell : (old new : Program) (fixed : Bool) (width value : ℕ) → IsSound old → new ≡ with_cell fixed width value old → IsLast old new fixed width value
+last-cell : (old new : Program) (fixed : Bool) (width value : ℕ) → IsSound old → new ≡ with_cell fixed width value old
+    → IsLast old new fixed width value
 last-cell old new fixed width value sound is =
     let cell = length old.widths in
     let widths : new.widths ≡ old.widths ++ width ∷ [] = ap (λ (p : Program). p.widths) is in
@@ -66,17 +69,20 @@ last-cell old new fixed width value sound is =
     }
 
 -- a new constant has the value of a constant expression
-pub IsPlaceFor-constant : (old new : Program) (e : Typed) (word : Bits) → e.node ≡ node.Const word → IsTrue (typed_fits (signals_of old) e) → IsSound old
+pub IsPlaceFor-constant : (old new : Program) (e : Typed) (word : Bits) → e.node ≡ node.Const word
+    → IsTrue (typed_fits (signals_of old) e) → IsSound old
     → new ≡ with_cell true (width_of word) (value_of word) old → IsPlaceFor new e (length old.widths)
 IsPlaceFor-constant old new e word is fits sound made =
     let last = last-cell old new true (width_of word) (value_of word) sound made in
-    let fit : IsTrue (is_width e.width && width_of word == e.width) = subst (λ n. IsTrue (node_fits (signals_of old) e.width e.signed n)) is fits in
+    let fit : IsTrue (is_width e.width && width_of word == e.width) =
+    subst (λ n. IsTrue (node_fits (signals_of old) e.width e.signed n)) is fits in
     let wide : width_of word ≡ e.width = eqb-true (width_of word) e.width (and_parts (is_width e.width) (width_of word == e.width) fit).1 in
     record {
       is_there = last.is_there;
       width = last.has_width ∙ wide;
       stands = λ leaf q V grown has.
-          has.constants (length old.widths) (value_of word) (grown.fixed (length old.widths) true last.is_fixed) (grown.values (length old.widths) (value_of word) last.has_value)
+          has.constants (length old.widths) (value_of word) (grown.fixed (length old.widths) true last.is_fixed)
+          (grown.values (length old.widths) (value_of word) last.has_value)
           ∙ ap (node_value (signals_of q) (below (count_of q) V) e.width) (sym is);
       own = λ inner. absurd (differ (sym (ap is_leaf is) ∙ inner));
     }
@@ -116,36 +122,42 @@ IsPlaceFor-temporary old new e inner sound made =
     differ same = absurd cc
 
 -- a call's result is the number of the cell that it made
-pub new-cell : {E : Type 0} (old made new : Program) (e : Typed) (r : Result ℕ E) → IfOk r (λ cell. cell ≡ length old.widths) → OnOk r (new ≡ made)
+pub new-cell : {E : Type 0} (old made new : Program) (e : Typed) (r : Result ℕ E) → IfOk r (λ cell. cell ≡ length old.widths)
+    → OnOk r (new ≡ made)
     → IsPlaceFor made e (length old.widths) → IfOk r (IsPlaceFor new e)
 new-cell old made new e (Ok cell) here is at = subst (λ p. IsPlaceFor p e cell) (sym is) (subst (IsPlaceFor made e) (sym here) at)
 new-cell old made new e (Err _) here is at = tt
 
--- ---- whole signals
-slice_get-take : {X : Type 0} (xs : List X) (n i : ℕ) → i < n → slice_get (take n xs) i ≡ slice_get xs i
-slice_get-take [] zero i less = refl
-slice_get-take [] (suc n) i less = refl
-slice_get-take (x ∷ xs) zero i less = absurd (omega (arith, less))
-slice_get-take (x ∷ xs) (suc n) zero less = refl
-slice_get-take (x ∷ xs) (suc n) (suc i) less = slice_get-take xs n i (omega (arith, less))
-
--- the cell of a signal has its width
-pub width_in-signal : (p : Program) (s : ℕ) → IsSound p → s < count_of p → width_in p.widths s ≡ width_at (signals_of p) s
-width_in-signal p s sound low =
-    ap (λ o. option_map_or (λ w. w) o 0)
-    (sym (slice_get-take p.widths (count_of p) s low) ∙ ap (λ ws. slice_get ws s) sound.now ∙ slice_get-map (λ (x : Signal). x.width) (signals_of p) s)
-    ∙ inside (slice_get (signals_of p) s)
+-- ---- signals
+width-of : (signals : List Signal) (widths : List ℕ) (s : ℕ) → s < length signals → take (length signals) widths ≡ signal_widths signals
+    → option_map_or (λ width. width) (slice_get widths s) 0 ≡ width_at signals s
+width-of signals widths s h is =
+    ap (λ o. option_map_or (λ width. width) o 0)
+    (sym (slice_get-take (length signals) widths s h) ∙ ap (λ ws. slice_get ws s) is ∙ slice_get-map (λ (x : Signal). x.width) signals s)
+    ∙ mapped (slice_get signals s)
   where
-    inside : (o : Option Signal) → option_map_or (λ (w : ℕ). w) (option_map (λ (x : Signal). x.width) o) 0 ≡ option_map_or (λ (x : Signal). x.width) o 0
-    inside None = refl
-    inside (Some x) = refl
+    mapped : (o : Option Signal)
+        → option_map_or (λ width. width) (option_map (λ (x : Signal). x.width) o) 0 ≡ option_map_or (λ (x : Signal). x.width) o 0
+    mapped None = refl
+    mapped (Some x) = refl
+
+-- the cell of a signal's word has the signal's width
+pub width_in-signal : (p : Program) (s : ℕ) → IsSound p → s < count_of p → width_in p.widths s ≡ width_at (signals_of p) s
+width_in-signal p s sound h = width-of (signals_of p) p.widths s h sound.now
+
+-- and so has that of its later update
+pub later-width : (p : Program) (s : ℕ) → IsSound p → s < count_of p → width_in p.widths (count_of p + s) ≡ width_at (signals_of p) s
+later-width p s sound h =
+    ap (λ o. option_map_or (λ width. width) o 0) (sym (slice_get-drop (count_of p) p.widths s))
+    ∙ width-of (signals_of p) (drop (count_of p) p.widths) s h sound.later
 
 -- the words that are read are those of the cells
 pub number-below_cells : (count width s : ℕ) (V : Valuation) → s < count → number width (below count V s) ≡ number width (V s)
 number-below_cells count width s V low = number-same width (below count V s) (V s) (λ b h. ap (λ t. t && V s b) (lt-ltb s count low))
 
 -- the cell of a signal has its value
-pub IsPlaceFor-whole : (p : Program) (e : Typed) (s : ℕ) → e.node ≡ node.Whole s → IsTrue (typed_fits (signals_of p) e) → IsSound p → IsPlaceFor p e s
+pub IsPlaceFor-whole : (p : Program) (e : Typed) (s : ℕ) → e.node ≡ node.Whole s → IsTrue (typed_fits (signals_of p) e)
+    → IsSound p → IsPlaceFor p e s
 IsPlaceFor-whole p e s is fits sound =
     let fit : IsTrue (is_width e.width && is_signal (signals_of p) s && width_at (signals_of p) s == e.width) =
     subst (λ n. IsTrue (node_fits (signals_of p) e.width e.signed n)) is fits in

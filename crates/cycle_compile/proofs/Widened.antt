@@ -32,7 +32,8 @@ argument-less : (arg : Typed) → size-Node arg.node < size-Node (node.Resize ar
 unfolding shape-the_row-Typed-0 hidden-the_row-Typed-0 hidden
 argument-less arg = search (rules, the_lemmas)
 
-pub widened-value : (signals : List Signal) (V : Valuation) (e arg : Typed) → e.node ≡ node.Resize arg → arg.signed ≡ false → arg.width ≤ e.width
+pub widened-value : (signals : List Signal) (V : Valuation) (e arg : Typed) → e.node ≡ node.Resize arg → arg.signed ≡ false
+    → arg.width ≤ e.width
     → value signals V arg ≡ value signals V e
 widened-value signals V e arg is unsigned wide =
     sym (ap (node_value signals V e.width) is ∙ value_resize signals V e.width arg
@@ -43,7 +44,8 @@ widened-value signals V e arg is unsigned wide =
 IsBare-none : (e : Typed) → IsBare e e
 IsBare-none e = record { fits = λ signals fit. fit; value = λ signals V. refl; depth = omega arith }
 
-pub IsBare-more : (e arg core : Typed) → e.node ≡ node.Resize arg → arg.signed ≡ false → arg.width ≤ e.width → IsBare arg core → IsBare e core
+pub IsBare-more : (e arg core : Typed) → e.node ≡ node.Resize arg → arg.signed ≡ false → arg.width ≤ e.width → IsBare arg core
+    → IsBare e core
 IsBare-more e arg core is unsigned wide bare =
     let deeper : size-Node arg.node < size-Node e.node = subst (λ n. size-Node arg.node < size-Node n) (sym is) (argument-less arg) in
     let most : size-Node core.node ≤ size-Node arg.node = bare.depth in
@@ -57,7 +59,8 @@ IsBare-more e arg core is unsigned wide bare =
 compared : (op : BinaryOp) (p : Program) (V : Valuation) (e left right : Typed) → e.node ≡ node.Binary op left right
     → value_in p V e ≡ binary op left.width left.signed right.signed (value_in p V left) (value_in p V right)
 compared op p V e left right is =
-    ap (node_value (signals_of p) (below (count_of p) V) e.width) is ∙ value_binary (signals_of p) (below (count_of p) V) e.width op left right
+    ap (node_value (signals_of p) (below (count_of p) V) e.width) is
+    ∙ value_binary (signals_of p) (below (count_of p) V) e.width op left right
 
 bare-same : (p : Program) (V : Valuation) (left right high low : Typed) → IsBare left high → IsBare right low
     → (value_in p V left == value_in p V right) ≡ same_values high low p V
@@ -72,7 +75,8 @@ equal-bare e left right high low is one other p V =
     ∙ sym (equal-holds binary_op.Equal left.width (value_in p V left) (value_in p V right) left.signed right.signed refl)
     ∙ bare-same p V left right high low one other
 
-pub not_equal-bare : (e left right high low : Typed) → e.node ≡ node.Binary binary_op.NotEqual left right → IsBare left high → IsBare right low
+pub not_equal-bare : (e left right high low : Typed) → e.node ≡ node.Binary binary_op.NotEqual left right → IsBare left high
+    → IsBare right low
     → (p : Program) (V : Valuation) → is_true (value_in p V e) ≡ not (same_values high low p V)
 not_equal-bare e left right high low is one other p V =
     ap is_true (compared binary_op.NotEqual p V e left right is)

@@ -32,7 +32,8 @@ pub record IsPlaceFor (p : Program) (e : Typed) (cell : ℕ) : Type 0 where
   pub stands : is_leaf e.node ≡ true → (q : Program) (V : Valuation) → Grown p q → HasConstants q V → held_in q V cell ≡ value_in q V e
   pub own : is_leaf e.node ≡ false → IsTrue (is_own p cell)
 
--- a run that stands at a number with some cells goes on, for as long as it stays above `to`, as one that stands at a lower number with others
+-- a run that stands at a number with some cells goes on, for as long as it stays above `to`, as one that stands at a lower number
+-- with others
 pub record Leads (p : Program) (choice : Choice) (at : ℕ) (V : Valuation) (lower : ℕ) (W : Valuation) : Type 0 where
   pub leads_down : lower ≤ at
   pub run : (to : ℕ) → to ≤ lower → run p choice to at V ≡ run p choice to lower W

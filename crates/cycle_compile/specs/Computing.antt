@@ -108,4 +108,5 @@ pub record AwaitsPair (old new : Program) (left right : Typed) (cell high low : 
   pub grown : Grown old new
   pub left_place : IsPlaceFor new left high
   pub right_place : IsPlaceFor new right low
-  pub serves : (middle last : Program) → Values new middle right low → Values middle last left high → Joins old last (left ∷ right ∷ []) cell
+  pub serves : (middle last : Program) → Values new middle right low → Values middle last left high
+      → Joins old last (left ∷ right ∷ []) cell

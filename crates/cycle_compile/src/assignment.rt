@@ -68,7 +68,7 @@ fn store<'a>(
 }
 
 /// The signal that a left side of one whole signal names.
-fn whole_of(parts: &[Part]) -> Option<u32>
+pub fn whole_of(parts: &[Part]) -> Option<u32>
     ensures { result ≡ whole_of parts.now }
 {
     match parts {

@@ -12,5 +12,6 @@ mod statement;
 mod test;
 mod widening;
 
+pub use assignment::whole_of;
 pub use expression::{compute, decide, place};
 pub use statement::carry_out;

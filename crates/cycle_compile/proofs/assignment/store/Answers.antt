@@ -21,8 +21,10 @@ returns-in-Some-clause-carries c =
 
 pub push-requires-2-clause-fits : goal.push-requires-2-clause-fits
 push-requires-2-clause-fits c =
-    target-fits (program_of c.args.code.now) (program_of c.push_target.new.self) c.args.number c.args.cell c.in_ok-target.target c.args.target.now.parts
-    c.in_ok-target.ensures.number c.in_ok-target.ensures.value c.in_ok-target.ensures.grown c.requires.place c.requires.cell c.requires.parts
+    target-fits (program_of c.args.code.now) (program_of c.push_target.new.self) c.args.number c.args.cell
+    c.in_ok-target.target c.args.target.now.parts
+    c.in_ok-target.ensures.number c.in_ok-target.ensures.value c.in_ok-target.ensures.grown c.requires.place c.requires.cell
+    c.requires.parts
 
 pub returns-clause-carries : goal.returns-clause-carries
 returns-clause-carries c =

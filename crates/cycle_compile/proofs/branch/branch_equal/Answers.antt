@@ -17,19 +17,22 @@ push-requires-2-clause-fits c =
     let old : Program = program_of c.jump.new.code in
     let most = more-instructions before old c.in_ok-jump.ensures.jumps.grown in
     let low : c.args.no ≤ length before.instructions = c.requires.no in
-    both (both (le-leb c.args.no (length old.instructions) (omega arith)) (is_cell-grown before old c.args.left c.in_ok-jump.ensures.jumps.grown c.requires.left))
+    both (both (le-leb c.args.no (length old.instructions) (omega arith))
+    (is_cell-grown before old c.args.left c.in_ok-jump.ensures.jumps.grown c.requires.left))
     (is_cell-grown before old c.args.right c.in_ok-jump.ensures.jumps.grown c.requires.right)
 
 pub returns-then-no-len-clause-branches : goal.returns-then-no-len-clause-branches
 returns-then-no-len-clause-branches c =
     on_ok-three c.push.result
-    (λ made sound grown. Branches-equal (program_of c.args.code.now) (program_of c.push.new.self) c.args.left c.args.right c.args.yes c.args.no (omega arith) c.requires.yes made sound grown)
+    (λ made sound grown. Branches-equal (program_of c.args.code.now) (program_of c.push.new.self) c.args.left c.args.right
+    c.args.yes c.args.no (omega arith) c.requires.yes made sound grown)
     c.push.ensures.value c.push.ensures.sound c.push.ensures.grown
 
 pub returns-clause-branches : goal.returns-clause-branches
 returns-clause-branches c =
     on_ok-three c.push-2.result
     (λ made sound grown.
-    Branches-unlike (program_of c.args.code.now) (program_of c.jump.new.code) (program_of c.push-2.new.self) c.args.left c.args.right c.args.yes c.args.no
+    Branches-unlike (program_of c.args.code.now) (program_of c.jump.new.code) (program_of c.push-2.new.self) c.args.left
+    c.args.right c.args.yes c.args.no
     c.in_ok-jump.ensures.jumps c.requires.no made sound grown)
     c.push-2.ensures.value c.push-2.ensures.sound c.push-2.ensures.grown

@@ -23,13 +23,15 @@ push-requires-2-clause-fits c =
 pub returns-then-no-len-clause-branches : goal.returns-then-no-len-clause-branches
 returns-then-no-len-clause-branches c =
     on_ok-three c.push.result
-    (λ made sound grown. Branches-if (program_of c.args.code.now) (program_of c.push.new.self) c.args.cond c.args.yes c.args.no (omega arith) c.requires.yes made sound grown)
+    (λ made sound grown. Branches-if (program_of c.args.code.now) (program_of c.push.new.self) c.args.cond c.args.yes
+    c.args.no (omega arith) c.requires.yes made sound grown)
     c.push.ensures.value c.push.ensures.sound c.push.ensures.grown
 
 pub returns-clause-branches : goal.returns-clause-branches
 returns-clause-branches c =
     on_ok-three c.push-2.result
     (λ made sound grown.
-    Branches-unless (program_of c.args.code.now) (program_of c.jump.new.code) (program_of c.push-2.new.self) c.args.cond c.args.yes c.args.no
+    Branches-unless (program_of c.args.code.now) (program_of c.jump.new.code) (program_of c.push-2.new.self) c.args.cond
+    c.args.yes c.args.no
     c.in_ok-jump.ensures.jumps c.requires.no made sound grown)
     c.push-2.ensures.value c.push-2.ensures.sound c.push-2.ensures.grown

@@ -5,15 +5,16 @@ use Rattle.cycle_code.specs.Program.{Program, program_of, signals_of}
 use Rattle.cycle_code.specs.Cells.{width_in}
 use Rattle.cycle_code.proofs.GrowthLaws.{Grown-trans, is_cell-grown, width_in-grown}
 use Rattle.cycle_compile.proofs.Jumping.{more-instructions}
-use Rattle.cycle_compile.proofs.Carrying.{IsPlaceFor-grown}
 use Rattle.cycle_compile.proofs.Labelling.{label-tests, label-widths}
 use Rattle.cycle_compile.proofs.case.test_label.Goals as goal
+use Rattle.cycle_compile.proofs.Placing.{IsPlaceFor-grown}
 
 pub compare-requires-clause-subject : goal.compare-requires-clause-subject
 compare-requires-clause-subject c =
     let old : Program = program_of c.args.code.now in
     let p1 : Program = program_of c.jump.new.code in
-    is_cell-grown old p1 c.args.subject (Grown-trans old (program_of c.place.new.code) p1 c.in_ok-cell.ensures.grown c.in_ok-jump.ensures.jumps.grown)
+    is_cell-grown old p1 c.args.subject (Grown-trans old (program_of c.place.new.code) p1 c.in_ok-cell.ensures.grown
+    c.in_ok-jump.ensures.jumps.grown)
     c.requires.subject
 
 pub compare-requires-clause-cell : goal.compare-requires-clause-cell
@@ -63,6 +64,7 @@ returns-clause-tests c =
     (λ values.
     label-tests (program_of c.args.code.now) (program_of c.place.new.code) (program_of c.jump.new.code) (program_of c.compare.new.code)
     (program_of c.compute.new.code) c.args.subject c.in_ok-cell.cell c.args.label.now c.args.yes c.args.no c.requires.sound
-    (ltb-true c.args.subject (length (program_of c.args.code.now).widths) c.requires.subject) c.in_ok-cell.ensures.grown c.in_ok-cell.ensures.fresh
+    (ltb-true c.args.subject (length (program_of c.args.code.now).widths) c.requires.subject) c.in_ok-cell.ensures.grown
+    c.in_ok-cell.ensures.fresh
     c.in_ok-jump.ensures.jumps c.in_ok-compare.ensures.tests values)
     c.compute.ensures.values

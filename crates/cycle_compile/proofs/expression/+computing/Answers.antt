@@ -40,8 +40,10 @@ compute-compute-requires t c =
         c.in_ok-operand-in-Unary.ensures.sound,
         (
           fits-grown_program (program_of c.args.code.now) (program_of c.unary.new.code) c.deref-in-Unary.result.now awaits.grown
-              (subst (λ (x : Typed). IsTrue (typed_fits signals x)) (sym c.deref-in-Unary.ensures) (unary-operand signals c.args.e.now c.in-Unary.op c.in-Unary.arg c.in-Unary.is c.requires.fits)),
-          subst (λ (x : Typed). IsPlaceFor (program_of c.unary.new.code) x c.in_ok-operand-in-Unary.operand) (c.deref.ensures ∙ sym c.deref-in-Unary.ensures) awaits.place,
+              (subst (λ (x : Typed). IsTrue (typed_fits signals x)) (sym c.deref-in-Unary.ensures)
+              (unary-operand signals c.args.e.now c.in-Unary.op c.in-Unary.arg c.in-Unary.is c.requires.fits)),
+          subst (λ (x : Typed). IsPlaceFor (program_of c.unary.new.code) x c.in_ok-operand-in-Unary.operand)
+              (c.deref.ensures ∙ sym c.deref-in-Unary.ensures) awaits.place,
         ),
       ),
     )
@@ -51,7 +53,8 @@ unfolding shape-the_row-Typed-0 hidden-the_row-Typed-0 hidden
 compute-returns-in_ok-operand-in-Unary-clause-values t c =
     on_ok_weaker c.compute.result (λ values.
     c.in_ok-operand-in-Unary.ensures.awaits.serves (program_of c.compute.new.code)
-    (subst (λ (x : Typed). Values (program_of c.unary.new.code) (program_of c.compute.new.code) x c.in_ok-operand-in-Unary.operand) (c.deref-in-Unary.ensures ∙ sym c.deref.ensures) values))
+    (subst (λ (x : Typed). Values (program_of c.unary.new.code) (program_of c.compute.new.code) x
+    c.in_ok-operand-in-Unary.operand) (c.deref-in-Unary.ensures ∙ sym c.deref.ensures) values))
     c.compute.ensures.values
 
 pub compute-compute-requires-in-Repeat : goal.compute-compute-requires-in-Repeat
@@ -64,8 +67,10 @@ compute-compute-requires-in-Repeat t c =
         c.in_ok-operand-in-Repeat.ensures.sound,
         (
           fits-grown_program (program_of c.args.code.now) (program_of c.repeat.new.code) c.deref-in-Repeat-2.result.now awaits.grown
-              (subst (λ (x : Typed). IsTrue (typed_fits signals x)) (sym c.deref-in-Repeat-2.ensures) (repeat-operand signals c.args.e.now c.in-Repeat.times c.in-Repeat.part c.in-Repeat.is c.requires.fits)),
-          subst (λ (x : Typed). IsPlaceFor (program_of c.repeat.new.code) x c.in_ok-operand-in-Repeat.operand) (c.deref-in-Repeat.ensures ∙ sym c.deref-in-Repeat-2.ensures) awaits.place,
+              (subst (λ (x : Typed). IsTrue (typed_fits signals x)) (sym c.deref-in-Repeat-2.ensures)
+              (repeat-operand signals c.args.e.now c.in-Repeat.times c.in-Repeat.part c.in-Repeat.is c.requires.fits)),
+          subst (λ (x : Typed). IsPlaceFor (program_of c.repeat.new.code) x c.in_ok-operand-in-Repeat.operand)
+              (c.deref-in-Repeat.ensures ∙ sym c.deref-in-Repeat-2.ensures) awaits.place,
         ),
       ),
     )
@@ -75,7 +80,8 @@ unfolding shape-the_row-Typed-0 hidden-the_row-Typed-0 hidden
 compute-returns-in_ok-operand-in-Repeat-clause-values t c =
     on_ok_weaker c.compute-in-Repeat.result (λ values.
     c.in_ok-operand-in-Repeat.ensures.awaits.serves (program_of c.compute-in-Repeat.new.code)
-    (subst (λ (x : Typed). Values (program_of c.repeat.new.code) (program_of c.compute-in-Repeat.new.code) x c.in_ok-operand-in-Repeat.operand) (c.deref-in-Repeat-2.ensures ∙ sym c.deref-in-Repeat.ensures) values))
+    (subst (λ (x : Typed). Values (program_of c.repeat.new.code) (program_of c.compute-in-Repeat.new.code) x
+    c.in_ok-operand-in-Repeat.operand) (c.deref-in-Repeat-2.ensures ∙ sym c.deref-in-Repeat.ensures) values))
     c.compute-in-Repeat.ensures.values
 
 pub compute-compute-requires-in-Resize : goal.compute-compute-requires-in-Resize
@@ -88,8 +94,10 @@ compute-compute-requires-in-Resize t c =
         c.in_ok-operand-in-Resize.ensures.sound,
         (
           fits-grown_program (program_of c.args.code.now) (program_of c.resize.new.code) c.deref-in-Resize-2.result.now awaits.grown
-              (subst (λ (x : Typed). IsTrue (typed_fits signals x)) (sym c.deref-in-Resize-2.ensures) (resize-operand signals c.args.e.now c.in-Resize.arg c.in-Resize.is c.requires.fits)),
-          subst (λ (x : Typed). IsPlaceFor (program_of c.resize.new.code) x c.in_ok-operand-in-Resize.operand) (c.deref-in-Resize.ensures ∙ sym c.deref-in-Resize-2.ensures) awaits.place,
+              (subst (λ (x : Typed). IsTrue (typed_fits signals x)) (sym c.deref-in-Resize-2.ensures)
+              (resize-operand signals c.args.e.now c.in-Resize.arg c.in-Resize.is c.requires.fits)),
+          subst (λ (x : Typed). IsPlaceFor (program_of c.resize.new.code) x c.in_ok-operand-in-Resize.operand)
+              (c.deref-in-Resize.ensures ∙ sym c.deref-in-Resize-2.ensures) awaits.place,
         ),
       ),
     )
@@ -99,7 +107,8 @@ unfolding shape-the_row-Typed-0 hidden-the_row-Typed-0 hidden
 compute-returns-in_ok-operand-in-Resize-clause-values t c =
     on_ok_weaker c.compute-in-Resize.result (λ values.
     c.in_ok-operand-in-Resize.ensures.awaits.serves (program_of c.compute-in-Resize.new.code)
-    (subst (λ (x : Typed). Values (program_of c.resize.new.code) (program_of c.compute-in-Resize.new.code) x c.in_ok-operand-in-Resize.operand) (c.deref-in-Resize-2.ensures ∙ sym c.deref-in-Resize.ensures) values))
+    (subst (λ (x : Typed). Values (program_of c.resize.new.code) (program_of c.compute-in-Resize.new.code) x
+    c.in_ok-operand-in-Resize.operand) (c.deref-in-Resize-2.ensures ∙ sym c.deref-in-Resize.ensures) values))
     c.compute-in-Resize.ensures.values
 
 pub compute-compute-requires-in-Binary : goal.compute-compute-requires-in-Binary
@@ -114,7 +123,8 @@ compute-compute-requires-in-Binary t c =
           fits-grown_program (program_of c.args.code.now) (program_of c.binary.new.code) c.deref-in-Binary-3.result.now awaits.grown
               (subst (λ (x : Typed). IsTrue (typed_fits signals x)) (sym c.deref-in-Binary-3.ensures)
               (binary-operands signals c.args.e.now c.in-Binary.op c.in-Binary.left c.in-Binary.right c.in-Binary.is c.requires.fits).1),
-          subst (λ (x : Typed). IsPlaceFor (program_of c.binary.new.code) x c.in_ok-high-in-Binary.low) (c.deref-in-Binary-2.ensures ∙ sym c.deref-in-Binary-3.ensures)
+          subst (λ (x : Typed). IsPlaceFor (program_of c.binary.new.code) x c.in_ok-high-in-Binary.low)
+              (c.deref-in-Binary-2.ensures ∙ sym c.deref-in-Binary-3.ensures)
               awaits.right_place,
         ),
       ),
@@ -137,7 +147,8 @@ compute-compute-requires-in-Binary-2 t c =
               (subst (λ (x : Typed). IsTrue (typed_fits signals x)) (sym c.deref-in-Binary-4.ensures)
               (binary-operands signals c.args.e.now c.in-Binary.op c.in-Binary.left c.in-Binary.right c.in-Binary.is c.requires.fits).0),
           IsPlaceFor-grown new middle c.deref-in-Binary-4.result.now c.in_ok-high-in-Binary.high grown
-              (subst (λ (x : Typed). IsPlaceFor new x c.in_ok-high-in-Binary.high) (c.deref-in-Binary.ensures ∙ sym c.deref-in-Binary-4.ensures)
+              (subst (λ (x : Typed). IsPlaceFor new x c.in_ok-high-in-Binary.high)
+              (c.deref-in-Binary.ensures ∙ sym c.deref-in-Binary-4.ensures)
               awaits.left_place),
         ),
       ),
@@ -153,7 +164,8 @@ compute-returns-in_ok-compute-in-Binary-clause-values t c =
     c.in_ok-high-in-Binary.ensures.awaits.serves middle last
     (subst (λ (x : Typed). Values new middle x c.in_ok-high-in-Binary.low) (c.deref-in-Binary-3.ensures ∙ sym c.deref-in-Binary-2.ensures)
     c.in_ok-compute-in-Binary.ensures.values)
-    (subst (λ (x : Typed). Values middle last x c.in_ok-high-in-Binary.high) (c.deref-in-Binary-4.ensures ∙ sym c.deref-in-Binary.ensures) values))
+    (subst (λ (x : Typed). Values middle last x c.in_ok-high-in-Binary.high)
+    (c.deref-in-Binary-4.ensures ∙ sym c.deref-in-Binary.ensures) values))
     c.compute-in-Binary-2.ensures.values
 
 pub decide-decide-requires : goal.decide-decide-requires
@@ -256,7 +268,8 @@ decide-returns-in_ok-then-in-LogicalAnd-clause-decides t c =
     on_ok_weaker c.decide-in-LogicalAnd-2.result (λ lefts.
     Decides-and before middle last c.args.e.now c.in-Binary.left c.in-Binary.right c.args.yes c.args.no
     (c.in-Binary.is ∙ ap (λ (o : BinaryOp). node.Binary o c.in-Binary.left c.in-Binary.right) c.in-LogicalAnd.is) c.requires.sound
-    (subst (λ (x : Typed). Decides before middle x c.args.yes c.args.no) c.deref-in-LogicalAnd.ensures c.in_ok-decide-in-LogicalAnd.ensures.decides)
+    (subst (λ (x : Typed). Decides before middle x c.args.yes c.args.no) c.deref-in-LogicalAnd.ensures
+    c.in_ok-decide-in-LogicalAnd.ensures.decides)
     (subst (λ n. Decides middle last c.in-Binary.left n c.args.no) c.in_ok-then-in-LogicalAnd.ensures
     (subst (λ (x : Typed). Decides middle last x c.in_ok-then-in-LogicalAnd.then c.args.no) c.deref-in-LogicalAnd-2.ensures lefts)))
     c.decide-in-LogicalAnd-2.ensures.decides
@@ -307,26 +320,33 @@ decide-returns-in_ok-otherwise-in-LogicalOr-clause-decides t c =
     on_ok_weaker c.decide-in-LogicalOr-2.result (λ lefts.
     Decides-or before middle last c.args.e.now c.in-Binary.left c.in-Binary.right c.args.yes c.args.no
     (c.in-Binary.is ∙ ap (λ (o : BinaryOp). node.Binary o c.in-Binary.left c.in-Binary.right) c.in-LogicalOr.is) c.requires.sound
-    (subst (λ (x : Typed). Decides before middle x c.args.yes c.args.no) c.deref-in-LogicalOr.ensures c.in_ok-decide-in-LogicalOr.ensures.decides)
+    (subst (λ (x : Typed). Decides before middle x c.args.yes c.args.no) c.deref-in-LogicalOr.ensures
+    c.in_ok-decide-in-LogicalOr.ensures.decides)
     (subst (λ n. Decides middle last c.in-Binary.left c.args.yes n) c.in_ok-otherwise-in-LogicalOr.ensures
-    (subst (λ (x : Typed). Decides middle last x c.args.yes c.in_ok-otherwise-in-LogicalOr.otherwise) c.deref-in-LogicalOr-2.ensures lefts)))
+    (subst (λ (x : Typed). Decides middle last x c.args.yes c.in_ok-otherwise-in-LogicalOr.otherwise)
+    c.deref-in-LogicalOr-2.ensures lefts)))
     c.decide-in-LogicalOr-2.ensures.decides
 
 pub decide-returns-in_ok-cond-in_default-op : goal.decide-returns-in_ok-cond-in_default-op
 decide-returns-in_ok-cond-in_default-op t c = record {
-  decides = on_ok_weaker c.compute.result (λ values. c.in_ok-cond-in_default-op.ensures.awaits.serves (program_of c.compute.new.code) values) c.compute.ensures.values;
+  decides = on_ok_weaker c.compute.result (λ values. c.in_ok-cond-in_default-op.ensures.awaits.serves
+      (program_of c.compute.new.code) values) c.compute.ensures.values;
   sound = c.compute.ensures.sound;
 }
 
 pub decide-returns-in_ok-cond-in_default-op-2 : goal.decide-returns-in_ok-cond-in_default-op-2
 decide-returns-in_ok-cond-in_default-op-2 t c = record {
-  decides = on_ok_weaker c.compute-in_default-op-2.result (λ values. c.in_ok-cond-in_default-op-2.ensures.awaits.serves (program_of c.compute-in_default-op-2.new.code) values) c.compute-in_default-op-2.ensures.values;
+  decides = on_ok_weaker c.compute-in_default-op-2.result
+      (λ values. c.in_ok-cond-in_default-op-2.ensures.awaits.serves (program_of c.compute-in_default-op-2.new.code) values)
+      c.compute-in_default-op-2.ensures.values;
   sound = c.compute-in_default-op-2.ensures.sound;
 }
 
 pub decide-returns-in_ok-cond-in_default : goal.decide-returns-in_ok-cond-in_default
 decide-returns-in_ok-cond-in_default t c = record {
-  decides = on_ok_weaker c.compute-in_default.result (λ values. c.in_ok-cond-in_default.ensures.awaits.serves (program_of c.compute-in_default.new.code) values) c.compute-in_default.ensures.values;
+  decides = on_ok_weaker c.compute-in_default.result
+      (λ values. c.in_ok-cond-in_default.ensures.awaits.serves (program_of c.compute-in_default.new.code) values)
+      c.compute-in_default.ensures.values;
   sound = c.compute-in_default.ensures.sound;
 }
 
@@ -488,7 +508,8 @@ decide-compute-requires-in-NotEqual-2 t c =
       (
         c.in_ok-high-in-NotEqual-2.ensures.sound,
         (
-          fits-grown_program (program_of c.args.code.now) (program_of c.test_equal-in-NotEqual-2.new.code) c.bare-right-in-NotEqual-2.result.now awaits.grown
+          fits-grown_program (program_of c.args.code.now) (program_of c.test_equal-in-NotEqual-2.new.code)
+              c.bare-right-in-NotEqual-2.result.now awaits.grown
               (bare.fits signals (subst (λ (x : Typed). IsTrue (typed_fits signals x)) (sym c.deref-in-NotEqual-2-2.ensures)
               (binary-operands signals c.args.e.now c.in-Binary.op c.in-Binary.left c.in-Binary.right c.in-Binary.is c.requires.fits).1)),
           awaits.right_place,
@@ -560,7 +581,8 @@ pub compute-fill-requires : goal.compute-fill-requires
 unfolding shape-the_row-Typed-0 hidden-the_row-Typed-0 hidden
 compute-fill-requires t c =
     let before : Program = program_of c.args.code.now in
-    let known = choose-known (signals_of before) c.args.e.now c.in-Choose.cond c.in-Choose.yes c.in-Choose.no c.in-Choose.is c.requires.fits in (
+    let known =
+    choose-known (signals_of before) c.args.e.now c.in-Choose.cond c.in-Choose.yes c.in-Choose.no c.in-Choose.is c.requires.fits in (
       search (rules, the_lemmas),
       (
         c.requires.sound,
@@ -589,7 +611,8 @@ compute-fill-requires-in-Choose t c =
     let second : Program = program_of c.fill.new.code in
     let jumped : Program = program_of c.jump.new.code in
     let grown = Grown-trans before second jumped c.in_ok-fill-in-Choose.ensures.fills.grown c.in_ok-jump-in-Choose.ensures.jumps.grown in
-    let known = choose-known (signals_of before) c.args.e.now c.in-Choose.cond c.in-Choose.yes c.in-Choose.no c.in-Choose.is c.requires.fits in (
+    let known =
+    choose-known (signals_of before) c.args.e.now c.in-Choose.cond c.in-Choose.yes c.in-Choose.no c.in-Choose.is c.requires.fits in (
       search (rules, the_lemmas),
       (
         c.in_ok-jump-in-Choose.ensures.sound,
@@ -614,7 +637,8 @@ compute-decide-requires t c =
     let first : Program = program_of c.fill-in-Choose.new.code in
     let later = Grown-trans second jumped first c.in_ok-jump-in-Choose.ensures.jumps.grown c.in_ok-fill-in-Choose-2.ensures.fills.grown in
     let grown = Grown-trans before second first c.in_ok-fill-in-Choose.ensures.fills.grown later in
-    let known = choose-known (signals_of before) c.args.e.now c.in-Choose.cond c.in-Choose.yes c.in-Choose.no c.in-Choose.is c.requires.fits in
+    let known =
+    choose-known (signals_of before) c.args.e.now c.in-Choose.cond c.in-Choose.yes c.in-Choose.no c.in-Choose.is c.requires.fits in
     let most = more-instructions second first later in
     let one : c.in_ok-then-in-Choose.then ≡ length first.instructions = c.in_ok-then-in-Choose.ensures in
     let other : c.in_ok-otherwise-in-Choose.otherwise ≡ length second.instructions = c.in_ok-otherwise-in-Choose.ensures in (
@@ -638,19 +662,22 @@ compute-returns-in_ok-then-in-Choose-clause-values t c =
     let first : Program = program_of c.fill-in-Choose.new.code in
     let last : Program = program_of c.decide.new.code in
     on_ok_weaker c.decide.result (λ decides.
-    Values-choose before second jumped first last c.args.e.now c.args.cell c.in-Choose.cond c.in-Choose.yes c.in-Choose.no c.in-Choose.is c.requires.sound
+    Values-choose before second jumped first last c.args.e.now c.args.cell c.in-Choose.cond c.in-Choose.yes c.in-Choose.no
+    c.in-Choose.is c.requires.sound
     (subst (λ (x : Typed). Fills before second x c.args.cell) c.deref-in-Choose.ensures c.in_ok-fill-in-Choose.ensures.fills)
     (subst (λ n. Jumps second jumped n) c.in_ok-next-in-Choose.ensures c.in_ok-jump-in-Choose.ensures.jumps)
     (subst (λ (x : Typed). Fills jumped first x c.args.cell) c.deref-in-Choose-2.ensures c.in_ok-fill-in-Choose-2.ensures.fills)
     (subst (λ n. Decides first last c.in-Choose.cond n (length second.instructions)) c.in_ok-then-in-Choose.ensures
     (subst (λ n. Decides first last c.in-Choose.cond c.in_ok-then-in-Choose.then n) c.in_ok-otherwise-in-Choose.ensures
-    (subst (λ (x : Typed). Decides first last x c.in_ok-then-in-Choose.then c.in_ok-otherwise-in-Choose.otherwise) c.deref-in-Choose-3.ensures decides))))
+    (subst (λ (x : Typed). Decides first last x c.in_ok-then-in-Choose.then c.in_ok-otherwise-in-Choose.otherwise)
+    c.deref-in-Choose-3.ensures decides))))
     c.decide.ensures.decides
 
 pub compute-join-requires : goal.compute-join-requires
 compute-join-requires t c =
     let signals : List Signal = c.args.code.now.design.now.signals.items in
-    let known = join-fits signals c.args.e.now.width c.args.e.now.signed c.in-Join.parts (node-known signals c.args.e.now (node.Join c.in-Join.parts) c.in-Join.is c.requires.fits) in
+    let known = join-fits signals c.args.e.now.width c.args.e.now.signed c.in-Join.parts
+    (node-known signals c.args.e.now (node.Join c.in-Join.parts) c.in-Join.is c.requires.fits) in
     let items = c.deref-in-Join.ensures in (
       search (rules, the_lemmas),
       (
@@ -700,7 +727,8 @@ pub join-overflow_sub-left : goal.join-overflow_sub-left
 join-overflow_sub-left t c =
     let signals : List Signal = c.args.code.now.design.now.signals.items in
     let some : 0 < c.loop-count.count = omega arith in
-    let step = join-step signals c.args.parts.now c.loop-count.count c.index-parts-count.result c.loop-count.left some c.loop-count.invariant.within
+    let step = join-step signals c.args.parts.now c.loop-count.count c.index-parts-count.result c.loop-count.left some
+    c.loop-count.invariant.within
     c.index-parts-count.is c.requires.fits c.loop-count.invariant.sum in
     let sum : c.loop-count.left ≡ parts_sum (take c.loop-count.count c.args.parts.now) + c.index-parts-count.result.width = step.sum in
     omega arith
@@ -709,7 +737,8 @@ pub join-join_part-requires-clause-left : goal.join-join_part-requires-clause-le
 join-join_part-requires-clause-left t c =
     let signals : List Signal = c.args.code.now.design.now.signals.items in
     let some : 0 < c.loop-count.count = omega arith in
-    let step = join-step signals c.args.parts.now c.loop-count.count c.index-parts-count.result c.loop-count.left some c.loop-count.invariant.within
+    let step = join-step signals c.args.parts.now c.loop-count.count c.index-parts-count.result c.loop-count.left some
+    c.loop-count.invariant.within
     c.index-parts-count.is c.requires.fits c.loop-count.invariant.sum in
     let sum : c.loop-count.left ≡ parts_sum (take c.loop-count.count c.args.parts.now) + c.index-parts-count.result.width = step.sum in
     let least : 1 ≤ parts_sum (take c.loop-count.count c.args.parts.now) = step.some in
@@ -721,7 +750,8 @@ pub join-join_part-requires-clause-size : goal.join-join_part-requires-clause-si
 join-join_part-requires-clause-size t c =
     let signals : List Signal = c.args.code.now.design.now.signals.items in
     let some : 0 < c.loop-count.count = omega arith in
-    let step = join-step signals c.args.parts.now c.loop-count.count c.index-parts-count.result c.loop-count.left some c.loop-count.invariant.within
+    let step = join-step signals c.args.parts.now c.loop-count.count c.index-parts-count.result c.loop-count.left some
+    c.loop-count.invariant.within
     c.index-parts-count.is c.requires.fits c.loop-count.invariant.sum in
     let sum : c.loop-count.left ≡ parts_sum (take c.loop-count.count c.args.parts.now) + c.index-parts-count.result.width = step.sum in
     let back : c.loop-count.left ≡ c.loop-count.left - c.index-parts-count.result.width + c.index-parts-count.result.width = omega arith in
@@ -731,7 +761,8 @@ pub join-compute-requires : goal.join-compute-requires
 join-compute-requires t c =
     let signals : List Signal = c.args.code.now.design.now.signals.items in
     let some : 0 < c.loop-count.count = omega arith in
-    let step = join-step signals c.args.parts.now c.loop-count.count c.index-parts-count.result c.loop-count.left some c.loop-count.invariant.within
+    let step = join-step signals c.args.parts.now c.loop-count.count c.index-parts-count.result c.loop-count.left some
+    c.loop-count.invariant.within
     c.index-parts-count.is c.requires.fits c.loop-count.invariant.sum in
     let before : Program = program_of c.args.code.now in
     let now : Program = program_of c.loop-count.code in
@@ -741,7 +772,8 @@ join-compute-requires t c =
       (
         c.in_ok-high.ensures.sound,
         (
-          fits-grown_program before new c.index-parts-count.result (Grown-trans before now new c.loop-count.invariant.grown awaits.grown) step.fits,
+          fits-grown_program before new c.index-parts-count.result
+              (Grown-trans before now new c.loop-count.invariant.grown awaits.grown) step.fits,
           awaits.part_place,
         ),
       ),
@@ -751,7 +783,8 @@ pub join-loop-count-preserved : goal.join-loop-count-preserved
 join-loop-count-preserved t c =
     let signals : List Signal = c.args.code.now.design.now.signals.items in
     let some : 0 < c.loop-count.count = omega arith in
-    let step = join-step signals c.args.parts.now c.loop-count.count c.index-parts-count.result c.loop-count.left some c.loop-count.invariant.within
+    let step = join-step signals c.args.parts.now c.loop-count.count c.index-parts-count.result c.loop-count.left some
+    c.loop-count.invariant.within
     c.index-parts-count.is c.requires.fits c.loop-count.invariant.sum in
     let before : Program = program_of c.args.code.now in
     let now : Program = program_of c.loop-count.code in
@@ -770,7 +803,8 @@ join-loop-count-preserved t c =
       sum = ap (λ n. parts_sum (take n c.args.parts.now)) less ∙ omega arith;
       most = omega arith;
       own = is_own-grown new middle c.in_ok-high.high values.grown awaits.high_own;
-      size = width_in-grown new middle c.in_ok-high.high values.grown (is_own-cell new c.in_ok-high.high awaits.high_own) ∙ awaits.high_width;
+      size = width_in-grown new middle c.in_ok-high.high values.grown (is_own-cell new c.in_ok-high.high awaits.high_own)
+          ∙ awaits.high_width;
       serves = λ last joins.
           c.loop-count.invariant.serves last
           (subst (λ (xs : List Typed). Joins now last xs c.loop-count.to) (sym step.split)
@@ -786,7 +820,8 @@ join-returns-then-count-eq0-clause-joins t c =
     let first = first-known signals c.args.parts.now c.index-parts-0.result c.requires.some c.index-parts-0.is c.requires.fits in
     on_ok_weaker c.fill.result (λ fills.
     c.loop-count.invariant.serves last
-    (subst (λ (xs : List Typed). Joins now last xs c.loop-count.to) (sym (ap (λ n. take (n + 1) c.args.parts.now) c.if-count-eq0.true ∙ first.0))
+    (subst (λ (xs : List Typed). Joins now last xs c.loop-count.to)
+    (sym (ap (λ n. take (n + 1) c.args.parts.now) c.if-count-eq0.true ∙ first.0))
     (Joins-one now last c.index-parts-0.result c.loop-count.to fills)))
     c.fill.ensures.fills
 
@@ -805,7 +840,8 @@ join-compute-requires-2 t c =
       (
         c.in_ok-high-2.ensures.sound,
         (
-          fits-grown_program before new c.index-parts-1.result (Grown-trans before now new c.loop-count.invariant.grown awaits.grown) pair.3,
+          fits-grown_program before new c.index-parts-1.result
+              (Grown-trans before now new c.loop-count.invariant.grown awaits.grown) pair.3,
           awaits.right_place,
         ),
       ),

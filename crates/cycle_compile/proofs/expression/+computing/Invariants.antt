@@ -15,7 +15,8 @@ invariant-join-loop-count l = record {
   most : l.left ≤ 128;
   own : IsTrue (is_own (program_of l.code) l.to);
   size : width_in (program_of l.code).widths l.to ≡ l.left;
-  serves : (last : Program) → Joins (program_of l.code) last (take (l.count + 1) l.parts) l.to → Joins (program_of l.fn.code) last l.parts l.cell;
+  serves : (last : Program) → Joins (program_of l.code) last (take (l.count + 1) l.parts) l.to
+      → Joins (program_of l.fn.code) last l.parts l.cell;
 }
 
 abbrev pub decreases-join-loop-count : goal.decreases-join-loop-count

@@ -14,7 +14,8 @@ push-requires-clause-fits c =
     let at = c.in_ok-from.ensures in
     both (both (is_own-grown before placed c.args.cell at.grown c.requires.own) at.place.is_there)
     (eq-eqb (width_in placed.widths c.in_ok-from.from) (width_in placed.widths c.args.cell)
-    (at.place.width ∙ sym (width_in-grown before placed c.args.cell at.grown (is_own-cell before c.args.cell c.requires.own) ∙ c.requires.width)))
+    (at.place.width ∙ sym (width_in-grown before placed c.args.cell at.grown (is_own-cell before c.args.cell c.requires.own)
+    ∙ c.requires.width)))
 
 pub returns-clause-fills : goal.returns-clause-fills
 returns-clause-fills c =

@@ -15,9 +15,11 @@ temporary-requires c = record {
 
 pub returns-in-Const-clause-place : goal.returns-in-Const-clause-place
 returns-in-Const-clause-place c =
-    new-cell (program_of c.args.code.now) (with_cell true (width_of c.in-Const.word) (value_of c.in-Const.word) (program_of c.args.code.now)) (program_of c.constant.new.self)
+    new-cell (program_of c.args.code.now) (with_cell true (width_of c.in-Const.word) (value_of c.in-Const.word)
+    (program_of c.args.code.now)) (program_of c.constant.new.self)
     c.args.e.now c.constant.result c.constant.ensures.number c.constant.ensures.value
-    (IsPlaceFor-constant (program_of c.args.code.now) (with_cell true (width_of c.in-Const.word) (value_of c.in-Const.word) (program_of c.args.code.now))
+    (IsPlaceFor-constant (program_of c.args.code.now)
+    (with_cell true (width_of c.in-Const.word) (value_of c.in-Const.word) (program_of c.args.code.now))
     c.args.e.now c.in-Const.word c.in-Const.is c.requires.fits c.requires.sound refl)
 
 pub returns-in-Whole-clause-place : goal.returns-in-Whole-clause-place
@@ -26,11 +28,14 @@ returns-in-Whole-clause-place c =
 
 pub returns-in_default : goal.returns-in_default
 returns-in_default c = record {
-  place = new-cell (program_of c.args.code.now) (with_cell false c.args.e.now.width 0 (program_of c.args.code.now)) (program_of c.temporary.new.self)
+  place = new-cell (program_of c.args.code.now) (with_cell false c.args.e.now.width 0 (program_of c.args.code.now))
+      (program_of c.temporary.new.self)
       c.args.e.now c.temporary.result c.temporary.ensures.number c.temporary.ensures.value
       (IsPlaceFor-temporary (program_of c.args.code.now) (with_cell false c.args.e.now.width 0 (program_of c.args.code.now))
       c.args.e.now (inner-node c.args.e.now.node c.in_default.not-Const c.in_default.not-Whole) c.requires.sound refl);
-  fresh = IfOk-weaker c.temporary.result (λ cell. cell ≡ length (program_of c.args.code.now).widths) (λ cell. is_leaf c.args.e.now.node ≡ false → length (program_of c.args.code.now).widths ≤ cell) (λ cell here inner. omega arith) c.temporary.ensures.number;
+  fresh = IfOk-weaker c.temporary.result (λ cell. cell ≡ length (program_of c.args.code.now).widths)
+      (λ cell. is_leaf c.args.e.now.node ≡ false → length (program_of c.args.code.now).widths ≤ cell)
+      (λ cell here inner. omega arith) c.temporary.ensures.number;
   sound = c.temporary.ensures.sound;
   grown = c.temporary.ensures.grown;
   instructions = on_ok_weaker c.temporary.result (λ same. ap (λ (p : Program). p.instructions) same) c.temporary.ensures.value;

@@ -10,12 +10,14 @@ use Rattle.cycle_compile.proofs.operator.binary.Goals as goal
 
 pub place-requires-clause-fits : goal.place-requires-clause-fits
 place-requires-clause-fits c =
-    (binary-operands c.args.code.now.design.now.signals.items c.args.e.now c.args.op c.args.left.now c.args.right.now c.requires.node c.requires.fits).0
+    (binary-operands c.args.code.now.design.now.signals.items c.args.e.now c.args.op c.args.left.now c.args.right.now
+    c.requires.node c.requires.fits).0
 
 pub place-requires-2-clause-fits : goal.place-requires-2-clause-fits
 place-requires-2-clause-fits c =
     fits-grown_program (program_of c.args.code.now) (program_of c.place.new.code) c.args.right.now c.in_ok-high.ensures.grown
-    (binary-operands c.args.code.now.design.now.signals.items c.args.e.now c.args.op c.args.left.now c.args.right.now c.requires.node c.requires.fits).1
+    (binary-operands c.args.code.now.design.now.signals.items c.args.e.now c.args.op c.args.left.now c.args.right.now
+    c.requires.node c.requires.fits).1
 
 pub push-requires-clause-fits : goal.push-requires-clause-fits
 push-requires-clause-fits c =
@@ -23,7 +25,8 @@ push-requires-clause-fits c =
     let between : Program = program_of c.place.new.code in
     let old : Program = program_of c.place-2.new.code in
     c.specialized-instruction.ensures.fitting old (length old.instructions)
-    (binary-instruction before old (length old.instructions) c.args.e.now c.args.cell c.args.op c.args.left.now c.in_ok-high.high c.args.right.now c.in_ok-low.low
+    (binary-instruction before old (length old.instructions) c.args.e.now c.args.cell c.args.op c.args.left.now
+    c.in_ok-high.high c.args.right.now c.in_ok-low.low
     c.args.left.now.signed c.args.right.now.signed c.requires.node c.requires.fits
     (Grown-trans before between old c.in_ok-high.ensures.grown c.in_ok-low.ensures.grown) c.requires.place
     (IsPlaceFor-grown between old c.args.left.now c.in_ok-high.high c.in_ok-low.ensures.grown c.in_ok-high.ensures.place)
@@ -38,7 +41,8 @@ returns-clause-awaits c =
     let one = c.in_ok-high.ensures in
     let other = c.in_ok-low.ensures in
     let pushed = c.in_ok-push.ensures in
-    Awaits-binary c.specialized-instruction.result before between old new c.args.e.now c.args.cell c.args.op c.args.left.now c.in_ok-high.high c.args.right.now c.in_ok-low.low
+    Awaits-binary c.specialized-instruction.result before between old new c.args.e.now c.args.cell c.args.op c.args.left.now
+    c.in_ok-high.high c.args.right.now c.in_ok-low.low
     c.requires.node c.specialized-instruction.ensures c.requires.sound
     (record {
       made = pushed.value;

@@ -22,7 +22,8 @@ push-requires-clause-fits c =
     (eq-eqb (width_in old.widths c.args.cell) (width_in old.widths c.in_ok-high.high + width_in old.widths c.in_ok-low.low)
     (width_in-grown before old c.args.cell grown (is_own-cell before c.args.cell c.requires.own) ∙ c.requires.size
     ∙ ap (λ n. n + c.args.part.now.width) (sym own.1)
-    ∙ ap (λ n. width_in old.widths c.in_ok-high.high + n) (sym (width_in-grown placed old c.in_ok-low.low made.grown at.place.is_there ∙ at.place.width))))
+    ∙ ap (λ n. width_in old.widths c.in_ok-high.high + n)
+    (sym (width_in-grown placed old c.in_ok-low.low made.grown at.place.is_there ∙ at.place.width))))
 
 pub returns-clause-awaits : goal.returns-clause-awaits
 returns-clause-awaits c =

@@ -7,12 +7,15 @@ use Rattle.cycle_compile.proofs.OperatorFits.{resize-operand, resize-instruction
 use Rattle.cycle_compile.proofs.operator.resize.Goals as goal
 
 pub place-requires-clause-fits : goal.place-requires-clause-fits
-place-requires-clause-fits c = resize-operand c.args.code.now.design.now.signals.items c.args.e.now c.args.arg.now c.requires.node c.requires.fits
+place-requires-clause-fits c =
+    resize-operand c.args.code.now.design.now.signals.items c.args.e.now c.args.arg.now c.requires.node c.requires.fits
 
 pub push-requires-clause-fits : goal.push-requires-clause-fits
 push-requires-clause-fits c =
-    resize-instruction (program_of c.args.code.now) (program_of c.place.new.code) (length (program_of c.place.new.code).instructions) c.args.e.now c.args.cell
-    c.args.arg.now.signed c.args.arg.now c.in_ok-operand.operand c.requires.node c.in_ok-operand.ensures.grown c.requires.place c.in_ok-operand.ensures.place
+    resize-instruction (program_of c.args.code.now) (program_of c.place.new.code)
+    (length (program_of c.place.new.code).instructions) c.args.e.now c.args.cell
+    c.args.arg.now.signed c.args.arg.now c.in_ok-operand.operand c.requires.node c.in_ok-operand.ensures.grown
+    c.requires.place c.in_ok-operand.ensures.place
 
 pub returns-clause-awaits : goal.returns-clause-awaits
 returns-clause-awaits c =

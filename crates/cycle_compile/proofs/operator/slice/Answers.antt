@@ -8,7 +8,8 @@ use Rattle.cycle_compile.proofs.operator.slice.Goals as goal
 
 pub push-requires-clause-fits : goal.push-requires-clause-fits
 push-requires-clause-fits c =
-    slice-instruction (program_of c.args.code.now) (length (program_of c.args.code.now).instructions) c.args.e.now c.args.cell c.args.signal c.args.from c.args.width
+    slice-instruction (program_of c.args.code.now) (length (program_of c.args.code.now).instructions) c.args.e.now c.args.cell
+    c.args.signal c.args.from c.args.width
     c.requires.node c.requires.fits c.requires.sound c.requires.place
 
 pub returns-clause-values : goal.returns-clause-values

@@ -7,13 +7,16 @@ use Rattle.cycle_compile.proofs.OperatorFits.{unary-operand, unary-instruction}
 use Rattle.cycle_compile.proofs.operator.unary.Goals as goal
 
 pub place-requires-clause-fits : goal.place-requires-clause-fits
-place-requires-clause-fits c = unary-operand c.args.code.now.design.now.signals.items c.args.e.now c.args.op c.args.arg.now c.requires.node c.requires.fits
+place-requires-clause-fits c =
+    unary-operand c.args.code.now.design.now.signals.items c.args.e.now c.args.op c.args.arg.now c.requires.node c.requires.fits
 
 pub push-requires-clause-fits : goal.push-requires-clause-fits
 push-requires-clause-fits c =
     c.specialized-instruction.ensures.fitting (program_of c.place.new.code) (length (program_of c.place.new.code).instructions)
-    (unary-instruction (program_of c.args.code.now) (program_of c.place.new.code) (length (program_of c.place.new.code).instructions) c.args.e.now c.args.cell
-    c.args.op c.args.arg.now c.in_ok-operand.operand c.requires.node c.requires.fits c.in_ok-operand.ensures.grown c.requires.place c.in_ok-operand.ensures.place)
+    (unary-instruction (program_of c.args.code.now) (program_of c.place.new.code)
+    (length (program_of c.place.new.code).instructions) c.args.e.now c.args.cell
+    c.args.op c.args.arg.now c.in_ok-operand.operand c.requires.node c.requires.fits c.in_ok-operand.ensures.grown
+    c.requires.place c.in_ok-operand.ensures.place)
 
 pub returns-clause-awaits : goal.returns-clause-awaits
 returns-clause-awaits c =
@@ -22,7 +25,8 @@ returns-clause-awaits c =
     let new : Program = program_of c.push.new.self in
     let placed = c.in_ok-operand.ensures in
     let pushed = c.in_ok-push.ensures in
-    Awaits-unary c.specialized-instruction.result before old new c.args.e.now c.args.cell c.args.op c.args.arg.now c.in_ok-operand.operand c.requires.node
+    Awaits-unary c.specialized-instruction.result before old new c.args.e.now c.args.cell c.args.op c.args.arg.now
+    c.in_ok-operand.operand c.requires.node
     c.specialized-instruction.ensures
     (record {
       made = pushed.value;

@@ -9,7 +9,8 @@ use Rattle.cycle_compile.proofs.pair.join_pair.Goals as goal
 
 pub place-requires-2-clause-fits : goal.place-requires-2-clause-fits
 place-requires-2-clause-fits c =
-    fits-grown_program (program_of c.args.code.now) (program_of c.place.new.code) c.args.right.now c.in_ok-high.ensures.grown c.requires.right
+    fits-grown_program (program_of c.args.code.now) (program_of c.place.new.code) c.args.right.now c.in_ok-high.ensures.grown
+    c.requires.right
 
 pub push-requires-clause-fits : goal.push-requires-clause-fits
 push-requires-clause-fits c =

@@ -9,11 +9,13 @@ use Rattle.cycle_compile.proofs.test.test_equal.Goals as goal
 
 pub place-requires-2-clause-fits : goal.place-requires-2-clause-fits
 place-requires-2-clause-fits c =
-    fits-grown_program (program_of c.args.code.now) (program_of c.place.new.code) c.args.right.now c.in_ok-high.ensures.grown c.requires.right
+    fits-grown_program (program_of c.args.code.now) (program_of c.place.new.code) c.args.right.now c.in_ok-high.ensures.grown
+    c.requires.right
 
 pub branch_equal-requires-clause-left : goal.branch_equal-requires-clause-left
 branch_equal-requires-clause-left c =
-    (IsPlaceFor-grown (program_of c.place.new.code) (program_of c.place-2.new.code) c.args.left.now c.in_ok-high.high c.in_ok-low.ensures.grown
+    (IsPlaceFor-grown (program_of c.place.new.code) (program_of c.place-2.new.code) c.args.left.now c.in_ok-high.high
+    c.in_ok-low.ensures.grown
     c.in_ok-high.ensures.place).is_there
 
 pub branch_equal-requires-clause-right : goal.branch_equal-requires-clause-right
@@ -21,11 +23,13 @@ branch_equal-requires-clause-right c = c.in_ok-low.ensures.place.is_there
 
 pub branch_equal-requires-clause-yes : goal.branch_equal-requires-clause-yes
 branch_equal-requires-clause-yes c =
-    subst (λ (is : List Instruction). c.args.yes ≤ length is) (sym (c.in_ok-low.ensures.instructions ∙ c.in_ok-high.ensures.instructions)) c.requires.yes
+    subst (λ (is : List Instruction). c.args.yes ≤ length is)
+    (sym (c.in_ok-low.ensures.instructions ∙ c.in_ok-high.ensures.instructions)) c.requires.yes
 
 pub branch_equal-requires-clause-no : goal.branch_equal-requires-clause-no
 branch_equal-requires-clause-no c =
-    subst (λ (is : List Instruction). c.args.no ≤ length is) (sym (c.in_ok-low.ensures.instructions ∙ c.in_ok-high.ensures.instructions)) c.requires.no
+    subst (λ (is : List Instruction). c.args.no ≤ length is)
+    (sym (c.in_ok-low.ensures.instructions ∙ c.in_ok-high.ensures.instructions)) c.requires.no
 
 pub returns-clause-awaits : goal.returns-clause-awaits
 returns-clause-awaits c =

@@ -10,10 +10,12 @@ pub branch_if-requires-clause-cond : goal.branch_if-requires-clause-cond
 branch_if-requires-clause-cond c = c.in_ok-cond.ensures.place.is_there
 
 pub branch_if-requires-clause-yes : goal.branch_if-requires-clause-yes
-branch_if-requires-clause-yes c = subst (λ (is : List Instruction). c.args.yes ≤ length is) (sym c.in_ok-cond.ensures.instructions) c.requires.yes
+branch_if-requires-clause-yes c =
+    subst (λ (is : List Instruction). c.args.yes ≤ length is) (sym c.in_ok-cond.ensures.instructions) c.requires.yes
 
 pub branch_if-requires-clause-no : goal.branch_if-requires-clause-no
-branch_if-requires-clause-no c = subst (λ (is : List Instruction). c.args.no ≤ length is) (sym c.in_ok-cond.ensures.instructions) c.requires.no
+branch_if-requires-clause-no c =
+    subst (λ (is : List Instruction). c.args.no ≤ length is) (sym c.in_ok-cond.ensures.instructions) c.requires.no
 
 pub returns-clause-awaits : goal.returns-clause-awaits
 returns-clause-awaits c =
