@@ -12,6 +12,7 @@ use Rattle.std.proofs.lemmas.List.{length-map}
 use Rattle.loc_base.specs.declared.bits.Bits.{Bits}
 use Rattle.loc_base.specs.Bits.{bit_of, width_of, value_of}
 use Rattle.loc_base.proofs.ShelfLists.{slice_get-set_same, slice_get-set_other}
+use Rattle.loc_base.proofs.ShelfOptions.{Some-same}
 use Rattle.design_core.specs.Valuation.{Valuation, bit}
 use Rattle.design_core.specs.Words.{valuation_of}
 use Rattle.plain_sim.specs.EvaluateCycle.{blended}
@@ -78,27 +79,27 @@ pub ruleset bits_cleared = (cleared_number)
 
 -- ---- the words of a signal that is replaced
 -- a mask's signal has a word
-pub mask-within : (words : List Bits) (m : Mask) → slice_get (map width_of words) m.signal ≡ Some (width_of m.bits) → m.signal < length words
+pub mask-within : (words : List Bits) (m : Mask) → slice_get (map width_of words) m.signal ≡ Some (width_of m.bits)
+    → m.signal < length words
 mask-within words m fits = omega (arith, slice_get_within (map width_of words) m.signal (width_of m.bits) fits, length-map words width_of)
 
 -- the mask has the word's width
 pub mask-width : (words : List Bits) (m : Mask) (word : Bits) → slice_get (map width_of words) m.signal ≡ Some (width_of m.bits)
     → slice_get words m.signal ≡ Some word → width_of m.bits ≡ width_of word
 mask-width words m word fits at = Some-same (sym fits ∙ slice_get-map width_of words m.signal ∙ ap (option_map width_of) at)
-  where
-    Some-same : {x y : ℕ} → Some x ≡ Some y → x ≡ y
-    Some-same e = cc
 
 pub eq-swap : (x y : ℕ) → (x == y) ≡ false → y ≡ x → ⊥
 eq-swap x y e same = grind (arith, nat_tests)
 
 -- one word replaced by another whose bits are chosen between two
-pub replaced-bits : (words : List Bits) (F : Valuation) (m : Mask) (word new : Bits) → m.signal < length words → slice_get words m.signal ≡ Some word
+pub replaced-bits : (words : List Bits) (F : Valuation) (m : Mask) (word new : Bits) → m.signal < length words
+    → slice_get words m.signal ≡ Some word
     → ((b : ℕ) → bit_of new b ≡ (if bit_of m.bits b then F m.signal b else bit_of word b))
     → valuation_of (set words m.signal new) ≡ blended (in_mask m) F (valuation_of words)
 replaced-bits words F m word new within at bits = fun_ext (λ s. fun_ext (λ b. by_signal s b (m.signal == s) refl))
   where
-    by_signal : (s b : ℕ) (t : Bool) → (m.signal == s) ≡ t → valuation_of (set words m.signal new) s b ≡ blended (in_mask m) F (valuation_of words) s b
+    by_signal : (s b : ℕ) (t : Bool) → (m.signal == s) ≡ t
+        → valuation_of (set words m.signal new) s b ≡ blended (in_mask m) F (valuation_of words) s b
     by_signal s b true e =
         let same : m.signal ≡ s = eqb-true m.signal s e in
         ap (λ n. valuation_of (set words m.signal new) n b) (sym same)
@@ -127,17 +128,21 @@ blended-next masks k m F T at =
 
 -- a mask with the bits alone that a word has
 pub within-bits : (words : List Bits) (m narrower : Mask) (word : Bits) → slice_get words m.signal ≡ Some word → narrower.signal ≡ m.signal
-    → value_of narrower.bits ≡ bit_and (value_of m.bits) (value_of word) → (s b : ℕ) → in_mask narrower s b ≡ (in_mask m s b && valuation_of words s b)
+    → value_of narrower.bits ≡ bit_and (value_of m.bits) (value_of word) → (s b : ℕ)
+    → in_mask narrower s b ≡ (in_mask m s b && valuation_of words s b)
 within-bits words m narrower word at signal value s b =
     ap (λ n. n == s && bit_of narrower.bits b) signal
     ∙ ap (λ x. m.signal == s && x) (ap (λ n. bit n b) value ∙ bit-and (value_of m.bits) (value_of word) b)
     ∙ by_signal (m.signal == s) refl
   where
-    by_signal : (t : Bool) → (m.signal == s) ≡ t → (m.signal == s && (bit (value_of m.bits) b && bit (value_of word) b)) ≡ ((m.signal == s && bit_of m.bits b) && valuation_of words s b)
+    by_signal : (t : Bool) → (m.signal == s) ≡ t
+        → (m.signal == s && (bit (value_of m.bits) b && bit (value_of word) b))
+        ≡ ((m.signal == s && bit_of m.bits b) && valuation_of words s b)
     by_signal true e =
         let same : m.signal ≡ s = eqb-true m.signal s e in
         ap (λ t. t && (bit (value_of m.bits) b && bit (value_of word) b)) e
-        ∙ ap (λ x. bit (value_of m.bits) b && x) (sym (ap (λ n. valuation_of words n b) (sym same) ∙ valuation-bit words m.signal b word at))
+        ∙ ap (λ x. bit (value_of m.bits) b && x)
+        (sym (ap (λ n. valuation_of words n b) (sym same) ∙ valuation-bit words m.signal b word at))
         ∙ sym (ap (λ t. (t && bit_of m.bits b) && valuation_of words s b) e)
     by_signal false e =
         ap (λ t. t && (bit (value_of m.bits) b && bit (value_of word) b)) e

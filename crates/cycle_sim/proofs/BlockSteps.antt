@@ -25,6 +25,7 @@ use Rattle.cycle_sim.specs.declared.mask.Mask.{Mask}
 use Rattle.cycle_sim.specs.Masks.{covers, is_own, left_in, assigns_now, AreBlockMasks}
 use Rattle.cycle_sim.specs.Blocks.{reset_leaves, WithReset, WithBody}
 use Rattle.cycle_sim.proofs.StatementNow.{now-leaves}
+use Rattle.cycle_sim.proofs.Resets.{if-on, if-off}
 
 -- ---- the values are as before
 either-same : (t x y : Bool) → (t ≡ false → y ≡ x) → (if t then x else y) ≡ x
@@ -41,7 +42,8 @@ restored masks V R V1 R1 V2 r v same =
         ap (λ t. if t then R1 s b else V1 s b) on ∙ ap (λ (X : Valuation). X s b) r ∙ ap (λ t. if t then V s b else R s b) on
     at s b (inr off) = ap (λ t. if t then R1 s b else V1 s b) off ∙ same s b off
 
-pub now-same : (signals : List Signal) (places : List Place) (choice : Choice) (statement : Stmt) (masks : List Mask) (V S V1 S1 : Valuation) → statement_fits signals places statement ≡ true
+pub now-same : (signals : List Signal) (places : List Place) (choice : Choice) (statement : Stmt) (masks : List Mask)
+    (V S V1 S1 : Valuation) → statement_fits signals places statement ≡ true
     → ((s b : ℕ) → covers masks s b ≡ false → assigns_now signals s b statement ≡ false)
     → record { now = V1; later = S1 } ≡ after signals choice statement (record { now = V; later = S })
     → (s b : ℕ) → covers masks s b ≡ false → V1 s b ≡ V s b
@@ -60,27 +62,26 @@ now_or_later true true x y e = refl
 now_or_later true false x y e = refl
 now_or_later false later x y e = cc
 
-if-off : (t x y : Bool) → t ≡ false → (if t then x else y) ≡ y
-if-off t x y e = ap (λ t. if t then x else y) e
-
-if-on : (t x y : Bool) → t ≡ true → (if t then x else y) ≡ x
-if-on t x y e = ap (λ t. if t then x else y) e
-
-own-left : (d : Design) (choice : Choice) (block : Clocked) (own once current : List Mask) (statement : Stmt) (V S : Valuation) (s b : ℕ) → AreBlockMasks d block own once current
+own-left : (d : Design) (choice : Choice) (block : Clocked) (own once current : List Mask) (statement : Stmt)
+    (V S : Valuation) (s b : ℕ) → AreBlockMasks d block own once current
     → is_own d block s b ≡ true
-    → left_in d.signals.items choice current statement V S s b ≡ left block (after d.signals.items choice statement (record { now = V; later = S })) s b
+    → left_in d.signals.items choice current statement V S s b ≡ left block
+    (after d.signals.items choice statement (record { now = V; later = S })) s b
 own-left d choice block own once current statement V S s b m is =
     let n : Updates = after d.signals.items choice statement (record { now = V; later = S }) in
     ap (λ t. if t then n.now s b else n.later s b) (m.now.same s b)
     ∙ now_or_later (is_own d block s b) (block_assigns_later s block) (n.now s b) (n.later s b) is
 
 -- a bit that the block does not drive keeps its state
-kept-left : (d : Design) (choice : Choice) (block : Clocked) (own once current : List Mask) (statement : Stmt) (V S : Valuation) (s b : ℕ) → AreBlockMasks d block own once current
-    → statement_fits d.signals.items d.places.items statement ≡ true → block_drives d.signals.items s b block ≡ false → statement_drives d.signals.items s b statement ≡ false
+kept-left : (d : Design) (choice : Choice) (block : Clocked) (own once current : List Mask) (statement : Stmt)
+    (V S : Valuation) (s b : ℕ) → AreBlockMasks d block own once current
+    → statement_fits d.signals.items d.places.items statement ≡ true → block_drives d.signals.items s b block ≡ false
+    → statement_drives d.signals.items s b statement ≡ false
     → left_in d.signals.items choice current statement V S s b ≡ S s b
 kept-left d choice block own once current statement V S s b m fits none quiet =
     let n : Updates = after d.signals.items choice statement (record { now = V; later = S }) in
-    ap (λ t. if t then n.now s b else n.later s b) (m.now.same s b ∙ out (is_register_bit d s b) (block_drives d.signals.items s b block) (block_assigns_later s block) none)
+    ap (λ t. if t then n.now s b else n.later s b)
+    (m.now.same s b ∙ out (is_register_bit d s b) (block_drives d.signals.items s b block) (block_assigns_later s block) none)
     ∙ (after-leaves d.signals.items d.places.items choice statement (record { now = V; later = S }) s b fits quiet).later
   where
     out : (x y z : Bool) → y ≡ false → ((x && y) && not z) ≡ false
@@ -88,17 +89,21 @@ kept-left d choice block own once current statement V S s b m fits none quiet =
     out true false z e = refl
     out false y z e = refl
 
-own-from : (d : Design) (block : Clocked) (s b : ℕ) → is_register_bit d s b ≡ true → block_drives d.signals.items s b block ≡ true → is_own d block s b ≡ true
+own-from : (d : Design) (block : Clocked) (s b : ℕ) → is_register_bit d s b ≡ true
+    → block_drives d.signals.items s b block ≡ true → is_own d block s b ≡ true
 own-from d block s b register drives = ap (λ t. t && block_drives d.signals.items s b block) register ∙ drives
 
 -- ---- a reset
-pub reset-step : (d : Design) (choice : Choice) (block : Clocked) (r : Reset) (own once current : List Mask) (V S V0 S1 V1 : Valuation) → AreBlockMasks d block own once current
+pub reset-step : (d : Design) (choice : Choice) (block : Clocked) (r : Reset) (own once current : List Mask)
+    (V S V0 S1 V1 : Valuation) → AreBlockMasks d block own once current
     → block.reset ≡ Some r → is_active V block ≡ true → statement_fits d.signals.items d.places.items r.values ≡ true → V0 ≡ V
     → S1 ≡ left_in d.signals.items choice current r.values V S → V1 ≡ blended (covers own) S1 V0 → WithReset d choice block V S V1 S1
 reset-step d choice block r own once current V S V0 S1 V1 m is active fits v0 s1 v1 = record { values = values; state = state }
   where
-    given : (s b : ℕ) → reset_leaves d choice block V S s b ≡ left block (after d.signals.items choice r.values (record { now = V; later = S })) s b
-    given s b = ap (λ o. option_map_or (λ (r : Reset). left block (after d.signals.items choice r.values (record { now = V; later = S })) s b) o false) is
+    given : (s b : ℕ)
+        → reset_leaves d choice block V S s b ≡ left block (after d.signals.items choice r.values (record { now = V; later = S })) s b
+    given s b = ap (λ o. option_map_or (λ (r : Reset). left block
+        (after d.signals.items choice r.values (record { now = V; later = S })) s b) o false) is
 
     values_by : (s b : ℕ) → (is_own d block s b ≡ true) ⊎ (is_own d block s b ≡ false)
         → (if is_own d block s b then S1 s b else V s b) ≡ (if is_own d block s b then reset_leaves d choice block V S s b else V s b)
@@ -106,7 +111,8 @@ reset-step d choice block r own once current V S V0 S1 V1 m is active fits v0 s1
         ap (λ x. if is_own d block s b then x else V s b)
         (ap (λ (X : Valuation). X s b) s1 ∙ own-left d choice block own once current r.values V S s b m on ∙ sym (given s b))
     values_by s b (inr off) =
-        if-off (is_own d block s b) (S1 s b) (V s b) off ∙ sym (if-off (is_own d block s b) (reset_leaves d choice block V S s b) (V s b) off)
+        if-off (is_own d block s b) (S1 s b) (V s b) off ∙ sym
+        (if-off (is_own d block s b) (reset_leaves d choice block V S s b) (V s b) off)
 
     values : (s b : ℕ) → V1 s b ≡ (if is_active V block && is_own d block s b then reset_leaves d choice block V S s b else V s b)
     values s b =
@@ -116,23 +122,28 @@ reset-step d choice block r own once current V S V0 S1 V1 m is active fits v0 s1
         ∙ values_by s b (cases_Bool (is_own d block s b))
         ∙ sym (ap (λ t. if t && is_own d block s b then reset_leaves d choice block V S s b else V s b) active)
 
-    state_by : (s b : ℕ) → is_register_bit d s b ≡ true → (block_drives d.signals.items s b block ≡ true) ⊎ (block_drives d.signals.items s b block ≡ false)
+    state_by : (s b : ℕ) → is_register_bit d s b ≡ true
+        → (block_drives d.signals.items s b block ≡ true) ⊎ (block_drives d.signals.items s b block ≡ false)
         → S1 s b ≡ (if block_drives d.signals.items s b block then V1 s b else S s b)
     state_by s b register (inl drives) =
         sym (if-on (block_drives d.signals.items s b block) (V1 s b) (S s b) drives
-        ∙ ap (λ (X : Valuation). X s b) v1 ∙ if-on (covers own s b) (S1 s b) (V0 s b) (m.own.same s b ∙ own-from d block s b register drives))
+        ∙ ap (λ (X : Valuation). X s b) v1 ∙ if-on (covers own s b) (S1 s b) (V0 s b)
+        (m.own.same s b ∙ own-from d block s b register drives))
     state_by s b register (inr none) =
         ap (λ (X : Valuation). X s b) s1
         ∙ kept-left d choice block own once current r.values V S s b m fits none
-        (sym (ap (λ o. option_map_or (λ (r : Reset). statement_drives d.signals.items s b r.values) o false) is) ∙ (or_parts (statement_drives d.signals.items s b block.body) _ none).1)
+        (sym (ap (λ o. option_map_or (λ (r : Reset). statement_drives d.signals.items s b r.values) o false) is)
+        ∙ (or_parts (statement_drives d.signals.items s b block.body) _ none).1)
         ∙ sym (if-off (block_drives d.signals.items s b block) (V1 s b) (S s b) none)
 
-    state : (s b : ℕ) → is_register_bit d s b ≡ true → S1 s b ≡ (if is_active V block && block_drives d.signals.items s b block then V1 s b else S s b)
+    state : (s b : ℕ) → is_register_bit d s b ≡ true
+        → S1 s b ≡ (if is_active V block && block_drives d.signals.items s b block then V1 s b else S s b)
     state s b register =
         state_by s b register (cases_Bool (block_drives d.signals.items s b block))
         ∙ sym (ap (λ t. if t && block_drives d.signals.items s b block then V1 s b else S s b) active)
 
-pub reset-quiet : (d : Design) (choice : Choice) (block : Clocked) (V S : Valuation) → is_active V block ≡ false → WithReset d choice block V S V S
+pub reset-quiet : (d : Design) (choice : Choice) (block : Clocked) (V S : Valuation) → is_active V block ≡ false
+    → WithReset d choice block V S V S
 reset-quiet d choice block V S quiet =
     record {
       values = λ s b. sym (ap (λ t. if t && is_own d block s b then reset_leaves d choice block V S s b else V s b) quiet);
@@ -140,8 +151,10 @@ reset-quiet d choice block V S quiet =
     }
 
 -- ---- a body
-pub body-step : (d : Design) (choice : Choice) (block : Clocked) (own once current : List Mask) (V S S1 : Valuation) → AreBlockMasks d block own once current
-    → is_active V block ≡ false → statement_fits d.signals.items d.places.items block.body ≡ true → S1 ≡ left_in d.signals.items choice current block.body V S
+pub body-step : (d : Design) (choice : Choice) (block : Clocked) (own once current : List Mask) (V S S1 : Valuation)
+    → AreBlockMasks d block own once current
+    → is_active V block ≡ false → statement_fits d.signals.items d.places.items block.body ≡ true
+    → S1 ≡ left_in d.signals.items choice current block.body V S
     → WithBody d choice block V S S1
 body-step d choice block own once current V S S1 m quiet fits s1 =
     record { state = λ s b register. at s b register (cases_Bool (block_drives d.signals.items s b block)) }
@@ -149,34 +162,43 @@ body-step d choice block own once current V S S1 m quiet fits s1 =
     whole : (s b : ℕ) → Bool
     whole s b = left block (after d.signals.items choice block.body (record { now = V; later = S })) s b
 
-    at : (s b : ℕ) → is_register_bit d s b ≡ true → (block_drives d.signals.items s b block ≡ true) ⊎ (block_drives d.signals.items s b block ≡ false)
+    at : (s b : ℕ) → is_register_bit d s b ≡ true
+        → (block_drives d.signals.items s b block ≡ true) ⊎ (block_drives d.signals.items s b block ≡ false)
         → S1 s b ≡ (if not (is_active V block) && block_drives d.signals.items s b block then whole s b else S s b)
     at s b register (inl drives) =
         ap (λ (X : Valuation). X s b) s1
         ∙ own-left d choice block own once current block.body V S s b m (own-from d block s b register drives)
-        ∙ sym (ap (λ t. if not t && block_drives d.signals.items s b block then whole s b else S s b) quiet ∙ if-on (block_drives d.signals.items s b block) (whole s b) (S s b) drives)
+        ∙ sym (ap (λ t. if not t && block_drives d.signals.items s b block then whole s b else S s b) quiet
+        ∙ if-on (block_drives d.signals.items s b block) (whole s b) (S s b) drives)
     at s b register (inr none) =
         ap (λ (X : Valuation). X s b) s1
-        ∙ kept-left d choice block own once current block.body V S s b m fits none (or_parts (statement_drives d.signals.items s b block.body) _ none).0
-        ∙ sym (ap (λ t. if not t && block_drives d.signals.items s b block then whole s b else S s b) quiet ∙ if-off (block_drives d.signals.items s b block) (whole s b) (S s b) none)
+        ∙ kept-left d choice block own once current block.body V S s b m fits none
+        (or_parts (statement_drives d.signals.items s b block.body) _ none).0
+        ∙ sym (ap (λ t. if not t && block_drives d.signals.items s b block then whole s b else S s b) quiet
+        ∙ if-off (block_drives d.signals.items s b block) (whole s b) (S s b) none)
 
-pub body-active : (d : Design) (choice : Choice) (block : Clocked) (V S : Valuation) → is_active V block ≡ true → WithBody d choice block V S S
+pub body-active : (d : Design) (choice : Choice) (block : Clocked) (V S : Valuation) → is_active V block ≡ true
+    → WithBody d choice block V S S
 body-active d choice block V S active =
     record {
       state = λ s b register.
-          sym (ap (λ t. if not t && block_drives d.signals.items s b block then left block (after d.signals.items choice block.body (record { now = V; later = S })) s b else S s b) active);
+          sym (ap (λ t. if not t && block_drives d.signals.items s b block then left block
+          (after d.signals.items choice block.body (record { now = V; later = S })) s b else S s b) active);
     }
 
 -- ---- statements that fit
-pub body-fits : (d : Design) (i : ℕ) (block : Clocked) → CanRun d → slice_get d.clocked.items i ≡ Some block → statement_fits d.signals.items d.places.items block.body ≡ true
+pub body-fits : (d : Design) (i : ℕ) (block : Clocked) → CanRun d → slice_get d.clocked.items i ≡ Some block
+    → statement_fits d.signals.items d.places.items block.body ≡ true
 body-fits d i block can at =
     (and_parts (statement_fits d.signals.items d.places.items block.body) (option_map_or (reset_fits d) block.reset true)
     (list_all-member (clocked_fits d) d.clocked.items block can.clocked (Contains-at d.clocked.items i block at))).0
 
-pub values-fit : (d : Design) (i : ℕ) (block : Clocked) (r : Reset) → CanRun d → slice_get d.clocked.items i ≡ Some block → block.reset ≡ Some r
+pub values-fit : (d : Design) (i : ℕ) (block : Clocked) (r : Reset) → CanRun d → slice_get d.clocked.items i ≡ Some block
+    → block.reset ≡ Some r
     → statement_fits d.signals.items d.places.items r.values ≡ true
 values-fit d i block r can at is =
     let both = and_parts (statement_fits d.signals.items d.places.items block.body) (option_map_or (reset_fits d) block.reset true)
     (list_all-member (clocked_fits d) d.clocked.items block can.clocked (Contains-at d.clocked.items i block at)) in
-    (and_parts (is_listed d r.signal && (width_at d.signals.items r.signal == 1) && is_reset_values r.values) (statement_fits d.signals.items d.places.items r.values)
+    (and_parts (is_listed d r.signal && (width_at d.signals.items r.signal == 1) && is_reset_values r.values)
+    (statement_fits d.signals.items d.places.items r.values)
     (sym (ap (λ o. option_map_or (reset_fits d) o true) is) ∙ both.1)).1

@@ -47,7 +47,8 @@ room-valuation p cells =
     ∙ valuation-take (count_of p) (drop (count_of p + count_of p) cells)
     ∙ ap (λ (V : Valuation). λ s b. nat_lt s (count_of p) && V s b) (valuation-drop (count_of p + count_of p) cells)
 
-pub words-room : (p : Program) (cells : List Bits) → IsSound p → map width_of cells ≡ p.widths → AreWordsOf (signals_of p) (room_words p cells)
+pub words-room : (p : Program) (cells : List Bits) → IsSound p → map width_of cells ≡ p.widths
+    → AreWordsOf (signals_of p) (room_words p cells)
 words-room p cells sound same = record {
   widths = ap (λ xs. map width_of (take (count_of p) xs)) (twice p cells)
       ∙ sym (take-map width_of (count_of p) (drop (count_of p + count_of p) cells))
@@ -70,20 +71,27 @@ pieces-of p cells now rest later last n same one behind two end = record {
   last = end ∙ ap (drop n) behind ∙ ap (λ k. drop k (drop k cells)) same;
 }
 
-pub pieces-now : (p : Program) (cells now later last : List Bits) → IsSound p → AreCells p cells → ArePieces p cells now later last → AreWordsOf (signals_of p) now
+pub pieces-now : (p : Program) (cells now later last : List Bits) → IsSound p → AreCells p cells
+    → ArePieces p cells now later last → AreWordsOf (signals_of p) now
 pieces-now p cells now later last sound are pieces = subst (AreWordsOf (signals_of p)) (sym pieces.now) (words-now p cells sound are.widths)
 
-pub pieces-later : (p : Program) (cells now later last : List Bits) → IsSound p → AreCells p cells → ArePieces p cells now later last → AreWordsOf (signals_of p) later
-pieces-later p cells now later last sound are pieces = subst (AreWordsOf (signals_of p)) (sym pieces.later) (words-later p cells sound are.widths)
+pub pieces-later : (p : Program) (cells now later last : List Bits) → IsSound p → AreCells p cells
+    → ArePieces p cells now later last → AreWordsOf (signals_of p) later
+pieces-later p cells now later last sound are pieces =
+    subst (AreWordsOf (signals_of p)) (sym pieces.later) (words-later p cells sound are.widths)
 
 -- the room, the first of what is behind
-pub pieces-room : (p : Program) (cells now later last room : List Bits) (n : ℕ) → n ≡ count_of p → ArePieces p cells now later last → room ≡ take n last
+pub pieces-room : (p : Program) (cells now later last room : List Bits) (n : ℕ) → n ≡ count_of p
+    → ArePieces p cells now later last → room ≡ take n last
     → room ≡ room_words p cells
-pieces-room p cells now later last room n same pieces is = is ∙ ap (take n) pieces.last ∙ ap (λ k. take k (drop (count_of p) (drop (count_of p) cells))) same
+pieces-room p cells now later last room n same pieces is =
+    is ∙ ap (take n) pieces.last ∙ ap (λ k. take k (drop (count_of p) (drop (count_of p) cells))) same
 
-pub pieces-own : (p : Program) (cells now later last own : List Bits) (n : ℕ) → n ≡ count_of p → ArePieces p cells now later last → own ≡ drop n last
+pub pieces-own : (p : Program) (cells now later last own : List Bits) (n : ℕ) → n ≡ count_of p
+    → ArePieces p cells now later last → own ≡ drop n last
     → own ≡ own_words p cells
-pieces-own p cells now later last own n same pieces is = is ∙ ap (drop n) pieces.last ∙ ap (λ k. drop k (drop (count_of p) (drop (count_of p) cells))) same
+pieces-own p cells now later last own n same pieces is =
+    is ∙ ap (drop n) pieces.last ∙ ap (λ k. drop k (drop (count_of p) (drop (count_of p) cells))) same
 
 -- ---- words that are replaced
 front : (n : ℕ) (xs ys : List Bits) → length xs ≡ n → take n (xs ++ ys) ≡ xs
@@ -105,7 +113,8 @@ pub record AreReplaced (p : Program) (new one other third : List Bits) : Type 0 
   pub room : room_in p (valuation_of new) ≡ valuation_of third
   pub cells : AreCells p new
 
-pub replaced-left : (p : Program) (cells now later room : List Bits) → IsSound p → AreCells p cells → AreWordsOf (signals_of p) now → AreWordsOf (signals_of p) later
+pub replaced-left : (p : Program) (cells now later room : List Bits) → IsSound p → AreCells p cells
+    → AreWordsOf (signals_of p) now → AreWordsOf (signals_of p) later
     → AreWordsOf (signals_of p) room → AreReplaced p (replaced p cells now later room) now later room
 replaced-left p cells now later room sound are first second third = record {
   now = sym (now-valuation p new) ∙ ap valuation_of one;
@@ -153,7 +162,8 @@ replaced-left p cells now later room sound are first second third = record {
         ∙ ap (λ ys. now_words p xs ++ ys) (take-append-drop (count_of p) (drop (count_of p) xs))
         ∙ take-append-drop (count_of p) xs
 
-    many : (a b c : List Bits) → map width_of (replaced p cells a b c) ≡ map width_of a ++ (map width_of b ++ (map width_of c ++ map width_of own))
+    many : (a b c : List Bits)
+        → map width_of (replaced p cells a b c) ≡ map width_of a ++ (map width_of b ++ (map width_of c ++ map width_of own))
     many a b c =
         map-append width_of a (b ++ (c ++ own))
         ∙ ap (λ ys. map width_of a ++ ys) (map-append width_of b (c ++ own))
@@ -162,9 +172,12 @@ replaced-left p cells now later room sound are first second third = record {
     widths : map width_of new ≡ p.widths
     widths =
         many now later room
-        ∙ ap (λ ws. ws ++ (map width_of later ++ (map width_of room ++ map width_of own))) (first.widths ∙ sym (words-now p cells sound are.widths).widths)
-        ∙ ap (λ ws. map width_of (now_words p cells) ++ (ws ++ (map width_of room ++ map width_of own))) (second.widths ∙ sym (words-later p cells sound are.widths).widths)
-        ∙ ap (λ ws. map width_of (now_words p cells) ++ (map width_of (later_words p cells) ++ (ws ++ map width_of own))) (third.widths ∙ sym (words-room p cells sound are.widths).widths)
+        ∙ ap (λ ws. ws ++ (map width_of later ++ (map width_of room ++ map width_of own)))
+        (first.widths ∙ sym (words-now p cells sound are.widths).widths)
+        ∙ ap (λ ws. map width_of (now_words p cells) ++ (ws ++ (map width_of room ++ map width_of own)))
+        (second.widths ∙ sym (words-later p cells sound are.widths).widths)
+        ∙ ap (λ ws. map width_of (now_words p cells) ++ (map width_of (later_words p cells) ++ (ws ++ map width_of own)))
+        (third.widths ∙ sym (words-room p cells sound are.widths).widths)
         ∙ sym (many (now_words p cells) (later_words p cells) (room_words p cells))
         ∙ ap (map width_of) (parted cells)
         ∙ are.widths
@@ -173,7 +186,8 @@ replaced-left p cells now later room sound are first second third = record {
     same c high = far new ∙ ap (λ xs. valuation_of xs (c - count_of p - count_of p - count_of p)) rest ∙ sym (far cells)
       where
         far : (xs : List Bits) → valuation_of xs c ≡ valuation_of (own_words p xs) (c - count_of p - count_of p - count_of p)
-        far xs = sym (ap (λ V. V (c - count_of p - count_of p - count_of p)) (valuation-drop (count_of p) (drop (count_of p) (drop (count_of p) xs)))
+        far xs = sym (ap (λ V. V (c - count_of p - count_of p - count_of p))
+            (valuation-drop (count_of p) (drop (count_of p) (drop (count_of p) xs)))
             ∙ ap (λ V. V (count_of p + (c - count_of p - count_of p - count_of p))) (valuation-drop (count_of p) (drop (count_of p) xs))
             ∙ ap (λ V. V (count_of p + (count_of p + (c - count_of p - count_of p - count_of p)))) (valuation-drop (count_of p) xs)
             ∙ ap (valuation_of xs) (omega arith))
@@ -181,15 +195,18 @@ replaced-left p cells now later room sound are first second third = record {
     differ : true ≡ false → ⊥
     differ e = absurd cc
 
-    held : (c w : ℕ) → slice_get p.fixed c ≡ Some true → slice_get p.values c ≡ Some w → number (width_in p.widths c) (valuation_of new c) ≡ w
+    held : (c w : ℕ) → slice_get p.fixed c ≡ Some true → slice_get p.values c ≡ Some w
+        → number (width_in p.widths c) (valuation_of new c) ≡ w
     held c w fixed is = elim (cases_lt c (count_of p + count_of p + count_of p)) [
       | inl low ↦ absurd (differ (Some-same (sym fixed ∙ sound.signals c low)))
       | inr high ↦ ap (number (width_in p.widths c)) (same c high) ∙ are.constants.constants c w fixed is
     ]
 
 -- where the room stays too
-pub two-replaced : (p : Program) (cells now later last now' later' : List Bits) → IsSound p → AreCells p cells → ArePieces p cells now later last
-    → AreWordsOf (signals_of p) now' → AreWordsOf (signals_of p) later' → AreReplaced p (now' ++ (later' ++ last)) now' later' (room_words p cells)
+pub two-replaced : (p : Program) (cells now later last now' later' : List Bits) → IsSound p → AreCells p cells
+    → ArePieces p cells now later last
+    → AreWordsOf (signals_of p) now' → AreWordsOf (signals_of p) later'
+    → AreReplaced p (now' ++ (later' ++ last)) now' later' (room_words p cells)
 two-replaced p cells now later last now' later' sound are pieces first second =
     subst (λ xs. AreReplaced p (now' ++ (later' ++ xs)) now' later' (room_words p cells))
     (take-append-drop (count_of p) (drop (count_of p) (drop (count_of p) cells)) ∙ sym pieces.last)
@@ -213,8 +230,10 @@ pub record AreParts (p : Program) (cells now later room own : List Bits) : Type 
   pub room_is : valuation_of room ≡ room_in p (valuation_of cells)
   pub own_is : own ≡ own_words p cells
 
-pub parts-of : (p : Program) (cells now rest later last room own : List Bits) (n : ℕ) → IsSound p → AreCells p cells → n ≡ count_of p → now ≡ take n cells
-    → rest ≡ drop n cells → later ≡ take n rest → last ≡ drop n rest → room ≡ take n last → own ≡ drop n last → AreParts p cells now later room own
+pub parts-of : (p : Program) (cells now rest later last room own : List Bits) (n : ℕ) → IsSound p → AreCells p cells
+    → n ≡ count_of p → now ≡ take n cells
+    → rest ≡ drop n cells → later ≡ take n rest → last ≡ drop n rest → room ≡ take n last → own ≡ drop n last
+    → AreParts p cells now later room own
 parts-of p cells now rest later last room own n sound are same one behind two end three own_end =
     let pieces = pieces-of p cells now rest later last n same one behind two end in
     let in_room = pieces-room p cells now later last room n same pieces three in
@@ -236,7 +255,8 @@ pub record AreHalves (p : Program) (cells now later last : List Bits) : Type 0 w
   pub later_is : valuation_of later ≡ later_in p (valuation_of cells)
   pub pieces : ArePieces p cells now later last
 
-pub halves-of : (p : Program) (cells now rest later last : List Bits) (n : ℕ) → IsSound p → AreCells p cells → n ≡ count_of p → now ≡ take n cells
+pub halves-of : (p : Program) (cells now rest later last : List Bits) (n : ℕ) → IsSound p → AreCells p cells → n ≡ count_of p
+    → now ≡ take n cells
     → rest ≡ drop n cells → later ≡ take n rest → last ≡ drop n rest → AreHalves p cells now later last
 halves-of p cells now rest later last n sound are same one behind two end =
     let pieces = pieces-of p cells now rest later last n same one behind two end in
@@ -249,12 +269,14 @@ halves-of p cells now rest later last n sound are same one behind two end =
     }
 
 -- ---- bits past a signal's width
-pub now-narrow : (p : Program) (cells : List Bits) → IsSound p → AreCells p cells → (s b : ℕ) → width_at (signals_of p) s ≤ b → now_in p (valuation_of cells) s b ≡ false
+pub now-narrow : (p : Program) (cells : List Bits) → IsSound p → AreCells p cells → (s b : ℕ) → width_at (signals_of p) s ≤ b
+    → now_in p (valuation_of cells) s b ≡ false
 now-narrow p cells sound are s b high =
     sym (ap (λ (V : Valuation). V s b) (now-valuation p cells))
     ∙ valuation-high (signals_of p) (now_words p cells) s b (words-now p cells sound are.widths) high
 
-pub later-narrow : (p : Program) (cells : List Bits) → IsSound p → AreCells p cells → (s b : ℕ) → width_at (signals_of p) s ≤ b → later_in p (valuation_of cells) s b ≡ false
+pub later-narrow : (p : Program) (cells : List Bits) → IsSound p → AreCells p cells → (s b : ℕ)
+    → width_at (signals_of p) s ≤ b → later_in p (valuation_of cells) s b ≡ false
 later-narrow p cells sound are s b high =
     sym (ap (λ (V : Valuation). V s b) (later-valuation p cells))
     ∙ valuation-high (signals_of p) (later_words p cells) s b (words-later p cells sound are.widths) high

@@ -26,7 +26,8 @@ row-is places rows r = ap (λ n. take n (drop (r * length places) rows)) (omega 
 -- what is chosen is what the rows give
 pub chosen-is : (values : Values) (old new : List Bits) (frees : List Bool) (first t : ℕ) (chosen : List Bits) → AreReady values frees old
     → chosen ≡ row values.rows.items (length values.places.items) (first + t)
-    → ((p : ℕ) → chosen_at new p ≡ (if is_one_of values.places.items p then number_for values.places.items (map value_of chosen) p else chosen_at old p))
+    → ((p : ℕ) → chosen_at new p ≡ (if is_one_of values.places.items p then number_for values.places.items
+    (map value_of chosen) p else chosen_at old p))
     → (p : ℕ) → chosen_at new p ≡ choices_from values first t p
 chosen-is values old new frees first t chosen ready is each p = each p ∙ at (cases_Bool (is_one_of values.places.items p))
   where
@@ -34,7 +35,8 @@ chosen-is values old new frees first t chosen ready is each p = each p ∙ at (c
     numbers = ap (map value_of) (is ∙ row-is values.places.items values.rows.items (first + t))
 
     at : (is_one_of values.places.items p ≡ true) ⊎ (is_one_of values.places.items p ≡ false)
-        → (if is_one_of values.places.items p then number_for values.places.items (map value_of chosen) p else chosen_at old p) ≡ choices_from values first t p
+        → (if is_one_of values.places.items p then number_for values.places.items (map value_of chosen) p else chosen_at old
+        p) ≡ choices_from values first t p
     at (inl on) =
         ap (λ x. if x then number_for values.places.items (map value_of chosen) p else chosen_at old p) on
         ∙ ap (λ ns. number_for values.places.items ns p) numbers
@@ -42,15 +44,18 @@ chosen-is values old new frees first t chosen ready is each p = each p ∙ at (c
         ap (λ x. if x then number_for values.places.items (map value_of chosen) p else chosen_at old p) off
         ∙ ready.zeros p off ∙ sym (number_for-none values.places.items (row_at values (first + t)) p off)
 
-pub choice-is : (values : Values) (frees : List Bool) (new : List Bits) (first t : ℕ) → ((p : ℕ) → (choice_of frees new).frees p ≡ is_one_of values.places.items p)
-    → ((p : ℕ) → chosen_at new p ≡ choices_from values first t p) → choice_of frees new ≡ choice_at (is_one_of values.places.items) (choices_from values first) t
+pub choice-is : (values : Values) (frees : List Bool) (new : List Bits) (first t : ℕ)
+    → ((p : ℕ) → (choice_of frees new).frees p ≡ is_one_of values.places.items p)
+    → ((p : ℕ) → chosen_at new p ≡ choices_from values first t p)
+    → choice_of frees new ≡ choice_at (is_one_of values.places.items) (choices_from values first) t
 choice-is values frees new first t by_freed by_chosen =
     ap (λ (f : ℕ → Bool). record { frees = f; chosen = chosen_at new }) (fun_ext by_freed)
     ∙ ap (λ (g : ℕ → ℕ). record { frees = is_one_of values.places.items; chosen = g }) (fun_ext by_chosen)
 
 -- the entries are ready for the next cycle
 pub still-ready : (values : Values) (frees : List Bool) (old new : List Bits) (numbers : List ℕ) → AreReady values frees old
-    → ((p : ℕ) → chosen_at new p ≡ (if is_one_of values.places.items p then number_for values.places.items numbers p else chosen_at old p)) → AreReady values frees new
+    → ((p : ℕ) → chosen_at new p ≡ (if is_one_of values.places.items p then number_for values.places.items numbers p else
+    chosen_at old p)) → AreReady values frees new
 still-ready values frees old new numbers ready each =
     record {
       freed = ready.freed;

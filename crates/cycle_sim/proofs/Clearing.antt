@@ -246,7 +246,8 @@ abbrev and_of : ℕ → ℕ → ℕ → Instruction
 and_of signal others rest = instruction.Binary binary_op.And signal false others false rest
 
 -- it fits
-pub and-fits : (old two three : Program) (q : ℕ) (mask : Mask) (signal others rest : ℕ) → AreMade old two mask others rest → signal ≡ mask.signal
+pub and-fits : (old two three : Program) (q : ℕ) (mask : Mask) (signal others rest : ℕ) → AreMade old two mask others rest
+    → signal ≡ mask.signal
     → IsSound three → Grown two three → IsTrue (fits three q (and_of signal others rest))
 and-fits old two three q mask signal others rest made same sound grown =
     let can = CanClear-grown two three mask others rest made.sound grown made.can in

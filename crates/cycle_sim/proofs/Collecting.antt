@@ -45,19 +45,23 @@ adds-then signals a b c one other first second =
       same = λ s p. second.same s p ∙ ap (λ x. x || other s p) (first.same s p) ∙ or_assoc (covers a s p) (one s p) (other s p);
     }
 
-pub adds-as : (signals : List Signal) (a b : List Mask) (one other : ℕ → ℕ → Bool) → ((s p : ℕ) → one s p ≡ other s p) → Adds signals a b one → Adds signals a b other
+pub adds-as : (signals : List Signal) (a b : List Mask) (one other : ℕ → ℕ → Bool) → ((s p : ℕ) → one s p ≡ other s p)
+    → Adds signals a b one → Adds signals a b other
 adds-as signals a b one other same added =
     record { widths = added.widths; same = λ s p. added.same s p ∙ ap (λ x. covers a s p || x) (same s p) }
 
 -- ---- a loop over a list
-pub record AddsSoFar {X : Type 0} (signals : List Signal) (old new : List Mask) (test : ℕ → ℕ → X → Bool) (xs : List X) (i : ℕ) : Type 0 where
+pub record AddsSoFar {X : Type 0} (signals : List Signal) (old new : List Mask) (test : ℕ → ℕ → X → Bool) (xs : List X)
+    (i : ℕ) : Type 0 where
   pub widths : AreMasksOf (widths_of signals) old → AreMasksOf (widths_of signals) new
   pub same : (s b : ℕ) → (covers new s b || list_any (test s b) (drop i xs)) ≡ (covers old s b || list_any (test s b) xs)
 
-pub adds-begin : {X : Type 0} (signals : List Signal) (row : List Mask) (test : ℕ → ℕ → X → Bool) (xs : List X) → AddsSoFar signals row row test xs 0
+pub adds-begin : {X : Type 0} (signals : List Signal) (row : List Mask) (test : ℕ → ℕ → X → Bool) (xs : List X)
+    → AddsSoFar signals row row test xs 0
 adds-begin signals row test xs = record { widths = λ w. w; same = λ s b. refl }
 
-pub adds-next : {X : Type 0} (signals : List Signal) (old new last : List Mask) (test : ℕ → ℕ → X → Bool) (xs : List X) (i : ℕ) (x : X) → slice_get xs i ≡ Some x
+pub adds-next : {X : Type 0} (signals : List Signal) (old new last : List Mask) (test : ℕ → ℕ → X → Bool) (xs : List X)
+    (i : ℕ) (x : X) → slice_get xs i ≡ Some x
     → AddsSoFar signals old new test xs i → Adds signals new last (λ s b. test s b x) → AddsSoFar signals old last test xs (i + 1)
 adds-next signals old new last test xs i x at before added =
     record {
@@ -81,9 +85,11 @@ adds-end signals old new test xs i past all =
 -- ---- one more mask
 covers-append : (xs ys : List Mask) (s b : ℕ) → covers (xs ++ ys) s b ≡ (covers xs s b || covers ys s b)
 covers-append [] ys s b = refl
-covers-append (m ∷ xs) ys s b = ap (λ x. in_mask m s b || x) (covers-append xs ys s b) ∙ sym (or_assoc (in_mask m s b) (covers xs s b) (covers ys s b))
+covers-append (m ∷ xs) ys s b =
+    ap (λ x. in_mask m s b || x) (covers-append xs ys s b) ∙ sym (or_assoc (in_mask m s b) (covers xs s b) (covers ys s b))
 
-pub slice_get-append : {X : Type 0} (xs : List X) (y x : X) (i : ℕ) → slice_get (xs ++ y ∷ []) i ≡ Some x → (slice_get xs i ≡ Some x) ⊎ (y ≡ x)
+pub slice_get-append : {X : Type 0} (xs : List X) (y x : X) (i : ℕ) → slice_get (xs ++ y ∷ []) i ≡ Some x
+    → (slice_get xs i ≡ Some x) ⊎ (y ≡ x)
 slice_get-append [] y x zero e = inr cc
 slice_get-append [] y x (suc i) e = cc
 slice_get-append (z ∷ xs) y x zero e = inl e
@@ -99,7 +105,8 @@ widths-push signals row m fits w =
       ];
     }
 
-pub mask-added : (signals : List Signal) (row : List Mask) (m : Mask) (test : ℕ → ℕ → Bool) → slice_get (widths_of signals) m.signal ≡ Some (width_of m.bits)
+pub mask-added : (signals : List Signal) (row : List Mask) (m : Mask) (test : ℕ → ℕ → Bool)
+    → slice_get (widths_of signals) m.signal ≡ Some (width_of m.bits)
     → ((s b : ℕ) → in_mask m s b ≡ test s b) → Adds signals row (row ++ m ∷ []) test
 mask-added signals row m test fits same =
     record {
@@ -124,7 +131,8 @@ pub named-begin : (signals : List Signal) (row : List Mask) (part : Part) → Na
 named-begin signals row part =
     record {
       widths = λ w. w;
-      same = λ s b. sym (ap (λ x. covers row s b || (x && part_drives signals s b part)) (among_none (first_named part) s) ∙ or_false (covers row s b));
+      same = λ s b. sym (ap (λ x. covers row s b || (x && part_drives signals s b part)) (among_none (first_named part) s)
+          ∙ or_false (covers row s b));
     }
 
 among_more : (first k s : ℕ) → (is_among first k s || (first + k == s)) ≡ is_among first (k + 1) s
@@ -152,13 +160,16 @@ named-next signals old new last part k before added =
 one-among : (s first : ℕ) → (s == first) ≡ true → is_among first 1 s ≡ true
 one-among s first e = grind (arith, nat_tests)
 
-drives-among : (signals : List Signal) (s b : ℕ) (part : Part) → part_drives signals s b part ≡ true → is_among (first_named part) (count_named part) s ≡ true
+drives-among : (signals : List Signal) (s b : ℕ) (part : Part) → part_drives signals s b part ≡ true
+    → is_among (first_named part) (count_named part) s ≡ true
 drives-among signals s b (Whole signal) h = one-among s signal (and_parts (s == signal) (nat_lt b (width_at signals signal)) h).0
 drives-among signals s b (Slice signal from width) h = one-among s signal (and_parts (s == signal) (is_among from width b) h).0
 drives-among signals s b (Pick signal index offsets) h = one-among s signal (and_parts (s == signal) _ h).0
-drives-among signals s b (Word first count low index from width) h = (and_parts (is_among first count s) (nat_lt b (width_at signals s)) h).0
+drives-among signals s b (Word first count low index from width) h =
+    (and_parts (is_among first count s) (nat_lt b (width_at signals s)) h).0
 
-pub named-end : (signals : List Signal) (old new : List Mask) (part : Part) (k : ℕ) → k ≡ count_named part → NamedSoFar signals old new part k
+pub named-end : (signals : List Signal) (old new : List Mask) (part : Part) (k : ℕ) → k ≡ count_named part
+    → NamedSoFar signals old new part k
     → Adds signals old new (λ s b. part_drives signals s b part)
 named-end signals old new part k all h =
     record {
@@ -170,14 +181,16 @@ named-end signals old new part k all h =
     at : (s b : ℕ) → (part_drives signals s b part ≡ true) ⊎ (part_drives signals s b part ≡ false)
         → (is_among (first_named part) (count_named part) s && part_drives signals s b part) ≡ part_drives signals s b part
     at s b (inl drives) = ap (λ x. x && part_drives signals s b part) (drives-among signals s b part drives)
-    at s b (inr none) = ap (λ x. is_among (first_named part) (count_named part) s && x) none ∙ and_false (is_among (first_named part) (count_named part) s) ∙ sym none
+    at s b (inr none) = ap (λ x. is_among (first_named part) (count_named part) s && x) none
+        ∙ and_false (is_among (first_named part) (count_named part) s) ∙ sym none
       where
         and_false : (x : Bool) → (x && false) ≡ false
         and_false true = refl
         and_false false = refl
 
 -- an element of a list all of which pass
-pub passes-at : {X : Type 0} (test : X → Bool) (xs : List X) (i : ℕ) (x : X) → list_all test xs ≡ true → slice_get xs i ≡ Some x → test x ≡ true
+pub passes-at : {X : Type 0} (test : X → Bool) (xs : List X) (i : ℕ) (x : X) → list_all test xs ≡ true
+    → slice_get xs i ≡ Some x → test x ≡ true
 passes-at test [] i x all at = cc
 passes-at test (y ∷ xs) zero x all at = ap test (sym (first at)) ∙ (and_parts (test y) (list_all test xs) all).0
   where
@@ -186,7 +199,8 @@ passes-at test (y ∷ xs) zero x all at = ap test (sym (first at)) ∙ (and_part
 passes-at test (y ∷ xs) (suc i) x all at = passes-at test xs i x (and_parts (test y) (list_all test xs) all).1 at
 
 -- a bit that a part drives is one of its signal
-pub drives-below : (signals : List Signal) (s b : ℕ) (p : Part) → part_fits signals p ≡ true → part_drives signals s b p ≡ true → b < width_at signals s
+pub drives-below : (signals : List Signal) (s b : ℕ) (p : Part) → part_fits signals p ≡ true
+    → part_drives signals s b p ≡ true → b < width_at signals s
 drives-below signals s b (Whole signal) fits h =
     let both = and_parts (s == signal) (nat_lt b (width_at signals signal)) h in
     subst (λ n. b < width_at signals n) (sym (eqb-true s signal both.0)) (ltb-true b (width_at signals signal) both.1)
@@ -195,32 +209,40 @@ drives-below signals s b (Slice signal from width) fits h =
     subst (λ n. b < width_at signals n) (sym (eqb-true s signal both.0)) (slice-below signals signal from width b fits both.1)
 drives-below signals s b (Pick signal index offsets) fits h =
     let both = and_parts (s == signal) (may_pick signals signal index.width index.signed index.node offsets b) h in
-    subst (λ n. b < width_at signals n) (sym (eqb-true s signal both.0)) (may_pick-below signals signal index.width index.signed index.node offsets b both.1)
+    subst (λ n. b < width_at signals n) (sym (eqb-true s signal both.0))
+    (may_pick-below signals signal index.width index.signed index.node offsets b both.1)
 drives-below signals s b (Word first count low index from width) fits h =
     ltb-true b (width_at signals s) (and_parts (is_among first count s) (nat_lt b (width_at signals s)) h).1
 
 -- a signal that fits has 1 to 128 bits
-pub signal-width : (signals : List Signal) (s : ℕ) (signal : Signal) → list_all signal_fits signals ≡ true → slice_get signals s ≡ Some signal → (1 ≤ signal.width) × (signal.width ≤ 128)
+pub signal-width : (signals : List Signal) (s : ℕ) (signal : Signal) → list_all signal_fits signals ≡ true
+    → slice_get signals s ≡ Some signal → (1 ≤ signal.width) × (signal.width ≤ 128)
 signal-width signals s signal fits at =
-    let all = and_parts (is_width signal.width && spans signal.width (distance_of signal.left signal.right signal.left)) (width_of signal.start == signal.width) (passes-at signal_fits signals s signal fits at) in
+    let all = and_parts (is_width signal.width && spans signal.width (distance_of signal.left signal.right signal.left))
+    (width_of signal.start == signal.width) (passes-at signal_fits signals s signal fits at) in
     let width = and_parts (is_width signal.width) (spans signal.width (distance_of signal.left signal.right signal.left)) all.0 in
-    let both = and_parts (nat_le 1 signal.width) (nat_le signal.width 128) width.0 in (leb-true 1 signal.width both.0, leb-true signal.width 128 both.1)
+    let both = and_parts (nat_le 1 signal.width) (nat_le signal.width 128) width.0 in
+    (leb-true 1 signal.width both.0, leb-true signal.width 128 both.1)
 
 -- the bits of a word that a part drives are those of the part
-pub word-drives : (signals : List Signal) (s : ℕ) (part : Part) (bits : Bits) → part_fits signals part ≡ true → width_of bits ≡ width_at signals s
-    → value_of bits ≡ number (width_at signals s) (λ b. part_drives signals s b part) → (b : ℕ) → bit_of bits b ≡ part_drives signals s b part
+pub word-drives : (signals : List Signal) (s : ℕ) (part : Part) (bits : Bits) → part_fits signals part ≡ true
+    → width_of bits ≡ width_at signals s
+    → value_of bits ≡ number (width_at signals s) (λ b. part_drives signals s b part) → (b : ℕ)
+    → bit_of bits b ≡ part_drives signals s b part
 word-drives signals s part bits fits width value b = at (cases_lt b (width_at signals s))
   where
     at : (b < width_at signals s) ⊎ (width_at signals s ≤ b) → bit_of bits b ≡ part_drives signals s b part
     at (inl low) = ap (λ n. bit n b) value ∙ bit-number (width_at signals s) (λ b. part_drives signals s b part) b low
-    at (inr high) = bit-high (value_of bits) (width_at signals s) b (subst (λ w. value_of bits < 2 ^ w) width (value_of-range bits)) high ∙ sym (none (cases_Bool (part_drives signals s b part)))
+    at (inr high) = bit-high (value_of bits) (width_at signals s) b
+        (subst (λ w. value_of bits < 2 ^ w) width (value_of-range bits)) high ∙ sym (none (cases_Bool (part_drives signals s b part)))
       where
         none : (part_drives signals s b part ≡ true) ⊎ (part_drives signals s b part ≡ false) → part_drives signals s b part ≡ false
         none (inr off) = off
         none (inl drives) = absurd (omega (arith, high, drives-below signals s b part fits drives))
 
 -- the mask of one signal
-pub signal-added : (signals : List Signal) (row : List Mask) (s : ℕ) (part : Part) (bits : Bits) → part_fits signals part ≡ true → s < length signals
+pub signal-added : (signals : List Signal) (row : List Mask) (s : ℕ) (part : Part) (bits : Bits)
+    → part_fits signals part ≡ true → s < length signals
     → width_of bits ≡ width_at signals s → value_of bits ≡ number (width_at signals s) (λ b. part_drives signals s b part)
     → Adds signals row (row ++ record { signal = s; bits = bits } ∷ []) (λ t b. s == t && part_drives signals t b part)
 signal-added signals row s part bits fits within width value =
@@ -239,9 +261,11 @@ signal-added signals row s part bits fits within width value =
 -- a part that fits names no signal that there isn't
 pub signal-missing : (signals : List Signal) (row : List Mask) (s : ℕ) (part : Part) → part_fits signals part ≡ true → length signals ≤ s
     → Adds signals row row (λ t b. s == t && part_drives signals t b part)
-signal-missing signals row s part fits past = adds-none signals row (λ t b. s == t && part_drives signals t b part) (λ t b. at t b (s == t) refl (cases_Bool (part_drives signals t b part)))
+signal-missing signals row s part fits past = adds-none signals row (λ t b. s == t && part_drives signals t b part)
+    (λ t b. at t b (s == t) refl (cases_Bool (part_drives signals t b part)))
   where
-    at : (t b : ℕ) (x : Bool) → (s == t) ≡ x → (part_drives signals t b part ≡ true) ⊎ (part_drives signals t b part ≡ false) → (s == t && part_drives signals t b part) ≡ false
+    at : (t b : ℕ) (x : Bool) → (s == t) ≡ x → (part_drives signals t b part ≡ true) ⊎ (part_drives signals t b part ≡ false)
+        → (s == t && part_drives signals t b part) ≡ false
     at t b false e d = ap (λ y. y && part_drives signals t b part) e
     at t b true e (inr off) = ap (λ y. y && part_drives signals t b part) e ∙ off
     at t b true e (inl drives) =

@@ -23,7 +23,8 @@ abbrev set_test : List Signal → ℕ → ℕ → List Part → Bool → Bool
 set_test signals s b parts later = list_any (part_drives signals s b) parts
 
 -- a bit that a left side assigns is one of its signal
-pub parts-below : (signals : List Signal) (s b : ℕ) (parts : List Part) → list_all (part_fits signals) parts ≡ true → list_any (part_drives signals s b) parts ≡ true → b < width_at signals s
+pub parts-below : (signals : List Signal) (s b : ℕ) (parts : List Part) → list_all (part_fits signals) parts ≡ true
+    → list_any (part_drives signals s b) parts ≡ true → b < width_at signals s
 parts-below signals s b [] fits h = cc
 parts-below signals s b (part ∷ parts) fits h =
     let both = and_parts (part_fits signals part) (list_all (part_fits signals) parts) fits in
@@ -32,34 +33,43 @@ parts-below signals s b (part ∷ parts) fits h =
       | inr later ↦ parts-below signals s b parts both.1 later
     ]
 
-set-parts : (signals : List Signal) (places : List Place) (place : ℕ) (parts : List Part) (e : Typed)
-    → (assignment_fits signals parts e && place_fits places (parts_width signals parts) place) ≡ true → list_all (part_fits signals) parts ≡ true
+-- the parts of a procedural assignment that fits do
+pub set-parts : (signals : List Signal) (places : List Place) (place : ℕ) (parts : List Part) (e : Typed)
+    → (assignment_fits signals parts e && place_fits places (parts_width signals parts) place) ≡ true
+    → list_all (part_fits signals) parts ≡ true
 set-parts signals places place parts e fits =
     let own = and_parts (assignment_fits signals parts e) (place_fits places (parts_width signals parts) place) fits in
-    let values = and_parts (list_all (part_fits signals) parts && is_width (parts_width signals parts) && typed_fits signals e) (nat_le (parts_width signals parts) e.width) own.0 in
+    let values = and_parts (list_all (part_fits signals) parts && is_width (parts_width signals parts)
+    && typed_fits signals e) (nat_le (parts_width signals parts) e.width) own.0 in
     let widths = and_parts (list_all (part_fits signals) parts && is_width (parts_width signals parts)) (typed_fits signals e) values.0 in
     (and_parts (list_all (part_fits signals) parts) (is_width (parts_width signals parts)) widths.0).0
 
 mutual
-  statement-below : (signals : List Signal) (places : List Place) (s b : ℕ) (statement : Stmt) → statement_fits signals places statement ≡ true → statement_drives signals s b statement ≡ true
+  statement-below : (signals : List Signal) (places : List Place) (s b : ℕ) (statement : Stmt)
+      → statement_fits signals places statement ≡ true → statement_drives signals s b statement ≡ true
       → b < width_at signals s
   statement-below signals places s b Nothing fits h = cc
   statement-below signals places s b (Block' _ statements) fits h = statements-below signals places s b statements fits h
   statement-below signals places s b (If' e _ (more_of-Stmt on_true end_of-Stmt) _ (more_of-Stmt on_false end_of-Stmt)) fits h =
       let fit = and_parts (typed_fits signals e && statement_fits signals places on_true) (statement_fits signals places on_false) fits in
       elim (or_cases (statement_drives signals s b on_true) (statement_drives signals s b on_false) h) [
-        | inl first ↦ statement-below signals places s b on_true (and_parts (typed_fits signals e) (statement_fits signals places on_true) fit.0).1 first
+        | inl first ↦ statement-below signals places s b on_true
+            (and_parts (typed_fits signals e) (statement_fits signals places on_true) fit.0).1 first
         | inr second ↦ statement-below signals places s b on_false fit.1 second
       ]
   statement-below signals places s b (Case' subject _ items _ (more_of-Stmt other end_of-Stmt) _) fits h =
-      let fit = and_parts (typed_fits signals subject && items_fit signals places subject.width items) (statement_fits signals places other) fits in
+      let fit = and_parts (typed_fits signals subject && items_fit signals places subject.width items)
+      (statement_fits signals places other) fits in
       elim (or_cases (some_set_in (set_test signals s b) items) (statement_drives signals s b other) h) [
-        | inl some ↦ items-below signals places s b subject.width items (and_parts (typed_fits signals subject) (items_fit signals places subject.width items) fit.0).1 some
+        | inl some ↦ items-below signals places s b subject.width items
+            (and_parts (typed_fits signals subject) (items_fit signals places subject.width items) fit.0).1 some
         | inr none ↦ statement-below signals places s b other fit.1 none
       ]
-  statement-below signals places s b (Set place target e later) fits h = parts-below signals s b target.parts (set-parts signals places place target.parts e fits) h
+  statement-below signals places s b (Set place target e later) fits h =
+      parts-below signals s b target.parts (set-parts signals places place target.parts e fits) h
 
-  statements-below : {shape : _} (signals : List Signal) (places : List Place) (s b : ℕ) (statements : Row_of-Stmt shape) → statements_fit signals places statements ≡ true
+  statements-below : {shape : _} (signals : List Signal) (places : List Place) (s b : ℕ) (statements : Row_of-Stmt shape)
+      → statements_fit signals places statements ≡ true
       → some_set_of (set_test signals s b) statements ≡ true → b < width_at signals s
   statements-below signals places s b end_of-Stmt fits h = cc
   statements-below signals places s b (more_of-Stmt statement rest) fits h =
@@ -69,27 +79,34 @@ mutual
         | inr later ↦ statements-below signals places s b rest fit.1 later
       ]
 
-  items-below : {shape : _} (signals : List Signal) (places : List Place) (s b width : ℕ) (items : Row_of-CaseItem shape) → items_fit signals places width items ≡ true
+  items-below : {shape : _} (signals : List Signal) (places : List Place) (s b width : ℕ) (items : Row_of-CaseItem shape)
+      → items_fit signals places width items ≡ true
       → some_set_in (set_test signals s b) items ≡ true → b < width_at signals s
   items-below signals places s b width end_of-CaseItem fits h = cc
   items-below signals places s b width (more_of-CaseItem labels body rest) fits h =
-      let fit = and_parts (list_all (label_fits signals width) labels && statement_fits signals places body) (items_fit signals places width rest) fits in
+      let fit = and_parts (list_all (label_fits signals width) labels && statement_fits signals places body)
+      (items_fit signals places width rest) fits in
       elim (or_cases (statement_drives signals s b body) (some_set_in (set_test signals s b) rest) h) [
-        | inl here ↦ statement-below signals places s b body (and_parts (list_all (label_fits signals width) labels) (statement_fits signals places body) fit.0).1 here
+        | inl here ↦ statement-below signals places s b body
+            (and_parts (list_all (label_fits signals width) labels) (statement_fits signals places body) fit.0).1 here
         | inr later ↦ items-below signals places s b width rest fit.1 later
       ]
 
 -- and so is one that a clocked block drives
-pub block-below : (d : Design) (block : Clocked) (s b : ℕ) → clocked_fits d block ≡ true → block_drives d.signals.items s b block ≡ true → b < width_at d.signals.items s
+pub block-below : (d : Design) (block : Clocked) (s b : ℕ) → clocked_fits d block ≡ true
+    → block_drives d.signals.items s b block ≡ true → b < width_at d.signals.items s
 block-below d block s b fits h =
     let fit = and_parts (statement_fits d.signals.items d.places.items block.body) (option_map_or (reset_fits d) block.reset true) fits in
-    elim (or_cases (statement_drives d.signals.items s b block.body) (option_map_or (λ r. statement_drives d.signals.items s b r.values) block.reset false) h) [
+    elim (or_cases (statement_drives d.signals.items s b block.body)
+    (option_map_or (λ r. statement_drives d.signals.items s b r.values) block.reset false) h) [
       | inl body ↦ statement-below d.signals.items d.places.items s b block.body fit.0 body
       | inr reset ↦ by_reset block.reset fit.1 reset
     ]
   where
-    by_reset : (o : Option Reset) → option_map_or (reset_fits d) o true ≡ true → option_map_or (λ r. statement_drives d.signals.items s b r.values) o false ≡ true → b < width_at d.signals.items s
+    by_reset : (o : Option Reset) → option_map_or (reset_fits d) o true ≡ true
+        → option_map_or (λ r. statement_drives d.signals.items s b r.values) o false ≡ true → b < width_at d.signals.items s
     by_reset None fits h = cc
     by_reset (Some r) fits h =
         statement-below d.signals.items d.places.items s b r.values
-        (and_parts (is_listed d r.signal && (width_at d.signals.items r.signal == 1) && is_reset_values r.values) (statement_fits d.signals.items d.places.items r.values) fits).1 h
+        (and_parts (is_listed d r.signal && (width_at d.signals.items r.signal == 1) && is_reset_values r.values)
+        (statement_fits d.signals.items d.places.items r.values) fits).1 h

@@ -39,7 +39,8 @@ off_or true x = refl
 off_or false x = refl
 
 -- the own bits are at 0
-cleared : (signals : List Signal) (masks : List Mask) (driver : Driver) (V W : Valuation) → AreMasksFor signals masks (λ s b. driver_drives signals s b driver)
+cleared : (signals : List Signal) (masks : List Mask) (driver : Driver) (V W : Valuation)
+    → AreMasksFor signals masks (λ s b. driver_drives signals s b driver)
     → W ≡ blended (covers masks) zeros V → W ≡ without signals driver V
 cleared signals masks driver V W m e =
     e ∙ fun_ext (λ s. fun_ext (λ b. ap (λ t. if t then false else V s b) (m.same s b) ∙ off_or (driver_drives signals s b driver) (V s b)))
@@ -59,18 +60,25 @@ own-by signals choice driver V N is outside = is ∙ fun_ext (λ s. fun_ext (λ 
 pub cont-parts : (signals : List Signal) (places : List Place) (target : Target) (e : Typed) (place : Option ℕ) (span : Span)
     → driver_fits signals places (Cont target e place span) ≡ true → list_all (part_fits signals) target.parts ≡ true
 cont-parts signals places target e place span fits =
-    let own = and_parts (assignment_fits signals target.parts e) (option_map_or (place_fits places (parts_width signals target.parts)) place true) fits in
-    let values = and_parts (list_all (part_fits signals) target.parts && is_width (parts_width signals target.parts) && typed_fits signals e) (nat_le (parts_width signals target.parts) e.width) own.0 in
-    let widths = and_parts (list_all (part_fits signals) target.parts && is_width (parts_width signals target.parts)) (typed_fits signals e) values.0 in
+    let own = and_parts (assignment_fits signals target.parts e)
+    (option_map_or (place_fits places (parts_width signals target.parts)) place true) fits in
+    let values = and_parts (list_all (part_fits signals) target.parts && is_width (parts_width signals target.parts)
+    && typed_fits signals e) (nat_le (parts_width signals target.parts) e.width) own.0 in
+    let widths = and_parts (list_all (part_fits signals) target.parts && is_width (parts_width signals target.parts))
+    (typed_fits signals e) values.0 in
     (and_parts (list_all (part_fits signals) target.parts) (is_width (parts_width signals target.parts)) widths.0).0
 
-pub cont-own : (signals : List Signal) (places : List Place) (choice : Choice) (target : Target) (e : Typed) (place : Option ℕ) (span : Span) (masks : List Mask) (V W N : Valuation)
-    → AreMasksFor signals masks (λ s b. driver_drives signals s b (Cont target e place span)) → driver_fits signals places (Cont target e place span) ≡ true
+pub cont-own : (signals : List Signal) (places : List Place) (choice : Choice) (target : Target) (e : Typed)
+    (place : Option ℕ) (span : Span) (masks : List Mask) (V W N : Valuation)
+    → AreMasksFor signals masks (λ s b. driver_drives signals s b (Cont target e place span))
+    → driver_fits signals places (Cont target e place span) ≡ true
     → W ≡ blended (covers masks) zeros V → N ≡ store signals W W target.parts (bit (cont_assigned choice place (value signals V e)))
     → N ≡ with_own signals choice (Cont target e place span) V
 cont-own signals places choice target e place span masks V W N m fits w n =
-    own-by signals choice driver V N (n ∙ ap (λ X. store signals X X target.parts (bit (cont_assigned choice place (value signals V e)))) rest)
-    (λ s b none. store-outside signals (without signals driver V) (without signals driver V) target.parts (bit (cont_assigned choice place (value signals V e))) s b
+    own-by signals choice driver V N (n ∙ ap (λ X. store signals X X target.parts
+    (bit (cont_assigned choice place (value signals V e)))) rest)
+    (λ s b none. store-outside signals (without signals driver V) (without signals driver V) target.parts
+    (bit (cont_assigned choice place (value signals V e))) s b
     (cont-parts signals places target e place span fits) none)
   where
     driver : Driver
@@ -79,7 +87,8 @@ cont-own signals places choice target e place span masks V W N m fits w n =
     rest : W ≡ without signals driver V
     rest = cleared signals masks driver V W m w
 
-pub comb-own : (signals : List Signal) (places : List Place) (choice : Choice) (body : Stmt) (span : Span) (masks : List Mask) (V W L N : Valuation)
+pub comb-own : (signals : List Signal) (places : List Place) (choice : Choice) (body : Stmt) (span : Span) (masks : List Mask)
+    (V W L N : Valuation)
     → AreMasksFor signals masks (λ s b. driver_drives signals s b (Comb body span)) → statement_fits signals places body ≡ true
     → W ≡ blended (covers masks) zeros V → N ≡ (after signals choice body (record { now = W; later = L })).now
     → N ≡ with_own signals choice (Comb body span) V
@@ -99,7 +108,8 @@ comb-own signals places choice body span masks V W L N m fits w n =
     rest = cleared signals masks driver V W m w
 
 -- the later updates keep what a combinational block does not assign
-pub comb-later : (signals : List Signal) (places : List Place) (choice : Choice) (body : Stmt) (span : Span) (m : Updates) (L : Valuation) → statement_fits signals places body ≡ true
+pub comb-later : (signals : List Signal) (places : List Place) (choice : Choice) (body : Stmt) (span : Span) (m : Updates)
+    (L : Valuation) → statement_fits signals places body ≡ true
     → L ≡ (after signals choice body m).later → (s b : ℕ) → driver_drives signals s b (Comb body span) ≡ false → L s b ≡ m.later s b
 comb-later signals places choice body span m L fits e s b none =
     ap (λ (X : Valuation). X s b) e ∙ (after-leaves signals places choice body m s b fits none).later
@@ -109,11 +119,14 @@ pub own-with : (d : Design) (choice : Choice) (V N : Valuation) (i : ℕ) (drive
     → N ≡ with_own d.signals.items choice driver V → N ≡ with_driver d choice i V
 own-with d choice V N i driver at e = e ∙ fun_ext (λ s. fun_ext (λ b. sym (with_driver-at d choice V i driver s b at)))
 
-pub undriven-by : (d : Design) (i s b : ℕ) (driver : Driver) → slice_get d.drivers.items i ≡ Some driver → is_driven d s b ≡ false → driver_drives d.signals.items s b driver ≡ false
-undriven-by d i s b driver at none = list_any-none (driver_drives d.signals.items s b) d.drivers.items driver (Contains-at d.drivers.items i driver at) none
+pub undriven-by : (d : Design) (i s b : ℕ) (driver : Driver) → slice_get d.drivers.items i ≡ Some driver
+    → is_driven d s b ≡ false → driver_drives d.signals.items s b driver ≡ false
+undriven-by d i s b driver at none =
+    list_any-none (driver_drives d.signals.items s b) d.drivers.items driver (Contains-at d.drivers.items i driver at) none
 
 -- ---- in an order
-pub drivers-next : (d : Design) (choice : Choice) (order : List ℕ) (k i : ℕ) (V N : Valuation) → slice_get order k ≡ Some i → N ≡ with_driver d choice i V
+pub drivers-next : (d : Design) (choice : Choice) (order : List ℕ) (k i : ℕ) (V N : Valuation) → slice_get order k ≡ Some i
+    → N ≡ with_driver d choice i V
     → with_drivers d choice (drop (k + 1) order) N ≡ with_drivers d choice (drop k order) V
 drivers-next d choice order k i V N at e =
     ap (with_drivers d choice (drop (k + 1) order)) e ∙ sym (ap (λ is. with_drivers d choice is V) (drop-some order k i at))

@@ -22,7 +22,7 @@ use Rattle.cycle_code.proofs.CellLaws.{updates-same}
 use Rattle.cycle_code.proofs.GrowthLaws.{Grown-refl}
 use Rattle.cycle_code.proofs.ConstantLaws.{constants-run}
 use Rattle.cycle_sim.specs.declared.mask.Mask.{Mask}
-use Rattle.cycle_sim.specs.declared.compiled.Range.{Range}
+use Rattle.cycle_code.specs.declared.range.Range.{Range}
 use Rattle.cycle_sim.specs.Masks.{assigns_now, covers, AreBlockMasks}
 use Rattle.cycle_sim.specs.Compiled.{AreCells, Carries, CarriesWithin, LeftBy, now_in, later_in, room_in}
 use Rattle.design_core.specs.Cycle.{is_active}
@@ -30,7 +30,8 @@ use Rattle.cycle_sim.proofs.CellWords.{now-valuation}
 use Rattle.cycle_sim.proofs.BlockSteps.{restored, now-same, left-is, body-fits, values-fit}
 
 -- the cells after a run
-pub AreCells-run : (p : Program) (choice : Choice) (to from : ℕ) (cells new : List Bits) → IsSound p → AreCells p cells → map width_of new ≡ p.widths
+pub AreCells-run : (p : Program) (choice : Choice) (to from : ℕ) (cells new : List Bits) → IsSound p → AreCells p cells
+    → map width_of new ≡ p.widths
     → valuation_of new ≡ run p choice to from (valuation_of cells) → AreCells p new
 AreCells-run p choice to from cells new sound are widths ran = record {
   widths = widths;
@@ -41,13 +42,16 @@ AreCells-run p choice to from cells new sound are widths ran = record {
 pub left-by : (p : Program) (choice : Choice) (range : Range) (at_once current : List Mask) (statement : Stmt) (V V1 V2 V3 : Valuation)
     → CarriesWithin p range at_once statement → HasConstants p V1 → now_in p V1 ≡ now_in p V → later_in p V1 ≡ later_in p V
     → room_in p V1 ≡ blended (covers at_once) (now_in p V) (room_in p V) → V2 ≡ run p choice range.to range.from V1
-    → now_in p V3 ≡ blended (covers at_once) (room_in p V2) (now_in p V2) → later_in p V3 ≡ blended (covers current) (now_in p V2) (later_in p V2)
+    → now_in p V3 ≡ blended (covers at_once) (room_in p V2) (now_in p V2)
+    → later_in p V3 ≡ blended (covers current) (now_in p V2) (later_in p V2)
     → LeftBy p choice current statement V V3
 left-by p choice range at_once current statement V V1 V2 V3 within has now later room ran now3 later3 = record {
   same =
       restored at_once (now_in p V) (room_in p V) (now_in p V2) (room_in p V2) (now_in p V3) kept now3
-      (now-same (signals_of p) p.design.places.items choice statement at_once (now_in p V) (later_in p V) (now_in p V2) (later_in p V2) within.fits within.all carried);
-  left = left-is (signals_of p) choice statement current (now_in p V) (later_in p V) (now_in p V2) (later_in p V2) (later_in p V3) carried later3;
+      (now-same (signals_of p) p.design.places.items choice statement at_once (now_in p V) (later_in p V) (now_in p V2)
+      (later_in p V2) within.fits within.all carried);
+  left = left-is (signals_of p) choice statement current (now_in p V) (later_in p V) (now_in p V2) (later_in p V2)
+      (later_in p V3) carried later3;
 }
   where
     carried : updates (now_in p V2) (later_in p V2) ≡ after (signals_of p) choice statement (updates (now_in p V) (later_in p V))
@@ -60,7 +64,8 @@ left-by p choice range at_once current statement V V1 V2 V3 within has now later
     kept = ap (room_in p) ran ∙ (within.carries.spares p choice V1 (Grown-refl p) has).room ∙ room
 
 -- the range of a block's body, and that of its reset's values
-pub body-within : (p : Program) (range : Range) (i : ℕ) (block : Clocked) (own once current : List Mask) → CanRun p.design → slice_get p.design.clocked.items i ≡ Some block
+pub body-within : (p : Program) (range : Range) (i : ℕ) (block : Clocked) (own once current : List Mask) → CanRun p.design
+    → slice_get p.design.clocked.items i ≡ Some block
     → AreBlockMasks p.design block own once current → Carries p range block.body → CarriesWithin p range once block.body
 body-within p range i block own once current can at masks carries = record {
   carries = carries;
@@ -69,7 +74,8 @@ body-within p range i block own once current can at masks carries = record {
 }
 
 pub reset-within : (p : Program) (range : Range) (i : ℕ) (block : Clocked) (r : Reset) (own once current : List Mask) → CanRun p.design
-    → slice_get p.design.clocked.items i ≡ Some block → block.reset ≡ Some r → AreBlockMasks p.design block own once current → Carries p range r.values
+    → slice_get p.design.clocked.items i ≡ Some block → block.reset ≡ Some r → AreBlockMasks p.design block own once current
+    → Carries p range r.values
     → CarriesWithin p range once r.values
 reset-within p range i block r own once current can at is masks carries = record {
   carries = carries;
@@ -84,7 +90,8 @@ pub range-at : (ranges : List Range) (blocks : List Clocked) (i : ℕ) (none : R
 range-at ranges blocks i none many within = slice_get-get_or ranges i none (omega (arith, many, within))
 
 -- whether a block's reset is active, by the words that are read
-pub active-in : (p : Program) (cells : List Bits) (n : ℕ) (block : Clocked) (r : Bool) → n ≡ count_of p → r ≡ is_active (valuation_of (take n cells)) block
+pub active-in : (p : Program) (cells : List Bits) (n : ℕ) (block : Clocked) (r : Bool) → n ≡ count_of p
+    → r ≡ is_active (valuation_of (take n cells)) block
     → is_active (now_in p (valuation_of cells)) block ≡ r
 active-in p cells n block r same e =
     sym (e ∙ ap (λ V. is_active V block) (ap (λ k. valuation_of (take k cells)) same ∙ now-valuation p cells))

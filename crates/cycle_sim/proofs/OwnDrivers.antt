@@ -58,7 +58,8 @@ Pushes-as old new now whole one other same off pushes = record {
 }
 
 -- what speaks of the signals alone stays as a program grows
-masks-grown : (old p : Program) (masks : List Mask) (driver : Driver) → Grown old p → AreMasksFor (signals_of old) masks (drives_in old driver)
+masks-grown : (old p : Program) (masks : List Mask) (driver : Driver) → Grown old p
+    → AreMasksFor (signals_of old) masks (drives_in old driver)
     → AreMasksFor (signals_of p) masks (drives_in p driver)
 masks-grown old p masks driver grown m =
     subst (λ (d : Design). AreMasksFor d.signals.items masks (λ s b. driver_drives d.signals.items s b driver)) (sym grown.design) m
@@ -76,7 +77,8 @@ pub driver-masks : (e d : Design) (rows : List (List Mask)) (i : ℕ) (driver : 
     → AreMasksFor e.signals.items row (λ s b. driver_drives e.signals.items s b driver)
 driver-masks e d rows i driver row same masks at is =
     subst (λ (x : Design). AreMasksFor x.signals.items row (λ s b. driver_drives x.signals.items s b driver)) (sym same)
-    (subst (λ (ms : List Mask). AreMasksFor d.signals.items ms (λ s b. driver_drives d.signals.items s b driver)) (sym is) (masks.each i driver at))
+    (subst (λ (ms : List Mask). AreMasksFor d.signals.items ms (λ s b. driver_drives d.signals.items s b driver)) (sym is)
+    (masks.each i driver at))
 
 -- ---- a continuous assignment
 -- its place is one of the design's
@@ -86,22 +88,29 @@ cont-place p target e place span fits n is =
     let places : List Place = p.design.places.items in
     let width : ℕ = parts_width (signals_of p) target.parts in
     let whole : Bool = assignment_fits (signals_of p) target.parts e in
-    lt-ltb n (length places) (place-within places width n whole (sym (ap (λ o. whole && option_map_or (place_fits places width) o true) is) ∙ fits))
+    lt-ltb n (length places) (place-within places width n whole
+    (sym (ap (λ o. whole && option_map_or (place_fits places width) o true) is) ∙ fits))
 
 -- to a whole signal
-pub driver-whole : (old new : Program) (target : Target) (e : Typed) (place : Option ℕ) (span : Span) (signal : ℕ) → target.parts ≡ Whole signal ∷ []
-    → Pushes old new (whole_now signal place e) none → Pushes old new (driver_now (Cont target e place span)) (drives_in old (Cont target e place span))
+pub driver-whole : (old new : Program) (target : Target) (e : Typed) (place : Option ℕ) (span : Span) (signal : ℕ)
+    → target.parts ≡ Whole signal ∷ []
+    → Pushes old new (whole_now signal place e) none
+    → Pushes old new (driver_now (Cont target e place span)) (drives_in old (Cont target e place span))
 driver-whole old new target e place span signal only pushes =
     Pushes-as old new (whole_now signal place e) (driver_now (Cont target e place span)) none (drives_in old (Cont target e place span))
-    (λ p choice V grown. whole-own (signals_of p) choice target e place span (now_in p V) (whole_now signal place e p choice V) signal only refl)
+    (λ p choice V grown. whole-own (signals_of p) choice target e place span (now_in p V)
+    (whole_now signal place e p choice V) signal only refl)
     (λ s b off. refl) pushes
 
 -- to any left side
 pub driver-parts : (old new : Program) (target : Target) (e : Typed) (place : Option ℕ) (span : Span) (masks : List Mask)
-    → AreMasksFor (signals_of old) masks (drives_in old (Cont target e place span)) → driver_fits (signals_of old) old.design.places.items (Cont target e place span) ≡ true
-    → Pushes old new (parts_now masks target.parts place e) none → Pushes old new (driver_now (Cont target e place span)) (drives_in old (Cont target e place span))
+    → AreMasksFor (signals_of old) masks (drives_in old (Cont target e place span))
+    → driver_fits (signals_of old) old.design.places.items (Cont target e place span) ≡ true
+    → Pushes old new (parts_now masks target.parts place e) none
+    → Pushes old new (driver_now (Cont target e place span)) (drives_in old (Cont target e place span))
 driver-parts old new target e place span masks are fits pushes =
-    Pushes-as old new (parts_now masks target.parts place e) (driver_now (Cont target e place span)) none (drives_in old (Cont target e place span))
+    Pushes-as old new (parts_now masks target.parts place e) (driver_now (Cont target e place span)) none
+    (drives_in old (Cont target e place span))
     (λ p choice V grown.
     cont-own (signals_of p) p.design.places.items choice target e place span masks (now_in p V) (blended (covers masks) zeros (now_in p V))
     (parts_now masks target.parts place e p choice V) (masks-grown old p masks (Cont target e place span) grown are)
@@ -113,7 +122,8 @@ driver-parts old new target e place span masks are fits pushes =
 abbrev pub body_now : Stmt → Program → Choice → Valuation → Valuation
 body_now body p choice V = (after (signals_of p) choice body (updates_in (count_of p) V)).now
 
-Pushes-body : (old new : Program) (body : Stmt) (span : Span) → statement_fits (signals_of old) old.design.places.items body ≡ true → Runs old new body
+Pushes-body : (old new : Program) (body : Stmt) (span : Span)
+    → statement_fits (signals_of old) old.design.places.items body ≡ true → Runs old new body
     → Pushes old new (body_now body) (drives_in old (Comb body span))
 Pushes-body old new body span fits runs = record {
   grown = runs.grown;
@@ -127,7 +137,8 @@ Pushes-body old new body span fits runs = record {
           now = ap (λ (m : Updates). m.now) left.updates;
           later = λ s b off.
               comb-later (signals_of p) p.design.places.items choice body span (updates_in (count_of p) V) (later_in p left.W)
-              (statement-fits-grown old p body from fits) (ap (λ (m : Updates). m.later) left.updates) s b (drives-grown old p (Comb body span) s b from ∙ off);
+              (statement-fits-grown old p body from fits) (ap (λ (m : Updates). m.later) left.updates) s b
+              (drives-grown old p (Comb body span) s b from ∙ off);
           keeps = left.keeps;
         };
       };
@@ -135,10 +146,13 @@ Pushes-body old new body span fits runs = record {
 
 -- its own bits are put at 0 first
 pub driver-comb : (old middle new : Program) (body : Stmt) (span : Span) (masks : List Mask)
-    → AreMasksFor (signals_of old) masks (drives_in old (Comb body span)) → statement_fits (signals_of old) old.design.places.items body ≡ true
-    → Runs old middle body → Pushes middle new (cleared_now masks) none → Pushes old new (driver_now (Comb body span)) (drives_in old (Comb body span))
+    → AreMasksFor (signals_of old) masks (drives_in old (Comb body span))
+    → statement_fits (signals_of old) old.design.places.items body ≡ true
+    → Runs old middle body → Pushes middle new (cleared_now masks) none
+    → Pushes old new (driver_now (Comb body span)) (drives_in old (Comb body span))
 driver-comb old middle new body span masks are fits runs cleared =
-    Pushes-on old middle new (cleared_now masks) (body_now body) (driver_now (Comb body span)) none (drives_in old (Comb body span)) (drives_in old (Comb body span))
+    Pushes-on old middle new (cleared_now masks) (body_now body) (driver_now (Comb body span)) none
+    (drives_in old (Comb body span)) (drives_in old (Comb body span))
     (Pushes-body old middle body span fits runs) cleared
     (λ p choice V W grown turned.
     let from : Grown old p = Grown-trans old middle p runs.grown (Grown-trans middle new p cleared.grown grown) in
@@ -147,10 +161,12 @@ driver-comb old middle new body span masks are fits runs cleared =
     (λ s b off. (refl, off))
 
 -- ---- by its number
-pub driver-numbered : (old new : Program) (d : Design) (i : ℕ) (driver : Driver) → old.design ≡ d → slice_get d.drivers.items i ≡ Some driver
+pub driver-numbered : (old new : Program) (d : Design) (i : ℕ) (driver : Driver) → old.design ≡ d
+    → slice_get d.drivers.items i ≡ Some driver
     → Pushes old new (driver_now driver) (drives_in old driver) → Pushes old new (number_now i) (is_driven d)
 driver-numbered old new d i driver is at pushes =
     Pushes-as old new (driver_now driver) (number_now i) (drives_in old driver) (is_driven d)
     (λ p choice V grown.
-    own-with p.design choice (now_in p V) (driver_now driver p choice V) i driver (ap (λ (x : Design). slice_get x.drivers.items i) (grown.design ∙ is) ∙ at) refl)
+    own-with p.design choice (now_in p V) (driver_now driver p choice V) i driver
+    (ap (λ (x : Design). slice_get x.drivers.items i) (grown.design ∙ is) ∙ at) refl)
     (λ s b off. ap (λ (x : Design). driver_drives x.signals.items s b driver) is ∙ undriven-by d i s b driver at off) pushes

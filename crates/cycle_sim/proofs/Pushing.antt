@@ -26,7 +26,7 @@ use Rattle.plain_sim.specs.EvaluateCycle.{blended}
 use Rattle.plain_sim.proofs.EvaluateSteps.{drop-some}
 use Rattle.design_core.specs.Constant.{zeros}
 use Rattle.cycle_sim.specs.declared.mask.Mask.{Mask}
-use Rattle.cycle_sim.specs.declared.compiled.Range.{Range}
+use Rattle.cycle_code.specs.declared.range.Range.{Range}
 use Rattle.cycle_sim.specs.Masks.{covers, in_mask}
 use Rattle.cycle_sim.proofs.Blending.{blended-next}
 use Rattle.cycle_sim.specs.Compiled.{now_in, later_in, room_in, Untouched, Turned, Pushes, Spares, Carries, Drives, none, masked_now, cleared_now, number_now, numbers_now}
@@ -68,21 +68,25 @@ Pushes-on old middle new first second whole one other both lower upper join off 
         W = rest.W;
         leads = Leads-on begin.leads rest.leads;
         turned = subst (λ N. Turned p (length old.widths) N both V rest.W) (join p choice V begin.W grown begin.turned)
-            (Turned-on p (length old.widths) (length middle.widths) (first p choice V) (second p choice begin.W) one other both V begin.W rest.W
+            (Turned-on p (length old.widths) (length middle.widths) (first p choice V) (second p choice begin.W) one other
+            both V begin.W rest.W
             (widths-grown old middle lower.grown) begin.turned rest.turned off);
       };
 }
 
 -- one instruction
-pub Pushes-one : (i : Instruction) (old new : Program) (now : Program → Choice → Valuation → Valuation) → new ≡ with_instruction i old → IsSound new → Grown old new
+pub Pushes-one : (i : Instruction) (old new : Program) (now : Program → Choice → Valuation → Valuation)
+    → new ≡ with_instruction i old → IsSound new → Grown old new
     → ((p : Program) (q : ℕ) (V : Valuation) → next p i q V ≡ q)
-    → ((p : Program) (choice : Choice) (V : Valuation) → Grown new p → HasConstants p V → Turned p (length old.widths) (now p choice V) none V (effect p choice i V))
+    → ((p : Program) (choice : Choice) (V : Valuation) → Grown new p → HasConstants p V
+    → Turned p (length old.widths) (now p choice V) none V (effect p choice i V))
     → Pushes old new now none
 Pushes-one i old new now is sound more on turned = record {
   grown = more;
   leaves = λ p choice V grown has. record {
     W = effect p choice i V;
-    leads = Leads-at (length new.instructions) (length old.instructions) refl (on p (length old.instructions) V) (Leads-pushed i old new p choice V is sound grown has);
+    leads = Leads-at (length new.instructions) (length old.instructions) refl (on p (length old.instructions) V)
+        (Leads-pushed i old new p choice V is sound grown has);
     turned = turned p choice V grown has;
   };
 }
@@ -92,7 +96,8 @@ pub drivers-more : (old middle new : Program) (i k : ℕ) (order : List ℕ) (d 
     → Pushes old middle (numbers_now (drop k order)) (is_driven d) → Pushes middle new (number_now i) (is_driven d)
     → Pushes old new (numbers_now (drop (k - 1) order)) (is_driven d)
 drivers-more old middle new i k order d some at lower upper =
-    Pushes-on old middle new (number_now i) (numbers_now (drop k order)) (numbers_now (drop (k - 1) order)) (is_driven d) (is_driven d) (is_driven d) lower upper
+    Pushes-on old middle new (number_now i) (numbers_now (drop k order)) (numbers_now (drop (k - 1) order)) (is_driven d)
+    (is_driven d) (is_driven d) lower upper
     (λ p choice V W grown turned.
     ap (with_drivers p.design choice (drop k order)) turned.now
     ∙ ap (λ n. with_drivers p.design choice (i ∷ drop n order) (now_in p V)) again
@@ -104,7 +109,8 @@ drivers-more old middle new i k order d some at lower upper =
 
 -- and one more mask
 pub masks-more : (old middle new : Program) (m : Mask) (k : ℕ) (masks : List Mask) → 0 < k → slice_get masks (k - 1) ≡ Some m
-    → Pushes old middle (cleared_now (drop k masks)) none → Pushes middle new (masked_now m) none → Pushes old new (cleared_now (drop (k - 1) masks)) none
+    → Pushes old middle (cleared_now (drop k masks)) none → Pushes middle new (masked_now m) none
+    → Pushes old new (cleared_now (drop (k - 1) masks)) none
 masks-more old middle new m k masks some at lower upper =
     Pushes-on old middle new (masked_now m) (cleared_now (drop k masks)) (cleared_now (drop (k - 1) masks)) none none none lower upper
     (λ p choice V W grown turned.
@@ -125,7 +131,8 @@ now-put p signal n V width low = fun_ext (λ s. fun_ext (λ b. at s b (s == sign
         → (nat_lt s (count_of p) && (if t then bit n (b - 0) else V s b)) ≡ (if t then bit n (b - 0) else (nat_lt s (count_of p) && V s b))
     at s b false e = refl
     at s b true e =
-        let same : s ≡ signal = eqb-true s signal (and_parts (s == signal) (nat_le 0 b) (and_parts (s == signal && nat_le 0 b) (nat_lt b (0 + width)) e).0).0 in
+        let same : s ≡ signal = eqb-true s signal
+        (and_parts (s == signal) (nat_le 0 b) (and_parts (s == signal && nat_le 0 b) (nat_lt b (0 + width)) e).0).0 in
         ap (λ t. t && bit n (b - 0)) (lt-ltb s (count_of p) (omega arith))
 
 -- and the other cells stay
@@ -142,10 +149,12 @@ Turned-put p signal n count V now low is = record {
     shifted s b t = ap (λ f. t && f b) (with_held-other p.widths signal n V (count_of p + s) (λ same. absurd (omega arith)))
 
 -- the computing of an operand leaves all that was there before its cell was given
-pub Turned-kept : (p : Program) (count : ℕ) (V W : Valuation) → count_of p + count_of p ≤ count → Keeps count V W → Turned p count (now_in p V) none V W
+pub Turned-kept : (p : Program) (count : ℕ) (V W : Valuation) → count_of p + count_of p ≤ count → Keeps count V W
+    → Turned p count (now_in p V) none V W
 Turned-kept p count V W most keeps = record {
   now = below-kept (count_of p) count V W (omega arith) keeps;
-  later = λ s b off. ap (λ f. f s b) (below-kept (count_of p) (count - count_of p) (λ s. V (count_of p + s)) (λ s. W (count_of p + s)) (omega arith) (λ c b h. keeps (count_of p + c) b (omega arith)));
+  later = λ s b off. ap (λ f. f s b) (below-kept (count_of p) (count - count_of p) (λ s. V (count_of p + s))
+      (λ s. W (count_of p + s)) (omega arith) (λ c b h. keeps (count_of p + c) b (omega arith)));
   keeps = λ cell b from to. keeps cell b to;
 }
 
@@ -170,7 +179,8 @@ ended : (p : Program) (choice : Choice) (at lower : ℕ) (V W : Valuation) → L
 ended p choice at lower V W leads = leads.run lower (omega arith) ∙ run-end p choice lower lower W (omega arith)
 
 -- a statement that was pushed
-pub Carries-pushed : (old new : Program) (range : Range) (statement : Stmt) → IsSound old → range.from ≡ length new.instructions → range.to ≡ length old.instructions
+pub Carries-pushed : (old new : Program) (range : Range) (statement : Stmt) → IsSound old
+    → range.from ≡ length new.instructions → range.to ≡ length old.instructions
     → Runs old new statement → Carries new range statement
 Carries-pushed old new range statement sound from to runs = record {
   within = omega (arith, from);
@@ -180,7 +190,11 @@ Carries-pushed old new range statement sound from to runs = record {
   spares = λ q choice V grown has.
       let left = runs.leaves q choice V grown has in
       subst (Spares q V) (sym (same q choice V left.W left.leads))
-      (record { room = room-stays q old V left.W sound (Grown-trans old new q runs.grown grown) left.keeps; constants = left.leads.constants });
+      (record {
+        room = room-stays q old V left.W sound (Grown-trans old new q runs.grown grown) left.keeps;
+        constants =
+            left.leads.constants;
+      });
 }
   where
     same : (q : Program) (choice : Choice) (V W : Valuation) → Leads q choice (length new.instructions) V (length old.instructions) W
@@ -190,8 +204,10 @@ Carries-pushed old new range statement sound from to runs = record {
         ∙ ended q choice (length new.instructions) (length old.instructions) V W leads
 
 -- drivers that were pushed
-pub Drives-pushed : (old new : Program) (range : Range) (order : List ℕ) (d : Design) → IsSound old → old.design ≡ d → range.from ≡ length new.instructions
-    → range.to ≡ length old.instructions → Pushes old new (λ p choice V. with_drivers p.design choice order (now_in p V)) (is_driven d) → Drives new range order
+pub Drives-pushed : (old new : Program) (range : Range) (order : List ℕ) (d : Design) → IsSound old → old.design ≡ d
+    → range.from ≡ length new.instructions
+    → range.to ≡ length old.instructions
+    → Pushes old new (λ p choice V. with_drivers p.design choice order (now_in p V)) (is_driven d) → Drives new range order
 Drives-pushed old new range order d sound is from to pushes = record {
   within = omega (arith, from);
   now = λ q choice V grown has.
@@ -204,7 +220,10 @@ Drives-pushed old new range order d sound is from to pushes = record {
   spares = λ q choice V grown has.
       let left = pushes.leaves q choice V grown has in
       subst (Spares q V) (sym (same q choice V left.W left.leads))
-      (record { room = room-stays q old V left.W sound (Grown-trans old new q pushes.grown grown) left.turned.keeps; constants = left.leads.constants });
+      (record {
+        room = room-stays q old V left.W sound (Grown-trans old new q pushes.grown grown) left.turned.keeps;
+        constants = left.leads.constants;
+      });
 }
   where
     same : (q : Program) (choice : Choice) (V W : Valuation) → Leads q choice (length new.instructions) V (length old.instructions) W
@@ -217,7 +236,8 @@ Drives-pushed old new range order d sound is from to pushes = record {
 -- it has at least as many instructions
 pub steps-grown : (p q : Program) → Grown p q → length p.instructions ≤ length q.instructions
 steps-grown p q grown = elim (cases_lt (length q.instructions) (length p.instructions)) [
-  | inl less ↦ let more : length q.instructions < length q.instructions = Grows-length p.instructions q.instructions grown.instructions (length q.instructions) less in omega arith
+  | inl less ↦ let more : length q.instructions < length q.instructions =
+      Grows-length p.instructions q.instructions grown.instructions (length q.instructions) less in omega arith
   | inr high ↦ high
 ]
 

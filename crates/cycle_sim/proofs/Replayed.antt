@@ -34,7 +34,8 @@ stands-first traces values =
 added : (a b n m w : ℕ) → a * w ≡ b * w → n * w ≡ m * w → (a + n) * w ≡ (b + m) * w
 added a b n m w one other = omega (arith, one, other)
 
-pub stands-next : (traces : List Trace) (values : Values) (first j more : ℕ) (trace : Trace) → slice_get traces j ≡ Some trace → StandsAt traces values first j
+pub stands-next : (traces : List Trace) (values : Values) (first j more : ℕ) (trace : Trace) → slice_get traces j ≡ Some trace
+    → StandsAt traces values first j
     → more * length values.places.items ≡ trace.cycles * length values.places.items → (length values.places.items ≡ 0 → more ≡ 0)
     → StandsAt traces values (first + more) (j + 1)
 stands-next traces values first j more trace at here rows none =
@@ -45,8 +46,11 @@ stands-next traces values first j more trace at here rows none =
     }
 
 -- the choices of a trace's rows are those of the trace
-pub choices-are : (traces : List Trace) (values : Values) (first j : ℕ) → StandsAt traces values first j → choices_from values first ≡ choices_in traces values j
-choices-are traces values first j here = fun_ext (λ t. fun_ext (λ p. ap (λ n. number_for values.places.items (map value_of (take (length values.places.items) (drop n values.rows.items))) p) (offset t)))
+pub choices-are : (traces : List Trace) (values : Values) (first j : ℕ) → StandsAt traces values first j
+    → choices_from values first ≡ choices_in traces values j
+choices-are traces values first j here = fun_ext
+    (λ t. fun_ext (λ p. ap (λ n. number_for values.places.items
+    (map value_of (take (length values.places.items) (drop n values.rows.items))) p) (offset t)))
   where
     offset : (t : ℕ) → (first + t) * length values.places.items ≡ (cycles_before traces j + t) * length values.places.items
     offset t = added first (cycles_before traces j) t t (length values.places.items) here.many refl
@@ -67,7 +71,8 @@ times-more a w = omega (arith, spread)
     spread = omega arith
 
 -- the rows of a trace stand within those of all traces
-pub rows-within : (d : Design) (traces : List Trace) (values : Values) (first j : ℕ) (trace : Trace) → AreValuesFor d traces values → slice_get traces j ≡ Some trace
+pub rows-within : (d : Design) (traces : List Trace) (values : Values) (first j : ℕ) (trace : Trace)
+    → AreValuesFor d traces values → slice_get traces j ≡ Some trace
     → StandsAt traces values first j → (first + trace.cycles) * length values.places.items ≤ length values.rows.items
 rows-within d traces values first j trace fit at here = omega (arith, moved, fit.rows.whole, scaled)
   where
@@ -83,21 +88,26 @@ rows-within d traces values first j trace fit at here = omega (arith, moved, fit
 
 -- and their numbers stay within what is counted
 pub numbers-within : (values : Values) (traces : List Trace) (first j cycles most : ℕ) → StandsAt traces values first j
-    → (first + cycles) * length values.places.items ≤ length values.rows.items → length values.rows.items < most → cycles < most → first + cycles < most
+    → (first + cycles) * length values.places.items ≤ length values.rows.items → length values.rows.items < most
+    → cycles < most → first + cycles < most
 numbers-within values traces first j cycles most here rows below few = at (length values.places.items) refl
   where
     at : (w : ℕ) → length values.places.items ≡ w → first + cycles < most
     at zero e = omega (arith, here.none e, few)
     at (suc w) e =
-        let more : (first + cycles) * suc w ≤ length values.rows.items = subst (λ n. (first + cycles) * n ≤ length values.rows.items) e rows in
+        let more : (first + cycles) * suc w ≤ length values.rows.items =
+        subst (λ n. (first + cycles) * n ≤ length values.rows.items) e rows in
         omega (arith, times-more (first + cycles) w, more, below)
 
 -- each trace before one is right
 abbrev pub MeetBefore : Design → List Trace → Values → ℕ → Type 0
-MeetBefore d traces values n = (j : ℕ) (trace : Trace) → j < n → slice_get traces j ≡ Some trace → Meets d trace (is_one_of values.places.items) (choices_in traces values j)
+MeetBefore d traces values n = (j : ℕ) (trace : Trace) → j < n → slice_get traces j ≡ Some trace
+    → Meets d trace (is_one_of values.places.items) (choices_in traces values j)
 
-pub meet-next : (d : Design) (traces : List Trace) (values : Values) (first j : ℕ) (trace : Trace) → slice_get traces j ≡ Some trace → StandsAt traces values first j
-    → MeetBefore d traces values j → Meets d trace (is_one_of values.places.items) (choices_from values first) → MeetBefore d traces values (j + 1)
+pub meet-next : (d : Design) (traces : List Trace) (values : Values) (first j : ℕ) (trace : Trace)
+    → slice_get traces j ≡ Some trace → StandsAt traces values first j
+    → MeetBefore d traces values j → Meets d trace (is_one_of values.places.items) (choices_from values first)
+    → MeetBefore d traces values (j + 1)
 meet-next d traces values first j trace at here before meets i other below is = by_place (cases_lt i j)
   where
     by_place : (i < j) ⊎ (j ≤ i) → Meets d other (is_one_of values.places.items) (choices_in traces values i)
@@ -109,12 +119,15 @@ meet-next d traces values first j trace at here before meets i other below is = 
         (subst (λ (x : Trace). Meets d x (is_one_of values.places.items) (choices_in traces values j)) alike
         (subst (λ (c : Choices). Meets d trace (is_one_of values.places.items) c) (choices-are traces values first j here) meets))
 
-pub meet-all : (d : Design) (traces : List Trace) (values : Values) (n : ℕ) → length traces ≤ n → MeetBefore d traces values n → MeetAll d traces values
+pub meet-all : (d : Design) (traces : List Trace) (values : Values) (n : ℕ) → length traces ≤ n → MeetBefore d traces values n
+    → MeetAll d traces values
 meet-all d traces values n all before j trace at = before j trace (omega (arith, all, slice_get_within traces j trace at)) at
 
 -- the least miss of a trace, where the traces before it are right
-pub least-miss : (d : Design) (order : List ℕ) → IsSimulable d order → (traces : List Trace) (values : Values) (first j t i : ℕ) (trace : Trace) → slice_get traces j ≡ Some trace
-    → StandsAt traces values first j → MeetBefore d traces values j → TraceReplays d trace (is_one_of values.places.items) (choices_from values first) (Some (t, i))
+pub least-miss : (d : Design) (order : List ℕ) → IsSimulable d order
+    → (traces : List Trace) (values : Values) (first j t i : ℕ) (trace : Trace) → slice_get traces j ≡ Some trace
+    → StandsAt traces values first j → MeetBefore d traces values j
+    → TraceReplays d trace (is_one_of values.places.items) (choices_from values first) (Some (t, i))
     → (miss : Miss) → miss ≡ record { trace = j; cycle = t; output = i } → IsLeastMiss d traces values miss
 least-miss d order k traces values first j t i trace at here before (misses, least) miss is =
     subst (λ (m : Miss). IsLeastMiss d traces values m) (sym is)
@@ -130,7 +143,8 @@ least-miss d order k traces values first j t i trace at here before (misses, lea
     alike = choices-are traces values first j here
 
     refuses : (other : Miss) → IsMiss d traces values other → IsBefore other (record { trace = j; cycle = t; output = i }) → ⊥
-    refuses other m (inl sooner) = meets-no_miss d order k m.trace freed (choices_in traces values other.trace) other.cycle other.output (before other.trace m.trace sooner m.is_trace) m.misses
+    refuses other m (inl sooner) = meets-no_miss d order k m.trace freed (choices_in traces values other.trace) other.cycle
+        other.output (before other.trace m.trace sooner m.is_trace) m.misses
     refuses other m (inr (same, less)) =
         let alone : m.trace ≡ trace = Some-same (sym m.is_trace ∙ ap (slice_get traces) same ∙ at) in
         let choices : choices_in traces values other.trace ≡ choices_from values first = ap (choices_in traces values) same ∙ sym alike in
@@ -146,13 +160,15 @@ pub reset-order : (d : Design) (a : Simulated) (order numbers : List ℕ) → a 
 reset-order d a order numbers start same = ap (λ (s : Simulated). s.order) start ∙ same
 
 -- the answer for a trace of a design that is known by another name
-pub answered : (d other : Design) (order numbers : List ℕ) (trace : Trace) (freed : ℕ → Bool) (c : Choices) (answer : Option (ℕ × ℕ)) → other ≡ d → numbers ≡ order
+pub answered : (d other : Design) (order numbers : List ℕ) (trace : Trace) (freed : ℕ → Bool) (c : Choices)
+    (answer : Option (ℕ × ℕ)) → other ≡ d → numbers ≡ order
     → (IsSimulable other numbers → TraceReplays other trace freed c answer) → IsSimulable d order → TraceReplays d trace freed c answer
 answered d other order numbers trace freed c answer same alike given k =
     subst (λ (D : Design). TraceReplays D trace freed c answer) same
     (given (subst (λ (D : Design). IsSimulable D numbers) (sym same) (subst (λ (O : List ℕ). IsSimulable d O) (sym alike) k)))
 
 -- a trace of the list is one of the design
-pub trace-of : (d : Design) (traces : List Trace) (j : ℕ) (trace : Trace) → All (IsTraceOf d) traces → slice_get traces j ≡ Some trace → IsTraceOf d trace
+pub trace-of : (d : Design) (traces : List Trace) (j : ℕ) (trace : Trace) → All (IsTraceOf d) traces
+    → slice_get traces j ≡ Some trace → IsTraceOf d trace
 trace-of d traces j trace all at =
     subst (λ (x : Trace). IsTraceOf d x) (get_or_from_slice_get traces j trace trace at) (all j trace (slice_get_within traces j trace at))

@@ -27,7 +27,8 @@ use Rattle.cycle_sim.proofs.ConstantReads.{reset_values-agree}
 -- ---- bits of inputs and registers
 pub register-undriven : (d : Design) (s b : ℕ) → is_register_bit d s b ≡ true → is_driven d s b ≡ false
 register-undriven d s b register =
-    not-true (is_driven d s b) (and_parts (option_map_or (λ signal. is_reg signal.kind) (slice_get d.signals.items s) false) (not (is_driven d s b)) register).1
+    not-true (is_driven d s b) (and_parts (option_map_or (λ signal. is_reg signal.kind) (slice_get d.signals.items s) false)
+    (not (is_driven d s b)) register).1
   where
     not-true : (x : Bool) → not x ≡ true → x ≡ false
     not-true true e = cc
@@ -50,7 +51,8 @@ pub listed-no_register : (d : Design) → IsWellFormed d → (s b : ℕ) → is_
 listed-no_register d well s b listed =
     let (input, member, same) = list_any-found (λ input. input == s) d.inputs.items listed in
     let fits : input_fits d.signals.items s ≡ true =
-    subst (λ n. input_fits d.signals.items n ≡ true) (eqb-true input s same) (list_all-member (input_fits d.signals.items) d.inputs.items input well.inputs member) in
+    subst (λ n. input_fits d.signals.items n ≡ true) (eqb-true input s same)
+    (list_all-member (input_fits d.signals.items) d.inputs.items input well.inputs member) in
     at (slice_get d.signals.items s) fits
   where
     by_kind : (kind : SignalKind) → is_input kind ≡ true → (is_reg kind && not (is_driven d s b)) ≡ false
@@ -74,7 +76,8 @@ active-alike d V W well same block member = at block.reset refl
     at : (o : Option Reset) → block.reset ≡ o → active V block.reset ≡ active W block.reset
     at None e = ap (active V) e ∙ sym (ap (active W) e)
     at (Some r) e =
-        let listed : is_listed d r.signal ≡ true = reset-listed d block r e (list_all-member (clocked_fits d) d.clocked.items block well.clocked member) in
+        let listed : is_listed d r.signal ≡ true =
+        reset-listed d block r e (list_all-member (clocked_fits d) d.clocked.items block well.clocked member) in
         ap (active V) e ∙ ap (λ x. if r.level then x else not x) (same r.signal 0 listed) ∙ sym (ap (active W) e)
 
 -- ---- the definition, bit by bit
@@ -88,10 +91,12 @@ with_resets-same d choice E (block ∷ blocks) V W s b same =
 
 -- the state after some blocks: V and S are what E and they leave, the blocks from i on being still to come
 pub record ResetSoFar (d : Design) (choice : Choice) (E V S : Valuation) (i : ℕ) : Type 0 where
-  pub values : (s b : ℕ) → is_driven d s b ≡ false → with_resets d choice E (drop i d.clocked.items) V s b ≡ with_resets d choice E d.clocked.items E s b
+  pub values : (s b : ℕ) → is_driven d s b ≡ false
+      → with_resets d choice E (drop i d.clocked.items) V s b ≡ with_resets d choice E d.clocked.items E s b
   pub state : (s b : ℕ) → is_register_bit d s b ≡ true → S s b ≡ V s b
   pub others : (s b : ℕ) → is_driven d s b ≡ false → is_register_bit d s b ≡ false → V s b ≡ E s b
-  pub ahead : (j : ℕ) (block : Clocked) (s b : ℕ) → i ≤ j → slice_get d.clocked.items j ≡ Some block → is_own d block s b ≡ true → V s b ≡ E s b
+  pub ahead : (j : ℕ) (block : Clocked) (s b : ℕ) → i ≤ j → slice_get d.clocked.items j ≡ Some block
+      → is_own d block s b ≡ true → V s b ≡ E s b
 
 pub reset-begin : (d : Design) (choice : Choice) (E V S : Valuation) → ((s b : ℕ) → is_driven d s b ≡ false → V s b ≡ E s b)
     → ((s b : ℕ) → is_register_bit d s b ≡ true → S s b ≡ V s b) → ResetSoFar d choice E V S 0
@@ -113,7 +118,8 @@ if-on t x y e = ap (λ t. if t then x else y) e
 pub if-off : (t x y : Bool) → t ≡ false → (if t then x else y) ≡ y
 if-off t x y e = ap (λ t. if t then x else y) e
 
-pub reset-next : (d : Design) (choice : Choice) (E V S V' S' : Valuation) (i : ℕ) (block : Clocked) → IsWellFormed d → IsDrivenOnce d → slice_get d.clocked.items i ≡ Some block
+pub reset-next : (d : Design) (choice : Choice) (E V S V' S' : Valuation) (i : ℕ) (block : Clocked) → IsWellFormed d
+    → IsDrivenOnce d → slice_get d.clocked.items i ≡ Some block
     → ResetSoFar d choice E V S i → WithReset d choice block V S V' S' → ResetSoFar d choice E V' S' (i + 1)
 reset-next d choice E V S V' S' i block well once at before r =
     record {
@@ -121,10 +127,13 @@ reset-next d choice E V S V' S' i block well once at before r =
           with_resets-same d choice E (drop (i + 1) d.clocked.items) V' (with_reset d choice E block V) s b (one s b)
           ∙ sym (ap (λ blocks. with_resets d choice E blocks V s b) (drop-some d.clocked.items i block at))
           ∙ before.values s b none;
-      state = λ s b register. r.state s b register ∙ held s b register (cases_Bool (is_active V block && block_drives d.signals.items s b block));
-      others = λ s b none other. r.values s b ∙ if-off (is_active V block && is_own d block s b) (reset_leaves d choice block V S s b) (V s b) (no_own s b other) ∙ before.others s b none other;
+      state = λ s b register. r.state s b register ∙ held s b register
+          (cases_Bool (is_active V block && block_drives d.signals.items s b block));
+      others = λ s b none other. r.values s b ∙ if-off (is_active V block && is_own d block s b)
+          (reset_leaves d choice block V S s b) (V s b) (no_own s b other) ∙ before.others s b none other;
       ahead = λ j next s b low there own.
-          r.values s b ∙ apart j next s b low there own (cases_Bool (is_active V block && is_own d block s b)) ∙ before.ahead j next s b (omega (arith, low)) there own;
+          r.values s b ∙ apart j next s b low there own (cases_Bool (is_active V block && is_own d block s b))
+          ∙ before.ahead j next s b (omega (arith, low)) there own;
     }
   where
     member : Contains d.clocked.items block
@@ -132,7 +141,8 @@ reset-next d choice E V S V' S' i block well once at before r =
 
     active : is_active V block ≡ is_active E block
     active =
-        active-alike d V E well (λ s b listed. before.others s b (listed-undriven d once s b listed) (listed-no_register d well s b listed)) block member
+        active-alike d V E well (λ s b listed. before.others s b (listed-undriven d once s b listed)
+        (listed-no_register d well s b listed)) block member
 
     no_own : (s b : ℕ) → is_register_bit d s b ≡ false → (is_active V block && is_own d block s b) ≡ false
     no_own s b other = quiet (is_active V block) (is_register_bit d s b) (block_drives d.signals.items s b block) other
@@ -144,7 +154,8 @@ reset-next d choice E V S V' S' i block well once at before r =
 
     -- a bit as the definition has it
     one : (s b : ℕ) → V' s b ≡ with_reset d choice E block V s b
-    one s b = r.values s b ∙ if-test (is_active V block && is_own d block s b) (is_active E block && is_own d block s b) (reset_leaves d choice block V S s b) (V s b) (ap (λ a. a && is_own d block s b) active)
+    one s b = r.values s b ∙ if-test (is_active V block && is_own d block s b) (is_active E block && is_own d block s b)
+        (reset_leaves d choice block V S s b) (V s b) (ap (λ a. a && is_own d block s b) active)
         ∙ by_case (cases_Bool (is_active E block && is_own d block s b))
       where
         to : Bool
@@ -152,31 +163,39 @@ reset-next d choice E V S V' S' i block well once at before r =
 
         given : (o : Option Reset) → block.reset ≡ o → is_own d block s b ≡ true → reset_leaves d choice block V S s b ≡ to
         given None e own =
-            ap (λ o. option_map_or (λ (r : Reset). left block (after d.signals.items choice r.values (record { now = V; later = S })) s b) o false) e
+            ap (λ o. option_map_or (λ (r : Reset). left block
+            (after d.signals.items choice r.values (record { now = V; later = S })) s b) o false) e
             ∙ sym (ap (λ o. option_map_or (λ (r : Reset). left_from d.signals.items choice block E r.values s b) o false) e)
         given (Some r) e own =
             let now : V s b ≡ E s b = before.ahead i block s b (omega arith) at own in
-            let later : S s b ≡ E s b = before.state s b (and_parts (is_register_bit d s b) (block_drives d.signals.items s b block) own).0 ∙ now in
-            ap (λ o. option_map_or (λ (r : Reset). left block (after d.signals.items choice r.values (record { now = V; later = S })) s b) o false) e
-            ∙ reset_values-agree d choice block r V S E s b e (list_all-member (clocked_fits d) d.clocked.items block well.clocked member) now later
+            let later : S s b ≡ E s b =
+            before.state s b (and_parts (is_register_bit d s b) (block_drives d.signals.items s b block) own).0 ∙ now in
+            ap (λ o. option_map_or (λ (r : Reset). left block
+            (after d.signals.items choice r.values (record { now = V; later = S })) s b) o false) e
+            ∙ reset_values-agree d choice block r V S E s b e
+            (list_all-member (clocked_fits d) d.clocked.items block well.clocked member) now later
             ∙ sym (ap (λ o. option_map_or (λ (r : Reset). left_from d.signals.items choice block E r.values s b) o false) e)
 
         by_case : ((is_active E block && is_own d block s b) ≡ true) ⊎ ((is_active E block && is_own d block s b) ≡ false)
-            → (if is_active E block && is_own d block s b then reset_leaves d choice block V S s b else V s b) ≡ (if is_active E block && is_own d block s b then to else V s b)
+            → (if is_active E block && is_own d block s b then reset_leaves d choice block V S s b else V s b)
+            ≡ (if is_active E block && is_own d block s b then to else V s b)
         by_case (inl on) =
-            ap (λ x. if is_active E block && is_own d block s b then x else V s b) (given block.reset refl (and_parts (is_active E block) (is_own d block s b) on).1)
+            ap (λ x. if is_active E block && is_own d block s b then x else V s b)
+            (given block.reset refl (and_parts (is_active E block) (is_own d block s b) on).1)
         by_case (inr off) =
             if-off (is_active E block && is_own d block s b) (reset_leaves d choice block V S s b) (V s b) off
             ∙ sym (if-off (is_active E block && is_own d block s b) to (V s b) off)
 
     held : (s b : ℕ) → is_register_bit d s b ≡ true
-        → ((is_active V block && block_drives d.signals.items s b block) ≡ true) ⊎ ((is_active V block && block_drives d.signals.items s b block) ≡ false)
+        → ((is_active V block && block_drives d.signals.items s b block) ≡ true) ⊎
+        ((is_active V block && block_drives d.signals.items s b block) ≡ false)
         → (if is_active V block && block_drives d.signals.items s b block then V' s b else S s b) ≡ V' s b
     held s b register (inl on) = if-on (is_active V block && block_drives d.signals.items s b block) (V' s b) (S s b) on
     held s b register (inr off) =
         if-off (is_active V block && block_drives d.signals.items s b block) (V' s b) (S s b) off
         ∙ before.state s b register
-        ∙ sym (r.values s b ∙ if-off (is_active V block && is_own d block s b) (reset_leaves d choice block V S s b) (V s b) (narrower (is_active V block) (is_register_bit d s b) (block_drives d.signals.items s b block) off))
+        ∙ sym (r.values s b ∙ if-off (is_active V block && is_own d block s b) (reset_leaves d choice block V S s b) (V s b)
+        (narrower (is_active V block) (is_register_bit d s b) (block_drives d.signals.items s b block) off))
       where
         narrower : (x y z : Bool) → (x && z) ≡ false → (x && (y && z)) ≡ false
         narrower true true z e = e
@@ -186,14 +205,17 @@ reset-next d choice E V S V' S' i block well once at before r =
     apart : (j : ℕ) (next : Clocked) (s b : ℕ) → i + 1 ≤ j → slice_get d.clocked.items j ≡ Some next → is_own d next s b ≡ true
         → ((is_active V block && is_own d block s b) ≡ true) ⊎ ((is_active V block && is_own d block s b) ≡ false)
         → (if is_active V block && is_own d block s b then reset_leaves d choice block V S s b else V s b) ≡ V s b
-    apart j next s b low there own (inr off) = if-off (is_active V block && is_own d block s b) (reset_leaves d choice block V S s b) (V s b) off
+    apart j next s b low there own (inr off) =
+        if-off (is_active V block && is_own d block s b) (reset_leaves d choice block V S s b) (V s b) off
     apart j next s b low there own (inl on) =
-        let mine = and_parts (is_register_bit d s b) (block_drives d.signals.items s b block) (and_parts (is_active V block) (is_own d block s b) on).1 in
+        let mine = and_parts (is_register_bit d s b) (block_drives d.signals.items s b block)
+        (and_parts (is_active V block) (is_own d block s b) on).1 in
         let other = and_parts (is_register_bit d s b) (block_drives d.signals.items s b next) own in
         let same : i ≡ j = once.blocks i j block next s b at there mine.0 mine.1 other.1 in
         absurd (omega (arith, same, low))
 
-pub reset-end : (d : Design) (choice : Choice) (E V S : Valuation) (i : ℕ) → length d.clocked.items ≤ i → ResetSoFar d choice E V S i → AreReset d choice E V S
+pub reset-end : (d : Design) (choice : Choice) (E V S : Valuation) (i : ℕ) → length d.clocked.items ≤ i
+    → ResetSoFar d choice E V S i → AreReset d choice E V S
 reset-end d choice E V S i past all =
     record {
       values = λ s b none. sym (ap (λ blocks. with_resets d choice E blocks V s b) (drop_all i d.clocked.items past)) ∙ all.values s b none;

@@ -28,10 +28,10 @@ use Rattle.cycle_code.specs.Cells.{width_in, below, updates_in, with_updates}
 use Rattle.cycle_code.specs.Effects.{held_in, with_assigned, effect, next}
 use Rattle.cycle_code.specs.Fitting.{is_cell, is_own, fits, IsSound}
 use Rattle.cycle_code.proofs.CellLaws.{with_updates-past}
-use Rattle.cycle_code.proofs.GrowthLaws.{both, is_cell-grown, is_own-cell, is_own-grown, is_own-past, width_in-grown, Grown-refl, Grown-trans}
+use Rattle.cycle_code.proofs.GrowthLaws.{both, is_cell-grown, is_own-cell, is_own-grown, is_own-past, width_in-grown, Grown-refl, Grown-trans, last-stands}
 use Rattle.cycle_compile.specs.Compiling.{is_leaf, IsPlaceFor, Values}
 use Rattle.cycle_compile.proofs.Assigning.{IsBelow, updates_in-with_updates}
-use Rattle.cycle_compile.proofs.Leading.{count-grown, last-stands, widths-grown}
+use Rattle.cycle_compile.proofs.Leading.{count-grown, widths-grown}
 use Rattle.cycle_compile.proofs.Placing.{new-own}
 use Rattle.cycle_sim.specs.declared.mask.Mask.{Mask}
 use Rattle.cycle_sim.specs.Masks.{covers}
@@ -152,7 +152,8 @@ Pushes-refilled : (old stored cleared : Program) (masks : List Mask) (parts : Li
     → IsTrue (is_own old word) → Pushes old stored (stored_now parts place word) none → Pushes stored cleared (cleared_now masks) none
     → Pushes old cleared (refilled masks parts place word) none
 Pushes-refilled old stored cleared masks parts place word own lower upper =
-    Pushes-on old stored cleared (cleared_now masks) (stored_now parts place word) (refilled masks parts place word) none none none lower upper
+    Pushes-on old stored cleared (cleared_now masks) (stored_now parts place word) (refilled masks parts place word) none none
+    none lower upper
     (λ p choice V W grown turned.
     let from : Grown old p = Grown-trans old stored p lower.grown (Grown-trans stored cleared p upper.grown grown) in
     let same : count_of p ≡ count_of old = count-grown old p from in
@@ -203,7 +204,8 @@ Pushes-moved : (before cleared moved : Program) (masks : List Mask) (parts : Lis
     → Pushes before moved (refilled masks parts place cell) none
 Pushes-moved before cleared moved masks parts place cell word sound past copy lower made fine grown =
     Pushes-own (instruction.Move cell word) before cleared moved word (λ p V. held_in p V cell) (refilled masks parts place word)
-    (refilled masks parts place cell) sound past made fine grown lower (λ p q V. refl) (λ p choice V. refl) (λ p choice V W more has now held.
+    (refilled masks parts place cell) sound past made fine grown lower (λ p q V. refl) (λ p choice V. refl)
+    (λ p choice V W more has now held.
     let copy' = IsCopy-grown cleared p cell word (Grown-trans cleared moved p grown more) copy in
     let small : held_in p V cell < 2 ^ width_in p.widths word =
     subst (λ w. held_in p V cell < 2 ^ w) copy'.width (number-below (width_in p.widths cell) (V cell)) in
@@ -218,11 +220,13 @@ pub Pushes-parts : (old placed worded stored cleared moved new : Program) (masks
     → Pushes worded stored (stored_now parts place word) none → Pushes stored cleared (cleared_now masks) none
     → moved ≡ with_instruction (instruction.Move cell word) cleared → IsSound moved → Grown cleared moved
     → Values moved new e cell → Pushes old new (parts_now masks parts place e) none
-Pushes-parts old placed worded stored cleared moved new masks parts place e cell word sound placed_sound more same fresh holds at made wider lower upper is fine grown values =
+Pushes-parts old placed worded stored cleared moved new masks parts place e cell word sound placed_sound more same fresh holds
+    at made wider lower upper is fine grown values =
     let copy = is-copy placed worded e cell word placed_sound holds at made wider in
     let copy' = IsCopy-grown worded cleared cell word (Grown-trans worded stored cleared lower.grown upper.grown) copy in
     let refills = Pushes-refilled worded stored cleared masks parts place word copy.own lower upper in
-    let behind = Pushes-earlier placed worded cleared (refilled masks parts place word) none wider (ap (λ (q : Program). q.instructions) made) refills in
+    let behind = Pushes-earlier placed worded cleared (refilled masks parts place word) none wider
+    (ap (λ (q : Program). q.instructions) made) refills in
     let moves = Pushes-moved placed cleared moved masks parts place cell word placed_sound (omega (arith, at)) copy' behind is fine grown in
     Pushes-computed old moved new e cell (refilled masks parts place cell) (parts_now masks parts place e) sound fresh
     (Pushes-earlier old placed moved (refilled masks parts place cell) none more same moves) values (λ p choice V W now held.

@@ -22,6 +22,7 @@ use Rattle.design_core.proofs.NumberLaws.{number-same, number-bit}
 use Rattle.plain_sim.specs.EvaluateCycle.{blended}
 use Rattle.plain_sim.proofs.EvaluateSteps.{drop-some}
 use Rattle.plain_sim.proofs.EvaluateSweep.{word-high}
+use Rattle.plain_sim.proofs.EvaluateSamples.{get_or-default}
 use Rattle.cycle_sim.specs.declared.mask.Mask.{Mask}
 use Rattle.cycle_sim.specs.Masks.{AreMasksOf, IsFull, IsSplit, covers, in_mask, is_among}
 use Rattle.cycle_sim.specs.Planned.{Splits}
@@ -45,7 +46,8 @@ full-none bits full =
     let all : value_of bits ≡ 2 ^ width_of bits - 1 - 0 =
     sym (mod-eq_of_lt below)
     ∙ sym (number-bit (width_of bits) (value_of bits))
-    ∙ number-same (width_of bits) (bit (value_of bits)) (bit (2 ^ width_of bits - 1 - 0)) (λ b low. full b low ∙ sym (ones_have (width_of bits) b low))
+    ∙ number-same (width_of bits) (bit (value_of bits)) (bit (2 ^ width_of bits - 1 - 0))
+    (λ b low. full b low ∙ sym (ones_have (width_of bits) b low))
     ∙ number-bit (width_of bits) (2 ^ width_of bits - 1 - 0)
     ∙ mod-eq_of_lt (omega (arith, below)) in
     omega (arith, all)
@@ -99,22 +101,27 @@ split-whole m signal whole parts is full widths masks fits before = record {
     swapped false false true = refl
     swapped false false false = refl
 
-    filled : (s b width : ℕ) → slice_get widths s ≡ Some width → b < width → (t : Bool) → (m.signal == s) ≡ t → in_mask m s b ≡ (m.signal == s)
+    filled : (s b width : ℕ) → slice_get widths s ≡ Some width → b < width → (t : Bool) → (m.signal == s) ≡ t
+        → in_mask m s b ≡ (m.signal == s)
     filled s b width at low false e = ap (λ t. t && bit_of m.bits b) e ∙ sym e
     filled s b width at low true e =
         let same : width_of m.bits ≡ width = Some-same (sym fits ∙ ap (slice_get widths) (equal-true m.signal s e) ∙ at) in
         ap (λ t. t && bit_of m.bits b) e ∙ full b (omega (arith, low, same)) ∙ sym e
 
 -- the masks up to the next one
-pub split-next : (widths : List ℕ) (masks : List Mask) (k : ℕ) (m : Mask) (whole whole' : List ℕ) (parts parts' : List Mask) → slice_get masks k ≡ Some m
-    → Splits m whole parts whole' parts' → AreMasksOf widths masks → IsSplit widths (take k masks) whole parts → IsSplit widths (take (k + 1) masks) whole' parts'
+pub split-next : (widths : List ℕ) (masks : List Mask) (k : ℕ) (m : Mask) (whole whole' : List ℕ) (parts parts' : List Mask)
+    → slice_get masks k ≡ Some m
+    → Splits m whole parts whole' parts' → AreMasksOf widths masks → IsSplit widths (take k masks) whole parts
+    → IsSplit widths (take (k + 1) masks) whole' parts'
 split-next widths masks k m whole whole' parts parts' at more fits before =
-    subst (λ ms. IsSplit widths ms whole' parts') (sym (take-at masks k m (slice_get_within masks k m at) (sym (get_or_from_slice_get masks k m m at))))
+    subst (λ ms. IsSplit widths ms whole' parts')
+    (sym (take-at masks k m (slice_get_within masks k m at) (sym (get_or_from_slice_get masks k m m at))))
     (more widths (take k masks) (fits.each k m at) before)
 
 -- ---- words copied
 -- one after another
-pub blended-again : (first later : ℕ → ℕ → Bool) (F T : Valuation) → blended later F (blended first F T) ≡ blended (λ s b. first s b || later s b) F T
+pub blended-again : (first later : ℕ → ℕ → Bool) (F T : Valuation)
+    → blended later F (blended first F T) ≡ blended (λ s b. first s b || later s b) F T
 blended-again first later F T = fun_ext (λ s. fun_ext (λ b. either (later s b) (first s b) (F s b) (T s b)))
   where
     either : (later first f t : Bool) → (if later then f else (if first then f else t)) ≡ (if first || later then f else t)
@@ -140,22 +147,37 @@ word_replaced words from k word within at = fun_ext (λ s. fun_ext (λ b. by_sig
         ap (λ o. option_map_or (λ w. bit_of w b) o false) (slice_get-set_other words k s word (λ same. eq-swap k s e same))
         ∙ sym (ap (λ t. if t then valuation_of from s b else valuation_of words s b) e)
 
+-- the words at one place of two lists of the same widths have one width
+pub width-alike : (words from : List Bits) (k : ℕ) (old word : Bits) → map width_of from ≡ map width_of words → k < length words
+    → old ≡ get_or words k old → word ≡ get_or from k word → width_of old ≡ width_of word
+width-alike words from k old word same within one other =
+    let there : k < length from = omega (arith, within, length-map from width_of, length-map words width_of, ap length same) in
+    ap width_of one
+    ∙ sym (get_or-map width_of words k old)
+    ∙ ap (λ ws. get_or ws k (width_of old)) (sym same)
+    ∙ get_or-map width_of from k old
+    ∙ ap width_of (get_or-default from k old word there ∙ sym other)
+
 -- that has the same width
 pub copied-widths : (words from : List Bits) (k : ℕ) (word : Bits) → map width_of from ≡ map width_of words → word ≡ get_or from k word
     → map width_of (set words k word) ≡ map width_of words
 copied-widths words from k word same is =
     map-set_same width_of words k word word
-    (ap width_of is ∙ sym (get_or-map width_of from k word) ∙ ap (λ ws. get_or ws k (width_of word)) same ∙ get_or-map width_of words k word)
+    (ap width_of is ∙ sym (get_or-map width_of from k word) ∙ ap (λ ws. get_or ws k (width_of word)) same
+    ∙ get_or-map width_of words k word)
 
 -- the signals from i on are still to be copied
-pub copied-next : (signals : List ℕ) (words from : List Bits) (i : ℕ) (word : Bits) → map width_of from ≡ map width_of words → i < length signals
+pub copied-next : (signals : List ℕ) (words from : List Bits) (i : ℕ) (word : Bits) → map width_of from ≡ map width_of words
+    → i < length signals
     → get_or signals i 0 < length words → word ≡ get_or from (get_or signals i 0) word
     → blended (λ s b. is_among (drop (i + 1) signals) s) (valuation_of from) (valuation_of (set words (get_or signals i 0) word))
     ≡ blended (λ s b. is_among (drop i signals) s) (valuation_of from) (valuation_of words)
 copied-next signals words from i word same more within is =
-    ap (blended (λ s b. is_among (drop (i + 1) signals) s) (valuation_of from)) (word_replaced words from k word within (slice_get-at from k word there is))
+    ap (blended (λ s b. is_among (drop (i + 1) signals) s) (valuation_of from))
+    (word_replaced words from k word within (slice_get-at from k word there is))
     ∙ blended-again (λ s b. k == s) (λ s b. is_among (drop (i + 1) signals) s) (valuation_of from) (valuation_of words)
-    ∙ ap (λ ks. blended (λ s b. is_among ks s) (valuation_of from) (valuation_of words)) (sym (drop-some signals i k (slice_get-get_or signals i 0 more)))
+    ∙ ap (λ ks. blended (λ s b. is_among ks s) (valuation_of from) (valuation_of words))
+    (sym (drop-some signals i k (slice_get-get_or signals i 0 more)))
   where
     k : ℕ
     k = get_or signals i 0
@@ -165,7 +187,8 @@ copied-next signals words from i word same more within is =
 
 -- ---- the words and the parts
 -- a bit that a word does not have
-past : (words : List Bits) (s b : ℕ) → ((width : ℕ) → slice_get (map width_of words) s ≡ Some width → width ≤ b) → valuation_of words s b ≡ false
+past : (words : List Bits) (s b : ℕ) → ((width : ℕ) → slice_get (map width_of words) s ≡ Some width → width ≤ b)
+    → valuation_of words s b ≡ false
 past words s b high = at (slice_get words s) refl
   where
     at : (o : Option Bits) → slice_get words s ≡ o → valuation_of words s b ≡ false
@@ -175,14 +198,16 @@ past words s b high = at (slice_get words s) refl
 -- both copied are the bits of all masks
 pub split-copied : (to from : List Bits) (masks : List Mask) (signals : List ℕ) (others : List Mask) → map width_of from ≡ map width_of to
     → IsSplit (map width_of to) masks signals others
-    → blended (λ s b. is_among signals s || covers others s b) (valuation_of from) (valuation_of to) ≡ blended (covers masks) (valuation_of from) (valuation_of to)
+    → blended (λ s b. is_among signals s || covers others s b) (valuation_of from) (valuation_of to)
+    ≡ blended (covers masks) (valuation_of from) (valuation_of to)
 split-copied to from masks signals others same split = fun_ext (λ s. fun_ext (λ b. at s b (slice_get (map width_of to) s) refl))
   where
     none : {x : ℕ} → None ≡ Some x → ⊥
     none e = cc
 
     outside : (s b : ℕ) → ((width : ℕ) → slice_get (map width_of to) s ≡ Some width → width ≤ b)
-        → (if is_among signals s || covers others s b then valuation_of from s b else valuation_of to s b) ≡ (if covers masks s b then valuation_of from s b else valuation_of to s b)
+        → (if is_among signals s || covers others s b then valuation_of from s b else valuation_of to s b)
+        ≡ (if covers masks s b then valuation_of from s b else valuation_of to s b)
     outside s b high =
         let one : valuation_of from s b ≡ false = past from s b (λ width is. high width (ap (λ ws. slice_get ws s) (sym same) ∙ is)) in
         let other : valuation_of to s b ≡ false = past to s b high in
@@ -193,11 +218,13 @@ split-copied to from masks signals others same split = fun_ext (λ s. fun_ext (�
         either false x y p q = q
 
     at : (s b : ℕ) (o : Option ℕ) → slice_get (map width_of to) s ≡ o
-        → (if is_among signals s || covers others s b then valuation_of from s b else valuation_of to s b) ≡ (if covers masks s b then valuation_of from s b else valuation_of to s b)
+        → (if is_among signals s || covers others s b then valuation_of from s b else valuation_of to s b)
+        ≡ (if covers masks s b then valuation_of from s b else valuation_of to s b)
     at s b None e = outside s b (λ width is. absurd (none (sym e ∙ is)))
     at s b (Some width) e = by_place (cases_lt b width)
       where
         by_place : (b < width) ⊎ (width ≤ b)
-            → (if is_among signals s || covers others s b then valuation_of from s b else valuation_of to s b) ≡ (if covers masks s b then valuation_of from s b else valuation_of to s b)
+            → (if is_among signals s || covers others s b then valuation_of from s b else valuation_of to s b)
+            ≡ (if covers masks s b then valuation_of from s b else valuation_of to s b)
         by_place (inl low) = ap (λ t. if t then valuation_of from s b else valuation_of to s b) (sym (split.same s b width e low))
         by_place (inr high) = outside s b (λ other is. omega (arith, high, Some-same (sym e ∙ is)))

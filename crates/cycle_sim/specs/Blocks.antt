@@ -37,4 +37,5 @@ pub record AreRun (d : Design) (choice : Choice) (V S : Valuation) : Type 0 wher
   pub clocked : (block : Clocked) (s b : ℕ) → Contains d.clocked.items block → is_active V block ≡ false → is_own d block s b ≡ true
       → S s b ≡ left_from d.signals.items choice block V block.body s b
   pub kept : (s b : ℕ) → is_register_bit d s b ≡ true
-      → ((block : Clocked) → Contains d.clocked.items block → is_active V block ≡ false → ¬ (block_drives d.signals.items s b block ≡ true)) → S s b ≡ V s b
+      → ((block : Clocked) → Contains d.clocked.items block → is_active V block ≡ false
+      → ¬ (block_drives d.signals.items s b block ≡ true)) → S s b ≡ V s b

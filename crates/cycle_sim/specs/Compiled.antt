@@ -26,7 +26,7 @@ use Rattle.cycle_code.specs.Fitting.{IsSound}
 use Rattle.cycle_code.specs.Running.{run}
 use Rattle.cycle_compile.specs.Compiling.{Leads, value_in}
 use Rattle.cycle_sim.specs.declared.mask.Mask.{Mask}
-use Rattle.cycle_sim.specs.declared.compiled.Range.{Range}
+use Rattle.cycle_code.specs.declared.range.Range.{Range}
 use Rattle.cycle_sim.specs.declared.compiled.Compiled.{Compiled}
 use Rattle.cycle_sim.specs.Masks.{assigns_now, covers, in_mask, left_in, with_own}
 
@@ -61,7 +61,8 @@ pub record Carries (p : Program) (range : Range) (statement : Stmt) : Type 0 whe
   pub within : range.from ≤ length p.instructions
   pub updates : (q : Program) (choice : Choice) (V : Valuation) → Grown p q → HasConstants q V
       → updates_in (count_of q) (run q choice range.to range.from V) ≡ after (signals_of q) choice statement (updates_in (count_of q) V)
-  pub spares : (q : Program) (choice : Choice) (V : Valuation) → Grown p q → HasConstants q V → Spares q V (run q choice range.to range.from V)
+  pub spares : (q : Program) (choice : Choice) (V : Valuation) → Grown p q → HasConstants q V
+      → Spares q V (run q choice range.to range.from V)
 
 -- a range carries out the drivers of some numbers in order
 pub record Drives (p : Program) (range : Range) (order : List ℕ) : Type 0 where
@@ -70,7 +71,8 @@ pub record Drives (p : Program) (range : Range) (order : List ℕ) : Type 0 wher
       → now_in q (run q choice range.to range.from V) ≡ with_drivers q.design choice order (now_in q V)
   pub later : (q : Program) (choice : Choice) (V : Valuation) → Grown p q → HasConstants q V → (s b : ℕ) → is_driven q.design s b ≡ false
       → later_in q (run q choice range.to range.from V) s b ≡ later_in q V s b
-  pub spares : (q : Program) (choice : Choice) (V : Valuation) → Grown p q → HasConstants q V → Spares q V (run q choice range.to range.from V)
+  pub spares : (q : Program) (choice : Choice) (V : Valuation) → Grown p q → HasConstants q V
+      → Spares q V (run q choice range.to range.from V)
 
 -- the range of a block's reset carries out the reset's values, where it has one
 abbrev pub CarriesReset : Program → Range → Clocked → Type 0
@@ -116,7 +118,8 @@ pub record Turned (p : Program) (count : ℕ) (words : Valuation) (drives : ℕ 
   pub keeps : Untouched (count_of p + count_of p) count V W
 
 -- a run goes on at a lower number with cells that are so
-pub record Left (p : Program) (choice : Choice) (at lower count : ℕ) (now : Valuation) (drives : ℕ → ℕ → Bool) (V : Valuation) : Type 0 where
+pub record Left (p : Program) (choice : Choice) (at lower count : ℕ) (now : Valuation) (drives : ℕ → ℕ → Bool)
+    (V : Valuation) : Type 0 where
   pub W : Valuation
   pub leads : Leads p choice at V lower W
   pub turned : Turned p count now drives V W

@@ -57,7 +57,8 @@ Replays d traces values (Some miss) = IsLeastMiss d traces values miss
 
 -- with the values of each of the sets from one number up to another each trace is right
 abbrev pub AllMeet : Design → List Trace → List SetWithValues → ℕ → ℕ → Type 0
-AllMeet d traces sets from to = (i : ℕ) (set : SetWithValues) → from ≤ i → i < to → slice_get sets i ≡ Some set → MeetAll d traces set.values
+AllMeet d traces sets from to =
+    (i : ℕ) (set : SetWithValues) → from ≤ i → i < to → slice_get sets i ≡ Some set → MeetAll d traces set.values
 
 -- a set whose values miss, with its least miss, where those from one number up to it don't
 pub record IsFirstToMiss (d : Design) (traces : List Trace) (sets : List SetWithValues) (from number : ℕ) (miss : Miss) : Type 0 where

@@ -20,7 +20,8 @@ is_full_bit signals s b = option_map_or (λ signal. is_reg signal.kind && nat_lt
 -- whether a clocked block assigns a bit; where only `=` is asked for, by it
 abbrev pub block_assigns : List Signal → Bool → Clocked → ℕ → ℕ → Bool
 block_assigns signals only_now block s b =
-    some_set (set_drives signals only_now s b) block.body || option_map_or (λ r. some_set (set_drives signals only_now s b) r.values) block.reset false
+    some_set (set_drives signals only_now s b) block.body || option_map_or
+    (λ r. some_set (set_drives signals only_now s b) r.values) block.reset false
 
 -- one more row of each kind
 pub record Pushed (d : Design) (block : Clocked) (old new : BlockMasks) : Type 0 where

@@ -48,7 +48,8 @@ abbrev pub choices_from : Values → ℕ → Choices
 choices_from values first t p = number_for values.places.items (row_at values (first + t)) p
 
 -- one cycle of a trace, begun in a state: its values, with the first output that is not right
-pub record CycleReplays (d : Design) (trace : Trace) (values : Values) (first t : ℕ) (state next : Valuation) (answer : Option ℕ) : Type 0 where
+pub record CycleReplays (d : Design) (trace : Trace) (values : Values) (first t : ℕ) (state next : Valuation)
+    (answer : Option ℕ) : Type 0 where
   pub now : Valuation
   pub cycle : Cycle d (samples_at d trace t) state (choice_at (is_one_of values.places.items) (choices_from values first) t) now next
   pub wrong : FirstWrong d (expected_at d trace t) now answer

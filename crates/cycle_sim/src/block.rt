@@ -4,9 +4,10 @@ ghost use Rattle.std.specs.Prelude.{◌≡◌, ◌<◌, ◌≤◌, ℕ, false, l
 ghost use Rattle.design_core.specs.declared.driver.Clocked.{Clocked};
 ghost use Rattle.design_core.specs.declared.statement.Stmt.{Stmt};
 ghost use Rattle.design_core.specs.Valuation.{Valuation};
-ghost use Rattle.design_core.specs.Words.{valuation_of, choice_of};
-ghost use Rattle.design_core.specs.Given.{AreChosen, CanRun};
+ghost use Rattle.design_core.specs.Words.{valuation_of};
+ghost use Rattle.design_core.specs.Given.{CanRun};
 ghost use Rattle.plain_sim.specs.EvaluateCycle.{blended};
+ghost use Rattle.cycle_code.specs.Choosing.{AreChoices, as_choice};
 ghost use Rattle.cycle_code.specs.Program.{program_of};
 ghost use Rattle.cycle_code.specs.Fitting.{IsSound};
 ghost use Rattle.cycle_sim.specs.Masks.{AreMasksOf, AreClockedMasks, covers, widths_of};
@@ -16,9 +17,8 @@ ghost use Rattle.design_core.specs.DrivenOnce.{IsDrivenOnce};
 ghost use Rattle.design_core.specs.Drives.{is_driven, is_register_bit};
 ghost use Rattle.cycle_sim.specs.Blocks.{WithReset, WithBody, AreReset, AreRun};
 
-use crate::compiled::Range;
 use crate::mask::{Mask, copy_bits};
-use cycle_code::{Code, run};
+use cycle_code::{Choices, Code, Range, run};
 use loc_base::{Bits, Rows};
 use plain_sim::is_active;
 
@@ -91,22 +91,21 @@ fn leave(
     range: Range,
     at_once: &[Mask],
     now: &[Mask],
-    freed: &[bool],
-    chosen: &[Bits],
+    choices: &Choices,
     cells: &mut [Bits],
 )
     requires sound { IsSound (program_of code.now) }
     requires within { range.from ≤ length (program_of code.now).instructions }
     requires at_once { AreMasksOf (widths_of code.now.design.now.signals.items) at_once.now }
     requires now { AreMasksOf (widths_of code.now.design.now.signals.items) now.now }
-    requires chosen { AreChosen code.now.design.now freed.now chosen.now }
+    requires choices { AreChoices code.now.design.now choices.now }
     requires cells { AreCells (program_of code.now) cells.old }
     ensures cells { AreCells (program_of code.now) cells.new }
     ensures left { (statement : Stmt) → CarriesWithin (program_of code.now) range at_once.now statement
-        → LeftBy (program_of code.now) (choice_of freed.now chosen.now) now.now statement (valuation_of cells.old) (valuation_of cells.new) }
+        → LeftBy (program_of code.now) (as_choice choices.now) now.now statement (valuation_of cells.old) (valuation_of cells.new) }
 {
     save(code, at_once, cells);
-    run(code, range.from, range.to, cells, freed, chosen);
+    run(code, range, choices, cells);
     settle(code, at_once, now, cells);
 }
 
@@ -117,8 +116,7 @@ fn reset_block(
     ranges: &[Range],
     i: usize,
     masks: &BlockMasks,
-    freed: &[bool],
-    chosen: &[Bits],
+    choices: &Choices,
     cells: &mut [Bits],
 )
     requires sound { IsSound (program_of code.now) }
@@ -126,11 +124,11 @@ fn reset_block(
     requires design { CanRun code.now.design.now }
     requires number { i < length code.now.design.now.clocked.items }
     requires masks { AreClockedMasks code.now.design.now masks.now.own masks.now.at_once masks.now.now }
-    requires chosen { AreChosen code.now.design.now freed.now chosen.now }
+    requires choices { AreChoices code.now.design.now choices.now }
     requires cells { AreCells (program_of code.now) cells.old }
     ensures cells { AreCells (program_of code.now) cells.new }
     ensures reset { (block : Clocked) → slice_get code.now.design.now.clocked.items i ≡ Some block
-        → WithReset code.now.design.now (choice_of freed.now chosen.now) block (now_in (program_of code.now) (valuation_of cells.old)) (later_in (program_of code.now) (valuation_of cells.old))
+        → WithReset code.now.design.now (as_choice choices.now) block (now_in (program_of code.now) (valuation_of cells.old)) (later_in (program_of code.now) (valuation_of cells.old))
         (now_in (program_of code.now) (valuation_of cells.new)) (later_in (program_of code.now) (valuation_of cells.new)) }
 {
     let block = &code.design.clocked[i];
@@ -143,8 +141,7 @@ fn reset_block(
             ranges[i],
             masks.at_once.row(i),
             masks.now.row(i),
-            freed,
-            chosen,
+            choices,
             cells,
         );
         take(code, masks.own.row(i), cells);
@@ -156,24 +153,23 @@ pub(crate) fn reset_blocks(
     code: &Code,
     ranges: &[Range],
     masks: &BlockMasks,
-    freed: &[bool],
-    chosen: &[Bits],
+    choices: &Choices,
     cells: &mut [Bits],
 )
     requires sound { IsSound (program_of code.now) }
     requires resets { AreResets (program_of code.now) code.now.design.now.clocked.items ranges.now }
     requires design { CanRun code.now.design.now }
     requires masks { AreClockedMasks code.now.design.now masks.now.own masks.now.at_once masks.now.now }
-    requires chosen { AreChosen code.now.design.now freed.now chosen.now }
+    requires choices { AreChoices code.now.design.now choices.now }
     requires cells { AreCells (program_of code.now) cells.old }
     ensures cells { AreCells (program_of code.now) cells.new }
     ensures reset { IsWellFormed code.now.design.now → IsDrivenOnce code.now.design.now
         → ((s b : ℕ) → is_register_bit code.now.design.now s b ≡ true → later_in (program_of code.now) (valuation_of cells.old) s b ≡ now_in (program_of code.now) (valuation_of cells.old) s b)
         → (E : Valuation) → ((s b : ℕ) → is_driven code.now.design.now s b ≡ false → now_in (program_of code.now) (valuation_of cells.old) s b ≡ E s b)
-        → AreReset code.now.design.now (choice_of freed.now chosen.now) E (now_in (program_of code.now) (valuation_of cells.new)) (later_in (program_of code.now) (valuation_of cells.new)) }
+        → AreReset code.now.design.now (as_choice choices.now) E (now_in (program_of code.now) (valuation_of cells.new)) (later_in (program_of code.now) (valuation_of cells.new)) }
 {
     for i in 0..code.design.clocked.len() {
-        reset_block(code, ranges, i, masks, freed, chosen, cells);
+        reset_block(code, ranges, i, masks, choices, cells);
     }
 }
 
@@ -183,8 +179,7 @@ fn run_block(
     ranges: &[Range],
     i: usize,
     masks: &BlockMasks,
-    freed: &[bool],
-    chosen: &[Bits],
+    choices: &Choices,
     cells: &mut [Bits],
 )
     requires sound { IsSound (program_of code.now) }
@@ -192,12 +187,12 @@ fn run_block(
     requires design { CanRun code.now.design.now }
     requires number { i < length code.now.design.now.clocked.items }
     requires masks { AreClockedMasks code.now.design.now masks.now.own masks.now.at_once masks.now.now }
-    requires chosen { AreChosen code.now.design.now freed.now chosen.now }
+    requires choices { AreChoices code.now.design.now choices.now }
     requires cells { AreCells (program_of code.now) cells.old }
     ensures cells { AreCells (program_of code.now) cells.new }
     ensures same { now_in (program_of code.now) (valuation_of cells.new) ≡ now_in (program_of code.now) (valuation_of cells.old) }
     ensures run { (block : Clocked) → slice_get code.now.design.now.clocked.items i ≡ Some block
-        → WithBody code.now.design.now (choice_of freed.now chosen.now) block (now_in (program_of code.now) (valuation_of cells.old)) (later_in (program_of code.now) (valuation_of cells.old)) (later_in (program_of code.now) (valuation_of cells.new)) }
+        → WithBody code.now.design.now (as_choice choices.now) block (now_in (program_of code.now) (valuation_of cells.old)) (later_in (program_of code.now) (valuation_of cells.old)) (later_in (program_of code.now) (valuation_of cells.new)) }
 {
     let block = &code.design.clocked[i];
     if is_active(&cells[..code.design.signals.len()], block) {
@@ -208,8 +203,7 @@ fn run_block(
         ranges[i],
         masks.at_once.row(i),
         masks.now.row(i),
-        freed,
-        chosen,
+        choices,
         cells,
     );
 }
@@ -220,23 +214,22 @@ pub(crate) fn run_blocks(
     code: &Code,
     ranges: &[Range],
     masks: &BlockMasks,
-    freed: &[bool],
-    chosen: &[Bits],
+    choices: &Choices,
     cells: &mut [Bits],
 )
     requires sound { IsSound (program_of code.now) }
     requires bodies { AreBodies (program_of code.now) code.now.design.now.clocked.items ranges.now }
     requires design { CanRun code.now.design.now }
     requires masks { AreClockedMasks code.now.design.now masks.now.own masks.now.at_once masks.now.now }
-    requires chosen { AreChosen code.now.design.now freed.now chosen.now }
+    requires choices { AreChoices code.now.design.now choices.now }
     requires cells { AreCells (program_of code.now) cells.old }
     ensures cells { AreCells (program_of code.now) cells.new }
     ensures same { now_in (program_of code.now) (valuation_of cells.new) ≡ now_in (program_of code.now) (valuation_of cells.old) }
     ensures run { IsWellFormed code.now.design.now → IsDrivenOnce code.now.design.now
         → ((s b : ℕ) → is_register_bit code.now.design.now s b ≡ true → later_in (program_of code.now) (valuation_of cells.old) s b ≡ now_in (program_of code.now) (valuation_of cells.old) s b)
-        → AreRun code.now.design.now (choice_of freed.now chosen.now) (now_in (program_of code.now) (valuation_of cells.old)) (later_in (program_of code.now) (valuation_of cells.new)) }
+        → AreRun code.now.design.now (as_choice choices.now) (now_in (program_of code.now) (valuation_of cells.old)) (later_in (program_of code.now) (valuation_of cells.new)) }
 {
     for i in 0..code.design.clocked.len() {
-        run_block(code, ranges, i, masks, freed, chosen, cells);
+        run_block(code, ranges, i, masks, choices, cells);
     }
 }

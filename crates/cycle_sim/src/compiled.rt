@@ -12,19 +12,11 @@ ghost use Rattle.cycle_sim.specs.Masks.{AreMasksFor, AreMasksOf, AreDriverMasks,
 ghost use Rattle.cycle_sim.specs.Compiled.{AreBodies, AreResets, Carries, CarriesReset, Drives, IsCompiled, Pushes, cleared_now, driver_now, masked_now, none, number_now, parts_now, put_now, stored_now, whole_now};
 
 use crate::mask::{Mask, mask_at};
-use crate::whole::whole_signal;
-use cycle_code::{Code, Instruction};
-use cycle_compile::{carry_out, compute, place};
+use cycle_code::{Code, Instruction, Range};
+use cycle_compile::{carry_out, compute, place, whole_of};
 use design_core::{BinaryOp, Clocked, Design, Driver, Stmt, Target, Typed};
 use loc_base::{NoMemory, Rows};
 use std::alloc::Global;
-
-/// Some instructions: a run begins at `from`, and goes down to `to`.
-#[derive(Clone, Copy, Drop)]
-pub(crate) struct Range {
-    pub(crate) from: usize,
-    pub(crate) to: usize,
-}
 
 /// The instructions of a design.
 #[derive(Drop)]
@@ -209,7 +201,7 @@ fn drive<'a>(code: &mut Code<'a>, masks: &[Mask], driver: &'a Driver) -> Result<
             value,
             place,
             ..
-        } => match whole_signal(&target.parts) {
+        } => match whole_of(&target.parts) {
             Some(signal) => assign_whole(code, signal, *place, value),
             None => assign_parts(code, masks, target, *place, value),
         },

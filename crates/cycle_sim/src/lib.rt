@@ -14,7 +14,6 @@ mod plan;
 mod registers;
 mod sim;
 mod suited;
-mod whole;
 
 pub use miss::Miss;
 pub use miss_search::replay;

@@ -7,9 +7,9 @@ ghost use Rattle.design_core.specs.Valuation.{width_at};
 ghost use Rattle.design_core.specs.TraceFits.{samples_fit};
 ghost use Rattle.design_core.specs.Constant.{zeros};
 ghost use Rattle.design_core.specs.WellFormed.{signal_fits};
-ghost use Rattle.design_core.specs.Words.{choice_of, valuation_of, AreWordsOf};
-ghost use Rattle.design_core.specs.Given.{AreChosen};
+ghost use Rattle.design_core.specs.Words.{valuation_of, AreWordsOf};
 ghost use Rattle.cycle_sim.specs.Simulated.{CanSimulate, IsSimulable, at_start, Steps};
+ghost use Rattle.cycle_code.specs.Choosing.{AreChoices, as_choice};
 ghost use Rattle.cycle_code.specs.Program.{program_of};
 ghost use Rattle.cycle_code.specs.Fitting.{IsSound};
 ghost use Rattle.cycle_sim.specs.Compiled.{AreCells, IsCompiled, now_in, later_in};
@@ -21,7 +21,7 @@ use crate::begin::begin_cells;
 use crate::block::{reset_blocks, run_blocks};
 use crate::compiled::{Compiled, compile};
 use crate::plan::{Plan, plan_of, signal_at};
-use cycle_code::{Code, run};
+use cycle_code::{Choices, Code, run};
 use design_core::types::Order;
 use design_core::{Design, Signal};
 use loc_base::{Bits, NoMemory};
@@ -97,36 +97,28 @@ fn make_cycle(
     order: &[u32],
     plan: &Plan,
     samples: &[Bits],
-    freed: &[bool],
-    chosen: &[Bits],
+    choices: &Choices,
     cells: &mut [Bits],
 )
     requires can { CanSimulate compiled.now.code.design.now order.now }
     requires compiled { IsCompiled compiled.now.code.design.now order.now compiled.now }
     requires plan { IsPlan compiled.now.code.design.now plan.now }
     requires samples { IsTrue (samples_fit compiled.now.code.design.now.signals.items compiled.now.code.design.now.inputs.items samples.now) }
-    requires chosen { AreChosen compiled.now.code.design.now freed.now chosen.now }
+    requires choices { AreChoices compiled.now.code.design.now choices.now }
     requires cells { AreCells (program_of compiled.now.code) cells.old }
     ensures cells { AreCells (program_of compiled.now.code) cells.new }
     ensures cycle { IsSimulable compiled.now.code.design.now order.now
         → AreQuiet compiled.now.code.design.now (now_in (program_of compiled.now.code) (valuation_of cells.old))
         → Cycle compiled.now.code.design.now samples.now
-        (kept compiled.now.code.design.now (later_in (program_of compiled.now.code) (valuation_of cells.old))) (choice_of freed.now chosen.now)
+        (kept compiled.now.code.design.now (later_in (program_of compiled.now.code) (valuation_of cells.old))) (as_choice choices.now)
         (now_in (program_of compiled.now.code) (valuation_of cells.new))
         (kept compiled.now.code.design.now (later_in (program_of compiled.now.code) (valuation_of cells.new))) }
 {
     let code = &compiled.code;
     begin_cells(code, &plan.registers, samples, cells);
-    reset_blocks(code, &compiled.resets, &plan.blocks, freed, chosen, cells);
-    run(
-        code,
-        compiled.drivers.from,
-        compiled.drivers.to,
-        cells,
-        freed,
-        chosen,
-    );
-    run_blocks(code, &compiled.bodies, &plan.blocks, freed, chosen, cells);
+    reset_blocks(code, &compiled.resets, &plan.blocks, choices, cells);
+    run(code, compiled.drivers, choices, cells);
+    run_blocks(code, &compiled.bodies, &plan.blocks, choices, cells);
 }
 
 impl<'a> Machine<'a> {
@@ -182,22 +174,20 @@ impl<'a> Machine<'a> {
     }
 
     /// Makes the cycle for these samples of the inputs, one for each: leaves its values to be read, and moves the states to
-    /// the next ones. `freed` and `chosen` have one entry for each place of the design: whether it is freed, and the value
-    /// that it then takes. Takes no memory.
-    pub(crate) fn step(&mut self, samples: &[Bits], freed: &[bool], chosen: &[Bits])
+    /// the next ones. Takes no memory.
+    pub(crate) fn step(&mut self, samples: &[Bits], choices: &Choices)
         requires holding { IsHolding self.old }
         requires samples { IsTrue (samples_fit self.old.design.now.signals.items self.old.design.now.inputs.items samples.now) }
-        requires chosen { AreChosen self.old.design.now freed.now chosen.now }
+        requires choices { AreChoices self.old.design.now choices.now }
         ensures holding { IsHolding self.new }
-        ensures step { Steps samples.now (choice_of freed.now chosen.now) (simulated_of self.old) (simulated_of self.new) }
+        ensures step { Steps samples.now (as_choice choices.now) (simulated_of self.old) (simulated_of self.new) }
     {
         make_cycle(
             &self.compiled,
             self.order,
             &self.plan,
             samples,
-            freed,
-            chosen,
+            choices,
             &mut self.cells,
         );
     }

@@ -16,6 +16,7 @@ use crate::compiled::number_at;
 use crate::machine::Machine;
 use crate::miss::Miss;
 use crate::sim::Sim;
+use cycle_code::Choices;
 use design_core::{Checked, Design, Trace, Values};
 use loc_base::Bits;
 use plain_sim::is_right;
@@ -110,7 +111,11 @@ fn replay_cycle(
     let chosen = row(&values.rows, values.places.len(), first + t as usize);
     choose(&values.places, chosen, choice);
     let samples = row(&trace.inputs, design.inputs.len(), t as usize);
-    machine.step(samples, freed, choice);
+    let choices = Choices {
+        freed,
+        chosen: choice,
+    };
+    machine.step(samples, &choices);
     let expected = row(&trace.expected, design.outputs.len(), t as usize);
     first_wrong(design, expected, machine.values())
 }

@@ -10,6 +10,7 @@ ghost use Rattle.cycle_sim.specs.Simulated.{CanSimulate, at_start, Steps};
 ghost use Rattle.cycle_sim.specs.Simulator.{IsSim, held_by};
 
 use crate::machine::Machine;
+use cycle_code::Choices;
 use design_core::Design;
 use design_core::types::Order;
 use loc_base::{Bits, NoMemory};
@@ -74,7 +75,11 @@ impl<'a> Sim<'a> {
         ensures sim { IsSim self.new }
         ensures step { Steps samples.now (choice_of freed.now choice.now) (held_by self.old) (held_by self.new) }
     {
-        self.machine.step(samples, freed, choice);
+        let choices = Choices {
+            freed,
+            chosen: choice,
+        };
+        self.machine.step(samples, &choices);
     }
 
     /// Goes back to where `new` began. Takes no memory.

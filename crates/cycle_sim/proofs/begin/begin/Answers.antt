@@ -8,4 +8,5 @@ use Rattle.cycle_sim.proofs.begin.begin.Goals as goal
 pub returns-clause-value : goal.returns-clause-value
 returns-clause-value c s b =
     c.load-2.ensures.value s b
-    ∙ ap (λ (X : Valuation). if is_listed c.args.design.now s then sampled c.args.design.now.inputs.items c.args.samples.now s b else X s b) c.load.ensures.value
+    ∙ ap (λ (X : Valuation). if is_listed c.args.design.now s then sampled c.args.design.now.inputs.items c.args.samples.now s
+    b else X s b) c.load.ensures.value

@@ -1,5 +1,6 @@
 use Rattle.std.proofs.Common.{◌≡◌, ℕ, true}
-use Rattle.design_core.specs.Words.{valuation_of, choice_of}
+use Rattle.design_core.specs.Words.{valuation_of}
+use Rattle.cycle_code.specs.Choosing.{as_choice}
 use Rattle.design_core.specs.Drives.{is_register_bit}
 use Rattle.design_core.specs.WellFormed.{IsWellFormed}
 use Rattle.design_core.specs.DrivenOnce.{IsDrivenOnce}
@@ -14,6 +15,9 @@ invariant-loop-i l =
       cells : AreCells (program_of l.code) l.cells;
       same : now_in (program_of l.code) (valuation_of l.cells) ≡ now_in (program_of l.code) (valuation_of l.initial.cells);
       run : IsWellFormed l.code.design.now → IsDrivenOnce l.code.design.now
-          → ((s b : ℕ) → is_register_bit l.code.design.now s b ≡ true → later_in (program_of l.code) (valuation_of l.initial.cells) s b ≡ now_in (program_of l.code) (valuation_of l.initial.cells) s b)
-          → RunSoFar l.code.design.now (choice_of l.freed l.chosen) (now_in (program_of l.code) (valuation_of l.initial.cells)) (later_in (program_of l.code) (valuation_of l.cells)) l.i;
+          → ((s b : ℕ) → is_register_bit l.code.design.now s b ≡ true
+          → later_in (program_of l.code) (valuation_of l.initial.cells) s b
+          ≡ now_in (program_of l.code) (valuation_of l.initial.cells) s b)
+          → RunSoFar l.code.design.now (as_choice l.choices) (now_in (program_of l.code) (valuation_of l.initial.cells))
+          (later_in (program_of l.code) (valuation_of l.cells)) l.i;
     }

@@ -9,36 +9,50 @@ use Rattle.cycle_sim.proofs.block.settle.Goals as goal
 
 pub copy_bits-requires-clause-fits : goal.copy_bits-requires-clause-fits
 copy_bits-requires-clause-fits c =
-    let parts = parts-of (program_of c.args.code.now) c.args.cells.now c.split_at_mut-values.result.0.now c.split_at_mut-values.result.1.now c.split_at_mut-state.result.0.now c.split_at_mut-state.result.1.now
-    c.split_at_mut-room.result.0.now c.split_at_mut-room.result.1.now c.len-count.result c.requires.sound c.requires.cells (omega (arith, c.len-count.ensures, c.args.code.now.design.now.signals.ok.0))
-    c.split_at_mut-values.ensures.front c.split_at_mut-values.ensures.back c.split_at_mut-state.ensures.front c.split_at_mut-state.ensures.back
+    let parts = parts-of (program_of c.args.code.now) c.args.cells.now c.split_at_mut-values.result.0.now
+    c.split_at_mut-values.result.1.now c.split_at_mut-state.result.0.now c.split_at_mut-state.result.1.now
+    c.split_at_mut-room.result.0.now c.split_at_mut-room.result.1.now c.len-count.result c.requires.sound c.requires.cells
+    (omega (arith, c.len-count.ensures, c.args.code.now.design.now.signals.ok.0))
+    c.split_at_mut-values.ensures.front c.split_at_mut-values.ensures.back c.split_at_mut-state.ensures.front
+    c.split_at_mut-state.ensures.back
     c.split_at_mut-room.ensures.front c.split_at_mut-room.ensures.back in
     subst (λ ws. AreMasksOf ws c.args.now.now) (sym parts.later_fit.widths) c.requires.now
 
 pub copy_bits-requires-clause-from : goal.copy_bits-requires-clause-from
 copy_bits-requires-clause-from c =
-    let parts = parts-of (program_of c.args.code.now) c.args.cells.now c.split_at_mut-values.result.0.now c.split_at_mut-values.result.1.now c.split_at_mut-state.result.0.now c.split_at_mut-state.result.1.now
-    c.split_at_mut-room.result.0.now c.split_at_mut-room.result.1.now c.len-count.result c.requires.sound c.requires.cells (omega (arith, c.len-count.ensures, c.args.code.now.design.now.signals.ok.0))
-    c.split_at_mut-values.ensures.front c.split_at_mut-values.ensures.back c.split_at_mut-state.ensures.front c.split_at_mut-state.ensures.back
+    let parts = parts-of (program_of c.args.code.now) c.args.cells.now c.split_at_mut-values.result.0.now
+    c.split_at_mut-values.result.1.now c.split_at_mut-state.result.0.now c.split_at_mut-state.result.1.now
+    c.split_at_mut-room.result.0.now c.split_at_mut-room.result.1.now c.len-count.result c.requires.sound c.requires.cells
+    (omega (arith, c.len-count.ensures, c.args.code.now.design.now.signals.ok.0))
+    c.split_at_mut-values.ensures.front c.split_at_mut-values.ensures.back c.split_at_mut-state.ensures.front
+    c.split_at_mut-state.ensures.back
     c.split_at_mut-room.ensures.front c.split_at_mut-room.ensures.back in
     parts.now_fit.widths ∙ sym parts.later_fit.widths
 
 pub copy_bits-requires-2-clause-from : goal.copy_bits-requires-2-clause-from
 copy_bits-requires-2-clause-from c =
-    let parts = parts-of (program_of c.args.code.now) c.args.cells.now c.split_at_mut-values.result.0.now c.split_at_mut-values.result.1.now c.split_at_mut-state.result.0.now c.split_at_mut-state.result.1.now
-    c.split_at_mut-room.result.0.now c.split_at_mut-room.result.1.now c.len-count.result c.requires.sound c.requires.cells (omega (arith, c.len-count.ensures, c.args.code.now.design.now.signals.ok.0))
-    c.split_at_mut-values.ensures.front c.split_at_mut-values.ensures.back c.split_at_mut-state.ensures.front c.split_at_mut-state.ensures.back
+    let parts = parts-of (program_of c.args.code.now) c.args.cells.now c.split_at_mut-values.result.0.now
+    c.split_at_mut-values.result.1.now c.split_at_mut-state.result.0.now c.split_at_mut-state.result.1.now
+    c.split_at_mut-room.result.0.now c.split_at_mut-room.result.1.now c.len-count.result c.requires.sound c.requires.cells
+    (omega (arith, c.len-count.ensures, c.args.code.now.design.now.signals.ok.0))
+    c.split_at_mut-values.ensures.front c.split_at_mut-values.ensures.back c.split_at_mut-state.ensures.front
+    c.split_at_mut-state.ensures.back
     c.split_at_mut-room.ensures.front c.split_at_mut-room.ensures.back in
     parts.room_fit.widths ∙ sym parts.now_fit.widths
 
 pub returns : goal.returns
 returns c =
-    let parts = parts-of (program_of c.args.code.now) c.args.cells.now c.split_at_mut-values.result.0.now c.split_at_mut-values.result.1.now c.split_at_mut-state.result.0.now c.split_at_mut-state.result.1.now
-    c.split_at_mut-room.result.0.now c.split_at_mut-room.result.1.now c.len-count.result c.requires.sound c.requires.cells (omega (arith, c.len-count.ensures, c.args.code.now.design.now.signals.ok.0))
-    c.split_at_mut-values.ensures.front c.split_at_mut-values.ensures.back c.split_at_mut-state.ensures.front c.split_at_mut-state.ensures.back
+    let parts = parts-of (program_of c.args.code.now) c.args.cells.now c.split_at_mut-values.result.0.now
+    c.split_at_mut-values.result.1.now c.split_at_mut-state.result.0.now c.split_at_mut-state.result.1.now
+    c.split_at_mut-room.result.0.now c.split_at_mut-room.result.1.now c.len-count.result c.requires.sound c.requires.cells
+    (omega (arith, c.len-count.ensures, c.args.code.now.design.now.signals.ok.0))
+    c.split_at_mut-values.ensures.front c.split_at_mut-values.ensures.back c.split_at_mut-state.ensures.front
+    c.split_at_mut-state.ensures.back
     c.split_at_mut-room.ensures.front c.split_at_mut-room.ensures.back in
-    let left = three-replaced (program_of c.args.code.now) c.args.cells.now c.copy_bits-2.new.to c.copy_bits.new.to c.split_at_mut-room.result.0.now c.split_at_mut-room.result.1.now c.requires.sound c.requires.cells parts.own_is
-    (record { widths = c.copy_bits-2.ensures.widths ∙ parts.now_fit.widths }) (record { widths = c.copy_bits.ensures.widths ∙ parts.later_fit.widths }) parts.room_fit in
+    let left = three-replaced (program_of c.args.code.now) c.args.cells.now c.copy_bits-2.new.to c.copy_bits.new.to
+    c.split_at_mut-room.result.0.now c.split_at_mut-room.result.1.now c.requires.sound c.requires.cells parts.own_is
+    (record { widths = c.copy_bits-2.ensures.widths ∙ parts.now_fit.widths })
+    (record { widths = c.copy_bits.ensures.widths ∙ parts.later_fit.widths }) parts.room_fit in
     record {
       cells = left.cells;
       now = left.now ∙ c.copy_bits-2.ensures.value

@@ -18,7 +18,8 @@ unwrap-requires c =
     c.new.ensures.some.1 (bounds.0, bounds.1, omega (arith, number-below c.signal_at.result.now.width f, c.part_value.ensures))
 
 pub returns-clause-width : goal.returns-clause-width
-returns-clause-width c = rw c.unwrap.ensures at c.new.ensures.width ∙ sym (ap (λ o. option_map_or (λ (s : Signal). s.width) o 0) c.signal_at.ensures)
+returns-clause-width c =
+    rw c.unwrap.ensures at c.new.ensures.width ∙ sym (ap (λ o. option_map_or (λ (s : Signal). s.width) o 0) c.signal_at.ensures)
 
 pub returns-clause-value : goal.returns-clause-value
 returns-clause-value c =

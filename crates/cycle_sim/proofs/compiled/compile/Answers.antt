@@ -18,6 +18,8 @@ returns c =
       sound = c.in_ok-resets.ensures.sound;
       drivers = Drives-grown driven new c.in_ok-drivers.drivers c.args.order.now grown c.in_ok-drivers.ensures.drives;
       bodies = subst (λ (blocks : List Clocked). AreBodies new blocks c.in_ok-bodies.bodies.items) c.deref.ensures.value
-          (AreBodies-grown carried new c.deref.result.now c.in_ok-bodies.bodies.items c.in_ok-resets.ensures.grown c.in_ok-bodies.ensures.bodies);
-      resets = subst (λ (blocks : List Clocked). AreResets new blocks c.in_ok-resets.resets.items) c.deref-2.ensures.value c.in_ok-resets.ensures.resets;
+          (AreBodies-grown carried new c.deref.result.now c.in_ok-bodies.bodies.items c.in_ok-resets.ensures.grown
+          c.in_ok-bodies.ensures.bodies);
+      resets = subst (λ (blocks : List Clocked). AreResets new blocks c.in_ok-resets.resets.items) c.deref-2.ensures.value
+          c.in_ok-resets.ensures.resets;
     }

@@ -19,5 +19,6 @@ loop-k-preserved c =
 
 pub returns-clause-value : goal.returns-clause-value
 returns-clause-value c =
-    sym (ap (λ masks. blended (covers masks) zeros (valuation_of c.loop-k.words)) (drop_all c.loop-k.k c.args.masks.now (omega (arith, c.loop-k-test.false))))
+    sym (ap (λ masks. blended (covers masks) zeros (valuation_of c.loop-k.words))
+    (drop_all c.loop-k.k c.args.masks.now (omega (arith, c.loop-k-test.false))))
     ∙ c.loop-k.invariant.value

@@ -10,5 +10,6 @@ abbrev pub invariant-loop-k : goal.invariant-loop-k
 invariant-loop-k l =
     record {
       widths : map width_of l.words ≡ map width_of l.initial.words;
-      value : blended (covers (drop l.k l.masks)) zeros (valuation_of l.words) ≡ blended (covers l.masks) zeros (valuation_of l.initial.words);
+      value : blended (covers (drop l.k l.masks)) zeros (valuation_of l.words)
+          ≡ blended (covers l.masks) zeros (valuation_of l.initial.words);
     }

@@ -9,5 +9,6 @@ abbrev pub invariant-loop-k : goal.invariant-loop-k
 invariant-loop-k l =
     record {
       widths : map width_of l.to ≡ map width_of l.initial.to;
-      value : blended (covers (drop l.k l.masks)) (valuation_of l.from) (valuation_of l.to) ≡ blended (covers l.masks) (valuation_of l.from) (valuation_of l.initial.to);
+      value : blended (covers (drop l.k l.masks)) (valuation_of l.from) (valuation_of l.to)
+          ≡ blended (covers l.masks) (valuation_of l.from) (valuation_of l.initial.to);
     }

@@ -25,12 +25,17 @@ loop-left-preserved c =
     let k : ℕ = c.loop-left.left - 1 in
     let below : k < length c.args.places.now = omega (arith, c.loop-left-test.true, c.loop-left.invariant.most) in
     let next : c.loop-left.left ≡ k + 1 = omega (arith, c.loop-left-test.true) in
-    let which : get_or c.args.places.now k 0 ≡ c.number_at.result = get_or_from_slice_get c.args.places.now k c.number_at.result 0 c.number_at.ensures in
-    let inside : get_or c.args.places.now k 0 < length c.loop-left.choice = omega (arith, c.requires.places k 0 below, c.loop-left.invariant.length) in
+    let which : get_or c.args.places.now k 0 ≡ c.number_at.result =
+    get_or_from_slice_get c.args.places.now k c.number_at.result 0 c.number_at.ensures in
+    let inside : get_or c.args.places.now k 0 < length c.loop-left.choice =
+    omega (arith, c.requires.places k 0 below, c.loop-left.invariant.length) in
     record {
       most = omega (arith, c.loop-left.invariant.most);
       length = length-set c.loop-left.choice c.number_at.result c.index-row-left.result ∙ c.loop-left.invariant.length;
-      value = subst (λ n. ChosenSoFar c.args.places.now c.args.row.now c.args.choice.now (set c.loop-left.choice n c.index-row-left.result) k) which
-          (chosen-next c.args.places.now c.args.row.now c.args.choice.now c.loop-left.choice k c.index-row-left.result below (omega (arith, below, c.requires.row)) c.index-row-left.is inside
-          (subst (λ n. ChosenSoFar c.args.places.now c.args.row.now c.args.choice.now c.loop-left.choice n) next c.loop-left.invariant.value));
+      value = subst (λ n. ChosenSoFar c.args.places.now c.args.row.now c.args.choice.now
+          (set c.loop-left.choice n c.index-row-left.result) k) which
+          (chosen-next c.args.places.now c.args.row.now c.args.choice.now c.loop-left.choice k c.index-row-left.result below
+          (omega (arith, below, c.requires.row)) c.index-row-left.is inside
+          (subst (λ n. ChosenSoFar c.args.places.now c.args.row.now c.args.choice.now c.loop-left.choice n) next
+          c.loop-left.invariant.value));
     }

@@ -7,17 +7,21 @@ use Rattle.cycle_sim.proofs.miss_search.free_places.Goals as goal
 pub bounds-freed-number_at : goal.bounds-freed-number_at
 bounds-freed-number_at c =
     let is = sym (get_or_from_slice_get c.args.places.now c.loop-k.k c.number_at.result c.number_at.result c.number_at.ensures) in
-    subst (λ n. n < length c.loop-k.freed) (sym is) (omega (arith, c.requires c.loop-k.k c.number_at.result c.loop-k-test.true, c.loop-k.invariant.length))
+    subst (λ n. n < length c.loop-k.freed) (sym is)
+    (omega (arith, c.requires c.loop-k.k c.number_at.result c.loop-k-test.true, c.loop-k.invariant.length))
 
 pub loop-k-preserved : goal.loop-k-preserved
 loop-k-preserved c =
     let is = sym (get_or_from_slice_get c.args.places.now c.loop-k.k c.number_at.result c.number_at.result c.number_at.ensures) in
     let inside : c.number_at.result < length c.loop-k.freed =
-    subst (λ n. n < length c.loop-k.freed) (sym is) (omega (arith, c.requires c.loop-k.k c.number_at.result c.loop-k-test.true, c.loop-k.invariant.length)) in
+    subst (λ n. n < length c.loop-k.freed) (sym is)
+    (omega (arith, c.requires c.loop-k.k c.number_at.result c.loop-k-test.true, c.loop-k.invariant.length)) in
     record {
       length = length-set c.loop-k.freed c.number_at.result true ∙ c.loop-k.invariant.length;
-      freed = λ p. freed-next c.args.places.now c.loop-k.freed c.loop-k.k c.number_at.result c.loop-k-test.true is inside p ∙ c.loop-k.invariant.freed p;
+      freed = λ p. freed-next c.args.places.now c.loop-k.freed c.loop-k.k c.number_at.result c.loop-k-test.true is inside p
+          ∙ c.loop-k.invariant.freed p;
     }
 
 pub returns-clause-freed : goal.returns-clause-freed
-returns-clause-freed c p = freed-end c.args.places.now c.loop-k.freed c.loop-k.k p _ (omega (arith, c.loop-k-test.false)) (c.loop-k.invariant.freed p)
+returns-clause-freed c p =
+    freed-end c.args.places.now c.loop-k.freed c.loop-k.k p _ (omega (arith, c.loop-k-test.false)) (c.loop-k.invariant.freed p)

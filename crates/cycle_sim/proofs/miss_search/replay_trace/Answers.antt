@@ -19,7 +19,8 @@ loop-t-init c =
       ready = c.requires.ready;
       run = λ k. (
         [],
-        run-begin c.args.machine.now.design.now c.args.trace.now (is_one_of values.places.items) (choices_from values c.args.first) (simulated_of c.args.machine.now).state
+        run-begin c.args.machine.now.design.now c.args.trace.now (is_one_of values.places.items)
+            (choices_from values c.args.first) (simulated_of c.args.machine.now).state
             (ap (λ (s : Simulated). s.state) c.requires.start),
       );
     }
@@ -37,10 +38,12 @@ loop-t-preserved c =
       run = λ k.
           let (front, to) = c.loop-t.invariant.run k in
           let r =
-          moved d c.loop-t.machine.design.now c.args.machine.now.order.now c.loop-t.machine.order.now c.args.trace.now values c.args.first c.loop-t.t (simulated_of c.loop-t.machine).state (simulated_of c.replay_cycle.new.machine).state None
+          moved d c.loop-t.machine.design.now c.args.machine.now.order.now c.loop-t.machine.order.now c.args.trace.now values
+          c.args.first c.loop-t.t (simulated_of c.loop-t.machine).state (simulated_of c.replay_cycle.new.machine).state None
           c.loop-t.invariant.design c.loop-t.invariant.order c.in_default.ensures.answer k in (
             front ++ r.now ∷ [],
-            run-next d c.args.trace.now (is_one_of values.places.items) (choices_from values c.args.first) c.loop-t.t (simulated_of c.loop-t.machine).state r.now (simulated_of c.replay_cycle.new.machine).state front
+            run-next d c.args.trace.now (is_one_of values.places.items) (choices_from values c.args.first) c.loop-t.t
+                (simulated_of c.loop-t.machine).state r.now (simulated_of c.replay_cycle.new.machine).state front
                 c.loop-t-test.true to r.cycle r.wrong,
           );
     }
@@ -51,9 +54,12 @@ returns-in-Some-clause-answer c k =
     let values : Values = c.args.values.now in
     let (front, to) = c.loop-t.invariant.run k in
     let r =
-    moved d c.loop-t.machine.design.now c.args.machine.now.order.now c.loop-t.machine.order.now c.args.trace.now values c.args.first c.loop-t.t (simulated_of c.loop-t.machine).state (simulated_of c.replay_cycle.new.machine).state (Some c.in-Some.output)
+    moved d c.loop-t.machine.design.now c.args.machine.now.order.now c.loop-t.machine.order.now c.args.trace.now values
+    c.args.first c.loop-t.t (simulated_of c.loop-t.machine).state (simulated_of c.replay_cycle.new.machine).state
+    (Some c.in-Some.output)
     c.loop-t.invariant.design c.loop-t.invariant.order c.in-Some.ensures.answer k in
-    run-misses d c.args.machine.now.order.now k c.args.trace.now (is_one_of values.places.items) (choices_from values c.args.first) c.loop-t.t c.in-Some.output
+    run-misses d c.args.machine.now.order.now k c.args.trace.now (is_one_of values.places.items)
+    (choices_from values c.args.first) c.loop-t.t c.in-Some.output
     (simulated_of c.loop-t.machine).state r.now (simulated_of c.replay_cycle.new.machine).state front c.loop-t-test.true to r.cycle r.wrong
 
 pub returns-clause-answer : goal.returns-clause-answer
@@ -61,5 +67,6 @@ returns-clause-answer c k =
     let d : Design = c.args.machine.now.design.now in
     let values : Values = c.args.values.now in
     let (front, to) = c.loop-t.invariant.run k in
-    run-end d c.args.trace.now (is_one_of values.places.items) (choices_from values c.args.first) c.loop-t.t (simulated_of c.loop-t.machine).state front
+    run-end d c.args.trace.now (is_one_of values.places.items) (choices_from values c.args.first) c.loop-t.t
+    (simulated_of c.loop-t.machine).state front
     (omega (arith, c.loop-t-test.false, c.loop-t.auto.t-end)) to

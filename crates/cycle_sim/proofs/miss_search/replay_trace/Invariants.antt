@@ -16,5 +16,6 @@ invariant-loop-t l =
       length : length l.choice ≡ length l.initial.choice;
       ready : AreReady l.values l.freed l.choice;
       run : IsSimulable l.initial.machine.design.now l.initial.machine.order.now
-          → (front : List Valuation) × RunTo l.initial.machine.design.now l.trace (is_one_of l.values.places.items) (choices_from l.values l.first) l.t (simulated_of l.machine).state front;
+          → (front : List Valuation) × RunTo l.initial.machine.design.now l.trace (is_one_of l.values.places.items)
+          (choices_from l.values l.first) l.t (simulated_of l.machine).state front;
     }

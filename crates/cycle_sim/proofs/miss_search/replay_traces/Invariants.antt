@@ -14,5 +14,6 @@ invariant-loop-j l =
       length : length l.choice ≡ length l.initial.choice;
       ready : AreReady l.values l.freed l.choice;
       here : StandsAt l.traces l.values l.first l.j;
-      before : IsSimulable l.initial.machine.design.now l.initial.machine.order.now → MeetBefore l.initial.machine.design.now l.traces l.values l.j;
+      before : IsSimulable l.initial.machine.design.now l.initial.machine.order.now
+          → MeetBefore l.initial.machine.design.now l.traces l.values l.j;
     }

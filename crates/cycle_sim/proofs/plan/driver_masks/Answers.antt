@@ -10,4 +10,5 @@ returns-in_ok-add_parts-in-Cont c =
     rw c.in-Cont.is
     (adds-all signals c.add_parts.new.row.items (λ s b. list_any (part_drives signals s b) c.in-Cont.target.parts)
     ((rw (c.deref.ensures.value, c.deref-in-Cont.ensures, c.new-row.ensures.items) at c.in_ok-add_parts-in-Cont.ensures)
-    (cont-parts signals c.args.design.now.places.items c.in-Cont.target c.in-Cont.value c.in-Cont.place c.in-Cont.span (rw c.in-Cont.is at c.requires.fits))))
+    (cont-parts signals c.args.design.now.places.items c.in-Cont.target c.in-Cont.value c.in-Cont.place c.in-Cont.span
+    (rw c.in-Cont.is at c.requires.fits))))

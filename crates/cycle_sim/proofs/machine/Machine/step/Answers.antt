@@ -4,7 +4,8 @@ use Rattle.design_core.specs.declared.design.Design.{Design}
 use Rattle.design_core.specs.Valuation.{Valuation}
 use Rattle.design_core.specs.After.{Choice}
 use Rattle.design_core.specs.Cycle.{Cycle}
-use Rattle.design_core.specs.Words.{valuation_of, choice_of}
+use Rattle.design_core.specs.Words.{valuation_of}
+use Rattle.cycle_code.specs.Choosing.{as_choice}
 use Rattle.design_core.specs.Steps.{kept}
 use Rattle.cycle_code.specs.Program.{Program, program_of}
 use Rattle.cycle_sim.specs.Compiled.{now_in, later_in}
@@ -18,7 +19,7 @@ returns c =
     let machine = c.args.self.now in
     let p : Program = program_of machine.compiled.code in
     let d : Design = machine.design.now in
-    let choice : Choice = choice_of c.args.freed.now c.args.chosen.now in
+    let choice : Choice = as_choice c.args.choices.now in
     let O : Valuation = now_in p (valuation_of machine.cells.items) in
     let S : Valuation = later_in p (valuation_of machine.cells.items) in
     let V : Valuation = now_in p (valuation_of c.make_cycle.new.cells) in

@@ -13,4 +13,5 @@ returns-clause-value c =
     (rw c.deref-2.ensures.value at c.copy_bits.ensures.value)
     ∙ ap (blended (covers registers.parts.items) from) (rw c.deref.ensures.value at c.copy_words.ensures.value)
     ∙ blended-again (λ s b. is_among registers.whole.items s) (covers registers.parts.items) from to
-    ∙ split-copied c.args.to.now c.args.from.now registers.masks.items registers.whole.items registers.parts.items c.requires.from c.requires.split
+    ∙ split-copied c.args.to.now c.args.from.now registers.masks.items registers.whole.items registers.parts.items
+    c.requires.from c.requires.split
