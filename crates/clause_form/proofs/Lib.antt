@@ -6,5 +6,6 @@ pub mod Distinct
 pub mod NodeSteps
 pub mod CycleSteps
 pub mod FormSteps
+pub mod MostSteps
 pub mod Examples
 pub mod GateSteps

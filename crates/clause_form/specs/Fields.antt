@@ -48,11 +48,10 @@ pub record CanBegin (u : Unrolling) (b : Beginning) : Type 0 where
   pub count : b.count ≡ literals_in b.counter
   pub few : b.count ≤ 64000000
 
--- what holds of each plan: its literals are counted, and not too many
-pub record IsPlan (u : Unrolling) (b : Beginning) (counted : ℕ) : Type 0 where
+-- what holds of each plan: it hasn't too many literals
+pub record IsPlan (u : Unrolling) (b : Beginning) : Type 0 where
   pub can : CanBegin u b
-  pub count : counted ≡ literals_in (whole_of b u)
-  pub few : counted ≤ 64000000
+  pub few : literals_in (whole_of b u) ≤ 64000000
 
 abbrev pub planned : Unrolling → Beginning → Planned
 planned u b = record { vars = variables_of u; clauses = whole_of b u }

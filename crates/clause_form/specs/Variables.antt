@@ -1,4 +1,4 @@
--- What the variables of literals are, and how many literals a clause has; only private contracts cite it.
+-- What the variables of literals are, and how many literals a clause and how many bits words have; only private contracts cite it.
 use Rattle.std.specs.Prelude.{ℕ, ◌≡◌, ◌==◌, ◌+◌, ◌-◌, ◌<◌, ◌^◌, Bool, true, false, if◌then◌else◌, List, [], ◌∷◌, ◌++◌, length, get_or, Option, Some, None}
 use Rattle.std.specs.Option.{option_map}
 use Rattle.clause_base.specs.declared.literal.Lit.{Lit}
@@ -20,6 +20,11 @@ size_of [] = Some 0
 size_of (Known true ∷ xs) = None
 size_of (Known false ∷ xs) = size_of xs
 size_of (Of node negated ∷ xs) = option_map (λ n. n + 1) (size_of xs)
+
+-- how many bits words have
+abbrev pub bits_in : List (List Literal) → ℕ
+bits_in [] = 0
+bits_in (word ∷ words) = length word + bits_in words
 
 -- each variable is below a number
 abbrev pub AreBelow : ℕ → List Lit → Type 0

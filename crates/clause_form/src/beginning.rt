@@ -1,6 +1,6 @@
 //! What a form says of its suspects: the counter's clauses, which stand first, and the selectors of each place.
 
-ghost use Rattle.std.specs.Prelude.{◌≡◌, ◌+◌, ◌<◌, ◌≤◌, ◌^◌, IfErr, IfOk, length};
+ghost use Rattle.std.specs.Prelude.{◌≡◌, ◌+◌, ◌<◌, ◌≤◌, ◌^◌, IfErr, IfOk, OnOk, length};
 ghost use Rattle.card_counter.specs.Places.{starts};
 ghost use Rattle.clause_form.specs.Clauses.{literals_in, selector_clauses};
 ghost use Rattle.clause_form.specs.Fields.{Begins, CanBegin, whole_of};
@@ -50,16 +50,29 @@ impl Beginning {
         })
     }
 
-    /// How many literals the clauses of an unrolled form have with these. No clause is made.
-    pub(crate) fn literals(&self, alloc: Global, u: &Unrolled) -> Result<u64, FormErr>
+    /// Counts the literals of the clauses of an unrolled form. No clause is made.
+    fn count(&self, alloc: Global, u: &Unrolled) -> Result<(), FormErr>
         requires { CanBegin u.now self.now }
-        ensures ok { IfOk result (λ literals. literals ≡ literals_in (whole_of self.now u.now)) }
-        ensures few { IfOk result (λ literals. literals ≤ 64000000) }
+        ensures ok { OnOk result (literals_in (whole_of self.now u.now) ≤ 64000000) }
         ensures err { IfErr result (λ e. IsRefused e (64000000 < literals_in (whole_of self.now u.now))) }
     {
         let mut sink = Sink::counting(alloc, u.base(), self.count);
         sink.cycles(u, &self.selectors)?;
-        Ok(sink.into_count())
+        let _few = sink.into_count();
+        Ok(())
+    }
+
+    /// Whether the clauses of an unrolled form have no more literals than they may have. They are counted only where the definitions
+    /// are too many to know.
+    pub(crate) fn check(&self, alloc: Global, u: &Unrolled) -> Result<(), FormErr>
+        requires { CanBegin u.now self.now }
+        ensures ok { OnOk result (literals_in (whole_of self.now u.now) ≤ 64000000) }
+        ensures err { IfErr result (λ e. IsRefused e (64000000 < literals_in (whole_of self.now u.now))) }
+    {
+        if self.is_small(u) {
+            return Ok(());
+        }
+        self.count(alloc, u)
     }
 
     /// The clauses of an unrolled form, those that aren't wanted as empty ones.

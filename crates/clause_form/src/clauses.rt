@@ -14,7 +14,7 @@ use suspect_map::Groups;
 use unroller::Unrolled;
 
 /// The clauses of an unrolled form, in which sets of at most k suspects are asked for. It is refused where they would have more
-/// than 64,000,000 literals; those of cycles are counted before any is made.
+/// than 64,000,000 literals; that is known before any of a cycle is made.
 pub fn form(alloc: Global, u: &Unrolled, groups: &Groups, k: u32) -> Result<Form, FormErr>
     requires { u.now.base ≡ base_of groups.now k }
     ensures variables { IfOk result (λ form. form.vars ≡ variables_of u.now) }
@@ -24,7 +24,7 @@ pub fn form(alloc: Global, u: &Unrolled, groups: &Groups, k: u32) -> Result<Form
 {
     let vars = u.variables();
     let beginning = Beginning::new(alloc, groups, k)?;
-    beginning.literals(alloc, u)?;
+    beginning.check(alloc, u)?;
     let clauses = beginning.clauses(alloc, u, Items::new(alloc))?;
     Ok(Form { vars, clauses })
 }

@@ -70,6 +70,7 @@ impl Kept {
     }
 
     /// Appends three empty clauses.
+    #[inline(always)]
     pub(crate) fn push_three_empty(&mut self) -> Result<(), NoMemory>
         ensures clauses { OnOk result (self.new.clauses ≡ self.old.clauses ++ [] ∷ [] ∷ [] ∷ []) }
         ensures named { self.new.named ≡ self.old.named }

@@ -5,6 +5,7 @@ mod beginning;
 mod clauses;
 mod error;
 mod kept;
+mod most;
 mod plan;
 mod selectors;
 mod sink;

@@ -1,6 +1,6 @@
 //! A form whose clauses are made once it is known which of them are wanted.
 
-ghost use Rattle.std.specs.Prelude.{◌≡◌, ◌<◌, ◌≤◌, IfErr, IfOk};
+ghost use Rattle.std.specs.Prelude.{◌≡◌, ◌<◌, ◌≤◌, IfErr, IfOk, length};
 ghost use Rattle.unroller.specs.Unrolls.{base_of, variables_of};
 ghost use Rattle.clause_form.specs.Clauses.{form_clauses, literals_in};
 ghost use Rattle.clause_form.specs.Limits.{IsRefused};
@@ -15,13 +15,12 @@ use std::marker::Model;
 use suspect_map::Groups;
 use unroller::Unrolled;
 
-/// A form whose literals are counted, and whose clauses aren't made yet. Contracts see it as the number of its variables and its
+/// A form that isn't too large, and whose clauses aren't made yet. Contracts see it as the number of its variables and its
 /// clauses.
 #[derive(Drop)]
 pub struct FormPlan {
     unrolled: Unrolled,
     beginning: Beginning,
-    literals: u64,
 }
 
 impl Model for FormPlan {
@@ -32,7 +31,7 @@ impl Model for FormPlan {
 
     ghost view = { λ p. planned p.unrolled p.beginning };
 
-    ghost invariant = { λ p. IsPlan p.unrolled p.beginning p.literals };
+    ghost invariant = { λ p. IsPlan p.unrolled p.beginning };
 }
 
 impl FormPlan {
@@ -51,19 +50,18 @@ impl FormPlan {
     {
         let _vars = unrolled.variables();
         let beginning = Beginning::new(alloc, groups, k)?;
-        let literals = beginning.literals(alloc, &unrolled)?;
+        beginning.check(alloc, &unrolled)?;
         Ok(FormPlan {
             unrolled,
             beginning,
-            literals,
         })
     }
 
-    /// How many literals the clauses have, an empty one counting for one: there are no more clauses.
-    pub fn literals(&self) -> u64
-        ensures { result ≡ literals_in self.now.clauses }
+    /// A number that the clauses don't exceed: it is found without making or counting them.
+    pub fn most_clauses(&self) -> u64
+        ensures { length self.now.clauses ≤ result }
     {
-        self.literals
+        self.beginning.most_clauses(&self.unrolled)
     }
 
     /// The form in which each clause whose mark is false is empty. The marks are by the places of the clauses, from the first on; a

@@ -18,7 +18,7 @@ use std::alloc::Global;
 pub(crate) const LITERALS: u64 = 64_000_000;
 
 /// How many literals the three clauses of an AND have.
-const GATE: u64 = 7;
+pub(crate) const GATE: u64 = 7;
 
 /// How many literals the clauses have so far and, where `writes` is true, the clauses.
 pub(crate) struct Sink {
@@ -61,6 +61,7 @@ pub(crate) fn literals_of(clauses: &Clauses) -> Option<u64>
 }
 
 /// The literal of a definition, where it is no constant.
+#[inline(always)]
 pub(crate) fn literal_of(base: u32, literal: Literal) -> Option<Lit>
     requires { HaveVariables base (literal ∷ []) }
     ensures { result ≡ literal_of base literal }
@@ -242,7 +243,24 @@ impl Sink {
         }
     }
 
+    /// Keeps the clauses of v = AND(x, y), one after another.
+    #[inline(never)]
+    #[tactic(auto, using(crate::proofs::GateSteps::kept))]
+    fn push_gate(&mut self, v: Lit, x: Lit, y: Lit) -> Result<(), NoMemory>
+        requires distinct { AllDistinct (gate_clauses v x y) }
+        ensures kept { OnOk result (self.new.kept.clauses ≡ self.old.kept.clauses ++ named_from self.old.kept.named (length self.old.kept.clauses) (gate_clauses v x y)) }
+        ensures base { self.new.base ≡ self.old.base }
+        ensures writes { self.new.writes ≡ self.old.writes }
+        ensures named { self.new.kept.named ≡ self.old.kept.named }
+        ensures count { self.new.count ≡ self.old.count }
+    {
+        self.kept.push(&[v.opposite(), x])?;
+        self.kept.push(&[v.opposite(), y])?;
+        self.kept.push(&[v, x.opposite(), y.opposite()])
+    }
+
     /// Keeps the clauses of v = AND(x, y).
+    #[inline(always)]
     #[tactic(auto, using(crate::proofs::GateSteps::kept))]
     fn keep_gate(&mut self, v: Lit, x: Lit, y: Lit) -> Result<(), NoMemory>
         requires distinct { AllDistinct (gate_clauses v x y) }
@@ -253,14 +271,14 @@ impl Sink {
         ensures count { self.new.count ≡ self.old.count }
     {
         if self.kept.skips_three() {
-            return self.kept.push_three_empty();
+            self.kept.push_three_empty()
+        } else {
+            self.push_gate(v, x, y)
         }
-        self.kept.push(&[v.opposite(), x])?;
-        self.kept.push(&[v.opposite(), y])?;
-        self.kept.push(&[v, x.opposite(), y.opposite()])
     }
 
     /// Takes the clauses of v = AND(x, y), of which none is a constant: no clause is looked at twice.
+    #[inline(always)]
     #[tactic(auto, using(crate::proofs::GateSteps::taken))]
     pub(crate) fn gate(&mut self, v: Lit, x: Lit, y: Lit) -> Result<(), FormErr>
         requires distinct { AllDistinct (gate_clauses v x y) }

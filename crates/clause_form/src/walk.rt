@@ -48,6 +48,7 @@ impl Sink {
     ghost use Rattle.clause_form.specs.Fields.{after, sunk_of};
 
     /// The clauses of an AND, one after another.
+    #[inline(never)]
     fn three(&mut self, number: u32, left: Literal, right: Literal) -> Result<(), FormErr>
         requires fits { NodeFits number (And left right) }
         requires variable { self.old.base + number < 2 ^ 32 }
@@ -68,6 +69,7 @@ impl Sink {
     }
 
     /// The clauses of an AND.
+    #[inline(always)]
     #[tactic(auto, using(crate::proofs::GateSteps::ands))]
     fn and(&mut self, number: u32, left: Literal, right: Literal) -> Result<(), FormErr>
         requires fits { NodeFits number (And left right) }
@@ -86,6 +88,7 @@ impl Sink {
     }
 
     /// Those of a bit of a place.
+    #[inline(never)]
     fn free(&mut self, selectors: &[Lit], number: u32, computed: Literal) -> Result<(), FormErr>
         requires below { AreBelow self.old.base selectors.now }
         requires distinct { has_distinct_variables selectors.now ≡ true }
@@ -107,6 +110,7 @@ impl Sink {
     }
 
     /// The clauses of a definition.
+    #[inline(always)]
     #[tactic(auto, unfolding(crate::specs::Clauses::node_clauses), using(crate::proofs::NodeSteps::nodes))]
     fn node(&mut self, selectors: &[Items<Lit>], number: u32, node: Node) -> Result<(), FormErr>
         requires selectors { AreSelectors self.old.base selectors.now }

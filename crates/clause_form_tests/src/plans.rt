@@ -24,7 +24,7 @@ fn marked(rt: &impl Abort, alloc: Global, marks: &[bool]) -> Result<Form, Fail> 
         Ok(plan) => plan,
         Err(e) => panic!(rt; "{e:?}"),
     };
-    assert_eq!(rt; plan.literals(), 45);
+    assert!(rt; plan.most_clauses() >= 20);
     Ok(plan.named(alloc, Items::copy_of(alloc, marks)?)?)
 }
 

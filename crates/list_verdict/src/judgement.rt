@@ -24,7 +24,7 @@ fn named_form(alloc: Global, listed: &Listed<'_>) -> Result<Form, NoMemory>
     requires { CanBeJudged listed.now }
     ensures { IfOk result (IsNamedForm listed.now.plan.now listed.now.log.now) }
 {
-    let most = listed.plan.literals() as usize;
+    let most = listed.plan.most_clauses() as usize;
     let marks = named(alloc, listed.log, most)?;
     listed.plan.named(alloc, marks)
 }

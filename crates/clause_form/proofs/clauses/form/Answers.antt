@@ -18,18 +18,18 @@ returns-in_err-beginning-clause-err c =
     refused-more c.in_err-beginning.field-0.0 part whole (counter-count c.args.u.now groups c.args.k) c.in_err-beginning.ensures.err in
     grind (arith, common_steps, more)
 
-pub literals-requires : goal.literals-requires
-literals-requires c =
+pub check-requires : goal.check-requires
+check-requires c =
     can-begin c.args.u.now c.args.groups.now c.args.k c.in_ok-beginning.beginning c.in_ok-beginning.ensures.ok c.requires
 
-pub returns-in_err-literals-clause-err : goal.returns-in_err-literals-clause-err
-returns-in_err-literals-clause-err c =
+pub returns-in_err-check-clause-err : goal.returns-in_err-check-clause-err
+returns-in_err-check-clause-err c =
     let groups = c.args.groups.now in
     let b = c.in_ok-beginning.beginning in
     let whole = literals_in (form_clauses c.args.u.now groups c.args.k) in
     let same = ap literals_in (whole-is c.args.u.now groups c.args.k b c.in_ok-beginning.ensures.ok) in
-    let more : IsRefused c.in_err-literals.field-0.0 (64000000 < whole) =
-    refused-more c.in_err-literals.field-0.0 (literals_in (whole_of b c.args.u.now)) whole (omega (arith, same)) c.in_err-literals.ensures.err in
+    let more : IsRefused c.in_err-check.field-0.0 (64000000 < whole) =
+    refused-more c.in_err-check.field-0.0 (literals_in (whole_of b c.args.u.now)) whole (omega (arith, same)) c.in_err-check.ensures.err in
     grind (arith, common_steps, more)
 
 pub clauses-requires : goal.clauses-requires
@@ -51,6 +51,5 @@ returns-clause-within c =
       arith,
       ap literals_in
           (c.in_ok-clauses.ensures.ok ∙ ap (λ named. named_from named 0 whole) c.new-2.ensures ∙ named-whole 0 whole),
-      c.in_ok-literals.ensures.ok,
-      c.in_ok-literals.ensures.few,
+      c.in_ok-check.ensures.ok,
     )

@@ -3,7 +3,7 @@ use Rattle.std.specs.Prelude.{IsTrue}
 use Rattle.clause_base.specs.declared.literal.Lit.{Lit}
 use Rattle.clause_base.specs.Literal.{has_distinct_variables}
 use Rattle.clause_form.proofs.GateSteps.{gate-parts}
-use Rattle.clause_form.proofs.sink.Sink.keep_gate.Goals as goal
+use Rattle.clause_form.proofs.sink.Sink.push_gate.Goals as goal
 
 pub push-requires : goal.push-requires
 push-requires c =
