@@ -1,16 +1,15 @@
 -- Steps of the loops over what is kept of a cycle.
-use Rattle.std.proofs.Common.{◌≡◌, ℕ, ◌+◌, ◌<◌, ◌≤◌, Bool, true, false, if◌then◌else◌, List, [], ◌∷◌, ◌++◌, length, map, get_or, drop, sym, ◌∙◌, ap, ap₂, arith, add-one, drop-cons, append_assoc, append-nil, length-append, Some, None}
+use Rattle.std.proofs.Common.{◌≡◌, ℕ, ◌+◌, ◌<◌, ◌≤◌, false, List, [], ◌∷◌, ◌++◌, length, map, get_or, drop, sym, ◌∙◌, ap, arith, add-one, drop-cons, append_assoc, append-nil, length-append, Some, None}
 use Rattle.std.proofs.lemmas.List.{drop_all}
 use Rattle.gate_base.specs.declared.literal.Literal.{Literal}
 use Rattle.gate_base.specs.declared.literal.Literal.TheVariants.{Known}
 use Rattle.gate_base.specs.declared.node.Node.{Node}
 use Rattle.gate_base.specs.declared.node.Node.TheVariants.{Input}
-use Rattle.gate_base.specs.Nodes.{word}
 use Rattle.gate_base.proofs.Chains.{drop-literal}
 use Rattle.gate_base.proofs.Counts.{refused-more}
 use Rattle.unroller.specs.declared.free_bit.FreeBit.{FreeBit}
 use Rattle.unroller.proofs.NodeSteps.{drop-node}
-use Rattle.unroller.specs.Cycles.{Frame, translated, words_translated, is_free, free_bit, free_bits, and_then, frees_at, node_unrolled, nodes_unrolled}
+use Rattle.unroller.specs.Cycles.{Frame, translated, words_translated, free_bit, free_bits, and_then, node_unrolled, nodes_unrolled}
 
 pub word-more : (now made xs : List Literal) (i : ℕ) → i < length xs
     → made ++ map (translated now) (drop i xs)
@@ -39,33 +38,6 @@ pub row-end : (now : List Literal) (made words : List (List Literal)) (i : ℕ) 
 row-end now made words i end = ap (λ ys. made ++ words_translated now ys) (drop_all i words end) ∙ append-nil made
 
 pub ruleset rows = (row-more, row-end)
-
--- what is left of the free bits, by whether the node at hand is one
-abbrev rest_of : Bool → List Node → List Literal → ℕ → List Literal
-rest_of is nodes now i =
-    if is then get_or now i (Known false) ∷ frees_at (drop (i + 1) nodes) (drop (i + 1) now)
-    else frees_at (drop (i + 1) nodes) (drop (i + 1) now)
-
-module _ (frees : List Literal) (nodes : List Node) (now : List Literal) (i : ℕ) where
-  left : i < length nodes → i < length now
-      → frees ++ frees_at (drop i nodes) (drop i now) ≡ frees ++ rest_of (is_free (get_or nodes i (Input 0 0))) nodes now i
-  left in_nodes in_now = ap₂ (λ ns ls. frees ++ frees_at ns ls) (drop-node nodes i in_nodes) (drop-literal now i in_now)
-
-  pub frees-more : i < length nodes → i < length now → is_free (get_or nodes i (Input 0 0)) ≡ true
-      → frees ++ frees_at (drop i nodes) (drop i now)
-      ≡ (frees ++ get_or now i (Known false) ∷ []) ++ frees_at (drop (i + 1) nodes) (drop (i + 1) now)
-  frees-more in_nodes in_now is =
-      left in_nodes in_now ∙ ap (λ s. frees ++ rest_of s nodes now i) is
-      ∙ sym (append_assoc frees (get_or now i (Known false) ∷ []) (frees_at (drop (i + 1) nodes) (drop (i + 1) now)))
-
-  pub frees-other : i < length nodes → i < length now → is_free (get_or nodes i (Input 0 0)) ≡ false
-      → frees ++ frees_at (drop i nodes) (drop i now) ≡ frees ++ frees_at (drop (i + 1) nodes) (drop (i + 1) now)
-  frees-other in_nodes in_now is = left in_nodes in_now ∙ ap (λ s. frees ++ rest_of s nodes now i) is
-
-  pub frees-end : length nodes ≤ i → frees ++ frees_at (drop i nodes) (drop i now) ≡ frees
-  frees-end end = ap (λ ns. frees ++ frees_at ns (drop i now)) (drop_all i nodes end) ∙ append-nil frees
-
-pub ruleset frees = (frees-more, frees-other, frees-end)
 
 -- one more bit
 bit-left : (bits : List FreeBit) (nodes : List Node) (i : ℕ) → i < length nodes
@@ -99,9 +71,4 @@ length-nodes frame (node ∷ rest) nodes now =
     let m = node_unrolled frame nodes now node in
     omega (arith, length-nodes frame rest m.nodes (now ++ m.bit ∷ []), length-append now (m.bit ∷ []))
 
-pub length-cycle : (frame : Frame) (all nodes ns : List Node) (before now : List Literal) → before ≡ []
-    → word ns now ≡ nodes_unrolled frame nodes before all → length all ≡ length now
-length-cycle frame all nodes ns before now none is =
-    omega (arith, ap (λ w. length w.bits) is, length-nodes frame all nodes before, ap length none)
-
-pub ruleset cycles = (length-cycle, refused-more)
+pub ruleset cycles = (refused-more)

@@ -1,11 +1,13 @@
 -- How the fields of the work stand for what its contracts see; only private contracts cite it.
-use Rattle.std.specs.Prelude.{false, List, [], get_or}
+use Rattle.std.specs.Prelude.{false, if◌then◌else◌, List, [], ◌∷◌, get_or}
 use Rattle.gate_base.specs.declared.node.Node.{Node}
-use Rattle.gate_base.specs.Nodes.{Word}
+use Rattle.gate_base.specs.declared.literal.Literal.{Literal}
+use Rattle.gate_base.specs.Nodes.{Made, Word, free_made, made}
 use Rattle.bit_circuit.specs.Circuits.{BitNet}
+use Rattle.unroller.specs.declared.free_bit.FreeBit.{FreeBit}
 use Rattle.unroller.specs.declared.frame.Frame.{Frame as Given}
 use Rattle.unroller.specs.declared.work.Work.{Work}
-use Rattle.unroller.specs.Cycles.{Frame, nodes_unrolled}
+use Rattle.unroller.specs.Cycles.{Frame, is_free, nodes_unrolled}
 use Rattle.unroller.specs.Unrolls.{Unrolling}
 
 abbrev pub frame_of : Given → Frame
@@ -23,6 +25,15 @@ unrolling_of w = record {
   frees = w.frees;
   firsts = w.firsts;
 }
+
+-- the literal of a bit of a place: a new node where its place is in a group, else what is computed
+abbrev pub free_unrolled : Frame → List Node → FreeBit → Literal → Made
+free_unrolled frame nodes free computed =
+    if frame.grouped free.place then free_made nodes frame.moment free.place free.bit computed else made nodes computed
+
+-- the literal of a node, where it is a bit of a place
+abbrev pub free_literal : Node → Literal → List Literal
+free_literal node l = if is_free node then l ∷ [] else []
 
 -- the definitions behind a cycle, and the literals of the circuit's nodes in it
 abbrev pub cycle_of : Given → List Node → BitNet → Word

@@ -3,7 +3,7 @@
 ghost use Rattle.std.specs.Prelude.{◌≡◌, ◌+◌, ◌<◌, ◌≤◌, ◌++◌, ◌∷◌, [], IfErr, IfOk, OnOk, length, map};
 ghost use Rattle.gate_base.specs.Arena.{UnlessNoMemory};
 ghost use Rattle.gate_base.specs.Nodes.{counted, sources_in};
-ghost use Rattle.unroller.specs.Cycles.{free_bit, free_bits, frees_at, translated, words_translated};
+ghost use Rattle.unroller.specs.Cycles.{free_bit, free_bits, translated, words_translated};
 ghost use Rattle.unroller.specs.Reads.{AreKept};
 ghost use Rattle.unroller.specs.Unrolls.{with_cycle};
 ghost use Rattle.unroller.specs.Fields.{cycle_of, frame_of, unrolling_of};
@@ -52,17 +52,17 @@ impl Drop for Work {
 /// The literals of a word of the circuit.
 #[tactic(auto, using(crate::proofs::WorkSteps::words))]
 fn word_translated(
-    alloc: Global,
     now: &[Literal],
     word: &[Literal],
-) -> Result<Items<Literal>, NoMemory>
-    ensures { IfOk result (λ made. made ≡ map (translated now.now) word.now) }
+    made: &mut Vec<Literal>,
+) -> Result<(), NoMemory>
+    ensures { OnOk result (made.new.items ≡ map (translated now.now) word.now) }
 {
-    let mut made = Items::new(alloc);
+    made.clear();
     for i in 0..word.len() {
         made.push(translated(now, word[i]))?;
     }
-    Ok(made)
+    Ok(())
 }
 
 /// Appends those of words.
@@ -75,26 +75,12 @@ fn words_translated(
 ) -> Result<(), NoMemory>
     ensures { OnOk result (made.new ≡ made.old ++ words_translated now.now words.now) }
 {
+    let mut word = Vec::new(alloc);
     for i in 0..words.len() {
-        let word = word_translated(alloc, now, words.row(i))?;
-        made.push(word.as_slice())?;
+        word_translated(now, words.row(i), &mut word)?;
+        made.push(&word)?;
     }
     Ok(())
-}
-
-/// The literals of the free bits among the nodes of the circuit.
-#[tactic(auto, using(crate::proofs::WorkSteps::frees))]
-fn frees_at(alloc: Global, nodes: &[Node], now: &[Literal]) -> Result<Items<Literal>, NoMemory>
-    requires { length nodes.now ≡ length now.now }
-    ensures { IfOk result (λ frees. frees ≡ frees_at nodes.now now.now) }
-{
-    let mut frees = Items::new(alloc);
-    for i in 0..nodes.len() {
-        if free_bit(nodes[i]).is_some() {
-            frees.push(now[i])?;
-        }
-    }
-    Ok(frees)
 }
 
 /// The bit of a place that a node is.
@@ -141,20 +127,14 @@ impl Work {
         ensures err { IfErr result (λ e. UnlessNoMemory e (self.old.maker.limit < counted (cycle_of frame.now self.old.maker.nodes circuit.now).nodes)) }
         ensures limit { self.new.maker.limit ≡ self.old.maker.limit }
     {
-        let mut now = Items::new(self.alloc);
-        nodes(&mut self.maker, frame, circuit.nodes(), &mut now)?;
+        let literals = nodes(self.alloc, &mut self.maker, frame, circuit.nodes())?;
+        let now = literals.now.as_slice();
         self.ends.push(self.maker.len())?;
-        words_translated(
-            self.alloc,
-            now.as_slice(),
-            circuit.outputs(),
-            &mut self.outputs,
-        )?;
+        words_translated(self.alloc, now, circuit.outputs(), &mut self.outputs)?;
         self.expected.append(expected)?;
-        let frees = frees_at(self.alloc, circuit.nodes(), now.as_slice())?;
-        self.frees.push(frees.as_slice())?;
+        self.frees.push(literals.frees.as_slice())?;
         let mut next = Rows::new(self.alloc);
-        words_translated(self.alloc, now.as_slice(), circuit.next(), &mut next)?;
+        words_translated(self.alloc, now, circuit.next(), &mut next)?;
         Ok(next)
     }
 
