@@ -1,7 +1,7 @@
 -- The promises of the command, from how a run ends: by the line of a refusal, or by that of a judgement.
 use Rattle.std.proofs.Common.{ℕ, ◌≡◌, ◌≢◌, ◌≤◌, ◌++◌, true, List, length, ap, refl, sym, subst, ◌∙◌, arith, ◌⊎◌, inl, inr}
 use Rattle.io_ports.specs.Faults.{Rose}
-use Rattle.command_contract.specs.Contract.{Causes, IsInputRefusal, IsStatus, Keeps, OneRose, Run, Texts}
+use Rattle.command_contract.specs.Contract.{Causes, IsInputRefusal, IsStatus, Keeps, OneRose, Run, TellsFault, Texts}
 use Rattle.command_contract.proofs.Statuses.{input-range, input-refusal}
 use Rattle.front_end.specs.Means.{Meaning, Refusing}
 use Rattle.debug_core.specs.Problems.{IsProblem}
@@ -36,9 +36,11 @@ refusal-due M R known S asked run stops = record {
   nothing_written = stops.nothing_written;
 }
   where
-    at : ((status : ℕ) × Refused M R known S asked run.texts status stops.line) ⊎ (stops.line ≡ memory_line)
-        → ((status : ℕ) × IsDue M R known S asked run.texts status stops.line) ⊎ (stops.line ≡ memory_line)
-    at (inl (status, refused)) = inl (status, inr refused)
+    at : ((status : ℕ) × Refused M R known S asked run.texts status stops.line
+        × TellsFault run.counts.shelf run.counts.now_shelf status stops.line) ⊎ (stops.line ≡ memory_line)
+        → ((status : ℕ) × IsDue M R known S asked run.texts status stops.line
+        × TellsFault run.counts.shelf run.counts.now_shelf status stops.line) ⊎ (stops.line ≡ memory_line)
+    at (inl (status, refused, told)) = inl (status, inr refused, told)
     at (inr e) = inr e
 
 pub ends-by_lines : (M : Meaning) (R : Refusing) (known : List (List ℕ)) (S : Suspecting) (asked : Asked) (run : Run)
@@ -101,6 +103,10 @@ not-six : (s : ℕ) → (s ≡ 0) ⊎ (s ≡ 8) → s ≢ 6
 not-six s (inl e) six = omega (arith, e, six)
 not-six s (inr e) six = omega (arith, e, six)
 
+not-five : (s : ℕ) → (s ≡ 0) ⊎ (s ≡ 8) → s ≢ 5
+not-five s (inl e) five = omega (arith, e, five)
+not-five s (inr e) five = omega (arith, e, five)
+
 not-seven : (s : ℕ) → (s ≡ 0) ⊎ (s ≡ 8) → s ≢ 7
 not-seven s (inl e) seven = omega (arith, e, seven)
 not-seven s (inr e) seven = omega (arith, e, seven)
@@ -155,7 +161,7 @@ module _ (M : Meaning) (R : Refusing) (known : List (List ℕ)) (S : Suspecting)
       at (inl (e, put)) judged = absurd (not-six whole is.answer (sym e ∙ six))
       at (inr (inl (e, front))) judged = record {
         line = line;
-        is_due = inl (whole, inl judged);
+        is_due = inl (whole, inl judged, λ five. absurd (not-five whole is.answer five));
         printed = front;
         sink_failed = rose;
         nothing_written = is.nothing;
@@ -186,15 +192,11 @@ module _ (M : Meaning) (R : Refusing) (known : List (List ℕ)) (S : Suspecting)
       at (inl (six, rose)) = absurd (other six)
       at (inr (which, same)) = same
 
-  not-five : (status : ℕ) → Is status → status ≢ 5
-  not-five status is five = at (which status is)
+  no-read_fault : (status : ℕ) → Is status → status ≢ 5
+  no-read_fault status is five = at (which status is)
     where
-      eight : (status ≡ 0) ⊎ (status ≡ 8) → ⊥
-      eight (inl e) = omega (arith, e, five)
-      eight (inr e) = omega (arith, e, five)
-
       at : (status ≡ whole) ⊎ ((status ≡ 6) ⊎ (status ≡ 7)) → ⊥
-      at (inl e) = eight (answer-at status e is.answer)
+      at (inl e) = not-five status (answer-at status e is.answer) five
       at (inr (inl six)) = omega (arith, six, five)
       at (inr (inr seven)) = omega (arith, seven, five)
 
@@ -202,7 +204,7 @@ module _ (M : Meaning) (R : Refusing) (known : List (List ℕ)) (S : Suspecting)
   judged-causes status is = record {
     answer = λ may. (is.shelf, sink-same status is (not-six status may));
     none = λ small. (is.shelf, sink-same status is (λ six. omega (arith, six, small)));
-    read = λ five. absurd (not-five status is five);
+    read = λ five. absurd (no-read_fault status is five);
     write = λ six. inr (sink-rose status is six);
     memory = λ seven. sink-same status is (λ six. omega (arith, six, seven));
   }

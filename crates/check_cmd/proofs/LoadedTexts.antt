@@ -4,7 +4,7 @@ use Rattle.std.specs.Prelude.{IsSomeAnd}
 use Rattle.std.specs.List.{flat_map}
 use Rattle.std.proofs.lemmas.List.{length-append, length-map}
 use Rattle.io_ports.specs.Faults.{FaultCounts}
-use Rattle.command_contract.specs.Contract.{Texts}
+use Rattle.command_contract.specs.Contract.{Texts, read_fault_line}
 use Rattle.command_contract.proofs.Statuses.{input-range}
 use Rattle.run_inputs.specs.declared.faults.LoadFault.{LoadFault}
 use Rattle.run_inputs.specs.declared.faults.LoadFault.TheVariants as fault
@@ -37,13 +37,15 @@ use Rattle.check_cmd.specs.Refusals.{LogRefused, ReportRefused, bad_line}
 use Rattle.check_cmd.proofs.Causes.{cause-of, memory-cause, no-memory, said}
 
 -- ---- a load
--- the shelf's counts of faults, from those of the load to those of its refusal
-pub load-counts : (old new : FaultCounts) (why : LoadFault) (r : Refusal) (line : List ℕ) → LoadCounts {X = List ℕ} old new (Err why)
-    → HasStatus r → Says r (load_status why) line → RefusalCounts old new r
-load-counts old new fault.Fault (Line s l) line rose has (e, f) = (λ _. rose, λ other. absurd (other e))
-load-counts old new fault.Size (Line s l) line same has (e, f) = (λ five. absurd (omega (arith, e, five)), λ _. same)
-load-counts old new fault.NoMemory (Line s l) line same has (e, f) = absurd (omega (arith, e, input-range s has))
-load-counts old new why Memory line counts has says = tt
+-- the shelf's faults, from those of the load of a name to those of its refusal, which names it
+pub load-counts : (old new : FaultCounts) (name : List ℕ) (why : LoadFault) (r : Refusal)
+    → LoadCounts {X = List ℕ} name old new (Err why)
+    → HasStatus r → Says r (load_status why) (load_line name why) → RefusalCounts old new r
+load-counts old new name fault.Fault (Line s l) rose has (e, f) =
+    (λ _. (rose.0, f ∙ ap (λ (n : List ℕ). read_fault_line n) (sym rose.1)), λ other. absurd (other e))
+load-counts old new name fault.Size (Line s l) same has (e, f) = (λ five. absurd (omega (arith, e, five)), λ _. same)
+load-counts old new name fault.NoMemory (Line s l) same has (e, f) = absurd (omega (arith, e, input-range s has))
+load-counts old new name why Memory counts has says = tt
 
 -- a text that is short enough is refused by a fault of the shelf, or for want of memory
 not-long : (text : Option (List ℕ)) → IsShort text → IsSomeAnd text (λ bytes. most_bytes < length bytes) → ⊥

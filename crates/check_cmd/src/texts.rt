@@ -19,7 +19,7 @@ fn fetch<S: Shelf>(alloc: Global, name: &str, shelf: &mut S) -> Result<Bytes, Lo
     ensures tells { S.tells shelf.new ≡ S.tells shelf.old }
     ensures texts { S.texts shelf.new ≡ S.texts shelf.old }
     ensures written { S.written shelf.new ≡ S.written shelf.old }
-    ensures counts { LoadCounts (S.faults shelf.old) (S.faults shelf.new) result }
+    ensures counts { LoadCounts name.now (S.faults shelf.old) (S.faults shelf.new) result }
     ensures short { IfOk result (λ text. length text ≤ most_bytes) }
     ensures text { S.tells shelf.old ≡ true → Loads (S.texts shelf.old name.now) result }
 {

@@ -1,13 +1,14 @@
 -- What a command promises of a run that ends with a status: one record, a field for each promise. What it is to print and to
 -- write, and when it is refused, is the command's own case.
-use Rattle.std.specs.Prelude.{ℕ, ◌≡◌, ◌≤◌, ◌⊎◌, ◌++◌, Bool, true, List, Option}
+use Rattle.std.specs.Prelude.{ℕ, ◌≡◌, ◌≤◌, ◌⊎◌, ◌++◌, Bool, true, List, Option, codes}
 use Rattle.io_ports.specs.Faults.{FaultCounts, LoadRose, Rose, WriteRose}
+use Rattle.printed_text.specs.Numerals.{newline}
 
 -- texts by their names
 abbrev pub Texts : Type 0
 Texts = List ℕ → Option (List ℕ)
 
--- the counts of faults of the shelf and of the sink, before a run and after it
+-- the counts of faults of the shelf, with the name whose load failed last, and of the sink, before a run and after it
 pub record Counts : Type 0 where
   pub shelf : FaultCounts
   pub now_shelf : FaultCounts
@@ -92,10 +93,20 @@ IsRefusal status = (status ≡ 2) ⊎ IsInputRefusal status
 abbrev pub IsStatus : Case → ℕ → Type 0
 IsStatus c status = c.MayAnswer status ⊎ (c.MayRefuse status ⊎ ((status ≡ 6) ⊎ (status ≡ 7)))
 
--- nothing was printed but a refusal's line, whose cause holds, and what the case says stands written
+-- `read fault NAME`: the text under the name couldn't be loaded
+abbrev pub read_fault_line : List ℕ → List ℕ
+read_fault_line name = codes "read fault " ++ name ++ newline
+
+-- a line that is due with 5 names the text whose load failed
+abbrev pub TellsFault : FaultCounts → FaultCounts → ℕ → List ℕ → Type 0
+TellsFault old new status line = status ≡ 5 → LoadRose old new × (line ≡ read_fault_line new.failed)
+
+-- nothing was printed but a refusal's line, whose cause holds, and what the case says stands written; at 5 it names the text whose load
+-- failed
 pub record EndsRefused (c : Case) (run : Run) (status : ℕ) : Type 0 where
   pub line : List ℕ
   pub refused : c.Refused run status line
+  pub named : TellsFault run.counts.shelf run.counts.now_shelf status line
   pub printed : run.now_printed ≡ run.printed ++ line
   pub stands : c.Stands run
 

@@ -2,7 +2,7 @@
 //! written then is a front of what was due.
 ghost use Rattle.std.specs.Prelude.{◌≡◌, ◌≢◌, ◌⊎◌, ◌++◌, ℕ, List, [], true, Some, unwrap_or, OnOk, IsErrOf, IsSomeAnd};
 ghost use Rattle.std.specs.Io.{StartsWith};
-ghost use Rattle.io_ports.specs.Faults.{LoadRose, WriteRose};
+ghost use Rattle.io_ports.specs.Faults.{LoadRoseOf, WriteRose};
 
 use crate::same::same;
 use io_ports::{LoadErr, MemShelf, Numbers, PutErr, Shelf, Texts};
@@ -41,8 +41,8 @@ fn copy_twice<S: Shelf>(shelf: &mut S, alloc: Global, from: &str, to: &str) -> R
         (S.written shelf.new to.now ≡ S.written shelf.old to.now) ⊎ IsSomeAnd (S.written shelf.new to.now) (StartsWith (text ++ text)) }
     ensures others { (other : List ℕ) → other ≢ to.now → S.written shelf.new other ≡ S.written shelf.old other }
 
-    // A read fault is answered only where a load failed in this call, a write fault only where a write did.
-    ensures read { IsErrOf result Stop.ReadFault → LoadRose (S.faults shelf.old) (S.faults shelf.new) }
+    // A read fault is answered only where the load of the text failed in this call, a write fault only where a write did.
+    ensures read { IsErrOf result Stop.ReadFault → LoadRoseOf from.now (S.faults shelf.old) (S.faults shelf.new) }
     ensures write { IsErrOf result Stop.WriteFault → WriteRose (S.faults shelf.old) (S.faults shelf.new) }
     ensures memory { IsErrOf result Stop.Memory → S.faults shelf.new ≡ S.faults shelf.old }
     ensures ok { OnOk result (S.faults shelf.new ≡ S.faults shelf.old) }

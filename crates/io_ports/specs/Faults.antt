@@ -1,5 +1,5 @@
 -- Counts of faults and of calls. A count never falls, and one at its last value counts as having risen.
-use Rattle.std.specs.Prelude.{ℕ, ◌≡◌, ◌+◌, ◌<◌, ◌≤◌, min}
+use Rattle.std.specs.Prelude.{ℕ, ◌≡◌, ◌+◌, ◌<◌, ◌≤◌, List, min}
 
 -- the last value of a count
 abbrev pub last_count : ℕ
@@ -14,18 +14,24 @@ abbrev pub one_more : ℕ → ℕ
 one_more count = min (count + 1) last_count
 
 -- ---- the faults of a shelf
--- how many of its calls failed, and how many of those were writes, which are `begin` and `put`
+-- how many of its calls failed, how many of those were writes, which are `begin` and `put`, and the name of the text whose load
+-- failed last: no bytes before the first
 pub record FaultCounts : Type 0 where
   pub all : ℕ
   pub writes : ℕ
+  pub failed : List ℕ
 
-abbrev pub fault_counts : ℕ → ℕ → FaultCounts
-fault_counts all writes = record { all = all; writes = writes }
+abbrev pub fault_counts : ℕ → ℕ → List ℕ → FaultCounts
+fault_counts all writes failed = record { all = all; writes = writes; failed = failed }
 
 -- a load failed, and no write
 abbrev pub LoadRose : FaultCounts → FaultCounts → Type 0
 LoadRose old new = Rose old.all new.all × (new.writes ≡ old.writes)
 
--- a write failed
+-- it was the load of the text under a name
+abbrev pub LoadRoseOf : List ℕ → FaultCounts → FaultCounts → Type 0
+LoadRoseOf name old new = LoadRose old new × (new.failed ≡ name)
+
+-- a write failed; the name stays
 abbrev pub WriteRose : FaultCounts → FaultCounts → Type 0
-WriteRose old new = Rose old.all new.all × Rose old.writes new.writes
+WriteRose old new = Rose old.all new.all × (Rose old.writes new.writes × (new.failed ≡ old.failed))

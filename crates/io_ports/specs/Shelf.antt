@@ -1,18 +1,19 @@
 -- What the answers of a shelf say: of its counts of faults, of the text that is loaded, and of the text that is written.
 -- A text under a name is `None` where there is none.
 use Rattle.std.specs.Prelude.{◌≡◌, ℕ, ◌<◌, ◌≤◌, ◌⊎◌, List, [], ◌++◌, length, take, Option, Some, unwrap_or, IsSomeAnd, Result, Ok, Err}
-use Rattle.io_ports.specs.Faults.{FaultCounts, LoadRose, WriteRose}
+use Rattle.io_ports.specs.Faults.{FaultCounts, LoadRoseOf, WriteRose}
 use Rattle.io_ports.specs.declared.errors.LoadErr.{LoadErr}
 use Rattle.io_ports.specs.declared.errors.LoadErr.TheVariants as load
 use Rattle.io_ports.specs.declared.errors.PutErr.{PutErr}
 use Rattle.io_ports.specs.declared.errors.PutErr.TheVariants as put
 
--- the cause of an answer of `load`: only a failure raises the count of all faults, and it does; none raises that of writes
-abbrev pub LoadCause : FaultCounts → FaultCounts → Result (List ℕ) LoadErr → Type 0
-LoadCause old new (Ok _) = new ≡ old
-LoadCause old new (Err load.TooBig) = new ≡ old
-LoadCause old new (Err load.Failed) = LoadRose old new
-LoadCause old new (Err load.NoMemory) = new ≡ old
+-- the cause of an answer of `load` of the text under a name: only a failure raises the count of all faults, and it does, and the name
+-- is kept then; none raises that of writes
+abbrev pub LoadCause : List ℕ → FaultCounts → FaultCounts → Result (List ℕ) LoadErr → Type 0
+LoadCause name old new (Ok _) = new ≡ old
+LoadCause name old new (Err load.TooBig) = new ≡ old
+LoadCause name old new (Err load.Failed) = LoadRoseOf name old new
+LoadCause name old new (Err load.NoMemory) = new ≡ old
 
 -- the answer of `load` of a text with a limit: the text where it is within the limit, and too big only where it isn't
 abbrev pub Loads : Option (List ℕ) → ℕ → Result (List ℕ) LoadErr → Type 0
@@ -21,7 +22,7 @@ Loads text limit (Err load.TooBig) = IsSomeAnd text (λ bytes. limit < length by
 Loads text limit (Err load.Failed) = Unit {0}
 Loads text limit (Err load.NoMemory) = Unit {0}
 
--- the cause of an answer of `begin` and `put`: only a failure raises a count of faults, and it raises both
+-- the cause of an answer of `begin` and `put`: only a failure raises a count of faults, and it raises both; the name stays
 abbrev pub PutCause : {X : Type 0} → FaultCounts → FaultCounts → Result X PutErr → Type 0
 PutCause old new (Ok _) = new ≡ old
 PutCause old new (Err put.Failed) = WriteRose old new

@@ -45,6 +45,17 @@ impl FaultPlan {
         self.fails.binary_search(&self.calls).is_ok()
     }
 
+    /// Counts one call. The answer says whether it is to fail; no fault is counted.
+    pub(crate) fn call(&mut self) -> bool
+        ensures fails { IsTrue result ↔ IsNextToFail self.old }
+        ensures counted { Counts self.old self.new }
+        ensures faults { self.new.faults ≡ self.old.faults }
+    {
+        let fails = self.is_to_fail();
+        self.calls = self.calls.saturating_add(1);
+        fails
+    }
+
     /// Counts one call, and a fault where it is to fail, as the answer says.
     pub(crate) fn call_fails(&mut self) -> bool
         ensures fails { IsTrue result ↔ IsNextToFail self.old }
@@ -52,10 +63,9 @@ impl FaultPlan {
         ensures fault { IsTrue result → IsOneMore self.old.faults self.new.faults }
         ensures none { result ≡ false → self.new.faults ≡ self.old.faults }
     {
-        let fails = self.is_to_fail();
-        self.calls = self.calls.saturating_add(1);
+        let fails = self.call();
         if fails {
-            self.faults = self.faults.saturating_add(1);
+            self.fault();
         }
         fails
     }

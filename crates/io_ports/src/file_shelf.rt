@@ -1,4 +1,4 @@
-ghost use Rattle.std.specs.Prelude.{◌≡◌, ◌≤◌, length, IfOk};
+ghost use Rattle.std.specs.Prelude.{◌≡◌, ◌≤◌, [], length, IfOk};
 ghost use Rattle.io_ports.specs.Faults.{fault_counts};
 ghost use Rattle.io_ports.specs.Shelf.{PutCause};
 
@@ -11,7 +11,8 @@ use std::fs;
 use std::fs::OpenOptions;
 use std::rt::Files;
 
-/// The files of the system as a shelf. It tells no text, and counts its failures from 0, all of them and those of writes.
+/// The files of the system as a shelf. It tells no text, counts its failures from 0, all of them and those of writes, and
+/// keeps the name of the last file whose load failed.
 ///
 /// `load` reads the file of that name. `begin` makes that file or empties it, and keeps it open; `put` writes to its
 /// end. A text that was begun stays open until another one is begun or written, and closing it answers nothing: what
@@ -23,6 +24,7 @@ pub struct FileShelf<'a, R: Files> {
     open: Option<OpenText<R::File>>,
     faults: u64,
     write_faults: u64,
+    failed: Bytes,
 }
 
 /// A file that is open for writing at its end.
@@ -35,7 +37,7 @@ struct OpenText<F> {
 impl<'a, R: Files> FileShelf<'a, R> {
     /// The shelf of the runtime's files. It takes no memory.
     pub fn new(rt: &'a R, alloc: Global) -> FileShelf<'a, R>
-        ensures { ⟦<FileShelf<'a, R> as Shelf>⟧.faults result ≡ fault_counts 0 0 }
+        ensures { ⟦<FileShelf<'a, R> as Shelf>⟧.faults result ≡ fault_counts 0 0 [] }
     {
         FileShelf {
             rt,
@@ -43,6 +45,7 @@ impl<'a, R: Files> FileShelf<'a, R> {
             open: None,
             faults: 0,
             write_faults: 0,
+            failed: Bytes::new(alloc),
         }
     }
 }
@@ -77,6 +80,7 @@ impl<'a, R: Files> FileShelf<'a, R> {
     fn empty(&mut self, name: &str) -> Result<(), PutErr>
         ensures faults { self.new.faults ≡ self.old.faults }
         ensures write_faults { self.new.write_faults ≡ self.old.write_faults }
+        ensures failed { self.new.failed ≡ self.old.failed }
     {
         let text = open_text(self.rt, self.alloc, name, true)?;
         self.open = Some(text);
@@ -87,6 +91,7 @@ impl<'a, R: Files> FileShelf<'a, R> {
     fn append(&mut self, name: &str, piece: &[u8]) -> Result<(), PutErr>
         ensures faults { self.new.faults ≡ self.old.faults }
         ensures write_faults { self.new.write_faults ≡ self.old.write_faults }
+        ensures failed { self.new.failed ≡ self.old.failed }
     {
         let mut text = match self.open.take() {
             Some(text) if text.name.as_str() == name => text,
@@ -100,7 +105,8 @@ impl<'a, R: Files> FileShelf<'a, R> {
     /// Counts a failed answer of `begin` or `put`.
     fn counted(&mut self, answer: Result<(), PutErr>) -> Result<(), PutErr>
         ensures same { result ≡ answer }
-        ensures cause { PutCause (fault_counts self.old.faults self.old.write_faults) (fault_counts self.new.faults self.new.write_faults) result }
+        ensures cause { PutCause (fault_counts self.old.faults self.old.write_faults self.old.failed)
+            (fault_counts self.new.faults self.new.write_faults self.new.failed) result }
     {
         if answer == Err(PutErr::Failed) {
             self.faults = self.faults.saturating_add(1);
@@ -119,11 +125,12 @@ impl<R: Files> Shelf for FileShelf<'_, R> {
 
     ghost written = { λ _ _. None };
 
-    ghost faults = { λ shelf. fault_counts shelf.faults shelf.write_faults };
+    ghost faults = { λ shelf. fault_counts shelf.faults shelf.write_faults shelf.failed };
 
     fn load(&mut self, alloc: Global, name: &str, limit: u64) -> Result<Bytes, LoadErr> {
         let answer = load(self.rt, alloc, name, limit);
         if let Err(LoadErr::Failed) = answer {
+            self.failed = Bytes::copy_of(alloc, name.as_bytes())?;
             self.faults = self.faults.saturating_add(1);
         }
         answer

@@ -1,4 +1,4 @@
-ghost use Rattle.std.specs.Prelude.{◌≡◌, ◌≢◌, ◌≤◌, ◌↔◌, ◌⊎◌, ℕ, List, length, None, IsSome, IfOk, IsErrOf, IsTrue, false, option_copied};
+ghost use Rattle.std.specs.Prelude.{◌≡◌, ◌≢◌, ◌≤◌, ◌↔◌, ◌⊎◌, ℕ, List, [], length, Err, None, IsSome, IfOk, IsErrOf, IsTrue, false, option_copied};
 ghost use Rattle.std.specs.List.Sorted.{IsPermutation};
 ghost use Rattle.io_ports.specs.Faults.{WriteRose};
 ghost use Rattle.io_ports.specs.Shelf.{LoadCause, Loads, PutCause, Begins, Appends};
@@ -9,20 +9,22 @@ use crate::errors::{LoadErr, PutErr};
 use crate::fault_plan::FaultPlan;
 use crate::shelf::Shelf;
 use crate::texts::Texts;
-use loc_base::Bytes;
+use loc_base::{Bytes, NoMemory};
 use std::alloc::Global;
 
-/// A shelf in memory. It tells its texts, and fails exactly at the calls that it was told to and at absent names.
+/// A shelf in memory. It tells its texts, and fails exactly at the calls that it was told to and at absent names; a load
+/// that is to fail wants memory where there is none for its name.
 #[derive(Drop)]
 pub struct MemShelf {
     texts: Texts,
     written: Texts,
     plan: FaultPlan,
     write_faults: u64,
+    failed: Bytes,
 }
 
 impl MemShelf {
-    ghost use Rattle.io_ports.specs.MemShelf.{texts_of, written_of, faults_of, write_faults_of, fault_counts_of, calls_of, failing_calls, IsToFail, CountsCall};
+    ghost use Rattle.io_ports.specs.MemShelf.{texts_of, written_of, faults_of, write_faults_of, failed_of, fault_counts_of, calls_of, failing_calls, IsToFail, CountsCall};
 
     /// The shelf with these texts. The numbers name the calls that are to fail, counted from 0, in any order. It takes
     /// no memory.
@@ -33,12 +35,14 @@ impl MemShelf {
         ensures calls { calls_of result ≡ 0 }
         ensures faults { faults_of result ≡ 0 }
         ensures write_faults { write_faults_of result ≡ 0 }
+        ensures failed { failed_of result ≡ [] }
     {
         MemShelf {
             texts,
             written: Texts::new(alloc),
             plan: FaultPlan::new(fails),
             write_faults: 0,
+            failed: Bytes::new(alloc),
         }
     }
 
@@ -61,6 +65,32 @@ impl MemShelf {
         ensures { result ≡ write_faults_of self.now }
     {
         self.write_faults
+    }
+
+    /// The name of the text whose load failed last, and no bytes before the first.
+    pub fn failed(&self) -> &Bytes
+        ensures { result.now ≡ failed_of self.now }
+    {
+        &self.failed
+    }
+
+    /// Counts a fault of a load and keeps its name, or wants memory for it.
+    fn load_fault(&mut self, alloc: Global, name: &str) -> LoadErr
+        ensures texts { self.new.texts ≡ self.old.texts }
+        ensures written { self.new.written ≡ self.old.written }
+        ensures calls { calls_of self.new ≡ calls_of self.old }
+        ensures fails { failing_calls self.new ≡ failing_calls self.old }
+        ensures answer { (result ≡ LoadErr.Failed) ⊎ (result ≡ LoadErr.NoMemory) }
+        ensures cause { LoadCause name.now (fault_counts_of self.old) (fault_counts_of self.new) (Err result) }
+    {
+        match Bytes::copy_of(alloc, name.as_bytes()) {
+            Ok(copy) => {
+                self.failed = copy;
+                self.plan.fault();
+                LoadErr::Failed
+            }
+            Err(NoMemory) => LoadErr::NoMemory,
+        }
     }
 
     /// Counts one call of `begin` or `put`, and a fault where it is to fail, as the answer says.
@@ -97,18 +127,19 @@ impl Shelf for MemShelf {
         ensures written { written_of self.new ≡ written_of self.old }
         ensures text { Loads (texts_of self.old name.now) limit result }
         ensures limit { IfOk result (λ text. length text ≤ limit) }
-        ensures cause { LoadCause (fault_counts_of self.old) (fault_counts_of self.new) result }
+        ensures cause { LoadCause name.now (fault_counts_of self.old) (fault_counts_of self.new) result }
 
-        // It fails exactly where it was told to and at an absent name.
-        ensures failed { IsErrOf result LoadErr.Failed ↔ (IsToFail self.old ⊎ (texts_of self.old name.now ≡ None)) }
+        // It fails only where it was told to and at an absent name; there it fails, or wants memory for the name.
+        ensures only { IsErrOf result LoadErr.Failed → IsToFail self.old ⊎ (texts_of self.old name.now ≡ None) }
+        ensures failed { IsToFail self.old ⊎ (texts_of self.old name.now ≡ None)
+            → IsErrOf result LoadErr.Failed ⊎ IsErrOf result LoadErr.NoMemory }
         ensures counted { CountsCall self.old self.new }
     {
-        if self.plan.call_fails() {
-            return Err(LoadErr::Failed);
+        if self.plan.call() {
+            return Err(self.load_fault(alloc, name));
         }
         let Some(text) = self.texts.get(name) else {
-            self.plan.fault();
-            return Err(LoadErr::Failed);
+            return Err(self.load_fault(alloc, name));
         };
         if text.len() as u64 > limit {
             return Err(LoadErr::TooBig);

@@ -9,8 +9,9 @@ use std::alloc::Global;
 /// Texts by their names: some to be loaded, and some that are written.
 ///
 /// Its meaning: `texts` are those to be loaded, which no call changes; `written` are those that were begun; `faults`
-/// counts the failures, all of them and those of writes, which are `begin` and `put`. A shelf need not tell its texts:
-/// what the clauses say of them holds where `tells` is true. What they say of the faults holds always.
+/// counts the failures, all of them and those of writes, which are `begin` and `put`, and keeps the name of the text whose
+/// load failed last. A shelf need not tell its texts: what the clauses say of them holds where `tells` is true. What they
+/// say of the faults holds always.
 pub trait Shelf {
     ghost tells: { Self → Bool };
 
@@ -28,7 +29,7 @@ pub trait Shelf {
         ensures written { written self.new ≡ written self.old }
         ensures text { tells self.old ≡ true → Loads (texts self.old name.now) limit result }
         ensures limit { IfOk result (λ text. length text ≤ limit) }
-        ensures cause { LoadCause (faults self.old) (faults self.new) result };
+        ensures cause { LoadCause name.now (faults self.old) (faults self.new) result };
 
     /// Makes the written text under a name empty. After `Failed` it is as before or empty, after `NoMemory` as before.
     fn begin(&mut self, name: &str) -> Result<(), PutErr>

@@ -1,10 +1,12 @@
 -- Why nothing is listed: from the fault of a text, of the number of suspects or of the form to the refusal that says so.
 use Rattle.std.proofs.Common.{ℕ, ◌+◌, ◌≡◌, ◌<◌, ◌≤◌, List, length, refl, sym, subst, ◌∙◌, arith, Some, ◌⊎◌, inl, inr}
+use Rattle.std.specs.Prelude.{slice_get}
 use Rattle.io_ports.specs.Faults.{FaultCounts}
 use Rattle.command_contract.specs.Contract.{Texts}
 use Rattle.command_contract.proofs.Statuses.{input-range}
 use Rattle.design_core.specs.declared.design.Design.{Design}
 use Rattle.design_core.specs.declared.place.Place.{Place}
+use Rattle.design_core.specs.declared.signal.Signal.{Signal}
 use Rattle.suspect_map.specs.declared.group.Group.{Group}
 use Rattle.front_end.specs.Means.{Meaning, Refusing}
 use Rattle.debug_core.specs.declared.error.DebugErr.{DebugErr}
@@ -13,9 +15,11 @@ use Rattle.debug_core.specs.Problems.{IsRefused, Problem}
 use Rattle.run_inputs.specs.declared.faults.DesignFault.{DesignFault}
 use Rattle.run_inputs.specs.declared.faults.TraceFault.{TraceFault}
 use Rattle.run_inputs.specs.Causes.{DesignCause, TraceCause}
-use Rattle.run_inputs.specs.Loading.{DesignSpared, TraceSpared}
+use Rattle.run_inputs.specs.Asked.{Asked as Sources}
+use Rattle.run_inputs.specs.Loading.{DesignCounts, DesignSpared, TraceCounts, TraceSpared, trace_at}
 use Rattle.run_inputs.specs.Means.{MeansDesign}
 use Rattle.run_inputs.specs.Refusals.{design_fault_line, design_fault_status, trace_fault_line, trace_fault_status}
+use Rattle.run_inputs.proofs.Counting.{design-named, design-stays, trace-named_at, trace-stays}
 use Rattle.list_inputs.specs.declared.refusal.Refusal.{Refusal}
 use Rattle.list_inputs.specs.declared.refusal.Refusal.TheVariants.{Line, Memory}
 use Rattle.list_inputs.specs.Asked.{Asked, sources_of}
@@ -49,6 +53,16 @@ pub design-spared : (fault : DesignFault) (r : Refusal) (name : List ℕ) → Ha
     → Says r (design_fault_status fault) (design_fault_line name fault) → DesignSpared fault → IsSpared r
 design-spared fault r name has says which =
     spared r (design_fault_status fault) (design_fault_line name fault) has says which
+
+pub design-counts : (old new : FaultCounts) (name : List ℕ) (fault : DesignFault) (r : Refusal)
+    → Says r (design_fault_status fault) (design_fault_line name fault) → DesignCounts name old new fault → RefusalCounts old new r
+design-counts old new name fault (Line s l) (e, f) counts = (
+  λ five.
+      let named = design-named name old new fault counts (sym e ∙ five) in
+      (named.0, f ∙ named.1),
+  λ other. design-stays name old new fault counts (λ five. other (e ∙ five)),
+)
+design-counts old new name fault Memory says counts = tt
 
 -- ---- the number of suspects
 pub many-cause : (M : Meaning) (R : Refusing) (S : Suspecting) (asked : Asked) (texts : Texts) (d : Design) (r : Refusal)
@@ -101,6 +115,18 @@ trace-cause M R S asked texts d r names places groups e f means are few is =
 pub trace-spared : (fault : TraceFault) (r : Refusal) (line : List ℕ) → HasStatus r → Says r (trace_fault_status fault) line
     → TraceSpared fault → IsSpared r
 trace-spared fault r line has says which = spared r (trace_fault_status fault) line has says which
+
+pub trace-counts : (old new : FaultCounts) (asked : Sources) (place : ℕ) (signals : List Signal) (name : List ℕ) (number : ℕ)
+    (fault : TraceFault) (r : Refusal) → slice_get asked.traces place ≡ Some name
+    → Says r (trace_fault_status fault) (trace_fault_line signals name number fault)
+    → TraceCounts (trace_at asked place) old new fault → RefusalCounts old new r
+trace-counts old new asked place signals name number fault (Line s l) at (e, f) counts = (
+  λ five.
+      let named = trace-named_at signals asked place name number old new fault at counts (sym e ∙ five) in
+      (named.0, f ∙ named.1),
+  λ other. trace-stays (trace_at asked place) old new fault counts (λ five. other (e ∙ five)),
+)
+trace-counts old new asked place signals name number fault Memory at says counts = tt
 
 -- ---- the form
 pub problem-cause : (M : Meaning) (R : Refusing) (S : Suspecting) (asked : Asked) (texts : Texts) (p : Problem) (fault : DebugErr)

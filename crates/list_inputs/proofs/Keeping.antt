@@ -67,36 +67,38 @@ module _ (c : Case) (run : Run) where
   -- ---- what it leaves
   line-refused : EndsByLines c run → (refusal : Refusal) (status : ℕ) → HasStatus refusal → HasCause (c.Refused run) refusal
       → run.now_written ≡ run.written → Prints (line_of refusal) (status_of refusal) run.printed run.now_printed status
-      → IsInputRefusal status → EndsRefused c run status
-  line-refused ends (Line s line) status has cause nothing (inl (e, put)) is = record {
+      → RefusalCounts run.counts.shelf run.counts.now_shelf refusal → IsInputRefusal status → EndsRefused c run status
+  line-refused ends (Line s line) status has cause nothing (inl (e, put)) shelf is = record {
     line = line.items;
     refused = subst (λ n. HasCause (c.Refused run) (Line n line)) (sym e) cause;
+    named = λ five. shelf.0 (sym e ∙ five);
     printed = put;
     stands = ends.stands nothing;
   }
-  line-refused ends Memory status has cause nothing (inl (e, put)) is = absurd (omega (arith, e, input-range status is))
-  line-refused ends refusal status has cause nothing (inr (inl (e, front))) is = absurd (omega (arith, e, input-range status is))
-  line-refused ends refusal status has cause nothing (inr (inr (e, same))) is = absurd (omega (arith, e, input-range status is))
+  line-refused ends Memory status has cause nothing (inl (e, put)) shelf is = absurd (omega (arith, e, input-range status is))
+  line-refused ends refusal status has cause nothing (inr (inl (e, front))) shelf is = absurd (omega (arith, e, input-range status is))
+  line-refused ends refusal status has cause nothing (inr (inr (e, same))) shelf is = absurd (omega (arith, e, input-range status is))
 
   line-stops : (refusal : Refusal) (status : ℕ) → HasStatus refusal → HasCause (c.Refused run) refusal
       → run.now_written ≡ run.written → Prints (line_of refusal) (status_of refusal) run.printed run.now_printed status
+      → RefusalCounts run.counts.shelf run.counts.now_shelf refusal
       → Rose run.counts.sink run.counts.now_sink → status ≡ 6 → LineStops (c.Refused run) run
-  line-stops refusal status has cause nothing (inl (e, put)) rose six = absurd (not-six refusal has (sym e ∙ six))
-  line-stops (Line s line) status has cause nothing (inr (inl (e, front))) rose six = record {
+  line-stops refusal status has cause nothing (inl (e, put)) shelf rose six = absurd (not-six refusal has (sym e ∙ six))
+  line-stops (Line s line) status has cause nothing (inr (inl (e, front))) shelf rose six = record {
     line = line.items;
-    is_due = inl (s, cause);
+    is_due = inl (s, cause, shelf.0);
     printed = front;
     sink_failed = rose;
     nothing_written = nothing;
   }
-  line-stops Memory status has cause nothing (inr (inl (e, front))) rose six = record {
+  line-stops Memory status has cause nothing (inr (inl (e, front))) shelf rose six = record {
     line = memory_line;
     is_due = inr refl;
     printed = front;
     sink_failed = rose;
     nothing_written = nothing;
   }
-  line-stops refusal status has cause nothing (inr (inr (e, same))) rose six = absurd (omega (arith, e, six))
+  line-stops refusal status has cause nothing (inr (inr (e, same))) shelf rose six = absurd (omega (arith, e, six))
 
   line-cut : (refusal : Refusal) (status : ℕ) → HasStatus refusal → run.now_written ≡ run.written
       → Prints (line_of refusal) (status_of refusal) run.printed run.now_printed status → status ≡ 7 → LineCut run
@@ -131,7 +133,7 @@ module _ (c : Case) (run : Run) where
       → PrintCounts (status_of refusal) run.counts.sink run.counts.now_sink status → status ≡ 5
       → LoadRose run.counts.shelf run.counts.now_shelf
   shelf-rose refusal status shelf (inl (e, rose)) five = absurd (omega (arith, e, five))
-  shelf-rose (Line s line) status shelf (inr (inl e, same)) five = shelf.0 (sym e ∙ five)
+  shelf-rose (Line s line) status shelf (inr (inl e, same)) five = (shelf.0 (sym e ∙ five)).0
   shelf-rose Memory status shelf (inr (inl e, same)) five = absurd (omega (arith, e, five))
   shelf-rose refusal status shelf (inr (inr e, same)) five = absurd (omega (arith, e, five))
 
@@ -155,7 +157,7 @@ module _ (c : Case) (run : Run) where
       → RefusalCounts run.counts.shelf run.counts.now_shelf refusal
       → PrintCounts (status_of refusal) run.counts.sink run.counts.now_sink status → ¬ OneRose run.counts → status ≡ 7
   line-complete refusal status spared shelf (inl (e, rose)) none = absurd (none (inr rose))
-  line-complete (Line s line) status spared shelf (inr (inl e, same)) none = absurd (none (inl (shelf.0 spared).0))
+  line-complete (Line s line) status spared shelf (inr (inl e, same)) none = absurd (none (inl (shelf.0 spared).0.0))
   line-complete Memory status spared shelf (inr (inl e, same)) none = e
   line-complete refusal status spared shelf (inr (inr e, same)) none = e
 
@@ -166,10 +168,10 @@ module _ (c : Case) (run : Run) where
     refusals = λ s may. input-refusal s (ends.refuses s may);
     answered = λ told may. absurd (no-answer ends refusal status is may);
     refused = λ told may.
-        line-refused ends refusal status is.has_status (is.cause told) is.nothing (is.prints told) (ends.refuses status may);
+        line-refused ends refusal status is.has_status (is.cause told) is.nothing (is.prints told) is.shelf (ends.refuses status may);
     stopped = λ told six.
         ends.stops (inr (sink-rose refusal status is.has_status is.sink six))
-        (line-stops refusal status is.has_status (is.cause told) is.nothing (is.prints told)
+        (line-stops refusal status is.has_status (is.cause told) is.nothing (is.prints told) is.shelf
         (sink-rose refusal status is.has_status is.sink six) six);
     cut = λ told seven. ends.cut (line-cut refusal status is.has_status is.nothing (is.prints told) seven);
     others = λ told name may. ap (λ texts. texts name) is.nothing;

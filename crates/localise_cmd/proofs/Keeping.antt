@@ -25,6 +25,7 @@ usage-keeps usage run Whole text cause written shelf = record {
   refused = λ told is. record {
     line = usage_line usage;
     refused = record { has_status = refl; has_line = refl };
+    named = λ five. absurd (omega (arith, five));
     printed = text told;
     stands = written;
   };

@@ -1,5 +1,5 @@
 -- The case of words that ask for nothing: the first thing that is wrong with them is printed, with status 2, and
--- nothing is read or written.
+-- nothing is written.
 use Rattle.std.specs.Prelude.{ℕ, ◌≡◌, ◌⊎◌, ◌++◌, List, codes}
 use Rattle.io_ports.specs.Faults.{Rose}
 use Rattle.io_ports.specs.Shelf.{AppendsFront}

@@ -298,7 +298,7 @@ module _ (M : Meaning) (R : Refusing) (S : Suspecting) (asked : Asked) (run : Ru
           answered = λ told is. absurd (omega (arith, least, answer-low status is));
           refused = λ told is.
               let ends = (from told).refused told (input-refused status is) in
-              record { line = ends.line; refused = ends.refused; printed = ends.printed; stands = ends.stands };
+              record { line = ends.line; refused = ends.refused; named = ends.named; printed = ends.printed; stands = ends.stands };
           stopped = λ told six. (((from told).stopped told six).0, in_list ((from told).stopped told six));
           cut = λ told seven. for_list ((from told).cut told seven);
           others = list-others run.now_printed run.counts.now_sink status keeps;

@@ -34,7 +34,7 @@ impl MadeShelf<'_> {
 }
 
 impl Shelf for MadeShelf<'_> {
-    ghost use Rattle.std.specs.Prelude.{true};
+    ghost use Rattle.std.specs.Prelude.{[], true};
     ghost use Rattle.io_ports.specs.Faults.{fault_counts};
     ghost use Rattle.make_cmd.specs.Shelves.{texts_of};
 
@@ -44,7 +44,7 @@ impl Shelf for MadeShelf<'_> {
 
     ghost written = { texts_of };
 
-    ghost faults = { λ _. fault_counts 0 0 };
+    ghost faults = { λ _. fault_counts 0 0 [] };
 
     /// The text under a name. There are only two: of another there is no memory.
     fn load(&mut self, alloc: Global, name: &str, limit: u64) -> Result<Bytes, LoadErr> {

@@ -1,7 +1,7 @@
--- What loading and reading texts leaves: the counts of the shelf's faults, the trace at which reading stops, and a refusal that comes
+-- What loading and reading texts leaves: the shelf's faults, the trace at which reading stops, and a refusal that comes
 -- although a text means something.
-use Rattle.std.specs.Prelude.{ℕ, ◌≡◌, ◌⊎◌, List, take, slice_get, Some, Result, Ok, Err}
-use Rattle.io_ports.specs.Faults.{FaultCounts, LoadRose}
+use Rattle.std.specs.Prelude.{ℕ, ◌≡◌, ◌⊎◌, List, [], take, slice_get, unwrap_or, Some, Result, Ok, Err}
+use Rattle.io_ports.specs.Faults.{FaultCounts, LoadRoseOf}
 use Rattle.command_contract.specs.Contract.{Texts}
 use Rattle.design_core.specs.declared.design.Design.{Design}
 use Rattle.design_core.specs.declared.trace.Trace.{Trace}
@@ -15,27 +15,31 @@ use Rattle.run_inputs.specs.Causes.{TraceCause}
 use Rattle.run_inputs.specs.Means.{MeansTrace, MeanTraces}
 use Rattle.run_inputs.specs.Refusals.{design_fault_status, trace_fault_status}
 
--- ---- the counts of the shelf's faults
-abbrev pub DesignCounts : FaultCounts → FaultCounts → DesignFault → Type 0
-DesignCounts old new (design.Load load.Fault) = LoadRose old new
-DesignCounts old new (design.Load load.Size) = new ≡ old
-DesignCounts old new (design.Load load.NoMemory) = new ≡ old
-DesignCounts old new (design.Text fault) = new ≡ old
+-- ---- the shelf's faults, after the text under a name was loaded
+abbrev pub DesignCounts : List ℕ → FaultCounts → FaultCounts → DesignFault → Type 0
+DesignCounts name old new (design.Load load.Fault) = LoadRoseOf name old new
+DesignCounts name old new (design.Load load.Size) = new ≡ old
+DesignCounts name old new (design.Load load.NoMemory) = new ≡ old
+DesignCounts name old new (design.Text fault) = new ≡ old
 
-abbrev pub TraceCounts : FaultCounts → FaultCounts → TraceFault → Type 0
-TraceCounts old new (trace.Load load.Fault) = LoadRose old new
-TraceCounts old new (trace.Load load.Size) = new ≡ old
-TraceCounts old new (trace.Load load.NoMemory) = new ≡ old
-TraceCounts old new (trace.Text fault) = new ≡ old
+abbrev pub TraceCounts : List ℕ → FaultCounts → FaultCounts → TraceFault → Type 0
+TraceCounts name old new (trace.Load load.Fault) = LoadRoseOf name old new
+TraceCounts name old new (trace.Load load.Size) = new ≡ old
+TraceCounts name old new (trace.Load load.NoMemory) = new ≡ old
+TraceCounts name old new (trace.Text fault) = new ≡ old
 
--- after a load, of the design's text and of a trace's
-abbrev pub CountsOfDesign : {X : Type 0} → FaultCounts → FaultCounts → Result X DesignFault → Type 0
-CountsOfDesign old new (Ok _) = new ≡ old
-CountsOfDesign old new (Err fault) = DesignCounts old new fault
+-- the design's, and a trace's
+abbrev pub CountsOfDesign : {X : Type 0} → List ℕ → FaultCounts → FaultCounts → Result X DesignFault → Type 0
+CountsOfDesign name old new (Ok _) = new ≡ old
+CountsOfDesign name old new (Err fault) = DesignCounts name old new fault
 
-abbrev pub CountsOfTrace : {X : Type 0} → FaultCounts → FaultCounts → Result X TraceFault → Type 0
-CountsOfTrace old new (Ok _) = new ≡ old
-CountsOfTrace old new (Err fault) = TraceCounts old new fault
+abbrev pub CountsOfTrace : {X : Type 0} → List ℕ → FaultCounts → FaultCounts → Result X TraceFault → Type 0
+CountsOfTrace name old new (Ok _) = new ≡ old
+CountsOfTrace name old new (Err fault) = TraceCounts name old new fault
+
+-- the name of the text of the trace at a place
+abbrev pub trace_at : Asked → ℕ → List ℕ
+trace_at asked place = unwrap_or (slice_get asked.traces place) []
 
 -- the traces before a place are read, and the one there is refused
 pub record StopsAt (texts : Texts) (asked : Asked) (d : Design) (place : ℕ) (fault : TraceFault) : Type 0 where

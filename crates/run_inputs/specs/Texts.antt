@@ -1,6 +1,6 @@
 -- Private, for the functions inside this crate: a text that is loaded, and what is read of it.
 use Rattle.std.specs.Prelude.{ℕ, ◌+◌, ◌≡◌, ◌≢◌, ◌≤◌, List, length, take, slice_get, Option, Some, Result, Ok, Err}
-use Rattle.io_ports.specs.Faults.{FaultCounts, LoadRose}
+use Rattle.io_ports.specs.Faults.{FaultCounts, LoadRoseOf}
 use Rattle.command_contract.specs.Contract.{Texts}
 use Rattle.design_core.specs.declared.design.Design.{Design}
 use Rattle.design_core.specs.declared.trace.Trace.{Trace}
@@ -48,12 +48,12 @@ abbrev pub RefusesDump : List ℕ → Design → Option (List ℕ) → TraceFaul
 RefusesDump text d clock (trace.Load _) = ⊥
 RefusesDump text d clock (trace.Text fault) = fault ≢ vcd.NoMemory → IsRefused text d clock fault
 
--- the counts of the shelf's faults
-abbrev pub LoadCounts : {X : Type 0} → FaultCounts → FaultCounts → Result X LoadFault → Type 0
-LoadCounts old new (Ok _) = new ≡ old
-LoadCounts old new (Err load.Fault) = LoadRose old new
-LoadCounts old new (Err load.Size) = new ≡ old
-LoadCounts old new (Err load.NoMemory) = new ≡ old
+-- the shelf's faults, after the text under a name was loaded
+abbrev pub LoadCounts : {X : Type 0} → List ℕ → FaultCounts → FaultCounts → Result X LoadFault → Type 0
+LoadCounts name old new (Ok _) = new ≡ old
+LoadCounts name old new (Err load.Fault) = LoadRoseOf name old new
+LoadCounts name old new (Err load.Size) = new ≡ old
+LoadCounts name old new (Err load.NoMemory) = new ≡ old
 
 -- the traces before a place and then the one there, or why it is refused
 abbrev pub ReadsNext : {X : Type 0}

@@ -12,7 +12,7 @@ ghost use Rattle.run_inputs.specs.declared.faults.TraceFault.TheVariants as why;
 ghost use Rattle.run_inputs.specs.Asked.{asked_of};
 ghost use Rattle.run_inputs.specs.Means.{AreKeptOf, IsKeptOf, IsReadOf, MeansDesign, MeansTrace, MeanTraces};
 ghost use Rattle.run_inputs.specs.Causes.{DesignCause, TraceCause};
-ghost use Rattle.run_inputs.specs.Loading.{CountsOfDesign, CountsOfTrace, DesignSpared, HasTrace, StopsAt, TraceCounts, TraceSpared};
+ghost use Rattle.run_inputs.specs.Loading.{CountsOfDesign, CountsOfTrace, DesignSpared, HasTrace, StopsAt, TraceCounts, TraceSpared, trace_at};
 ghost use Rattle.run_inputs.specs.Texts.{KeepsNext, LoadCounts, Loads, LoadsDesign, LoadsTrace, ReadsNext, RefusesDump, RefusesText};
 
 use crate::faults::{DesignFault, LoadFault, TraceFault};
@@ -34,7 +34,7 @@ fn load<S: Shelf>(alloc: Global, shelf: &mut S, name: &str) -> Result<Bytes, Loa
     ensures texts { S.texts shelf.new ≡ S.texts shelf.old }
     ensures written { S.written shelf.new ≡ S.written shelf.old }
     ensures text { S.tells shelf.old ≡ true → Loads (S.texts shelf.old name.now) result }
-    ensures counts { LoadCounts (S.faults shelf.old) (S.faults shelf.new) result }
+    ensures counts { LoadCounts name.now (S.faults shelf.old) (S.faults shelf.new) result }
 {
     match shelf.load(alloc, name, MOST_BYTES) {
         Ok(text) => Ok(text),
@@ -54,7 +54,7 @@ fn load_source<S: Shelf>(
     ensures texts { S.texts shelf.new ≡ S.texts shelf.old }
     ensures written { S.written shelf.new ≡ S.written shelf.old }
     ensures text { S.tells shelf.old ≡ true → LoadsDesign (S.texts shelf.old (asked_of sources.now).design) result }
-    ensures counts { CountsOfDesign (S.faults shelf.old) (S.faults shelf.new) result }
+    ensures counts { CountsOfDesign (asked_of sources.now).design (S.faults shelf.old) (S.faults shelf.new) result }
 {
     match load(alloc, shelf, sources.design) {
         Ok(text) => Ok(text),
@@ -102,7 +102,7 @@ pub fn load_design<K: Imprint, F: FrontEnd, S: Shelf>(
     ensures tells { S.tells shelf.new ≡ S.tells shelf.old }
     ensures texts { S.texts shelf.new ≡ S.texts shelf.old }
     ensures written { S.written shelf.new ≡ S.written shelf.old }
-    ensures counts { CountsOfDesign (S.faults shelf.old) (S.faults shelf.new) result }
+    ensures counts { CountsOfDesign (asked_of sources.now).design (S.faults shelf.old) (S.faults shelf.new) result }
     ensures means { S.tells shelf.old ≡ true
         → IfOk result (λ r. MeansDesign F.means (asked_of sources.now) (S.texts shelf.old) r.ordered.design) }
     ensures kept { S.tells shelf.old ≡ true
@@ -127,7 +127,7 @@ fn load_dump<S: Shelf>(alloc: Global, shelf: &mut S, name: &str) -> Result<Bytes
     ensures texts { S.texts shelf.new ≡ S.texts shelf.old }
     ensures written { S.written shelf.new ≡ S.written shelf.old }
     ensures text { S.tells shelf.old ≡ true → LoadsTrace (S.texts shelf.old name.now) result }
-    ensures counts { CountsOfTrace (S.faults shelf.old) (S.faults shelf.new) result }
+    ensures counts { CountsOfTrace name.now (S.faults shelf.old) (S.faults shelf.new) result }
 {
     match load(alloc, shelf, name) {
         Ok(text) => Ok(text),
@@ -182,7 +182,7 @@ fn load_trace<K: Imprint, S: Shelf>(
     ensures tells { S.tells shelf.new ≡ S.tells shelf.old }
     ensures texts { S.texts shelf.new ≡ S.texts shelf.old }
     ensures written { S.written shelf.new ≡ S.written shelf.old }
-    ensures counts { CountsOfTrace (S.faults shelf.old) (S.faults shelf.new) result }
+    ensures counts { CountsOfTrace source.now.name.now (S.faults shelf.old) (S.faults shelf.new) result }
     ensures means { S.tells shelf.old ≡ true → IfOk result
         (λ r. MeansTrace (S.texts shelf.old) (option_copied source.now.clock) design.now source.now.name.now r.trace) }
     ensures kept { S.tells shelf.old ≡ true
@@ -257,7 +257,8 @@ fn load_next<K: Imprint, S: Shelf>(
     ensures tells { S.tells shelf.new ≡ S.tells shelf.old }
     ensures texts { S.texts shelf.new ≡ S.texts shelf.old }
     ensures written { S.written shelf.new ≡ S.written shelf.old }
-    ensures counts { CountsOfTrace (S.faults shelf.old) (S.faults shelf.new) result }
+    ensures counts { CountsOfTrace (trace_at (asked_of reading.now.sources.now) reading.now.place)
+        (S.faults shelf.old) (S.faults shelf.new) result }
     ensures read { S.tells shelf.old ≡ true → ReadsNext (S.texts shelf.old) (asked_of reading.now.sources.now)
         reading.now.design.now reading.now.place read.old.traces.items read.new.traces.items result }
     ensures kept { S.tells shelf.old ≡ true → KeepsNext K.is_of (S.texts shelf.old) (asked_of reading.now.sources.now)
@@ -295,7 +296,7 @@ pub fn load_traces<K: Imprint, S: Shelf>(
     ensures texts { S.texts shelf.new ≡ S.texts shelf.old }
     ensures written { S.written shelf.new ≡ S.written shelf.old }
     ensures counts { MatchResult result (λ _. S.faults shelf.new ≡ S.faults shelf.old)
-        (λ r. TraceCounts (S.faults shelf.old) (S.faults shelf.new) r.fault) }
+        (λ r. TraceCounts (trace_at (asked_of sources.now) r.place) (S.faults shelf.old) (S.faults shelf.new) r.fault) }
     ensures means { S.tells shelf.old ≡ true → IfOk result (λ read. MeanTraces (S.texts shelf.old)
         (asked_of sources.now).clock design.now (asked_of sources.now).traces read.traces.items) }
     ensures kept { S.tells shelf.old ≡ true → IfOk result (λ read. AreKeptOf K.is_of (S.texts shelf.old)

@@ -1,5 +1,5 @@
 -- How a run ends where no count rises.
-use Rattle.std.proofs.Common.{◌≡◌, ap, refl, ◌∙◌, ◌⊎◌, inl, inr}
+use Rattle.std.proofs.Common.{ℕ, ◌≡◌, List, ap, refl, ◌∙◌, ◌⊎◌, inl, inr}
 use Rattle.command_contract.specs.Contract.{Counts, OneRose}
 use Rattle.run_inputs.specs.declared.faults.DesignFault.{DesignFault}
 use Rattle.run_inputs.specs.declared.faults.TraceFault.{TraceFault}
@@ -17,27 +17,27 @@ EndsWell o = (status_of o ≡ 0) ⊎ (status_of o ≡ 7)
 no-trace_same : (one other : TraceFault) → NoTrace one ≡ NoTrace other → one ≡ other
 no-trace_same one other e = cc
 
-pub trace-complete : (c : Counts) (why : TraceFault) (o : Outcome) → TraceSpared why
-    → TraceCounts c.shelf c.now_shelf why
+pub trace-complete : (name : List ℕ) (c : Counts) (why : TraceFault) (o : Outcome) → TraceSpared why
+    → TraceCounts name c.shelf c.now_shelf why
     → SinkCounts (NoTrace why) c.sink c.now_sink o → ¬ OneRose c → EndsWell o
-trace-complete c why WriteFault spared shelf sink none = absurd (none (inr sink))
-trace-complete c why Memory spared shelf sink none = inr refl
-trace-complete c why Done spared shelf (e, same) none = absurd (cc)
-trace-complete c why (NoDesign other) spared shelf (e, same) none = absurd (cc)
-trace-complete c why (NoTrace other) (inl five) shelf (e, same) none = absurd (none (inl (trace-rose c why shelf five).0))
-trace-complete c why (NoTrace other) (inr seven) shelf (e, same) none =
+trace-complete name c why WriteFault spared shelf sink none = absurd (none (inr sink))
+trace-complete name c why Memory spared shelf sink none = inr refl
+trace-complete name c why Done spared shelf (e, same) none = absurd (cc)
+trace-complete name c why (NoDesign other) spared shelf (e, same) none = absurd (cc)
+trace-complete name c why (NoTrace other) (inl five) shelf (e, same) none = absurd (none (inl (trace-rose name c.shelf c.now_shelf why shelf five).0))
+trace-complete name c why (NoTrace other) (inr seven) shelf (e, same) none =
     inr (ap trace_fault_status (no-trace_same other why e) ∙ seven)
 
 no-design_same : (one other : DesignFault) → NoDesign one ≡ NoDesign other → one ≡ other
 no-design_same one other e = cc
 
-pub design-complete : (c : Counts) (why : DesignFault) (o : Outcome) → DesignSpared why
-    → DesignCounts c.shelf c.now_shelf why
+pub design-complete : (name : List ℕ) (c : Counts) (why : DesignFault) (o : Outcome) → DesignSpared why
+    → DesignCounts name c.shelf c.now_shelf why
     → SinkCounts (NoDesign why) c.sink c.now_sink o → ¬ OneRose c → EndsWell o
-design-complete c why WriteFault spared shelf sink none = absurd (none (inr sink))
-design-complete c why Memory spared shelf sink none = inr refl
-design-complete c why Done spared shelf (e, same) none = absurd (cc)
-design-complete c why (NoTrace other) spared shelf (e, same) none = absurd (cc)
-design-complete c why (NoDesign other) (inl five) shelf (e, same) none = absurd (none (inl (design-rose c why shelf five).0))
-design-complete c why (NoDesign other) (inr seven) shelf (e, same) none =
+design-complete name c why WriteFault spared shelf sink none = absurd (none (inr sink))
+design-complete name c why Memory spared shelf sink none = inr refl
+design-complete name c why Done spared shelf (e, same) none = absurd (cc)
+design-complete name c why (NoTrace other) spared shelf (e, same) none = absurd (cc)
+design-complete name c why (NoDesign other) (inl five) shelf (e, same) none = absurd (none (inl (design-rose name c.shelf c.now_shelf why shelf five).0))
+design-complete name c why (NoDesign other) (inr seven) shelf (e, same) none =
     inr (ap design_fault_status (no-design_same other why e) ∙ seven)

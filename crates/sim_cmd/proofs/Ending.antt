@@ -17,7 +17,7 @@ use Rattle.run_inputs.specs.declared.faults.TraceFault.{TraceFault}
 use Rattle.sim_cmd.specs.declared.outcome.Outcome.{Outcome}
 use Rattle.sim_cmd.specs.declared.outcome.Outcome.TheVariants.{Done, NoDesign, NoTrace, WriteFault, Memory}
 use Rattle.sim_cmd.specs.Requests.{Asked}
-use Rattle.command_contract.specs.Contract.{Texts}
+use Rattle.command_contract.specs.Contract.{Counts, TellsFault, Texts}
 use Rattle.run_inputs.specs.Means.{MeansDesign, MeanTraces}
 use Rattle.front_end.specs.Means.{IsReady, Meaning, Refusing}
 use Rattle.run_inputs.specs.Refusals.{design_fault_line, design_fault_status, trace_fault_line, trace_fault_status}
@@ -36,16 +36,18 @@ line-or-memory end line old new Done puts = absurd puts
 line-or-memory end line old new (NoDesign fault) puts = absurd puts
 line-or-memory end line old new (NoTrace fault) puts = absurd puts
 
-stopped : (M : Meaning) (R : Refusing) (asked : Asked) (texts : Texts) (status : ℕ) (line old new : List ℕ)
-    → Refused M R asked texts status line
-    → AppendsFront line old new ⊎ AppendsFront memory_line old new → Leaves M R asked texts old new WriteFault
-stopped M R asked texts status line old new refused (inl front) = (line, inr (inl (status, refused)), front)
-stopped M R asked texts status line old new refused (inr front) = (memory_line, inr (inr (inr (inl refl))), front)
+stopped : (M : Meaning) (R : Refusing) (asked : Asked) (texts : Texts) (counts : Counts) (status : ℕ)
+    (line old new : List ℕ)
+    → Refused M R asked texts status line → TellsFault counts.shelf counts.now_shelf status line
+    → AppendsFront line old new ⊎ AppendsFront memory_line old new → Leaves M R asked texts counts old new WriteFault
+stopped M R asked texts counts status line old new refused named (inl front) =
+    (line, inr (inl (status, refused, named)), front)
+stopped M R asked texts counts status line old new refused named (inr front) = (memory_line, inr (inr (inr (inl refl))), front)
 
-cut : (M : Meaning) (R : Refusing) (asked : Asked) (texts : Texts) (old new : List ℕ)
-    → (new ≡ old) ⊎ (new ≡ old ++ memory_line) → Leaves M R asked texts old new Memory
-cut M R asked texts old new (inl same) = ([], inl refl, same ∙ sym (append-nil old))
-cut M R asked texts old new (inr put) = (memory_line, inr (inl refl), put)
+cut : (M : Meaning) (R : Refusing) (asked : Asked) (texts : Texts) (counts : Counts) (old new : List ℕ)
+    → (new ≡ old) ⊎ (new ≡ old ++ memory_line) → Leaves M R asked texts counts old new Memory
+cut M R asked texts counts old new (inl same) = ([], inl refl, same ∙ sym (append-nil old))
+cut M R asked texts counts old new (inr put) = (memory_line, inr (inl refl), put)
 
 design-same : (one other : DesignFault) → NoDesign one ≡ NoDesign other → one ≡ other
 design-same one other e = cc
@@ -53,18 +55,19 @@ design-same one other e = cc
 trace-same : (one other : TraceFault) → NoTrace one ≡ NoTrace other → one ≡ other
 trace-same one other e = cc
 
-pub no-design : (M : Meaning) (R : Refusing) (asked : Asked) (texts : Texts) (fault : DesignFault) (old new : List ℕ)
-    (o : Outcome) → DesignCause R asked texts fault
-    → PutsLine (NoDesign fault) (design_fault_line asked.design fault) old new o → Leaves M R asked texts old new o
-no-design M R asked texts fault old new WriteFault cause puts =
-    stopped M R asked texts (design_fault_status fault) (design_fault_line asked.design fault) old new
-    (for_design fault cause) puts
-no-design M R asked texts fault old new Memory cause puts = cut M R asked texts old new puts
-no-design M R asked texts fault old new Done cause (e, put) = absurd (cc)
-no-design M R asked texts fault old new (NoTrace other) cause (e, put) = absurd (cc)
-no-design M R asked texts fault old new (NoDesign other) cause (e, put) =
-    subst (λ (f : DesignFault). Leaves M R asked texts old new (NoDesign f)) (sym (design-same other fault e))
-    (design_fault_line asked.design fault, for_design fault cause, put)
+pub no-design : (M : Meaning) (R : Refusing) (asked : Asked) (texts : Texts) (counts : Counts) (fault : DesignFault)
+    (old new : List ℕ) (o : Outcome) → DesignCause R asked texts fault
+    → TellsFault counts.shelf counts.now_shelf (design_fault_status fault) (design_fault_line asked.design fault)
+    → PutsLine (NoDesign fault) (design_fault_line asked.design fault) old new o → Leaves M R asked texts counts old new o
+no-design M R asked texts counts fault old new WriteFault cause named puts =
+    stopped M R asked texts counts (design_fault_status fault) (design_fault_line asked.design fault) old new
+    (for_design fault cause) named puts
+no-design M R asked texts counts fault old new Memory cause named puts = cut M R asked texts counts old new puts
+no-design M R asked texts counts fault old new Done cause named (e, put) = absurd (cc)
+no-design M R asked texts counts fault old new (NoTrace other) cause named (e, put) = absurd (cc)
+no-design M R asked texts counts fault old new (NoDesign other) cause named (e, put) =
+    subst (λ (f : DesignFault). Leaves M R asked texts counts old new (NoDesign f)) (sym (design-same other fault e))
+    (design_fault_line asked.design fault, for_design fault cause, named, put)
 
 -- a trace that is refused, by its place
 pub trace-refused : (M : Meaning) (R : Refusing) (asked : Asked) (texts : Texts) (d : Design) (place : ℕ)
@@ -86,34 +89,35 @@ trace-refused M R asked texts d place name fault design stops at =
     some-same : {x y : List ℕ} → Some x ≡ Some y → x ≡ y
     some-same e = cc
 
-pub no-trace : (M : Meaning) (R : Refusing) (asked : Asked) (texts : Texts) (fault : TraceFault) (line old new : List ℕ)
-    (o : Outcome)
-    → Refused M R asked texts (trace_fault_status fault) line → PutsLine (NoTrace fault) line old new o
-    → Leaves M R asked texts old new o
-no-trace M R asked texts fault line old new WriteFault refused puts =
-    stopped M R asked texts (trace_fault_status fault) line old new refused puts
-no-trace M R asked texts fault line old new Memory refused puts = cut M R asked texts old new puts
-no-trace M R asked texts fault line old new Done refused (e, put) = absurd (cc)
-no-trace M R asked texts fault line old new (NoDesign other) refused (e, put) = absurd (cc)
-no-trace M R asked texts fault line old new (NoTrace other) refused (e, put) =
-    subst (λ (f : TraceFault). Leaves M R asked texts old new (NoTrace f)) (sym (trace-same other fault e))
-    (line, refused, put)
+pub no-trace : (M : Meaning) (R : Refusing) (asked : Asked) (texts : Texts) (counts : Counts) (fault : TraceFault)
+    (line old new : List ℕ) (o : Outcome)
+    → Refused M R asked texts (trace_fault_status fault) line → TellsFault counts.shelf counts.now_shelf (trace_fault_status fault) line
+    → PutsLine (NoTrace fault) line old new o → Leaves M R asked texts counts old new o
+no-trace M R asked texts counts fault line old new WriteFault refused named puts =
+    stopped M R asked texts counts (trace_fault_status fault) line old new refused named puts
+no-trace M R asked texts counts fault line old new Memory refused named puts = cut M R asked texts counts old new puts
+no-trace M R asked texts counts fault line old new Done refused named (e, put) = absurd (cc)
+no-trace M R asked texts counts fault line old new (NoDesign other) refused named (e, put) = absurd (cc)
+no-trace M R asked texts counts fault line old new (NoTrace other) refused named (e, put) =
+    subst (λ (f : TraceFault). Leaves M R asked texts counts old new (NoTrace f)) (sym (trace-same other fault e))
+    (line, refused, named, put)
 
 -- by what its line names
-pub no-trace_at : (M : Meaning) (R : Refusing) (asked : Asked) (texts : Texts) (d : Design) (place : ℕ)
+pub no-trace_at : (M : Meaning) (R : Refusing) (asked : Asked) (texts : Texts) (counts : Counts) (d : Design) (place : ℕ)
     (fault : TraceFault)
     (signals : List Signal) (name : List ℕ) (number : ℕ) (old new : List ℕ) (o : Outcome) → MeansDesign M asked texts d
     → StopsAt texts asked d place fault → slice_get asked.traces place ≡ Some name → signals ≡ d.signals.items
     → number ≡ place + 1
-    → PutsLine (NoTrace fault) (trace_fault_line signals name number fault) old new o → Leaves M R asked texts old new o
-no-trace_at M R asked texts d place fault signals name number old new o design stops at of_design counted puts =
+    → TellsFault counts.shelf counts.now_shelf (trace_fault_status fault) (trace_fault_line signals name number fault)
+    → PutsLine (NoTrace fault) (trace_fault_line signals name number fault) old new o → Leaves M R asked texts counts old new o
+no-trace_at M R asked texts counts d place fault signals name number old new o design stops at of_design counted named puts =
     let here = trace-refused M R asked texts d place name fault design stops at in
     let refused : Refused M R asked texts (trace_fault_status fault) (trace_fault_line signals name number fault) =
     subst (λ n. Refused M R asked texts (trace_fault_status fault) (trace_fault_line signals name n fault))
     (sym counted)
     (subst (λ (s : List Signal). Refused M R asked texts (trace_fault_status fault)
     (trace_fault_line s name (place + 1) fault)) (sym of_design) here) in
-    no-trace M R asked texts fault (trace_fault_line signals name number fault) old new o refused puts
+    no-trace M R asked texts counts fault (trace_fault_line signals name number fault) old new o refused named puts
 
 -- ---- lines that were put
 -- some lines, and then `memory`
@@ -138,18 +142,19 @@ some-then-memory lines old now new Done some puts = absurd puts
 some-then-memory lines old now new (NoDesign fault) some puts = absurd puts
 some-then-memory lines old now new (NoTrace fault) some puts = absurd puts
 
-pub shown : (M : Meaning) (R : Refusing) (asked : Asked) (texts : Texts) (d : Design) (order : List ℕ)
+pub shown : (M : Meaning) (R : Refusing) (asked : Asked) (texts : Texts) (counts : Counts) (d : Design) (order : List ℕ)
     (traces : List Trace) (old new : List ℕ) (o : Outcome)
     → IsReady d order → MeansDesign M asked texts d → MeanTraces texts asked.clock d asked.traces traces
-    → ((lines : List Line) → AreLines d 1 traces lines → EndsShown lines old new o) → Leaves M R asked texts old new o
-shown M R asked texts d order traces old new o ready design mean ends =
+    → ((lines : List Line) → AreLines d 1 traces lines → EndsShown lines old new o)
+    → Leaves M R asked texts counts old new o
+shown M R asked texts counts d order traces old new o ready design mean ends =
     let (lines, are) = some-lines d order
     (record { well_formed = ready.well_formed; once = ready.once; ordered = ready.ordered }) 1 traces in
     at o lines (record { design = d; traces = traces; means = record { design = design; mean = mean }; are = are })
     (ends lines are)
   where
     at : (o : Outcome) (lines : List Line) → Simulated M asked texts lines → EndsShown lines old new o
-        → Leaves M R asked texts old new o
+        → Leaves M R asked texts counts old new o
     at Done lines is end = (lines, is, end)
     at WriteFault lines is (inl front) = (text_of lines, inl (lines, is, refl), front)
     at WriteFault lines is (inr (count, front)) = (

@@ -15,7 +15,7 @@ use Rattle.run_inputs.proofs.Counting.{design-rose, design-stays, trace-rose, tr
 
 module _ (M : Meaning) (R : Refusing) (asked : Asked) (run : Run) where
   abbrev Left : Outcome → Type 0
-  Left o = Leaves M R asked run.texts run.printed run.now_printed o
+  Left o = Leaves M R asked run.texts run.counts run.printed run.now_printed o
 
   -- ---- the status
   status-of_one : (status : ℕ) → IsOne status → IsStatus (simulation M R asked) status
@@ -41,10 +41,10 @@ module _ (M : Meaning) (R : Refusing) (asked : Asked) (run : Run) where
   refused : (o : Outcome) → Left o → run.now_written ≡ run.written → IsInputRefusal (status_of o)
       → EndsRefused (simulation M R asked) run (status_of o)
   refused Done left nothing is = absurd (omega (arith, input-range 0 is))
-  refused (NoDesign why) (line, cause, printed) nothing is =
-      record { line = line; refused = cause; printed = printed; stands = nothing }
-  refused (NoTrace why) (line, cause, printed) nothing is =
-      record { line = line; refused = cause; printed = printed; stands = nothing }
+  refused (NoDesign why) (line, cause, named, printed) nothing is =
+      record { line = line; refused = cause; named = named; printed = printed; stands = nothing }
+  refused (NoTrace why) (line, cause, named, printed) nothing is =
+      record { line = line; refused = cause; named = named; printed = printed; stands = nothing }
   refused WriteFault left nothing is = absurd (omega (arith, input-range 6 is))
   refused Memory left nothing is = absurd (omega (arith, input-range 7 is))
 
@@ -59,13 +59,13 @@ module _ (M : Meaning) (R : Refusing) (asked : Asked) (run : Run) where
 
   cut : (o : Outcome) → Left o → run.now_written ≡ run.written → status_of o ≡ 7 → IsCut M asked run
   cut Done left nothing e = absurd (omega (arith, e))
-  cut (NoDesign why) (line, cause, printed) nothing e = record {
+  cut (NoDesign why) (line, cause, named, printed) nothing e = record {
     front = line;
     may_stand = inr (inl (refused-memory M R asked run.texts (design_fault_status why) line cause e));
     printed = printed;
     nothing_written = nothing;
   }
-  cut (NoTrace why) (line, cause, printed) nothing e = record {
+  cut (NoTrace why) (line, cause, named, printed) nothing e = record {
     front = line;
     may_stand = inr (inl (refused-memory M R asked run.texts (trace_fault_status why) line cause e));
     printed = printed;
@@ -84,17 +84,17 @@ module _ (M : Meaning) (R : Refusing) (asked : Asked) (run : Run) where
     write = λ e. absurd (omega (arith, e));
     memory = λ e. absurd (omega (arith, e));
   }
-  causes c (NoDesign why) (shelf, sink) = record {
+  causes c (NoDesign why) (name, shelf, sink) = record {
     answer = λ e. absurd (not-done (design_fault_status why) (design-one why) e);
-    none = λ low. (design-stays c why shelf (λ e. omega (arith, e, low)), sink);
-    read = λ e. (design-rose c why shelf e, sink);
+    none = λ low. (design-stays name c.shelf c.now_shelf why shelf (λ e. omega (arith, e, low)), sink);
+    read = λ e. (design-rose name c.shelf c.now_shelf why shelf e, sink);
     write = λ e. absurd (not-stopped (design_fault_status why) (design-one why) e);
     memory = λ e. sink;
   }
-  causes c (NoTrace why) (shelf, sink) = record {
+  causes c (NoTrace why) (name, shelf, sink) = record {
     answer = λ e. absurd (not-done (trace_fault_status why) (trace-one why) e);
-    none = λ low. (trace-stays c why shelf (λ e. omega (arith, e, low)), sink);
-    read = λ e. (trace-rose c why shelf e, sink);
+    none = λ low. (trace-stays name c.shelf c.now_shelf why shelf (λ e. omega (arith, e, low)), sink);
+    read = λ e. (trace-rose name c.shelf c.now_shelf why shelf e, sink);
     write = λ e. absurd (not-stopped (trace_fault_status why) (trace-one why) e);
     memory = λ e. sink;
   }

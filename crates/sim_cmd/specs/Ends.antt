@@ -11,7 +11,7 @@ use Rattle.front_end.specs.Means.{Meaning, Refusing}
 use Rattle.run_inputs.specs.Refusals.{design_fault_status, trace_fault_status}
 use Rattle.run_inputs.specs.Loading.{DesignCounts, TraceCounts}
 use Rattle.sim_cmd.specs.Simulation.{IsDue, MayStand, Refused, Simulated}
-use Rattle.command_contract.specs.Contract.{Counts, NoneRose, Texts}
+use Rattle.command_contract.specs.Contract.{Counts, NoneRose, TellsFault, Texts}
 
 abbrev pub status_of : Outcome → ℕ
 status_of Done = 0
@@ -20,21 +20,24 @@ status_of (NoTrace fault) = trace_fault_status fault
 status_of WriteFault = 6
 status_of Memory = 7
 
--- the text on the sink before and after what was put
-abbrev pub Leaves : Meaning → Refusing → Asked → Texts → List ℕ → List ℕ → Outcome → Type 0
-Leaves M R asked texts old new Done = (lines : List Line) × Simulated M asked texts lines × (new ≡ old ++ text_of lines)
-Leaves M R asked texts old new (NoDesign fault) =
-    (line : List ℕ) × Refused M R asked texts (design_fault_status fault) line × (new ≡ old ++ line)
-Leaves M R asked texts old new (NoTrace fault) =
-    (line : List ℕ) × Refused M R asked texts (trace_fault_status fault) line × (new ≡ old ++ line)
-Leaves M R asked texts old new WriteFault = (due : List ℕ) × IsDue M R asked texts due × AppendsFront due old new
-Leaves M R asked texts old new Memory = (front : List ℕ) × MayStand M asked texts front × (new ≡ old ++ front)
+-- the text on the sink before and after what was put, by the counts of faults
+abbrev pub Leaves : Meaning → Refusing → Asked → Texts → Counts → List ℕ → List ℕ → Outcome → Type 0
+Leaves M R asked texts counts old new Done = (lines : List Line) × Simulated M asked texts lines × (new ≡ old ++ text_of lines)
+Leaves M R asked texts counts old new (NoDesign fault) =
+    (line : List ℕ) × Refused M R asked texts (design_fault_status fault) line
+    × TellsFault counts.shelf counts.now_shelf (design_fault_status fault) line × (new ≡ old ++ line)
+Leaves M R asked texts counts old new (NoTrace fault) =
+    (line : List ℕ) × Refused M R asked texts (trace_fault_status fault) line
+    × TellsFault counts.shelf counts.now_shelf (trace_fault_status fault) line × (new ≡ old ++ line)
+Leaves M R asked texts counts old new WriteFault =
+    (due : List ℕ) × IsDue M R asked texts counts due × AppendsFront due old new
+Leaves M R asked texts counts old new Memory = (front : List ℕ) × MayStand M asked texts front × (new ≡ old ++ front)
 
 -- the counts of faults
 abbrev pub RunCounts : Counts → Outcome → Type 0
 RunCounts c Done = NoneRose c
-RunCounts c (NoDesign fault) = DesignCounts c.shelf c.now_shelf fault × (c.now_sink ≡ c.sink)
-RunCounts c (NoTrace fault) = TraceCounts c.shelf c.now_shelf fault × (c.now_sink ≡ c.sink)
+RunCounts c (NoDesign fault) = (name : List ℕ) × DesignCounts name c.shelf c.now_shelf fault × (c.now_sink ≡ c.sink)
+RunCounts c (NoTrace fault) = (name : List ℕ) × TraceCounts name c.shelf c.now_shelf fault × (c.now_sink ≡ c.sink)
 RunCounts c WriteFault = Rose c.sink c.now_sink
 RunCounts c Memory = c.now_sink ≡ c.sink
 

@@ -2,7 +2,7 @@
 use Rattle.std.specs.Prelude.{ℕ, ◌+◌, ◌≡◌, ◌⊎◌, List, [], ◌++◌, All, take}
 use Rattle.io_ports.specs.Faults.{Rose}
 use Rattle.io_ports.specs.Shelf.{AppendsFront}
-use Rattle.command_contract.specs.Contract.{Case, IsInputRefusal, NothingWritten, Run, Texts}
+use Rattle.command_contract.specs.Contract.{Case, Counts, IsInputRefusal, NothingWritten, Run, TellsFault, Texts}
 use Rattle.design_core.specs.declared.design.Design.{Design}
 use Rattle.design_core.specs.declared.trace.Trace.{Trace}
 use Rattle.refusal_lines.specs.Refusals.{memory_line}
@@ -42,11 +42,12 @@ pub record SomeLines (M : Meaning) (asked : Asked) (texts : Texts) (front : List
 abbrev pub MayStand : Meaning → Asked → Texts → List ℕ → Type 0
 MayStand M asked texts front = (front ≡ []) ⊎ ((front ≡ memory_line) ⊎ SomeLines M asked texts front)
 
--- all lines, or a refusal's, or what stands where memory was wanted
-abbrev pub IsDue : Meaning → Refusing → Asked → Texts → List ℕ → Type 0
-IsDue M R asked texts due =
+-- all lines, or a refusal's, with 5 by the load that failed, or what stands where memory was wanted
+abbrev pub IsDue : Meaning → Refusing → Asked → Texts → Counts → List ℕ → Type 0
+IsDue M R asked texts counts due =
     ((lines : List Line) × Simulated M asked texts lines × (due ≡ text_of lines))
-    ⊎ (((status : ℕ) × Refused M R asked texts status due) ⊎ MayStand M asked texts due)
+    ⊎ (((status : ℕ) × Refused M R asked texts status due × TellsFault counts.shelf counts.now_shelf status due)
+    ⊎ MayStand M asked texts due)
 
 -- ---- the case
 -- all lines are printed, each once and in order, and nothing is written
@@ -59,7 +60,7 @@ pub record IsDone (M : Meaning) (asked : Asked) (run : Run) : Type 0 where
 -- the sink failed: a front of what was due is printed, and nothing is written
 pub record IsStopped (M : Meaning) (R : Refusing) (asked : Asked) (run : Run) : Type 0 where
   pub due : List ℕ
-  pub is_due : IsDue M R asked run.texts due
+  pub is_due : IsDue M R asked run.texts run.counts due
   pub printed : AppendsFront due run.printed run.now_printed
   pub sink_failed : Rose run.counts.sink run.counts.now_sink
   pub nothing_written : run.now_written ≡ run.written

@@ -122,8 +122,9 @@ fn run<F: FrontEnd, S: Shelf, O: Sink>(
 ) -> Outcome
     requires { length request.now.traces.items < 2 ^ 32 }
     ensures leaves { S.tells shelf.old ≡ true → O.tells out.old ≡ true
-        → Leaves F.means F.refuses (asked_of request.now) (S.texts shelf.old) (O.written out.old) (O.written out.new)
-        result }
+        → Leaves F.means F.refuses (asked_of request.now) (S.texts shelf.old)
+        (counts_of (S.faults shelf.old) (S.faults shelf.new) (O.faults out.old) (O.faults out.new))
+        (O.written out.old) (O.written out.new) result }
     ensures written { S.written shelf.new ≡ S.written shelf.old }
     ensures counts { RunCounts
         (counts_of (S.faults shelf.old) (S.faults shelf.new) (O.faults out.old) (O.faults out.new)) result }

@@ -6,7 +6,7 @@ use Rattle.check_cmd.proofs.texts.load.Goals as goal
 
 pub returns-in-Err-clause-counts : goal.returns-in-Err-clause-counts
 returns-in-Err-clause-counts g c =
-    load-counts _ _ c.in-Err.fault c.of_load.result (load_line c.args.name.now c.in-Err.fault) c.in-Err.ensures.counts
+    load-counts _ _ c.args.name.now c.in-Err.fault c.of_load.result c.in-Err.ensures.counts
     c.of_load.ensures.status c.of_load.ensures.says
 
 pub returns-in-Err-clause-refused : goal.returns-in-Err-clause-refused

@@ -1,10 +1,18 @@
 use Rattle.std.proofs.Common.{sym, subst}
 use Rattle.run_inputs.specs.Asked.{Asked as Sources}
 use Rattle.run_inputs.specs.Causes.{DesignCause}
+use Rattle.run_inputs.specs.Loading.{DesignCounts}
 use Rattle.run_inputs.specs.Means.{MeansDesign}
 use Rattle.list_inputs.specs.Asked.{asked_of}
-use Rattle.list_inputs.proofs.Causes.{design-cause, design-spared}
+use Rattle.list_inputs.proofs.Causes.{design-cause, design-counts, design-spared}
 use Rattle.list_inputs.proofs.inputs.read_design.Goals as goal
+
+pub returns-in-Err-clause-counts : goal.returns-in-Err-clause-counts
+returns-in-Err-clause-counts g c =
+    let faults = g.S.Shelf.faults c.args.shelf.now in
+    let now_faults = g.S.Shelf.faults c.load_design.new.shelf in
+    design-counts faults now_faults c.args.wanted.now.design.now c.in-Err.fault c.of_design.result c.of_design.ensures.says
+    (subst (λ (s : Sources). DesignCounts s.design faults now_faults c.in-Err.fault) c.sources.ensures.asked c.in-Err.ensures.counts)
 
 pub returns-in-Err-clause-refused : goal.returns-in-Err-clause-refused
 returns-in-Err-clause-refused g c = λ told kinds.

@@ -1,9 +1,16 @@
 use Rattle.std.proofs.Common.{sym, subst}
 use Rattle.std.specs.Prelude.{All}
-use Rattle.run_inputs.specs.Asked.{Asked as Sources}
+use Rattle.run_inputs.specs.Asked.{Asked as Sources, asked_of as sources_by}
 use Rattle.run_inputs.specs.Loading.{HasTrace}
-use Rattle.list_inputs.proofs.Causes.{trace-spared}
+use Rattle.list_inputs.proofs.Causes.{trace-counts, trace-spared}
 use Rattle.list_inputs.proofs.inputs.read_traces.Goals as goal
+
+pub returns-in-Err-clause-counts : goal.returns-in-Err-clause-counts
+returns-in-Err-clause-counts g c =
+    let name = c.trace_name-name.result in
+    trace-counts (g.S.Shelf.faults c.args.shelf.now) (g.S.Shelf.faults c.load_traces.new.shelf)
+    (sources_by c.sources-sources.result) c.in-Err.refused.place name.signals.now name.name.now name.number c.in-Err.refused.fault
+    c.of_trace.result c.trace_name-name.ensures.name c.of_trace.ensures.says c.in-Err.ensures.counts
 
 pub returns-in-Err-clause-only : goal.returns-in-Err-clause-only
 returns-in-Err-clause-only g c = λ told have.

@@ -7,8 +7,9 @@ use Rattle.vcd_traces.proofs.PortLaws.{formed_has_ports}
 use Rattle.sim_lines.specs.Lines.{AreLines}
 use Rattle.run_inputs.specs.Asked.{Asked, asked_of as asked_by}
 use Rattle.run_inputs.specs.Causes.{DesignCause}
-use Rattle.run_inputs.specs.Loading.{HasTrace, StopsAt, TraceCounts, TraceSpared}
+use Rattle.run_inputs.specs.Loading.{DesignCounts, HasTrace, StopsAt, TraceCounts, TraceSpared, trace_at}
 use Rattle.run_inputs.specs.Means.{MeansDesign, MeanTraces}
+use Rattle.run_inputs.proofs.Counting.{design-named, trace-named_at}
 use Rattle.run_inputs.proofs.Ports.{has-ports}
 use Rattle.sim_cmd.specs.Requests.{asked_of}
 use Rattle.sim_cmd.proofs.Counting.{design-complete, trace-complete}
@@ -18,16 +19,22 @@ use Rattle.sim_cmd.proofs.run.run.Goals as goal
 pub returns-in-Err-clause-leaves : goal.returns-in-Err-clause-leaves
 returns-in-Err-clause-leaves g c = λ shelf out.
     let texts = g.S.Shelf.texts c.args.shelf.now in
-    no-design g.F.FrontEnd.means g.F.FrontEnd.refuses (asked_of c.args.request.now) texts c.in-Err.fault
+    let asked = asked_of c.args.request.now in
+    let same = c.sources-sources.ensures.asked in
+    let faults = g.S.Shelf.faults c.args.shelf.now in
+    let now_faults = g.S.Shelf.faults c.load_design.new.shelf in
+    no-design g.F.FrontEnd.means g.F.FrontEnd.refuses asked texts
+    (counts_of faults now_faults (g.O.Sink.faults c.args.out.now) (g.O.Sink.faults c.refuse_design.new.out)) c.in-Err.fault
     (g.O.Sink.written c.args.out.now) (g.O.Sink.written c.refuse_design.new.out) c.refuse_design.result
-    (subst (λ (a : Asked). DesignCause g.F.FrontEnd.refuses a texts c.in-Err.fault) c.sources-sources.ensures.asked
-    (c.in-Err.ensures.refused shelf))
+    (subst (λ (a : Asked). DesignCause g.F.FrontEnd.refuses a texts c.in-Err.fault) same (c.in-Err.ensures.refused shelf))
+    (design-named asked.design faults now_faults c.in-Err.fault
+    (subst (λ (a : Asked). DesignCounts a.design faults now_faults c.in-Err.fault) same c.in-Err.ensures.counts))
     (c.refuse_design.ensures.text out)
 
 pub returns-in-Err-clause-complete : goal.returns-in-Err-clause-complete
 returns-in-Err-clause-complete g c = λ told ready none.
     let texts = g.S.Shelf.texts c.args.shelf.now in
-    design-complete
+    design-complete (asked_by c.sources-sources.result).design
     (counts_of (g.S.Shelf.faults c.args.shelf.now) (g.S.Shelf.faults c.load_design.new.shelf) (g.O.Sink.faults c.args.out.now)
     (g.O.Sink.faults c.refuse_design.new.out))
     c.in-Err.fault c.refuse_design.result
@@ -48,7 +55,11 @@ returns-in-Err-load_traces-clause-leaves g c = λ shelf out.
     let refusal = c.in-Err-load_traces.refusal in
     let source = c.trace_name-source.result in
     let stops = c.in-Err-load_traces.ensures.refused (c.in-Ok.ensures.tells ∙ shelf) in
-    no-trace_at g.F.FrontEnd.means g.F.FrontEnd.refuses asked texts d refusal.place refusal.fault
+    let now_faults = g.S.Shelf.faults c.load_traces.new.shelf in
+    no-trace_at g.F.FrontEnd.means g.F.FrontEnd.refuses asked texts
+    (counts_of (g.S.Shelf.faults c.args.shelf.now) now_faults (g.O.Sink.faults c.args.out.now)
+    (g.O.Sink.faults c.refuse_trace.new.out))
+    d refusal.place refusal.fault
     source.signals.now source.name.now source.number (g.O.Sink.written c.args.out.now)
     (g.O.Sink.written c.refuse_trace.new.out)
     c.refuse_trace.result
@@ -57,6 +68,10 @@ returns-in-Err-load_traces-clause-leaves g c = λ shelf out.
     (subst (λ (ts : Texts). StopsAt ts (asked_by c.sources-sources.result) d refusal.place refusal.fault) c.in-Ok.ensures.texts stops))
     (subst (λ (a : Asked). slice_get a.traces refusal.place ≡ Some source.name.now) same c.trace_name-source.ensures.name)
     c.trace_name-source.ensures.signals c.trace_name-source.ensures.number
+    (trace-named_at source.signals.now (asked_by c.sources-sources.result) refusal.place source.name.now source.number
+    (g.S.Shelf.faults c.args.shelf.now) now_faults refusal.fault c.trace_name-source.ensures.name
+    (subst (λ (n : FaultCounts). TraceCounts (trace_at (asked_by c.sources-sources.result) refusal.place) n now_faults
+    refusal.fault) c.in-Ok.ensures.counts c.in-Err-load_traces.ensures.counts))
     (c.refuse_trace.ensures.text out)
 
 pub returns-in-Err-load_traces-clause-complete : goal.returns-in-Err-load_traces-clause-complete
@@ -72,11 +87,12 @@ returns-in-Err-load_traces-clause-complete g c = λ told ready none.
     (subst (λ (a : Asked). All (HasTrace (g.S.Shelf.texts c.load_design.new.shelf) a d) a.traces) (sym same)
     (subst (λ (ts : Texts). All (HasTrace ts (asked_of c.args.request.now) d) (asked_of c.args.request.now).traces)
     (sym c.in-Ok.ensures.texts) have)) in
-    trace-complete
+    trace-complete (trace_at (asked_by c.sources-sources.result) c.in-Err-load_traces.refusal.place)
     (counts_of (g.S.Shelf.faults c.args.shelf.now) now_shelf (g.O.Sink.faults c.args.out.now)
     (g.O.Sink.faults c.refuse_trace.new.out))
     fault c.refuse_trace.result spared
-    (subst (λ (n : FaultCounts). TraceCounts n now_shelf fault) c.in-Ok.ensures.counts c.in-Err-load_traces.ensures.counts)
+    (subst (λ (n : FaultCounts). TraceCounts (trace_at (asked_by c.sources-sources.result) c.in-Err-load_traces.refusal.place) n
+    now_shelf fault) c.in-Ok.ensures.counts c.in-Err-load_traces.ensures.counts)
     c.refuse_trace.ensures.counts none
 
 pub returns-clause-leaves : goal.returns-clause-leaves
@@ -86,7 +102,10 @@ returns-clause-leaves g c = λ shelf out.
     let ordered = c.in-Ok.read.ordered in
     let traces = c.in-Ok-load_traces.traces.traces.items in
     let mean = c.in-Ok-load_traces.ensures.means (c.in-Ok.ensures.tells ∙ shelf) in
-    shown g.F.FrontEnd.means g.F.FrontEnd.refuses (asked_of c.args.request.now) texts ordered.design ordered.order traces
+    shown g.F.FrontEnd.means g.F.FrontEnd.refuses (asked_of c.args.request.now) texts
+    (counts_of (g.S.Shelf.faults c.args.shelf.now) (g.S.Shelf.faults c.load_traces.new.shelf) (g.O.Sink.faults c.args.out.now)
+    (g.O.Sink.faults c.show.new.out))
+    ordered.design ordered.order traces
     (g.O.Sink.written c.args.out.now) (g.O.Sink.written c.show.new.out) c.show.result c.in-Ok.ensures.ready
     (subst (λ (a : Asked). MeansDesign g.F.FrontEnd.means a texts ordered.design) same (c.in-Ok.ensures.means shelf))
     (subst (λ (a : Asked). MeanTraces texts a.clock ordered.design a.traces traces) same
