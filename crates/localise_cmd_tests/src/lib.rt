@@ -12,6 +12,8 @@ mod same;
 #[cfg(test)]
 mod sessions;
 #[cfg(test)]
+mod simulated;
+#[cfg(test)]
 mod waves;
 #[cfg(test)]
 mod words;
