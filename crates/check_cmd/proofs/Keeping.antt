@@ -1,7 +1,7 @@
 -- The promises of the command, from how a run ends: by the line of a refusal, or by that of a judgement.
-use Rattle.std.proofs.Common.{ℕ, ◌≡◌, ◌≢◌, ◌≤◌, ◌++◌, true, List, length, ap, refl, sym, subst, ◌∙◌, arith, ◌⊎◌, inl, inr}
+use Rattle.std.proofs.Common.{ℕ, ◌≡◌, ◌≢◌, ◌≤◌, true, List, ap, refl, sym, subst, ◌∙◌, arith, ◌⊎◌, inl, inr}
 use Rattle.io_ports.specs.Faults.{Rose}
-use Rattle.command_contract.specs.Contract.{Causes, IsInputRefusal, IsStatus, Keeps, OneRose, Run, TellsFault, Texts}
+use Rattle.command_contract.specs.Contract.{Causes, IsInputRefusal, IsStatus, Keeps, NamesFault, OneRose, Run, Texts}
 use Rattle.command_contract.proofs.Statuses.{input-range, input-refusal}
 use Rattle.front_end.specs.Means.{Meaning, Refusing}
 use Rattle.debug_core.specs.Problems.{IsProblem}
@@ -37,9 +37,9 @@ refusal-due M R known S asked run stops = record {
 }
   where
     at : ((status : ℕ) × Refused M R known S asked run.texts status stops.line
-        × TellsFault run.counts.shelf run.counts.now_shelf status stops.line) ⊎ (stops.line ≡ memory_line)
+        × NamesFault run.counts.shelf run.counts.now_shelf status stops.line) ⊎ (stops.line ≡ memory_line)
         → ((status : ℕ) × IsDue M R known S asked run.texts status stops.line
-        × TellsFault run.counts.shelf run.counts.now_shelf status stops.line) ⊎ (stops.line ≡ memory_line)
+        × NamesFault run.counts.shelf run.counts.now_shelf status stops.line) ⊎ (stops.line ≡ memory_line)
     at (inl (status, refused, told)) = inl (status, inr refused, told)
     at (inr e) = inr e
 

@@ -1,5 +1,5 @@
 -- A text that is loaded, and what it is.
-use Rattle.std.proofs.Common.{ℕ, suc, ◌+◌, ◌≡◌, ◌≢◌, ◌<◌, ◌≤◌, ◌^◌, ◌*◌, List, [], ◌∷◌, ◌++◌, length, map, Option, Some, None, Result, Ok, Err, codes, refl, sym, ap, subst, ◌∙◌, arith, ◌⊎◌, inl, inr}
+use Rattle.std.proofs.Common.{ℕ, ◌+◌, ◌≡◌, ◌≢◌, ◌<◌, ◌≤◌, ◌^◌, List, [], ◌∷◌, ◌++◌, length, Option, Some, None, Err, codes, refl, sym, ap, subst, ◌∙◌, arith, ◌⊎◌, inl}
 use Rattle.std.specs.Prelude.{IsSomeAnd}
 use Rattle.std.specs.List.{flat_map}
 use Rattle.std.proofs.lemmas.List.{length-append, length-map}
@@ -29,7 +29,7 @@ use Rattle.list_inputs.specs.declared.refusal.Refusal.{Refusal}
 use Rattle.list_inputs.specs.declared.refusal.Refusal.TheVariants.{Line, Memory}
 use Rattle.list_inputs.specs.Ends.{HasCause, HasStatus, IsMemory, IsSpared, RefusalCounts, Says}
 use Rattle.check_cmd.specs.Asked.{Asked}
-use Rattle.check_cmd.specs.Means.{IsLogOf, MeansLog, MeansReport}
+use Rattle.check_cmd.specs.Means.{IsLogOf}
 use Rattle.check_cmd.specs.Parts as parts
 use Rattle.check_cmd.specs.Parts.{IsShort, LoadRefused, LogTextRefused, ReportTextRefused}
 use Rattle.check_cmd.specs.Refusals as refused

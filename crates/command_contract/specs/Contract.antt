@@ -97,21 +97,21 @@ IsStatus c status = c.MayAnswer status ⊎ (c.MayRefuse status ⊎ ((status ≡ 
 abbrev pub read_fault_line : List ℕ → List ℕ
 read_fault_line name = codes "read fault " ++ name ++ newline
 
--- a line that is due with 5 names the text whose load failed
-abbrev pub TellsFault : FaultCounts → FaultCounts → ℕ → List ℕ → Type 0
-TellsFault old new status line = status ≡ 5 → LoadRose old new × (line ≡ read_fault_line new.failed)
+-- a line that is due with 5 names the text whose load failed last
+abbrev pub NamesFault : FaultCounts → FaultCounts → ℕ → List ℕ → Type 0
+NamesFault old new status line = status ≡ 5 → LoadRose old new × (line ≡ read_fault_line new.failed_name)
 
 -- nothing was printed but a refusal's line, whose cause holds, and what the case says stands written; at 5 it names the text whose load
--- failed
+-- failed last
 pub record EndsRefused (c : Case) (run : Run) (status : ℕ) : Type 0 where
   pub line : List ℕ
   pub refused : c.Refused run status line
-  pub named : TellsFault run.counts.shelf run.counts.now_shelf status line
+  pub named : NamesFault run.counts.shelf run.counts.now_shelf status line
   pub printed : run.now_printed ≡ run.printed ++ line
   pub stands : c.Stands run
 
--- the counts of faults: none rose at an answer and at 2 to 4, that of loads alone at 5, one of writes at 6, and the sink's did not
--- at 7
+-- the counts of faults: none rose at an answer and at 2 to 4, that of all faults but not that of writes at 5, one of writes at 6, and
+-- the sink's did not at 7
 pub record Causes (c : Case) (counts : Counts) (status : ℕ) : Type 0 where
   pub answer : c.MayAnswer status → NoneRose counts
   pub none : status ≤ 4 → NoneRose counts

@@ -50,14 +50,14 @@ fn an_absent_name_fails_and_is_a_fault(rt: HostRuntime) -> Result<(), Fail> {
     assert!(rt; matches!(shelf.load(rt.alloc(), "c", 100), Err(LoadErr::Failed)));
     assert!(rt; shelf.faults() == 1);
     assert!(rt; shelf.write_faults() == 0);
-    assert!(rt; shelf.failed().as_slice() == b"c".as_slice());
+    assert!(rt; shelf.failed_name().as_slice() == b"c".as_slice());
     Ok(())
 }
 
 #[test]
 fn calls_fail_by_their_numbers(rt: HostRuntime) -> Result<(), Fail> {
     let mut shelf = shelf(rt.alloc(), &[3, 0])?;
-    assert!(rt; shelf.failed().is_empty());
+    assert!(rt; shelf.failed_name().is_empty());
     assert!(rt; matches!(shelf.load(rt.alloc(), "a", 9), Err(LoadErr::Failed)));
     assert!(rt; shelf.load(rt.alloc(), "b", 9).is_ok());
     shelf.begin("log")?;
@@ -65,7 +65,7 @@ fn calls_fail_by_their_numbers(rt: HostRuntime) -> Result<(), Fail> {
     shelf.begin("log")?;
     assert!(rt; shelf.faults() == 2);
     assert!(rt; shelf.write_faults() == 1);
-    assert!(rt; shelf.failed().as_slice() == b"a".as_slice());
+    assert!(rt; shelf.failed_name().as_slice() == b"a".as_slice());
     Ok(())
 }
 

@@ -19,19 +19,19 @@ one_more count = min (count + 1) last_count
 pub record FaultCounts : Type 0 where
   pub all : ℕ
   pub writes : ℕ
-  pub failed : List ℕ
+  pub failed_name : List ℕ
 
 abbrev pub fault_counts : ℕ → ℕ → List ℕ → FaultCounts
-fault_counts all writes failed = record { all = all; writes = writes; failed = failed }
+fault_counts all writes failed_name = record { all = all; writes = writes; failed_name = failed_name }
 
 -- a load failed, and no write
 abbrev pub LoadRose : FaultCounts → FaultCounts → Type 0
 LoadRose old new = Rose old.all new.all × (new.writes ≡ old.writes)
 
--- it was the load of the text under a name
+-- and the last that failed was that of the text under a name
 abbrev pub LoadRoseOf : List ℕ → FaultCounts → FaultCounts → Type 0
-LoadRoseOf name old new = LoadRose old new × (new.failed ≡ name)
+LoadRoseOf name old new = LoadRose old new × (new.failed_name ≡ name)
 
 -- a write failed; the name stays
 abbrev pub WriteRose : FaultCounts → FaultCounts → Type 0
-WriteRose old new = Rose old.all new.all × (Rose old.writes new.writes × (new.failed ≡ old.failed))
+WriteRose old new = Rose old.all new.all × (Rose old.writes new.writes × (new.failed_name ≡ old.failed_name))

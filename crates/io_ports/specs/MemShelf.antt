@@ -21,12 +21,12 @@ abbrev pub write_faults_of : MemShelf → ℕ
 write_faults_of shelf = shelf.write_faults
 
 -- the name of the text whose load failed last
-abbrev pub failed_of : MemShelf → List ℕ
-failed_of shelf = shelf.failed
+abbrev pub failed_name_of : MemShelf → List ℕ
+failed_name_of shelf = shelf.failed_name
 
 -- all three
 abbrev pub fault_counts_of : MemShelf → FaultCounts
-fault_counts_of shelf = fault_counts (faults_of shelf) (write_faults_of shelf) (failed_of shelf)
+fault_counts_of shelf = fault_counts (faults_of shelf) (write_faults_of shelf) (failed_name_of shelf)
 
 -- how many calls were made, which is the number of the next one
 abbrev pub calls_of : MemShelf → ℕ

@@ -1,4 +1,4 @@
--- What the answers of a shelf say: of its counts of faults, of the text that is loaded, and of the text that is written.
+-- What the answers of a shelf say: of its faults, of the text that is loaded, and of the text that is written.
 -- A text under a name is `None` where there is none.
 use Rattle.std.specs.Prelude.{◌≡◌, ℕ, ◌<◌, ◌≤◌, ◌⊎◌, List, [], ◌++◌, length, take, Option, Some, unwrap_or, IsSomeAnd, Result, Ok, Err}
 use Rattle.io_ports.specs.Faults.{FaultCounts, LoadRoseOf, WriteRose}

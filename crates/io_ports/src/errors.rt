@@ -8,9 +8,9 @@ use std::alloc::AllocError;
 pub enum LoadErr {
     /// The text has more bytes than the limit.
     TooBig,
-    /// The shelf has no such text, or it failed. Its count of faults rose.
+    /// The shelf has no such text, or it failed. Its count of faults rose, and the name of the text is kept.
     Failed,
-    /// Memory was refused.
+    /// Memory was refused, for the text or for the name of one whose load failed.
     NoMemory,
 }
 

@@ -46,7 +46,7 @@ impl FaultPlan {
     }
 
     /// Counts one call. The answer says whether it is to fail; no fault is counted.
-    pub(crate) fn call(&mut self) -> bool
+    pub(crate) fn call_is_to_fail(&mut self) -> bool
         ensures fails { IsTrue result ↔ IsNextToFail self.old }
         ensures counted { Counts self.old self.new }
         ensures faults { self.new.faults ≡ self.old.faults }
@@ -63,7 +63,7 @@ impl FaultPlan {
         ensures fault { IsTrue result → IsOneMore self.old.faults self.new.faults }
         ensures none { result ≡ false → self.new.faults ≡ self.old.faults }
     {
-        let fails = self.call();
+        let fails = self.call_is_to_fail();
         if fails {
             self.fault();
         }

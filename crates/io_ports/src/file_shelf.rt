@@ -24,7 +24,7 @@ pub struct FileShelf<'a, R: Files> {
     open: Option<OpenText<R::File>>,
     faults: u64,
     write_faults: u64,
-    failed: Bytes,
+    failed_name: Bytes,
 }
 
 /// A file that is open for writing at its end.
@@ -45,7 +45,7 @@ impl<'a, R: Files> FileShelf<'a, R> {
             open: None,
             faults: 0,
             write_faults: 0,
-            failed: Bytes::new(alloc),
+            failed_name: Bytes::new(alloc),
         }
     }
 }
@@ -80,7 +80,7 @@ impl<'a, R: Files> FileShelf<'a, R> {
     fn empty(&mut self, name: &str) -> Result<(), PutErr>
         ensures faults { self.new.faults ≡ self.old.faults }
         ensures write_faults { self.new.write_faults ≡ self.old.write_faults }
-        ensures failed { self.new.failed ≡ self.old.failed }
+        ensures failed_name { self.new.failed_name ≡ self.old.failed_name }
     {
         let text = open_text(self.rt, self.alloc, name, true)?;
         self.open = Some(text);
@@ -91,7 +91,7 @@ impl<'a, R: Files> FileShelf<'a, R> {
     fn append(&mut self, name: &str, piece: &[u8]) -> Result<(), PutErr>
         ensures faults { self.new.faults ≡ self.old.faults }
         ensures write_faults { self.new.write_faults ≡ self.old.write_faults }
-        ensures failed { self.new.failed ≡ self.old.failed }
+        ensures failed_name { self.new.failed_name ≡ self.old.failed_name }
     {
         let mut text = match self.open.take() {
             Some(text) if text.name.as_str() == name => text,
@@ -105,8 +105,8 @@ impl<'a, R: Files> FileShelf<'a, R> {
     /// Counts a failed answer of `begin` or `put`.
     fn counted(&mut self, answer: Result<(), PutErr>) -> Result<(), PutErr>
         ensures same { result ≡ answer }
-        ensures cause { PutCause (fault_counts self.old.faults self.old.write_faults self.old.failed)
-            (fault_counts self.new.faults self.new.write_faults self.new.failed) result }
+        ensures cause { PutCause (fault_counts self.old.faults self.old.write_faults self.old.failed_name)
+            (fault_counts self.new.faults self.new.write_faults self.new.failed_name) result }
     {
         if answer == Err(PutErr::Failed) {
             self.faults = self.faults.saturating_add(1);
@@ -125,12 +125,12 @@ impl<R: Files> Shelf for FileShelf<'_, R> {
 
     ghost written = { λ _ _. None };
 
-    ghost faults = { λ shelf. fault_counts shelf.faults shelf.write_faults shelf.failed };
+    ghost faults = { λ shelf. fault_counts shelf.faults shelf.write_faults shelf.failed_name };
 
     fn load(&mut self, alloc: Global, name: &str, limit: u64) -> Result<Bytes, LoadErr> {
         let answer = load(self.rt, alloc, name, limit);
         if let Err(LoadErr::Failed) = answer {
-            self.failed = Bytes::copy_of(alloc, name.as_bytes())?;
+            self.failed_name = Bytes::copy_of(alloc, name.as_bytes())?;
             self.faults = self.faults.saturating_add(1);
         }
         answer

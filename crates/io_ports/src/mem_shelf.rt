@@ -12,19 +12,19 @@ use crate::texts::Texts;
 use loc_base::{Bytes, NoMemory};
 use std::alloc::Global;
 
-/// A shelf in memory. It tells its texts, and fails exactly at the calls that it was told to and at absent names; a load
-/// that is to fail wants memory where there is none for its name.
+/// A shelf in memory. It tells its texts. A write fails exactly at the calls that it was told to; a load there and at absent
+/// names, where it wants memory if there is none for the name.
 #[derive(Drop)]
 pub struct MemShelf {
     texts: Texts,
     written: Texts,
     plan: FaultPlan,
     write_faults: u64,
-    failed: Bytes,
+    failed_name: Bytes,
 }
 
 impl MemShelf {
-    ghost use Rattle.io_ports.specs.MemShelf.{texts_of, written_of, faults_of, write_faults_of, failed_of, fault_counts_of, calls_of, failing_calls, IsToFail, CountsCall};
+    ghost use Rattle.io_ports.specs.MemShelf.{texts_of, written_of, faults_of, write_faults_of, failed_name_of, fault_counts_of, calls_of, failing_calls, IsToFail, CountsCall};
 
     /// The shelf with these texts. The numbers name the calls that are to fail, counted from 0, in any order. It takes
     /// no memory.
@@ -35,14 +35,14 @@ impl MemShelf {
         ensures calls { calls_of result ≡ 0 }
         ensures faults { faults_of result ≡ 0 }
         ensures write_faults { write_faults_of result ≡ 0 }
-        ensures failed { failed_of result ≡ [] }
+        ensures failed_name { failed_name_of result ≡ [] }
     {
         MemShelf {
             texts,
             written: Texts::new(alloc),
             plan: FaultPlan::new(fails),
             write_faults: 0,
-            failed: Bytes::new(alloc),
+            failed_name: Bytes::new(alloc),
         }
     }
 
@@ -68,10 +68,10 @@ impl MemShelf {
     }
 
     /// The name of the text whose load failed last, and no bytes before the first.
-    pub fn failed(&self) -> &Bytes
-        ensures { result.now ≡ failed_of self.now }
+    pub fn failed_name(&self) -> &Bytes
+        ensures { result.now ≡ failed_name_of self.now }
     {
-        &self.failed
+        &self.failed_name
     }
 
     /// Counts a fault of a load and keeps its name, or wants memory for it.
@@ -85,7 +85,7 @@ impl MemShelf {
     {
         match Bytes::copy_of(alloc, name.as_bytes()) {
             Ok(copy) => {
-                self.failed = copy;
+                self.failed_name = copy;
                 self.plan.fault();
                 LoadErr::Failed
             }
@@ -135,7 +135,7 @@ impl Shelf for MemShelf {
             → IsErrOf result LoadErr.Failed ⊎ IsErrOf result LoadErr.NoMemory }
         ensures counted { CountsCall self.old self.new }
     {
-        if self.plan.call() {
+        if self.plan.call_is_to_fail() {
             return Err(self.load_fault(alloc, name));
         }
         let Some(text) = self.texts.get(name) else {

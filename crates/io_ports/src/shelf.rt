@@ -22,7 +22,7 @@ pub trait Shelf {
     ghost faults: { Self → FaultCounts };
 
     /// The text under a name, of at most `limit` bytes. `TooBig` comes exactly where the text has more and the call
-    /// neither fails nor wants memory. An absent name is `Failed`.
+    /// neither fails nor wants memory. At an absent name it fails, or wants memory.
     fn load(&mut self, alloc: Global, name: &str, limit: u64) -> Result<Bytes, LoadErr>
         ensures tells { tells self.new ≡ tells self.old }
         ensures texts { texts self.new ≡ texts self.old }

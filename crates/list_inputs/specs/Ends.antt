@@ -1,8 +1,8 @@
 -- What was read, why nothing was, and what the line that says so leaves.
 use Rattle.std.specs.Prelude.{ℕ, ◌≡◌, ◌≢◌, ◌<◌, ◌≤◌, ◌^◌, ◌⊎◌, List, ◌++◌, length, Result, Ok, Err}
-use Rattle.io_ports.specs.Faults.{FaultCounts, LoadRose, Rose}
+use Rattle.io_ports.specs.Faults.{FaultCounts, Rose}
 use Rattle.io_ports.specs.Shelf.{AppendsFront}
-use Rattle.command_contract.specs.Contract.{IsInputRefusal, TellsFault}
+use Rattle.command_contract.specs.Contract.{IsInputRefusal, NamesFault}
 use Rattle.refusal_lines.specs.Refusals.{memory_line}
 use Rattle.debug_core.specs.Problems.{Problem}
 use Rattle.list_inputs.specs.declared.refusal.Refusal.{Refusal}
@@ -51,9 +51,9 @@ abbrev pub IsSpared : Refusal → Type 0
 IsSpared (Line status line) = status ≡ 5
 IsSpared Memory = Unit {0}
 
--- a load of the shelf failed at 5, of the text that the line names, and at no other status one of its counts of faults rose
+-- a load of the shelf failed at 5, the last of them that of the text which the line names, and at no other status its faults changed
 abbrev pub RefusalCounts : FaultCounts → FaultCounts → Refusal → Type 0
-RefusalCounts old new (Line status line) = TellsFault old new status line.items × (status ≢ 5 → new ≡ old)
+RefusalCounts old new (Line status line) = NamesFault old new status line.items × (status ≢ 5 → new ≡ old)
 RefusalCounts old new Memory = Unit {0}
 
 abbrev pub CountsOf : {X : Type 0} → FaultCounts → FaultCounts → Result X Refusal → Type 0

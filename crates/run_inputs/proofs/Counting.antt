@@ -2,7 +2,7 @@
 use Rattle.std.proofs.Common.{ℕ, ◌≡◌, ◌≢◌, List, [], Option, Some, unwrap_or, ap, sym, refl, subst, arith}
 use Rattle.std.specs.Prelude.{slice_get}
 use Rattle.io_ports.specs.Faults.{FaultCounts, LoadRose}
-use Rattle.command_contract.specs.Contract.{TellsFault, read_fault_line}
+use Rattle.command_contract.specs.Contract.{NamesFault, read_fault_line}
 use Rattle.design_core.specs.declared.signal.Signal.{Signal}
 use Rattle.refusal_lines.proofs.Statuses.{dump-known}
 use Rattle.front_end.specs.Refusals.{design_err_line, design_status}
@@ -16,21 +16,13 @@ use Rattle.run_inputs.specs.Refusals.{design_fault_line, design_fault_status, tr
 use Rattle.run_inputs.specs.Loading.{DesignCounts, TraceCounts, trace_at}
 use Rattle.run_inputs.proofs.Statuses.{design-known, known-not_five}
 
--- ---- the shelf's counts: a load failed at 5, and only there
+-- ---- the shelf's faults change at 5 alone
 pub design-stays : (name : List ℕ) (old new : FaultCounts) (why : DesignFault) → DesignCounts name old new why
     → design_fault_status why ≢ 5 → new ≡ old
 design-stays name old new (design.Load load.Fault) counts other = absurd (other refl)
 design-stays name old new (design.Load load.Size) counts other = counts
 design-stays name old new (design.Load load.NoMemory) counts other = counts
 design-stays name old new (design.Text why) counts other = counts
-
-pub design-rose : (name : List ℕ) (old new : FaultCounts) (why : DesignFault) → DesignCounts name old new why
-    → design_fault_status why ≡ 5 → LoadRose old new
-design-rose name old new (design.Load load.Fault) counts e = counts.0
-design-rose name old new (design.Load load.Size) counts e = absurd (omega (arith, e))
-design-rose name old new (design.Load load.NoMemory) counts e = absurd (omega (arith, e))
-design-rose name old new (design.Text why) counts e =
-    absurd (known-not_five (design_err_line why) (design_status why) (design-known why) e)
 
 pub trace-stays : (name : List ℕ) (old new : FaultCounts) (why : TraceFault) → TraceCounts name old new why
     → trace_fault_status why ≢ 5 → new ≡ old
@@ -39,17 +31,9 @@ trace-stays name old new (trace.Load load.Size) counts other = counts
 trace-stays name old new (trace.Load load.NoMemory) counts other = counts
 trace-stays name old new (trace.Text why) counts other = counts
 
-pub trace-rose : (name : List ℕ) (old new : FaultCounts) (why : TraceFault) → TraceCounts name old new why
-    → trace_fault_status why ≡ 5 → LoadRose old new
-trace-rose name old new (trace.Load load.Fault) counts e = counts.0
-trace-rose name old new (trace.Load load.Size) counts e = absurd (omega (arith, e))
-trace-rose name old new (trace.Load load.NoMemory) counts e = absurd (omega (arith, e))
-trace-rose name old new (trace.Text why) counts e =
-    absurd (known-not_five _ (trace_fault_status (trace.Text why)) (dump-known [] 0 why) e)
-
--- ---- and then the line names the text whose load failed
+-- ---- a load failed then, and the line names its text
 pub design-named : (name : List ℕ) (old new : FaultCounts) (why : DesignFault) → DesignCounts name old new why
-    → TellsFault old new (design_fault_status why) (design_fault_line name why)
+    → NamesFault old new (design_fault_status why) (design_fault_line name why)
 design-named name old new (design.Load load.Fault) counts e = (counts.0, ap (λ n. read_fault_line n) (sym counts.1))
 design-named name old new (design.Load load.Size) counts e = absurd (omega (arith, e))
 design-named name old new (design.Load load.NoMemory) counts e = absurd (omega (arith, e))
@@ -57,7 +41,7 @@ design-named name old new (design.Text why) counts e =
     absurd (known-not_five (design_err_line why) (design_status why) (design-known why) e)
 
 trace-named : (signals : List Signal) (name : List ℕ) (number : ℕ) (old new : FaultCounts) (why : TraceFault)
-    → TraceCounts name old new why → TellsFault old new (trace_fault_status why) (trace_fault_line signals name number why)
+    → TraceCounts name old new why → NamesFault old new (trace_fault_status why) (trace_fault_line signals name number why)
 trace-named signals name number old new (trace.Load load.Fault) counts e =
     (counts.0, ap (λ n. read_fault_line n) (sym counts.1))
 trace-named signals name number old new (trace.Load load.Size) counts e = absurd (omega (arith, e))
@@ -65,10 +49,18 @@ trace-named signals name number old new (trace.Load load.NoMemory) counts e = ab
 trace-named signals name number old new (trace.Text why) counts e =
     absurd (known-not_five _ (trace_fault_status (trace.Text why)) (dump-known [] 0 why) e)
 
+pub design-rose : (name : List ℕ) (old new : FaultCounts) (why : DesignFault) → DesignCounts name old new why
+    → design_fault_status why ≡ 5 → LoadRose old new
+design-rose name old new why counts five = (design-named name old new why counts five).0
+
+pub trace-rose : (name : List ℕ) (old new : FaultCounts) (why : TraceFault) → TraceCounts name old new why
+    → trace_fault_status why ≡ 5 → LoadRose old new
+trace-rose name old new why counts five = (trace-named [] name 0 old new why counts five).0
+
 -- a trace's by its place
 pub trace-named_at : (signals : List Signal) (asked : Asked) (place : ℕ) (name : List ℕ) (number : ℕ) (old new : FaultCounts)
     (why : TraceFault) → slice_get asked.traces place ≡ Some name → TraceCounts (trace_at asked place) old new why
-    → TellsFault old new (trace_fault_status why) (trace_fault_line signals name number why)
+    → NamesFault old new (trace_fault_status why) (trace_fault_line signals name number why)
 trace-named_at signals asked place name number old new why at counts =
     trace-named signals name number old new why
     (subst (λ n. TraceCounts n old new why) (ap (λ (found : Option (List ℕ)). unwrap_or found []) at) counts)

@@ -17,7 +17,7 @@ use Rattle.run_inputs.specs.declared.faults.TraceFault.{TraceFault}
 use Rattle.sim_cmd.specs.declared.outcome.Outcome.{Outcome}
 use Rattle.sim_cmd.specs.declared.outcome.Outcome.TheVariants.{Done, NoDesign, NoTrace, WriteFault, Memory}
 use Rattle.sim_cmd.specs.Requests.{Asked}
-use Rattle.command_contract.specs.Contract.{Counts, TellsFault, Texts}
+use Rattle.command_contract.specs.Contract.{Counts, NamesFault, Texts}
 use Rattle.run_inputs.specs.Means.{MeansDesign, MeanTraces}
 use Rattle.front_end.specs.Means.{IsReady, Meaning, Refusing}
 use Rattle.run_inputs.specs.Refusals.{design_fault_line, design_fault_status, trace_fault_line, trace_fault_status}
@@ -38,7 +38,7 @@ line-or-memory end line old new (NoTrace fault) puts = absurd puts
 
 stopped : (M : Meaning) (R : Refusing) (asked : Asked) (texts : Texts) (counts : Counts) (status : ℕ)
     (line old new : List ℕ)
-    → Refused M R asked texts status line → TellsFault counts.shelf counts.now_shelf status line
+    → Refused M R asked texts status line → NamesFault counts.shelf counts.now_shelf status line
     → AppendsFront line old new ⊎ AppendsFront memory_line old new → Leaves M R asked texts counts old new WriteFault
 stopped M R asked texts counts status line old new refused named (inl front) =
     (line, inr (inl (status, refused, named)), front)
@@ -57,7 +57,7 @@ trace-same one other e = cc
 
 pub no-design : (M : Meaning) (R : Refusing) (asked : Asked) (texts : Texts) (counts : Counts) (fault : DesignFault)
     (old new : List ℕ) (o : Outcome) → DesignCause R asked texts fault
-    → TellsFault counts.shelf counts.now_shelf (design_fault_status fault) (design_fault_line asked.design fault)
+    → NamesFault counts.shelf counts.now_shelf (design_fault_status fault) (design_fault_line asked.design fault)
     → PutsLine (NoDesign fault) (design_fault_line asked.design fault) old new o → Leaves M R asked texts counts old new o
 no-design M R asked texts counts fault old new WriteFault cause named puts =
     stopped M R asked texts counts (design_fault_status fault) (design_fault_line asked.design fault) old new
@@ -91,7 +91,7 @@ trace-refused M R asked texts d place name fault design stops at =
 
 pub no-trace : (M : Meaning) (R : Refusing) (asked : Asked) (texts : Texts) (counts : Counts) (fault : TraceFault)
     (line old new : List ℕ) (o : Outcome)
-    → Refused M R asked texts (trace_fault_status fault) line → TellsFault counts.shelf counts.now_shelf (trace_fault_status fault) line
+    → Refused M R asked texts (trace_fault_status fault) line → NamesFault counts.shelf counts.now_shelf (trace_fault_status fault) line
     → PutsLine (NoTrace fault) line old new o → Leaves M R asked texts counts old new o
 no-trace M R asked texts counts fault line old new WriteFault refused named puts =
     stopped M R asked texts counts (trace_fault_status fault) line old new refused named puts
@@ -108,7 +108,7 @@ pub no-trace_at : (M : Meaning) (R : Refusing) (asked : Asked) (texts : Texts) (
     (signals : List Signal) (name : List ℕ) (number : ℕ) (old new : List ℕ) (o : Outcome) → MeansDesign M asked texts d
     → StopsAt texts asked d place fault → slice_get asked.traces place ≡ Some name → signals ≡ d.signals.items
     → number ≡ place + 1
-    → TellsFault counts.shelf counts.now_shelf (trace_fault_status fault) (trace_fault_line signals name number fault)
+    → NamesFault counts.shelf counts.now_shelf (trace_fault_status fault) (trace_fault_line signals name number fault)
     → PutsLine (NoTrace fault) (trace_fault_line signals name number fault) old new o → Leaves M R asked texts counts old new o
 no-trace_at M R asked texts counts d place fault signals name number old new o design stops at of_design counted named puts =
     let here = trace-refused M R asked texts d place name fault design stops at in
@@ -145,9 +145,10 @@ some-then-memory lines old now new (NoTrace fault) some puts = absurd puts
 pub shown : (M : Meaning) (R : Refusing) (asked : Asked) (texts : Texts) (counts : Counts) (d : Design) (order : List ℕ)
     (traces : List Trace) (old new : List ℕ) (o : Outcome)
     → IsReady d order → MeansDesign M asked texts d → MeanTraces texts asked.clock d asked.traces traces
+    → counts.now_shelf ≡ counts.shelf
     → ((lines : List Line) → AreLines d 1 traces lines → EndsShown lines old new o)
     → Leaves M R asked texts counts old new o
-shown M R asked texts counts d order traces old new o ready design mean ends =
+shown M R asked texts counts d order traces old new o ready design mean same ends =
     let (lines, are) = some-lines d order
     (record { well_formed = ready.well_formed; once = ready.once; ordered = ready.ordered }) 1 traces in
     at o lines (record { design = d; traces = traces; means = record { design = design; mean = mean }; are = are })
@@ -156,23 +157,23 @@ shown M R asked texts counts d order traces old new o ready design mean ends =
     at : (o : Outcome) (lines : List Line) → Simulated M asked texts lines → EndsShown lines old new o
         → Leaves M R asked texts counts old new o
     at Done lines is end = (lines, is, end)
-    at WriteFault lines is (inl front) = (text_of lines, inl (lines, is, refl), front)
+    at WriteFault lines is (inl front) = (text_of lines, inl (lines, is, same, refl), front)
     at WriteFault lines is (inr (count, front)) = (
       text_of (take count lines) ++ memory_line,
       inr
-          (inr (inr (inr (record { lines = lines; simulated = is; count = count; is = inr refl })))),
+          (inr (inr (inr (record { lines = lines; simulated = is; untroubled = same; count = count; is = inr refl })))),
       front,
     )
     at Memory lines is (count, inl put) = (
       text_of (take count lines),
       inr
-          (inr (record { lines = lines; simulated = is; count = count; is = inl refl })),
+          (inr (record { lines = lines; simulated = is; untroubled = same; count = count; is = inl refl })),
       put,
     )
     at Memory lines is (count, inr put) = (
       text_of (take count lines) ++ memory_line,
       inr
-          (inr (record { lines = lines; simulated = is; count = count; is = inr refl })),
+          (inr (record { lines = lines; simulated = is; untroubled = same; count = count; is = inr refl })),
       put,
     )
     at (NoDesign fault) lines is end = absurd end

@@ -11,7 +11,7 @@ use Rattle.front_end.specs.Means.{Meaning, Refusing}
 use Rattle.run_inputs.specs.Refusals.{design_fault_status, trace_fault_status}
 use Rattle.run_inputs.specs.Loading.{DesignCounts, TraceCounts}
 use Rattle.sim_cmd.specs.Simulation.{IsDue, MayStand, Refused, Simulated}
-use Rattle.command_contract.specs.Contract.{Counts, NoneRose, TellsFault, Texts}
+use Rattle.command_contract.specs.Contract.{Counts, NamesFault, NoneRose, Texts}
 
 abbrev pub status_of : Outcome → ℕ
 status_of Done = 0
@@ -25,13 +25,13 @@ abbrev pub Leaves : Meaning → Refusing → Asked → Texts → Counts → List
 Leaves M R asked texts counts old new Done = (lines : List Line) × Simulated M asked texts lines × (new ≡ old ++ text_of lines)
 Leaves M R asked texts counts old new (NoDesign fault) =
     (line : List ℕ) × Refused M R asked texts (design_fault_status fault) line
-    × TellsFault counts.shelf counts.now_shelf (design_fault_status fault) line × (new ≡ old ++ line)
+    × NamesFault counts.shelf counts.now_shelf (design_fault_status fault) line × (new ≡ old ++ line)
 Leaves M R asked texts counts old new (NoTrace fault) =
     (line : List ℕ) × Refused M R asked texts (trace_fault_status fault) line
-    × TellsFault counts.shelf counts.now_shelf (trace_fault_status fault) line × (new ≡ old ++ line)
+    × NamesFault counts.shelf counts.now_shelf (trace_fault_status fault) line × (new ≡ old ++ line)
 Leaves M R asked texts counts old new WriteFault =
     (due : List ℕ) × IsDue M R asked texts counts due × AppendsFront due old new
-Leaves M R asked texts counts old new Memory = (front : List ℕ) × MayStand M asked texts front × (new ≡ old ++ front)
+Leaves M R asked texts counts old new Memory = (front : List ℕ) × MayStand M asked texts counts front × (new ≡ old ++ front)
 
 -- the counts of faults
 abbrev pub RunCounts : Counts → Outcome → Type 0

@@ -2,7 +2,7 @@
 use Rattle.std.specs.Prelude.{ℕ, ◌+◌, ◌≡◌, ◌⊎◌, List, [], ◌++◌, All, take}
 use Rattle.io_ports.specs.Faults.{Rose}
 use Rattle.io_ports.specs.Shelf.{AppendsFront}
-use Rattle.command_contract.specs.Contract.{Case, Counts, IsInputRefusal, NothingWritten, Run, TellsFault, Texts}
+use Rattle.command_contract.specs.Contract.{Case, Counts, IsInputRefusal, NamesFault, NothingWritten, Run, Texts}
 use Rattle.design_core.specs.declared.design.Design.{Design}
 use Rattle.design_core.specs.declared.trace.Trace.{Trace}
 use Rattle.refusal_lines.specs.Refusals.{memory_line}
@@ -32,22 +32,23 @@ pub data Refused (M : Meaning) (R : Refusing) (asked : Asked) (texts : Texts) : 
       → Refused M R asked texts (trace_fault_status fault) (trace_fault_line d.signals.items name (place + 1) fault)
 
 -- ---- want of memory, and a put that fails
--- some of the lines, from the first one on, and `memory`, where there was memory for that
-pub record SomeLines (M : Meaning) (asked : Asked) (texts : Texts) (front : List ℕ) : Type 0 where
+-- all texts were loaded, and some of the lines, from the first one on, and `memory`, where there was memory for that
+pub record SomeLines (M : Meaning) (asked : Asked) (texts : Texts) (counts : Counts) (front : List ℕ) : Type 0 where
   pub lines : List Line
   pub simulated : Simulated M asked texts lines
+  pub untroubled : counts.now_shelf ≡ counts.shelf
   pub count : ℕ
   pub is : (front ≡ text_of (take count lines)) ⊎ (front ≡ text_of (take count lines) ++ memory_line)
 
-abbrev pub MayStand : Meaning → Asked → Texts → List ℕ → Type 0
-MayStand M asked texts front = (front ≡ []) ⊎ ((front ≡ memory_line) ⊎ SomeLines M asked texts front)
+abbrev pub MayStand : Meaning → Asked → Texts → Counts → List ℕ → Type 0
+MayStand M asked texts counts front = (front ≡ []) ⊎ ((front ≡ memory_line) ⊎ SomeLines M asked texts counts front)
 
--- all lines, or a refusal's, with 5 by the load that failed, or what stands where memory was wanted
+-- all lines, of texts that were all loaded, or a refusal's, with 5 by the load that failed, or what stands where memory was wanted
 abbrev pub IsDue : Meaning → Refusing → Asked → Texts → Counts → List ℕ → Type 0
 IsDue M R asked texts counts due =
-    ((lines : List Line) × Simulated M asked texts lines × (due ≡ text_of lines))
-    ⊎ (((status : ℕ) × Refused M R asked texts status due × TellsFault counts.shelf counts.now_shelf status due)
-    ⊎ MayStand M asked texts due)
+    ((lines : List Line) × Simulated M asked texts lines × (counts.now_shelf ≡ counts.shelf) × (due ≡ text_of lines))
+    ⊎ (((status : ℕ) × Refused M R asked texts status due × NamesFault counts.shelf counts.now_shelf status due)
+    ⊎ MayStand M asked texts counts due)
 
 -- ---- the case
 -- all lines are printed, each once and in order, and nothing is written
@@ -68,7 +69,7 @@ pub record IsStopped (M : Meaning) (R : Refusing) (asked : Asked) (run : Run) : 
 -- memory was wanted: some of what was due is printed, in whole lines, and nothing is written
 pub record IsCut (M : Meaning) (asked : Asked) (run : Run) : Type 0 where
   pub front : List ℕ
-  pub may_stand : MayStand M asked run.texts front
+  pub may_stand : MayStand M asked run.texts run.counts front
   pub printed : run.now_printed ≡ run.printed ++ front
   pub nothing_written : run.now_written ≡ run.written
 

@@ -1,7 +1,5 @@
 //! A run of the command.
 ghost use Rattle.std.specs.Prelude.{◌≡◌, ◌<◌, ◌^◌, ◌⊎◌, ◌&&◌, List, length, true};
-ghost use Rattle.io_ports.specs.Shelf.{AppendsFront};
-ghost use Rattle.refusal_lines.specs.Refusals.{memory_line};
 ghost use Rattle.sim_lines.specs.Lines.{AreLines, Line as SomeLine};
 ghost use Rattle.sim_lines.specs.CanShow.{AreShown};
 ghost use Rattle.sim_cmd.specs.declared.outcome.Outcome.TheVariants as outcome;

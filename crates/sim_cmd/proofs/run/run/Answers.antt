@@ -111,5 +111,6 @@ returns-clause-leaves g c = λ shelf out.
     (subst (λ (a : Asked). MeanTraces texts a.clock ordered.design a.traces traces) same
     (subst (λ (ts : Texts). MeanTraces ts (asked_by c.sources-sources.result).clock ordered.design
     (asked_by c.sources-sources.result).traces traces) c.in-Ok.ensures.texts mean))
+    (c.in-Ok-load_traces.ensures.counts ∙ c.in-Ok.ensures.counts)
     (λ lines are. c.show.ensures.text out lines
     (subst (λ (ts : List Trace). AreLines ordered.design 1 ts lines) (sym c.deref.ensures.value) are))
