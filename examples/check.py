@@ -4,12 +4,12 @@ finds by itself. Of the examples for `find` it makes the list: it reads the desi
 every set of assignments with every choice of values. Of `uart`, for `sim`, it has the lines from Icarus Verilog, where
 that is installed: a run of the design, sampled before each rising edge, beside what the dump wants. tools/annotate.py
 has to show each report with the members and lines that were printed, and `check` has to say yes to it; to the report without its
-last set it has to say no.
+last set it has to say no. And where a file isn't there, each command has to name that file, with status 5.
 
     examples/check.py [PROGRAM]
 
-PROGRAM is crates/localise/out/localise where it isn't given. The last line is `N examples right`; the status is 1 where
-one isn't.
+PROGRAM is crates/localise/out/localise where it isn't given. The last lines are `N examples right` and what is said of
+absent files; the status is 1 where one isn't right.
 """
 
 import itertools
@@ -241,13 +241,33 @@ def check_simulation(program):
     return not faults
 
 
+def check_absent(program):
+    """Of each command, a text at a time isn't there, while those before it are."""
+    folder = os.path.join(HERE, "full_adder")
+    design, dump = os.path.join(folder, "full_adder.v"), os.path.join(folder, "full_adder.vcd")
+    with tempfile.TemporaryDirectory() as scratch:
+        absent = os.path.join(scratch, "absent")
+        top = "full_adder"
+        rows = [["sim", absent, top, dump], ["sim", design, top, absent], ["sim", design, top, dump, absent]]
+        rows += [["find", absent, top, dump], ["find", design, top, absent], ["check", design, top, absent, absent + "-log", dump]]
+        faults = []
+        for words in rows:
+            run = subprocess.run([program] + words, cwd=scratch, capture_output=True, text=True)
+            if run.returncode != 5 or run.stdout != "read fault %s\n" % absent:
+                faults.append("%s: status %d, %r" % (words[0], run.returncode, run.stdout))
+            if os.listdir(scratch):
+                faults.append("%s wrote a file" % words[0])
+    print("absent files: %s" % (", ".join(faults) or "%d commands name them" % len(rows)))
+    return not faults
+
+
 def main():
     program = os.path.abspath(sys.argv[1] if len(sys.argv) > 1 else BUILT)
     if not os.path.exists(program):
         sys.exit("no program at %s; build it first" % program)
     rights = [check_simulation(program)] + [check(program, name) for name in EXAMPLES]
     print("%d examples right" % sum(rights))
-    sys.exit(0 if all(rights) else 1)
+    sys.exit(0 if check_absent(program) and all(rights) else 1)
 
 
 if __name__ == "__main__":
