@@ -1,0 +1,164 @@
+#!/usr/bin/env python3
+"""Runs the built program on each case below cases/ and compares what it prints and writes.
+
+usage: cases/run.py [--program PROGRAM] [--jobs N] [--after LOG] [CASE..]
+
+A case is a folder `cases/LAYER/NAME/`:
+
+    shows      one line: what the case shows
+    args       the words after `localise`, one a line
+    stdout     what is printed (no such file: nothing)
+    status     the exit status (no such file: 0)
+    stderr     what stands on standard error (no such file: it isn't looked at)
+    written/   each text that the run leaves, by its name
+    writes     the names, one a line, of texts that the run leaves and that aren't compared
+
+Every other file is an input: the design, the dumps, a report, a log. The program runs in a folder of its own with copies of
+the inputs. It must leave them as they were, leave each text of `written/` and `writes`, and leave no other.
+
+CASE is a folder, or a layer; none: all of them. PROGRAM is crates/localise/out/localise where it isn't given. LOG is the
+output of a gate's run, whose last line `N passed, M failed` is counted too. The last line is `N passed, M failed`; the
+status is 1 where one failed.
+"""
+
+import argparse
+import os
+import re
+import shutil
+import subprocess
+import sys
+import tempfile
+from concurrent.futures import ThreadPoolExecutor
+
+HERE = os.path.dirname(os.path.abspath(__file__))
+BUILT = os.path.join(HERE, "..", "crates", "localise", "out", "localise")
+ABOUT = {"shows", "args", "stdout", "status", "stderr", "written", "writes"}
+SECONDS = 60
+
+
+def read(path, otherwise=b""):
+    """The bytes of a file, or these where there is none."""
+    if not os.path.isfile(path):
+        return otherwise
+    with open(path, "rb") as file:
+        return file.read()
+
+
+def texts_below(folder):
+    """The files below a folder, by their names there."""
+    found = {}
+    for at, _, names in os.walk(folder):
+        for name in names:
+            path = os.path.join(at, name)
+            found[os.path.relpath(path, folder)] = read(path)
+    return found
+
+
+def first_difference(what, wanted, given):
+    """Where two texts differ first, with the line that was wanted and the one that was given."""
+    if wanted == given:
+        return []
+    wanted_lines, given_lines = wanted.split(b"\n"), given.split(b"\n")
+    pairs = zip(wanted_lines, given_lines)
+    at = next((i for i, (a, b) in enumerate(pairs) if a != b), min(len(wanted_lines), len(given_lines)))
+    shown = [repr(lines[at][:120]) if at < len(lines) else "no such line" for lines in (wanted_lines, given_lines)]
+    return [f"{what}, line {at + 1}: wanted {shown[0]}, given {shown[1]}"]
+
+
+def malformed(case):
+    """What a folder lacks to be a case."""
+    shows = read(f"{case}/shows").decode(errors="replace")
+    lacks = [] if shows.strip() and shows.count("\n") == 1 else ["shows: no single line says what the case shows"]
+    lacks += [] if os.path.isfile(f"{case}/args") else ["args: no such file"]
+    status = read(f"{case}/status", b"0\n").decode(errors="replace")
+    return lacks + ([] if re.fullmatch(r"\d{1,3}\n", status) else ["status: no exit status"])
+
+
+def words_of(case):
+    """The words after the program's name."""
+    text = read(f"{case}/args")
+    return text.removesuffix(b"\n").split(b"\n") if text else []
+
+
+def left_in(case, room, inputs):
+    """What is wrong with the texts that a run left."""
+    wanted = {**inputs, **texts_below(f"{case}/written")}
+    unread = set(read(f"{case}/writes").decode().split("\n")) - {""}
+    given = texts_below(room)
+    wrong = [f"{name}: not written" for name in sorted((set(wanted) | unread) - set(given))]
+    wrong += [f"{name}: written, and not to be" for name in sorted(set(given) - set(wanted) - unread)]
+    for name in sorted(set(wanted) & set(given) - unread):
+        wrong += first_difference(name, wanted[name], given[name])
+    return wrong
+
+
+def failures(program, case):
+    """What is wrong with a run of the program on a case."""
+    wrong = malformed(case)
+    if wrong:
+        return wrong
+    inputs = {name: text for name, text in texts_below(case).items() if name.split("/")[0] not in ABOUT}
+    with tempfile.TemporaryDirectory(prefix="case-") as room:
+        for name in inputs:
+            os.makedirs(os.path.dirname(f"{room}/{name}"), exist_ok=True)
+            shutil.copyfile(f"{case}/{name}", f"{room}/{name}")
+        words = [program.encode(), *words_of(case)]
+        try:
+            ran = subprocess.run(words, cwd=room, stdin=subprocess.DEVNULL, capture_output=True, timeout=SECONDS)
+        except subprocess.TimeoutExpired:
+            return [f"it had not ended after {SECONDS} seconds"]
+        status = int(read(f"{case}/status", b"0"))
+        if ran.returncode != status:
+            wrong.append(f"status: wanted {status}, given {ran.returncode}; standard error: {ran.stderr[-200:]!r}")
+        wrong += first_difference("stdout", read(f"{case}/stdout"), ran.stdout)
+        if os.path.isfile(f"{case}/stderr"):
+            wrong += first_difference("stderr", read(f"{case}/stderr"), ran.stderr)
+        return wrong + left_in(case, room, inputs)
+
+
+def cases_below(folder):
+    """The cases at or below a folder, in the order of their names."""
+    found = []
+    for at, folders, names in os.walk(folder):
+        folders.sort()
+        if "args" in names or "shows" in names:
+            folders.clear()
+            found.append(at)
+    return found
+
+
+def counted_in(log):
+    """What a gate's output counts in its last line; where it has no such line, one failure."""
+    lines = read(log).decode(errors="replace").rstrip("\n").split("\n")
+    found = re.fullmatch(r"(\d+) passed, (\d+) failed", lines[-1])
+    return (int(found[1]), int(found[2])) if found else (0, 1)
+
+
+def main():
+    parser = argparse.ArgumentParser(usage=__doc__.split("\n\n")[1].removeprefix("usage: "))
+    parser.add_argument("--program", default=BUILT)
+    parser.add_argument("--jobs", type=int, default=os.cpu_count())
+    parser.add_argument("--after")
+    parser.add_argument("cases", nargs="*")
+    asked = parser.parse_args()
+    passed, failed = counted_in(asked.after) if asked.after else (0, 0)
+    program = os.path.abspath(asked.program)
+    if not os.path.isfile(program):
+        print(f"{asked.program}: no such program, so no case was run")
+        print(f"{passed} passed, {failed + 1} failed")
+        return 1
+    given = [it if os.path.isdir(it) else os.path.join(HERE, it) for it in asked.cases]
+    cases = [case for folder in given or [HERE] for case in cases_below(os.path.abspath(folder))]
+    with ThreadPoolExecutor(asked.jobs) as pool:
+        found = list(pool.map(lambda case: failures(program, case), cases))
+    for case, wrong in zip(cases, found):
+        for line in wrong:
+            print(f"{os.path.relpath(case, HERE)}: {line}")
+    bad = sum(bool(it) for it in found) or int(not cases)
+    print(f"{len(cases) - sum(bool(it) for it in found)} cases as wanted, {bad} not")
+    print(f"{passed + len(cases) - sum(bool(it) for it in found)} passed, {failed + bad} failed")
+    return 1 if failed + bad else 0
+
+
+if __name__ == "__main__":
+    sys.exit(main())
