@@ -10,7 +10,7 @@ the last look at it is missed: a sum may be low by some hundredths. Only what is
 `rt ci --anew` for the cost from nothing. Below the table stands what an edit took in the mean of its crate, and the dearest
 chain of crates, each of which waits for the proof of the one before: no number of processors makes the gate shorter than
 that. With `--into` all of this takes the place of the table of such a run that FILE has, up to the end of its paragraph on
-the dearest chain (docs/architecture.md has one). The exit status is the command's.
+the dearest chain (docs/gate.md has one). The exit status is the command's.
 """
 
 import os
@@ -119,7 +119,7 @@ def an_edit(crates):
     each = []
     for name, seconds in crates.items():
         folder = f"crates/{name}/must-fail"
-        edits = len(os.listdir(folder)) if os.path.isdir(folder) else 0
+        edits = sum(it.endswith(".edit") for it in os.listdir(folder)) if os.path.isdir(folder) else 0
         if edits and seconds["edits"]:
             each.append((seconds["edits"] / edits, name, edits, seconds["edits"]))
     if not each:

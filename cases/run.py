@@ -1,7 +1,7 @@
 #!/usr/bin/env python3
 """Runs the built program on each case below cases/ and compares what it prints and writes.
 
-usage: cases/run.py [--program PROGRAM] [--jobs N] [--after LOG] [CASE..]
+usage: cases/run.py [--program PROGRAM] [--jobs N] [--after LOG].. [CASE..]
 
 A case is a folder `cases/LAYER/NAME/`:
 
@@ -17,8 +17,8 @@ Every other file is an input: the design, the dumps, a report, a log. The progra
 the inputs. It must leave them as they were, leave each text of `written/` and `writes`, and leave no other.
 
 CASE is a folder, or a layer; none: all of them. PROGRAM is crates/localise/out/localise where it isn't given. LOG is the
-output of a gate's run, whose last line `N passed, M failed` is counted too. The last line is `N passed, M failed`; the
-status is 1 where one failed.
+output of other checks, whose last line `N passed, M failed` is counted too. The last line is `N passed, M failed`; the status
+is 1 where one failed.
 """
 
 import argparse
@@ -128,7 +128,7 @@ def cases_below(folder):
 
 
 def counted_in(log):
-    """What a gate's output counts in its last line; where it has no such line, one failure."""
+    """What the output of other checks counts in its last line; where it has no such line, one failure."""
     lines = read(log).decode(errors="replace").rstrip("\n").split("\n")
     found = re.fullmatch(r"(\d+) passed, (\d+) failed", lines[-1])
     return (int(found[1]), int(found[2])) if found else (0, 1)
@@ -138,10 +138,10 @@ def main():
     parser = argparse.ArgumentParser(usage=__doc__.split("\n\n")[1].removeprefix("usage: "))
     parser.add_argument("--program", default=BUILT)
     parser.add_argument("--jobs", type=int, default=os.cpu_count())
-    parser.add_argument("--after")
+    parser.add_argument("--after", action="append", default=[])
     parser.add_argument("cases", nargs="*")
     asked = parser.parse_args()
-    passed, failed = counted_in(asked.after) if asked.after else (0, 0)
+    passed, failed = (sum(counts) for counts in zip((0, 0), *map(counted_in, asked.after)))
     program = os.path.abspath(asked.program)
     if not os.path.isfile(program):
         print(f"{asked.program}: no such program, so no case was run")
