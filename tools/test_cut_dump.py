@@ -1,0 +1,72 @@
+"""Tests of cut_dump.py, over a stand-in of the program: each stamp is a cycle, and the output is wrong where a `1!` stands."""
+
+import os
+import stat
+import subprocess
+import sys
+import tempfile
+import unittest
+
+HERE = os.path.dirname(os.path.abspath(__file__))
+sys.path.insert(0, HERE)
+
+import cut_dump  # noqa: E402
+
+HEAD = b"$scope module m $end\n$var wire 1 ! y $end\n$upscope $end\n$comment #7 $end\n$enddefinitions $end\n"
+STAND_IN = f"""#!{sys.executable}
+import sys
+sys.path.insert(0, {HERE!r})
+import cut_dump
+text = open(sys.argv[4], "rb").read()
+ends = cut_dump.stamps(text)
+pieces = [text[a:b] for a, b in zip(ends, ends[1:])]
+if not pieces:
+    print("input T4 1")
+    sys.exit(3)
+for number, piece in enumerate(pieces):
+    print(1, number, "y=0")
+wrong = [number for number, piece in enumerate(pieces) if b"1!" in piece]
+print("trace 1", "miss %d y" % wrong[0] if wrong else "ok")
+"""
+
+
+class Stamps(unittest.TestCase):
+    def test_a_code_a_text_and_a_comment_are_no_stamp(self):
+        body = b"#0 b01 #1 sa #2\n$comment #3 $end\n#4 0#5\n"
+        found = cut_dump.stamps(HEAD + body)
+        self.assertEqual([(HEAD + body)[it : it + 2] for it in found], [b"#0", b"#4", b""])
+
+
+class Cuts(unittest.TestCase):
+    def setUp(self):
+        self.room = tempfile.TemporaryDirectory()
+        self.addCleanup(self.room.cleanup)
+        self.program = f"{self.room.name}/localise"
+        with open(self.program, "w", encoding="utf-8") as file:
+            file.write(STAND_IN)
+        os.chmod(self.program, stat.S_IRWXU)
+
+    def cut(self, body, *words):
+        with open(f"{self.room.name}/d.vcd", "wb") as file:
+            file.write(HEAD + body)
+        command = [sys.executable, f"{HERE}/cut_dump.py", "d.v", "m", f"{self.room.name}/d.vcd", *words]
+        ran = subprocess.run([*command, "--program", self.program], capture_output=True)
+        return ran.returncode, ran.stdout.removeprefix(HEAD)
+
+    def test_it_ends_at_the_miss(self):
+        self.assertEqual(self.cut(b"#0 0!\n#1 1!\n#2 0!\n#3\n"), (0, b"#0 0!\n#1 1!\n"))
+
+    def test_it_ends_some_cycles_after_the_miss_and_not_behind_the_end(self):
+        self.assertEqual(self.cut(b"#0 0!\n#1 1!\n#2 0!\n#3\n", "--after-miss", "1"), (0, b"#0 0!\n#1 1!\n#2 0!\n"))
+        self.assertEqual(self.cut(b"#0 0!\n#1 1!\n", "--after-miss", "9"), (0, b"#0 0!\n#1 1!\n"))
+
+    def test_it_has_so_many_cycles(self):
+        self.assertEqual(self.cut(b"#0 0!\n#1 0!\n#2 0!\n", "--cycles", "2"), (0, b"#0 0!\n#1 0!\n"))
+
+    def test_where_there_is_nothing_to_cut_at(self):
+        self.assertEqual(self.cut(b"#0 0!\n#1 0!\n"), (1, b""))
+        self.assertEqual(self.cut(b"#0 1!\n", "--cycles", "2"), (1, b""))
+
+
+if __name__ == "__main__":
+    unittest.main()
