@@ -20,7 +20,7 @@ use Rattle.v_binding.specs.Statements.{bound}
 use Rattle.v_binding.specs.Bound.{Root, Bound, with_places, with_driver, with_clocked, with_misclocked}
 use Rattle.v_binding.specs.Clocks.{root_of, signal_of, root_named, is_clock, Waited, edges, is_clock_edge, Resetting, resetting, Wait, by_clock, by_clock_and, by_others, wait_with, wait_for, Arms, arms_here, arms_alone, arms_of, condition_of, is_active, reset_arms, with_reset, without_reset, clocked_of}
 use Rattle.v_binding.specs.Blocks.{Frame, event_at, has_edge, events_of, combinational, clocked, block_of, always_block}
-use Rattle.instance_laws.specs.Every.{Every}
+use Rattle.bind_laws.specs.Every.{Every}
 use Rattle.bind_laws.specs.Fit.{NamesFit, StepsFit, Begins}
 use Rattle.bind_laws.specs.Whole.{Whole, below, clocked_fits, RootFits}
 use Rattle.bind_laws.proofs.Lists.{Ok-same, between}

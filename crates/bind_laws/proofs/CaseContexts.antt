@@ -19,7 +19,7 @@ use Rattle.v_binding.specs.Steps.{each, through}
 use Rattle.v_binding.specs.Names.{Names, look_in}
 use Rattle.v_binding.specs.Expressions.{sized_in}
 use Rattle.v_binding.specs.Cases.{Context, with_label, with_arms, context_of, wild_bits, label_at}
-use Rattle.instance_laws.specs.Every.{Every}
+use Rattle.bind_laws.specs.Every.{Every}
 use Rattle.bind_laws.specs.Fit.{NamesFit}
 use Rattle.bind_laws.proofs.Lists.{Ok-same, between}
 use Rattle.bind_laws.proofs.Expressions.{own_width, own-within, IsSized, sized_in-fits}

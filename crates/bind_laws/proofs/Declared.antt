@@ -23,10 +23,10 @@ use Rattle.v_binding.specs.Names as bound
 use Rattle.v_binding.specs.Addresses.{Addresses}
 use Rattle.v_binding.specs.Signals.{Numbered, path_in, signal_of, kind_of, word_path, words, Scoping, Ground, with_signal, addresses_or_one, with_array, declared_as, with_declarator}
 use Rattle.v_binding.specs.Standing.{EntriesStand}
-use Rattle.instance_laws.specs.Every.{Every, IfGiven}
+use Rattle.bind_laws.specs.Every.{Every, IfGiven}
 use Rattle.bind_laws.specs.Fit.{UseFits, NamesFit, Begins}
 use Rattle.bind_laws.specs.Scopes.{NamesSignal, HasSignal}
-use Rattle.instance_laws.specs.OfText.{IsSignal, DeclaratorOf}
+use Rattle.bind_laws.specs.OfText.{IsSignal, DeclaratorOf}
 use Rattle.bind_laws.proofs.Lists.{Every-append, Every-push, begins-itself, begins-more, begins-through, begins-at}
 use Rattle.bind_laws.proofs.Numbers.{Final, number-there, signal-fits, words-there, words-few, words-every, addresses-some}
 use Rattle.bind_laws.proofs.ScopeNames.{entry-stands, Agrees, is_listed, listed-front, listed-last, named-signal}

@@ -24,11 +24,11 @@ use Rattle.v_binding.specs.Connections.{Socket}
 use Rattle.v_binding.specs.Items.{Met, names_of, scopes_of, bound_copies}
 use Rattle.v_binding.specs.Binding.{all_sockets, is_in, children_of, top_ports, clock_of, top_roots, inputs_of, outputs_of, port_start, ground_of, instance_items, bound_from, nothing_bound, Binding, is_misnamed, frame_of, binding}
 use Rattle.v_binding.specs.Standing.{InstancesStand}
-use Rattle.instance_laws.specs.Every.{Every}
+use Rattle.bind_laws.specs.Every.{Every}
 use Rattle.bind_laws.specs.Fit.{NamesFit}
 use Rattle.bind_laws.specs.Whole.{Whole, below, RootFits, StartFits, BoundFits, IsDesignOf}
 use Rattle.bind_laws.specs.Scopes.{NamesSignal, BlockFits, SocketFits}
-use Rattle.instance_laws.specs.OfText.{IsFirst, OfText}
+use Rattle.bind_laws.specs.OfText.{IsFirst, OfText}
 use Rattle.bind_laws.proofs.Lists.{Ok-same, between, each-keeps, begins-itself, Every-append}
 use Rattle.bind_laws.proofs.Names.{within-fit}
 use Rattle.bind_laws.proofs.Goes.{Goes, goes-nowhere, goes-on}

@@ -35,7 +35,7 @@ use Rattle.v_binding.specs.Bound.{Bound, with_words, with_declared, with_initial
 use Rattle.v_binding.specs.Blocks.{Frame}
 use Rattle.v_binding.specs.Assignments.{driven_at, continuous, assignment_of, array_of, width_of as own_width_of, number_of, start_at, value_at, declarator_of, initial_fault, initial_at, initial_block, initial_all}
 use Rattle.v_binding.specs.Gates.{Output, terminals_fit, outputs_of, inputs_of, output_at, input_at, outputs_driven, value_of_gate, for_width, gate_home, gate_of}
-use Rattle.instance_laws.specs.Every.{Every}
+use Rattle.bind_laws.specs.Every.{Every}
 use Rattle.bind_laws.specs.Fit.{UseFits, NamesFit, LeftFits}
 use Rattle.bind_laws.specs.Whole.{Whole, StartFits}
 use Rattle.bind_laws.specs.Scopes.{NamesSignal, HasSignal}

@@ -14,10 +14,10 @@ use Rattle.v_binding.specs.Signals.{Numbered, Scope, scoped, Scoping, Ground, wi
 use Rattle.v_binding.specs.Connections.{sockets}
 use Rattle.v_binding.specs.Items.{names_of}
 use Rattle.v_binding.specs.Standing.{EntriesStand, PortsStand, BlockStands, InstancesStand}
-use Rattle.instance_laws.specs.Every.{Every}
+use Rattle.bind_laws.specs.Every.{Every}
 use Rattle.bind_laws.specs.Fit.{Begins}
 use Rattle.bind_laws.specs.Scopes.{NamesSignal, CopiesFit, BlockFits, SocketFits}
-use Rattle.instance_laws.specs.OfText.{PortsApart, InstanceOf}
+use Rattle.bind_laws.specs.OfText.{PortsApart, InstanceOf}
 use Rattle.bind_laws.proofs.Lists.{begins-itself, begins-through}
 use Rattle.bind_laws.proofs.Numbers.{Final}
 use Rattle.bind_laws.proofs.ScopeNames.{Agrees, FoundSo, found-so, fixed_all-agrees, fixed_all-fit, is_listed, named-signal}

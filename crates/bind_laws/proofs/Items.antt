@@ -12,7 +12,7 @@ use Rattle.v_binding.specs.Assignments.{assignment_of, declarator_of}
 use Rattle.v_binding.specs.Gates.{gate_of}
 use Rattle.v_binding.specs.Connections.{Socket, child_of}
 use Rattle.v_binding.specs.Items.{Met, with_bound, Ground, home_of, inside, written_of, ports_next, children_after, scope_next, scopes_after, names_of, scopes_of, bound_copies, bound_block}
-use Rattle.instance_laws.specs.Every.{Every}
+use Rattle.bind_laws.specs.Every.{Every}
 use Rattle.bind_laws.specs.Fit.{NamesFit}
 use Rattle.bind_laws.specs.Whole.{Whole}
 use Rattle.bind_laws.specs.Scopes.{HasSignal, ItemFits, CopiesFit, BlockFits, SocketFits}

@@ -5,7 +5,7 @@ use Rattle.std.specs.List.{list_all}
 use Rattle.std.proofs.lemmas.Bool.{and_parts, and_from}
 use Rattle.v_binding.specs.declared.error.BindErr.{BindErr}
 use Rattle.v_binding.specs.Steps.{◌>>=◌, each}
-use Rattle.instance_laws.specs.Every.{Every}
+use Rattle.bind_laws.specs.Every.{Every}
 use Rattle.bind_laws.specs.Fit.{Begins}
 
 -- ---- each element

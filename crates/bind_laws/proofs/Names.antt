@@ -14,7 +14,7 @@ use Rattle.v_binding.specs.declared.known.Use.{Use}
 use Rattle.v_binding.specs.declared.known.Use.TheVariants.{Stands as stands, AtTurn as at_turn, Outside as outside}
 use Rattle.v_binding.specs.Uses.{meaning_of}
 use Rattle.v_binding.specs.Names.{Names, find, look_in, within}
-use Rattle.instance_laws.specs.Every.{Every}
+use Rattle.bind_laws.specs.Every.{Every}
 use Rattle.bind_laws.specs.Fit.{UseFits, NamesFit}
 
 -- the names of a scope hide those around it

@@ -13,10 +13,10 @@ use Rattle.v_binding.specs.Steps.{through}
 use Rattle.v_binding.specs.Names.{Known, Names, known, within, turned}
 use Rattle.v_binding.specs.Signals.{is_loop_variable, Scope, scoped, Scopes, no_scope, more_scopes, and_scope, Scoping, Ground, with_signal, declared_as, with_declarator, an_integer, with_integer, fixed_all, ground_of, begun, ended, numbered, numbered_copy}
 use Rattle.v_binding.specs.Standing.{EntriesStand, CopiesStand, BlockStands}
-use Rattle.instance_laws.specs.Every.{Every}
+use Rattle.bind_laws.specs.Every.{Every}
 use Rattle.bind_laws.specs.Fit.{UseFits, StepsFit, Begins}
 use Rattle.bind_laws.specs.Scopes.{HasSignal, ItemFits, CopiesFit, BlockFits}
-use Rattle.instance_laws.specs.OfText.{AreApart, DeclaratorOf, ItemOf, CopiesOf, BlockOf}
+use Rattle.bind_laws.specs.OfText.{AreApart, DeclaratorOf, ItemOf, CopiesOf, BlockOf}
 use Rattle.bind_laws.proofs.Lists.{Every-push, begins-itself, begins-more, begins-through}
 use Rattle.bind_laws.proofs.Numbers.{Final}
 use Rattle.bind_laws.proofs.ScopeNames.{Agrees, found-so, fixed_all-agrees, fixed_all-fit}

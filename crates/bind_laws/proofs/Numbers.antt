@@ -20,7 +20,7 @@ use Rattle.v_binding.specs.Names.{Names}
 use Rattle.v_binding.specs.Expressions.{index_at}
 use Rattle.v_binding.specs.Addresses.{Addresses, addresses_between, addresses_at}
 use Rattle.v_binding.specs.Signals.{Numbered, signal_of, words, one_address, addresses_or_one}
-use Rattle.instance_laws.specs.Every.{Every}
+use Rattle.bind_laws.specs.Every.{Every}
 use Rattle.bind_laws.specs.Fit.{Begins}
 use Rattle.bind_laws.proofs.Lists.{Ok-same, Err-Ok, between}
 use Rattle.bind_laws.proofs.Lefts.{word-width}

@@ -25,10 +25,10 @@ use Rattle.v_binding.specs.Signals.{Numbered, signal_of, is_input, kind_in, kind
 use Rattle.v_binding.specs.Assignments.{number_of}
 use Rattle.v_binding.specs.Connections.{Socket, socket}
 use Rattle.v_binding.specs.Standing.{PortsStand}
-use Rattle.instance_laws.specs.Every.{Every}
+use Rattle.bind_laws.specs.Every.{Every}
 use Rattle.bind_laws.specs.Fit.{Begins}
 use Rattle.bind_laws.specs.Scopes.{SocketFits}
-use Rattle.instance_laws.specs.OfText.{PortsApart}
+use Rattle.bind_laws.specs.OfText.{PortsApart}
 use Rattle.bind_laws.proofs.Lists.{begins-through, begins-at}
 use Rattle.bind_laws.proofs.Numbers.{Final, number-there}
 use Rattle.bind_laws.proofs.ScopeNames.{same-equal, FoundSo, is_listed}

@@ -36,7 +36,7 @@ use Rattle.v_binding.specs.Clocks.{root_named}
 use Rattle.v_binding.specs.Blocks.{Frame}
 use Rattle.v_binding.specs.Assignments.{driven, driven_at}
 use Rattle.v_binding.specs.Connections.{Socket, Wire, wire_at, wire_named, plain_name, handed_on, input_of, output_value, output_of, connection, by_order, by_name, connected, child_of}
-use Rattle.instance_laws.specs.Every.{Every}
+use Rattle.bind_laws.specs.Every.{Every}
 use Rattle.bind_laws.specs.Fit.{NamesFit, LeftFits}
 use Rattle.bind_laws.specs.Whole.{Whole, RootFits}
 use Rattle.bind_laws.specs.Scopes.{SocketFits}

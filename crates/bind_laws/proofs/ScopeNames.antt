@@ -15,10 +15,10 @@ use Rattle.v_binding.specs.Names.{Known, Names, known, within}
 use Rattle.v_binding.specs.Names as bound
 use Rattle.v_binding.specs.Signals.{fixed, fixed_all}
 use Rattle.v_binding.specs.Standing.{EntriesStand}
-use Rattle.instance_laws.specs.Every.{Every}
+use Rattle.bind_laws.specs.Every.{Every}
 use Rattle.bind_laws.specs.Fit.{UseFits, NamesFit}
 use Rattle.bind_laws.specs.Scopes.{NamesSignal}
-use Rattle.instance_laws.specs.OfText.{AreApart}
+use Rattle.bind_laws.specs.OfText.{AreApart}
 use Rattle.bind_laws.proofs.Lists.{Every-append}
 
 -- ---- entries

@@ -13,7 +13,7 @@ use Rattle.design_core.specs.WellFormed.{signal_fits}
 use Rattle.v_binding.specs.Steps.{through}
 use Rattle.v_binding.specs.Signals.{Numbered}
 use Rattle.v_binding.specs.Starts.{Start, with_start, started_from, started, all_started}
-use Rattle.instance_laws.specs.Every.{Every}
+use Rattle.bind_laws.specs.Every.{Every}
 use Rattle.bind_laws.proofs.Numbers.{SameSignal, AreSame}
 use Rattle.bind_laws.proofs.Declared.{NumberedFits}
 

@@ -4,7 +4,7 @@ use Rattle.v_hierarchy.specs.Unrolled.{Steps, nothing, still, run, branch, choos
 use Rattle.v_binding.specs.Turns.{FitTurns, AllFit}
 use Rattle.v_binding.specs.Turns as standing
 use Rattle.bind_laws.specs.Fit.{StepsFit, ListFit, ArmsFit, TurnsFit}
-use Rattle.instance_laws.specs.OfText.{OneDefault, AllOneDefault, ArmsOneDefault, TurnsOneDefault}
+use Rattle.bind_laws.specs.OfText.{OneDefault, AllOneDefault, ArmsOneDefault, TurnsOneDefault}
 
 mutual
   pub steps-fit : (s : Steps) → FitTurns s → OneDefault s → StepsFit s

@@ -9,7 +9,7 @@ use Rattle.design_core.specs.WellFormed.{is_signal, input_fits}
 use Rattle.v_binding.specs.Connections.{Socket}
 use Rattle.v_binding.specs.Bound.{Root}
 use Rattle.v_binding.specs.Binding.{is_the_clock, top_roots, inputs_of, outputs_of}
-use Rattle.instance_laws.specs.Every.{Every}
+use Rattle.bind_laws.specs.Every.{Every}
 use Rattle.bind_laws.specs.Scopes.{SocketFits}
 use Rattle.bind_laws.specs.Whole.{Whole, RootFits}
 use Rattle.bind_laws.proofs.Ports.{socket-there, socket-width}

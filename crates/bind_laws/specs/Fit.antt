@@ -13,7 +13,7 @@ use Rattle.v_sizes.specs.Context.{IsMeaning, IsAmong}
 use Rattle.v_binding.specs.declared.known.Use.{Use}
 use Rattle.v_binding.specs.declared.known.Use.TheVariants.{Stands as stands, AtTurn as at_turn, Outside as outside}
 use Rattle.v_binding.specs.declared.left.Left.{Left}
-use Rattle.instance_laws.specs.Every.{Every}
+use Rattle.bind_laws.specs.Every.{Every}
 use Rattle.v_binding.specs.Names.{Names}
 use Rattle.v_binding.specs.Places.{Home, Placed}
 

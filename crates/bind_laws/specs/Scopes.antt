@@ -14,7 +14,7 @@ use Rattle.v_binding.specs.Names.{Names, find, within, turned}
 use Rattle.v_binding.specs.Signals.{Scope, Scopes}
 use Rattle.v_binding.specs.Items.{scope_next, scopes_after, names_of, scopes_of}
 use Rattle.v_binding.specs.Connections.{Socket}
-use Rattle.instance_laws.specs.Every.{Every, IfGiven}
+use Rattle.bind_laws.specs.Every.{Every, IfGiven}
 use Rattle.bind_laws.specs.Fit.{NamesFit, StepsFit}
 
 -- the name of a signal

@@ -14,7 +14,7 @@ use Rattle.v_hierarchy.specs.Instances.{Instance}
 use Rattle.v_binding.specs.Starts.{Start}
 use Rattle.v_binding.specs.Bound.{Bound}
 use Rattle.v_binding.specs.Binding.{is_the_clock, Binding}
-use Rattle.instance_laws.specs.Every.{Every}
+use Rattle.bind_laws.specs.Every.{Every}
 
 -- the lists of the design that is to become: its signals, places and inputs, and its clock
 pub record Whole : Type 0 where

@@ -7,7 +7,7 @@ ghost use Rattle.v_binding.specs.Lefts.{target};
 ghost use Rattle.v_binding.specs.Statements.{bound};
 ghost use Rattle.v_binding.specs.Standing.{InstancesStand};
 ghost use Rattle.bind_laws.specs.Fit.{AssignedLeft, BoundBody, LeftFits, NamesFit, StatementFits, StepsFit};
-ghost use Rattle.instance_laws.specs.OfText.{OfText};
+ghost use Rattle.bind_laws.specs.OfText.{OfText};
 ghost use Rattle.bind_laws.specs.Whole.{BoundDesign, IsDesignOf};
 
 /// A left side that isn't refused, whose names are of the design, is of parts of its signals, and as wide as they are together.

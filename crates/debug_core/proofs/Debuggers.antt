@@ -19,8 +19,8 @@ use Rattle.unroller.specs.Unrolls.{Unrolling}
 use Rattle.set_enum.specs.Bounds.{bound_of}
 use Rattle.set_enum.specs.EnumState.{EnumState, IsEnum, begun, listed_over}
 use Rattle.set_enum.specs.Sets.{IsBlock, NoneBelow, block_of}
-use Rattle.list_laws.specs.Listed.{Encodes, EncodesListed, Listed}
-use Rattle.list_laws.proofs.Fronts.{empty-front, whole}
+use Rattle.debug_core.specs.Listed.{Encodes, EncodesListed, Listed}
+use Rattle.debug_core.proofs.Fronts.{empty-front, whole}
 use Rattle.debug_core.specs.Debugging.{Begins, IsDebugger}
 use Rattle.debug_core.specs.Problems.{Problem, suspect_count, suspects_of}
 use Rattle.debug_core.specs.Standing.{IsEncodingOf, IsStanding, members_of, state_of}

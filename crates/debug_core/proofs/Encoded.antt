@@ -22,8 +22,8 @@ use Rattle.design_circuits.specs.Reading.{IsOfNet, OfNet}
 use Rattle.design_circuits.proofs.Asked.{asked-places, can-be-asked, is-of_design}
 use Rattle.design_circuits.proofs.Explaining.{explains, values-are}
 use Rattle.design_circuits.proofs.NetReads.{places, reads}
-use Rattle.list_laws.specs.Listed.{Encodes}
-use Rattle.list_laws.proofs.Encoding.{encodes-list}
+use Rattle.debug_core.specs.Listed.{Encodes}
+use Rattle.debug_core.proofs.OfForm.{encodes-list}
 use Rattle.debug_core.specs.Problems.{IsProblem, Problem, suspect_count, suspects_of}
 use Rattle.sat_core.specs.SolverState.{assignment_of}
 use Rattle.debug_core.specs.declared.encoding.Encoding.{Encoding}

@@ -1,3 +1,8 @@
+pub mod Selected
+pub mod Blocked
+pub mod Orders
+pub mod Fronts
+pub mod OfForm
 pub mod Logs
 pub mod Encoded
 pub mod Refusals

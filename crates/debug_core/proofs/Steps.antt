@@ -26,8 +26,8 @@ use Rattle.set_enum.specs.Bounds.{bounds_of}
 use Rattle.set_enum.specs.EnumState.{EnumState, IsEnum, blocked}
 use Rattle.set_enum.specs.Outcome.{Adds, Gives as EnumGives, GivesSet, IsOpen, StaysClosed}
 use Rattle.set_enum.specs.Sets.{IsFirst, block_of}
-use Rattle.list_laws.proofs.Fronts.{next as next-front}
-use Rattle.list_laws.proofs.Selected.{selected-selects}
+use Rattle.debug_core.proofs.Fronts.{next as next-front}
+use Rattle.debug_core.proofs.Selected.{selected-selects}
 use Rattle.debug_core.specs.declared.found.Found.{Found}
 use Rattle.debug_core.specs.declared.found.Found.TheVariants as found
 use Rattle.debug_core.specs.Debugging.{DebugState, FindsNothing, IsFrontOf, Searches, StaysEnded}

@@ -1,3 +1,4 @@
+pub mod Listed
 pub mod Problems
 pub mod Debugging
 pub mod Standing

@@ -10,6 +10,7 @@ mod encoding;
 mod error;
 mod fits;
 mod found;
+mod list_laws;
 mod question;
 
 pub use clause_form::FormPlan;
@@ -18,4 +19,5 @@ pub use encoding::plan_of;
 pub use error::DebugErr;
 pub use fits::have_few_cycles;
 pub use found::Found;
+pub use list_laws::{first_is_next, form_encodes_list, none_left_is_whole};
 pub use question::Question;

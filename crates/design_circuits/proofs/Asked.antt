@@ -6,14 +6,14 @@ use Rattle.design_core.specs.declared.trace.Trace.{Trace}
 use Rattle.design_core.specs.TraceFits.{IsTraceOf}
 use Rattle.bit_circuit.specs.Circuits.{circuit_of}
 use Rattle.bit_circuit.proofs.CircuitKept.{circuit-kept}
-use Rattle.net_reads.specs.Reads.{AllReadDesign, HasEachPlace}
+use Rattle.design_circuits.specs.Reads.{AllReadDesign, HasEachPlace}
 use Rattle.unroller.specs.Unrolls.{IsTraceOf as IsCircuitTrace}
 use Rattle.form_laws.specs.Encodes.{CanBeAsked, unrolling_of}
 use Rattle.form_laws.proofs.Equivalence.{bits-are}
 use Rattle.form_values.specs.ModelValues.{ArePlaces}
-use Rattle.design_forms.specs.Circuits.{IsCircuitOf}
-use Rattle.design_forms.specs.Designs.{EncodesDesign, IsOfDesign}
-use Rattle.design_forms.proofs.DesignWorks.{encodes-design}
+use Rattle.form_laws.specs.Circuits.{IsCircuitOf}
+use Rattle.form_laws.specs.Designs.{EncodesDesign, IsOfDesign}
+use Rattle.form_laws.proofs.DesignWorks.{encodes-design}
 use Rattle.design_circuits.specs.Reading.{read_of}
 use Rattle.design_circuits.specs.Forms.{CanAskNet, HasPlaces, NetAsked, asked_of, of_design}
 use Rattle.design_circuits.proofs.Cycles.{is-circuit}

@@ -35,11 +35,11 @@ use Rattle.v_synth.specs.Matches.{MeansCycle, OneNet, value_in}
 use Rattle.v_synth.specs.Net.{net_of, states_of}
 use Rattle.v_synth.proofs.NetKeeps.{cycle-means}
 use Rattle.v_synth.proofs.Whole.{AllMean, net-shown, no_more, one_more}
-use Rattle.net_reads.specs.Reads.{AllReadDesign, ReadsDesign}
+use Rattle.design_circuits.specs.Reads.{AllReadDesign, ReadsDesign}
 use Rattle.unroller.specs.declared.free_bit.FreeBit.{FreeBit}
 use Rattle.unroller.specs.Cycles.{free_bits, held, sampled}
 use Rattle.form_laws.proofs.Columns.{node-of}
-use Rattle.design_forms.specs.Circuits.{IsCircuitOf, OneCycle, given_cycle}
+use Rattle.form_laws.specs.Circuits.{IsCircuitOf, OneCycle, given_cycle}
 use Rattle.design_circuits.specs.Reading.{IsOfNet, OfNet, bit_within, read_of}
 use Rattle.design_circuits.proofs.Words.{bit-within, image-or, images-at, known-false, literal-means, state-read, word-read}
 use Rattle.design_circuits.proofs.Given.{all-wide, given_words, same-given, values-given}

@@ -17,13 +17,13 @@ use Rattle.design_core.specs.TraceFits.{IsTraceOf}
 use Rattle.design_core.specs.Works.{AreOfWidth, places_of}
 use Rattle.design_core.proofs.NumberLaws.{number-below}
 use Rattle.bit_circuit.specs.Circuits.{circuit_of}
-use Rattle.net_reads.specs.Reads.{AllReadDesign, HasEachPlace}
+use Rattle.design_circuits.specs.Reads.{AllReadDesign, HasEachPlace}
 use Rattle.unroller.specs.Unrolls.{Unrolling, cycles_of}
 use Rattle.form_laws.specs.Encodes.{CanBeAsked, unrolling_of}
 use Rattle.form_laws.proofs.Equivalence.{bits-are, ends-all}
 use Rattle.form_values.specs.ModelValues.{width_in, widths_of}
 use Rattle.form_values.proofs.Meets.{length-rows, meet-traces, row-at}
-use Rattle.design_forms.proofs.DesignWorks.{meets-alike-design}
+use Rattle.form_laws.proofs.DesignWorks.{meets-alike-design}
 use Rattle.design_circuits.specs.Forms.{CanAskNet, IsModelOf, NetAsked, NetModel, asked_of, of_design, places_in}
 use Rattle.design_circuits.specs.Reading.{read_of}
 use Rattle.design_circuits.proofs.Asked.{can-be-asked, is-of_design, of-circuit}

@@ -17,13 +17,13 @@ use Rattle.design_core.specs.declared.place.Place.{Place}
 use Rattle.design_core.specs.Explained.{place_width}
 use Rattle.design_core.specs.WellFormed.{IsWellFormed, is_width}
 use Rattle.bit_circuit.specs.Circuits.{BitNet, circuit_of}
-use Rattle.net_reads.specs.Reads.{HasEachPlace}
+use Rattle.design_circuits.specs.Reads.{HasEachPlace}
 use Rattle.unroller.specs.declared.free_bit.FreeBit.{FreeBit}
 use Rattle.unroller.specs.Cycles.{and_then, free_bit, free_bits}
 use Rattle.unroller.specs.Unrolls.{Unrolling}
 use Rattle.form_values.specs.ModelValues.{ArePlaces, IsPlace, width_in}
 use Rattle.form_values.proofs.Meets.{bit-below}
-use Rattle.design_forms.specs.Circuits.{IsCircuitOf, Reading}
+use Rattle.form_laws.specs.Circuits.{IsCircuitOf, Reading}
 use Rattle.design_circuits.specs.Reading.{IsOfNet, OfNet}
 use Rattle.design_circuits.specs.Forms.{HaveEachPlace}
 use Rattle.design_circuits.proofs.FreeNodes.{free-there}

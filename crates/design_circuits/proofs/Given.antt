@@ -24,9 +24,9 @@ use Rattle.word_net.specs.Values.{Source, net_values}
 use Rattle.bit_circuit.specs.Meaning.{AreOfWidth, IsOfWidth, bits_of}
 use Rattle.v_synth_parts.specs.Meaning.{word_of}
 use Rattle.v_synth.specs.Net.{cycle_source, states_of}
-use Rattle.net_cycles.proofs.Sources.{input-is, values-same}
-use Rattle.net_reads.specs.Reads.{AllReadDesign, IsSignalOf, ReadsDesign}
-use Rattle.design_forms.specs.Circuits.{given_cycle}
+use Rattle.design_circuits.proofs.Sources.{input-is, values-same}
+use Rattle.design_circuits.specs.Reads.{AllReadDesign, IsSignalOf, ReadsDesign}
+use Rattle.form_laws.specs.Circuits.{given_cycle}
 use Rattle.design_circuits.specs.Reading.{read_of}
 use Rattle.design_circuits.proofs.Words.{state-read, state_number, word-read}
 

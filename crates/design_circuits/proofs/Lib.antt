@@ -1,3 +1,6 @@
+pub mod Sources
+pub mod NetReadsDesign
+pub mod GivenWidths
 pub mod FreeNodes
 pub mod Words
 pub mod Given

@@ -1,7 +1,7 @@
 -- What the net of a design reads, where the net is given as code has it.
 use Rattle.std.proofs.Common.{sym, subst}
-use Rattle.net_reads.specs.Reads.{AllReadDesign, HasEachPlace}
-use Rattle.net_reads.proofs.NetReadsDesign.{net-places, net-reads}
+use Rattle.design_circuits.specs.Reads.{AllReadDesign, HasEachPlace}
+use Rattle.design_circuits.proofs.NetReadsDesign.{net-places, net-reads}
 use Rattle.design_circuits.specs.Reading.{IsOfNet, OfNet}
 
 pub reads : (of : OfNet) → IsOfNet of → AllReadDesign of.design of.net.nodes

@@ -14,7 +14,7 @@ use Rattle.unroller.specs.Unrolls.{cycles_of}
 use Rattle.form_laws.specs.Encodes.{Asked, SatisfiesForm, unrolling_of}
 use Rattle.form_laws.specs.Models.{Selects}
 use Rattle.form_values.specs.ModelValues.{AreModelValues}
-use Rattle.design_forms.specs.Designs.{OfDesign}
+use Rattle.form_laws.specs.Designs.{OfDesign}
 use Rattle.design_circuits.specs.Reading.{IsOfNet, OfNet, read_of}
 
 -- each bit of each place of the design is one of some bits

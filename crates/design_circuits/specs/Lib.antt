@@ -1,2 +1,5 @@
+pub mod Evaluated
+pub mod Reads
+pub mod Widths
 pub mod Reading
 pub mod Forms

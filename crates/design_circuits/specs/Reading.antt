@@ -9,7 +9,7 @@ use Rattle.design_core.specs.Reads.{IsOrder}
 use Rattle.word_net.specs.Nets.{IsNet, Net}
 use Rattle.v_synth.specs.Matches.{IsNetOf}
 use Rattle.v_synth.specs.Net.{states_of}
-use Rattle.design_forms.specs.Circuits.{Reading}
+use Rattle.form_laws.specs.Circuits.{Reading}
 
 -- a bit of a signal, false where the signal has no such bit
 abbrev pub bit_within : Design → Valuation → ℕ → ℕ → Bool

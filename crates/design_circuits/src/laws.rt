@@ -5,8 +5,8 @@ ghost use Rattle.unroller.specs.Cycles.{free_bits};
 ghost use Rattle.design_core.specs.Explained.{AreValuesOf, Explains};
 ghost use Rattle.form_laws.specs.Encodes.{CanBeAsked, unrolling_of};
 ghost use Rattle.form_values.specs.ModelValues.{ArePlaces};
-ghost use Rattle.design_forms.specs.Circuits.{IsCircuitOf};
-ghost use Rattle.design_forms.specs.Designs.{EncodesDesign, IsOfDesign};
+ghost use Rattle.form_laws.specs.Circuits.{IsCircuitOf};
+ghost use Rattle.form_laws.specs.Designs.{EncodesDesign, IsOfDesign};
 ghost use Rattle.design_circuits.specs.Reading.{IsOfNet, OfNet, read_of};
 ghost use Rattle.design_circuits.specs.Forms.{CanAskNet, HasPlaces, HaveEachPlace, IsModelOf, NetAsked, NetModel, asked_of, of_design, places_in};
 

@@ -1,3 +1,5 @@
+pub mod Runs
+pub mod DesignWorks
 pub mod ClauseValues
 pub mod Definitions
 pub mod Checks

@@ -1,3 +1,5 @@
+pub mod Circuits
+pub mod Designs
 pub mod Runs
 pub mod Models
 pub mod Encodes

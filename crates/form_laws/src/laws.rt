@@ -1,4 +1,4 @@
-//! The laws.
+//! What the clauses of a form say of the circuit that was unrolled.
 
 ghost use Rattle.std.specs.Prelude.{length};
 ghost use Rattle.clause_base.specs.Literal.{AreWithin};

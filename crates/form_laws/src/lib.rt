@@ -3,8 +3,10 @@
 //! over values that no code holds.
 #![tactic(auto)]
 
+mod design_laws;
 mod laws;
 
+pub use design_laws::{form_encodes_design, numbers_meet_as_bits};
 pub use laws::{
     bits_have_one_column, few_are_selected, form_encodes_sets, form_has_its_counter,
     models_meet_traces, variables_are_within,

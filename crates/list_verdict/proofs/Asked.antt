@@ -18,7 +18,7 @@ use Rattle.bit_circuit.specs.Circuits.{BitNet, circuit_of}
 use Rattle.debug_core.specs.Problems.{IsFormFor, IsProblem, Problem, clauses_for, suspect_count, suspects_of, unrolling_for}
 use Rattle.debug_core.specs.Standing.{IsEncodingOf}
 use Rattle.debug_core.proofs.Encoded.{counter, encodes, within}
-use Rattle.list_laws.specs.Listed.{Encodes}
+use Rattle.debug_core.specs.Listed.{Encodes}
 use Rattle.design_core.specs.Works.{Works}
 
 -- ---- the design

@@ -7,7 +7,7 @@ use Rattle.loc_base.proofs.ShelfLists.{All-member, Contains-at}
 use Rattle.design_core.specs.Listing.{is_before}
 use Rattle.design_core.specs.Works.{IsWithin}
 use Rattle.report_doc.specs.declared.types.ReportSet.{ReportSet}
-use Rattle.list_laws.proofs.Selected.{within-same}
+use Rattle.debug_core.proofs.Selected.{within-same}
 use Rattle.list_verdict.specs.declared.holding.Holding.{Holding}
 use Rattle.list_verdict.specs.Conditions.{Holds, IsFirstToHold}
 use Rattle.list_verdict.specs.Judging.{AreAscending, FirstHeld, FirstToHold, NoneWithin, shares_gap}

@@ -16,9 +16,9 @@ use Rattle.design_core.specs.Explained.{choices_in}
 use Rattle.design_core.specs.Listing.{IsEntry, is_before}
 use Rattle.design_core.specs.Works.{IsSet, IsWithin, Works}
 use Rattle.set_enum.specs.Sets.{IsSetOf, NoneBelow, block_of}
-use Rattle.list_laws.specs.Listed.{Encodes, IsSelected}
-use Rattle.list_laws.proofs.Blocked.{Unmet, met-or-unmet, unmet-within}
-use Rattle.list_laws.proofs.Selected.{within-few, within-fewer, within-same}
+use Rattle.debug_core.specs.Listed.{Encodes, IsSelected}
+use Rattle.debug_core.proofs.Blocked.{Unmet, met-or-unmet, unmet-within}
+use Rattle.debug_core.proofs.Selected.{within-few, within-fewer, within-same}
 use Rattle.report_doc.specs.declared.types.ReportSet.{ReportSet}
 use Rattle.report_values.proofs.Saying.{written-explains}
 use Rattle.debug_core.specs.Problems.{IsFormFor, IsProblem, Problem, suspect_count, suspects_of}

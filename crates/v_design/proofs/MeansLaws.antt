@@ -17,7 +17,7 @@ use Rattle.v_rules.specs.Size.{is_too_large}
 use Rattle.v_rules.specs.OneDriver.{IsDrivenTwice}
 use Rattle.v_rules.proofs.OneDriverLaws.{driven-once}
 use Rattle.v_binding.specs.Standing.{InstancesStand}
-use Rattle.instance_laws.specs.OfText.{OfText}
+use Rattle.bind_laws.specs.OfText.{OfText}
 use Rattle.bind_laws.specs.Whole.{IsDesignOf}
 use Rattle.bind_laws.proofs.Designs.{lists-fit, design-runs, design-well_formed}
 use Rattle.bind_rules.specs.Beside.{Beside}

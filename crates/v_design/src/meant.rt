@@ -5,7 +5,7 @@ ghost use Rattle.design_core.specs.DrivenOnce.{IsDrivenOnce};
 ghost use Rattle.v_hierarchy.specs.Views.{instances_of};
 ghost use Rattle.v_binding.specs.declared.error.BindErr.TheVariants as fault;
 ghost use Rattle.v_binding.specs.Standing.{InstancesStand};
-ghost use Rattle.instance_laws.specs.OfText.{OfText};
+ghost use Rattle.bind_laws.specs.OfText.{OfText};
 ghost use Rattle.v_design.specs.Means.{IsMeant, IsRefused};
 
 use crate::listed::design_of;

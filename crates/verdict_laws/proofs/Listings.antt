@@ -12,7 +12,7 @@ use Rattle.design_core.specs.Run.{Meets}
 use Rattle.design_core.specs.Works.{IsSet, IsWithin}
 use Rattle.design_core.proofs.ListingLaws.{is_before-strict}
 use Rattle.set_enum.specs.Sets.{block_of}
-use Rattle.list_laws.proofs.Selected.{within-few, within-same}
+use Rattle.debug_core.proofs.Selected.{within-few, within-same}
 use Rattle.report_doc.specs.declared.types.Ending.{Ending}
 use Rattle.report_doc.specs.declared.types.Ending.TheVariants.{Complete, Budget, Sets, Earlier}
 use Rattle.report_doc.specs.declared.types.ReportSet.{ReportSet}

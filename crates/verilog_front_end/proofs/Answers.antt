@@ -8,10 +8,10 @@ use Rattle.design_core.specs.DrivenOnce.{IsDrivenOnce}
 use Rattle.v_syntax.specs.ModuleTree.{PlainModule}
 use Rattle.v_hierarchy.specs.Instances.{Instance, instances}
 use Rattle.v_binding.specs.Standing.{InstancesStand}
-use Rattle.instance_laws.specs.OfText.{OfText}
-use Rattle.instance_laws.proofs.Whole.{instances-stand}
-use Rattle.instance_laws.proofs.OfWhole.{instances-of}
-use Rattle.text_laws.proofs.Modules.{source-written}
+use Rattle.bind_laws.specs.OfText.{OfText}
+use Rattle.bind_laws.proofs.Whole.{instances-stand}
+use Rattle.bind_laws.proofs.OfWhole.{instances-of}
+use Rattle.verilog_front_end.proofs.Modules.{source-written}
 use Rattle.design_order.specs.DriverOrder.{IsTheOrder}
 use Rattle.front_end.specs.declared.reader.DesignErr.{DesignErr}
 use Rattle.front_end.specs.declared.reader.Ordered.{Ordered}

@@ -1,3 +1,4 @@
+pub mod Texts
 pub mod Meaning
 pub mod Refusals
 pub mod Laws

@@ -7,7 +7,7 @@ ghost use Rattle.v_syntax.specs.ModuleTree.{source_of};
 ghost use Rattle.v_hierarchy.specs.Instances.{instances as instances_by};
 ghost use Rattle.v_hierarchy.specs.Views.{instances_of};
 ghost use Rattle.v_binding.specs.Standing.{InstancesStand};
-ghost use Rattle.instance_laws.specs.OfText.{OfText};
+ghost use Rattle.bind_laws.specs.OfText.{OfText};
 ghost use Rattle.v_design.specs.Means.{IsMeant};
 ghost use Rattle.front_end.specs.Means.{Refuses};
 ghost use Rattle.verilog_front_end.specs.Meaning.{HasDesign, HasInstances, HasModules};

@@ -7,7 +7,9 @@ mod design;
 mod laws;
 mod order;
 mod text;
+mod text_laws;
 mod verilog;
 
 pub use laws::{no_refusal, one_design};
+pub use text_laws::{design_of_text_has_one_run, design_of_text_is_well_formed, text_is_written};
 pub use verilog::Verilog;

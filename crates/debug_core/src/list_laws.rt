@@ -1,0 +1,33 @@
+//! What the sets that a form's assignments select have to do with the list of a design's minimal sets. Each law is the contract of a
+//! function that does nothing, over values that no code holds.
+
+ghost use Rattle.std.specs.Prelude.{◌+◌, ◌++◌, [], ◌∷◌, length};
+ghost use Rattle.design_core.specs.Listing.{IsFront, IsList};
+ghost use Rattle.form_laws.specs.Designs.{IsOfDesign, OfDesign};
+ghost use Rattle.set_enum.specs.Sets.{IsFirst, NoneBelow};
+ghost use Rattle.debug_core.specs.Listed.{EncodesForm, EncodesListed, Listed, ListedNext, with_blocks};
+
+/// The form of a design's circuit encodes the sets of at most k suspects that work in the design.
+pub fn form_encodes_list()
+    ghost of: { OfDesign }
+    requires { IsOfDesign of }
+    ensures { EncodesForm of }
+{}
+
+/// Where a front was listed, the first set that the form and the blocks of the front select is the next of the list.
+pub fn first_is_next()
+    ghost next: { ListedNext }
+    requires encodes { EncodesListed next.before }
+    requires front { IsFront next.before.design next.before.traces next.before.groups next.before.k next.before.listed }
+    requires first { IsFirst (length next.before.groups) next.before.k (with_blocks next.before) next.set }
+    ensures { IsFront next.before.design next.before.traces next.before.groups next.before.k (next.before.listed ++ next.set ∷ []) }
+{}
+
+/// Where a front was listed and no set of at most k suspects is left to select, the front is the whole list.
+pub fn none_left_is_whole()
+    ghost of: { Listed }
+    requires encodes { EncodesListed of }
+    requires front { IsFront of.design of.traces of.groups of.k of.listed }
+    requires none { NoneBelow (length of.groups) (of.k + 1) (with_blocks of) }
+    ensures { IsList of.design of.traces of.groups of.k of.listed }
+{}

@@ -1,5 +1,0 @@
-use Rattle.instance_laws.proofs.Whole.{instances-stand}
-use Rattle.instance_laws.proofs.laws.elaborated_stand.Goals as goal
-
-pub returns : goal.returns
-returns g c = instances-stand g.of.units g.of.name g.of.list c.requires

@@ -1,4 +1,0 @@
-pub mod Every
-pub mod Listed
-pub mod OfText
-pub mod Written

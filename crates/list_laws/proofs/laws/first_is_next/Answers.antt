@@ -1,5 +1,0 @@
-use Rattle.list_laws.proofs.Fronts.{next}
-use Rattle.list_laws.proofs.laws.first_is_next.Goals as goal
-
-pub returns : goal.returns
-returns g c = next g.next.before c.requires.0 c.requires.1.0 g.next.set c.requires.1.1

@@ -1,2 +1,0 @@
-pub mod NetReadsDesign
-pub mod GivenWidths
