@@ -1,5 +1,7 @@
-//! Tests of the log's text and its check, beside a checker that searches through lists.
+//! Tests of `proof_check`, beside a checker that searches through lists, and of `cnf_solve`.
 #![tactic(auto)]
 
 #[cfg(test)]
-mod tests;
+mod formulas;
+#[cfg(test)]
+mod logs;

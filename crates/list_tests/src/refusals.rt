@@ -10,7 +10,7 @@ use design_core::{Design, Trace};
 use design_fits::is_trace_of;
 use front_end::Ordered;
 use loc_base::Items;
-use small_networks::{NetworkErr, OR_NOT, checked, name, network, traces, word};
+use small_networks::{NetworkErr, OR_NOT, checked, name, network, word};
 use std::alloc::Global;
 use std::test::Fail;
 use suspect_map::{Group, Groups};
@@ -86,24 +86,25 @@ fn refusal(
     }
 }
 
+/// Why the question of an inverted OR is refused, with one trace of so many cycles and so many suspects that are alike.
+fn refused(alloc: Global, cycles: u32, count: u32, with_place: bool) -> Result<DebugErr, Fail> {
+    let ordered = network(alloc, OR_NOT)?;
+    let traces = long(alloc, &ordered.design, cycles)?;
+    let groups = alike(alloc, &ordered.design, count, with_place)?;
+    refusal(alloc, &ordered, &traces, &groups)
+}
+
 #[test]
 fn suspects_and_their_counters_are_too_many_variables(rt: HostRuntime) -> Result<(), Fail> {
-    let alloc = rt.alloc();
-    let ordered = network(alloc, OR_NOT)?;
-    let traces = traces(alloc, &ordered.design, &[&["001"]])?;
-    let groups = alike(alloc, &ordered.design, 400_010, false)?;
-    let cause = refusal(alloc, &ordered, &traces, &groups)?;
-    assert_eq!(rt; cause, DebugErr::Vars);
+    assert_eq!(rt; refused(rt.alloc(), 1, 400_010, false)?, DebugErr::Vars);
     Ok(())
 }
 
 #[test]
 fn many_suspects_with_one_place_are_too_many_literals(rt: HostRuntime) -> Result<(), Fail> {
-    let alloc = rt.alloc();
-    let ordered = network(alloc, OR_NOT)?;
-    let traces = long(alloc, &ordered.design, 16_100)?;
-    let groups = alike(alloc, &ordered.design, 4_000, true)?;
-    let cause = refusal(alloc, &ordered, &traces, &groups)?;
-    assert_eq!(rt; cause, DebugErr::Literals);
+    assert_eq!(rt;
+        refused(rt.alloc(), 16_100, 4_000, true)?,
+        DebugErr::Literals
+    );
     Ok(())
 }

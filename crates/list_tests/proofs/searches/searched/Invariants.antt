@@ -1,5 +1,5 @@
 use Rattle.plain_list.specs.Search.{IsSearch}
-use Rattle.plain_list_tests.proofs.lists.searched.Given as goal
+use Rattle.list_tests.proofs.searches.searched.Given as goal
 
 abbrev pub invariant-loop-step : goal.invariant-loop-step
 invariant-loop-step l = IsSearch l.ordered.design l.traces l.search

@@ -1,4 +1,4 @@
-use Rattle.plain_list_tests.proofs.lists.searched.Goals as goal
+use Rattle.list_tests.proofs.searches.searched.Goals as goal
 
 pub loop-step-init : goal.loop-step-init
 loop-step-init c = c.in_ok-search.ensures.search c.args.traces.now

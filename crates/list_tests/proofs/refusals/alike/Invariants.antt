@@ -1,6 +1,6 @@
 use Rattle.std.specs.Prelude.{◌<◌, length}
 use Rattle.suspect_map.specs.Groups.{AreWithin}
-use Rattle.debug_core_tests.proofs.refusals.alike.Given as goal
+use Rattle.list_tests.proofs.refusals.alike.Given as goal
 
 abbrev pub invariant-loop-suspect : goal.invariant-loop-suspect
 invariant-loop-suspect l = AreWithin (length l.d.places.items) l.groups

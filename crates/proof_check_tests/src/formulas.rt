@@ -1,3 +1,5 @@
+//! Formulas with known answers, and each refusal by its name.
+
 use clause_base::{Clauses, Form, Lit, Log, StepKind};
 use cnf_solve::{
     Checked, Failure, FormErr, Request, check, failure_status, failure_text, read_form, report_on,

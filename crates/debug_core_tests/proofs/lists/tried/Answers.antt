@@ -1,4 +1,0 @@
-use Rattle.debug_core_tests.proofs.lists.tried.Goals as goal
-
-pub loop-step-init : goal.loop-step-init
-loop-step-init c = c.in_ok-search.ensures.search c.args.traces.now

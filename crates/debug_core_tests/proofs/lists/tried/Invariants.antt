@@ -1,5 +1,0 @@
-use Rattle.plain_list.specs.Search.{IsSearch}
-use Rattle.debug_core_tests.proofs.lists.tried.Given as goal
-
-abbrev pub invariant-loop-step : goal.invariant-loop-step
-invariant-loop-step l = IsSearch l.ordered.design l.traces l.search
