@@ -12,9 +12,12 @@ A case is a folder `cases/LAYER/NAME/`:
     stderr     what stands on standard error (no such file: it isn't looked at)
     written/   each text that the run leaves, by its name
     writes     the names, one a line, of texts that the run leaves and that aren't compared
+    again      more words, one a line: a second run, with them behind those of `args`, does the same
 
 Every other file is an input: the design, the dumps, a report, a log. The program runs in a folder of its own with copies of
-the inputs. It must leave them as they were, leave each text of `written/` and `writes`, and leave no other.
+the inputs. It must leave them as they were, leave each text of `written/` and `writes`, and leave no other. An input that is
+too long to stand there has a file `NAME.rows`: each line is a count and a text in JSON, which stands so many times in the
+input NAME; a `{}` in it is how often it stood there before.
 
 CASE is a folder, or a layer; none: all of them. PROGRAM is crates/localise/out/localise where it isn't given. LOG is the
 output of other checks, whose last line `N passed, M failed` is counted too. The last line is `N passed, M failed`; the status
@@ -22,9 +25,9 @@ is 1 where one failed.
 """
 
 import argparse
+import json
 import os
 import re
-import shutil
 import subprocess
 import sys
 import tempfile
@@ -32,7 +35,7 @@ from concurrent.futures import ThreadPoolExecutor
 
 HERE = os.path.dirname(os.path.abspath(__file__))
 BUILT = os.path.join(HERE, "..", "crates", "localise", "out", "localise")
-ABOUT = {"shows", "args", "stdout", "status", "stderr", "written", "writes"}
+ABOUT = {"shows", "args", "stdout", "status", "stderr", "written", "writes", "again"}
 SECONDS = 60
 
 
@@ -74,10 +77,26 @@ def malformed(case):
     return lacks + ([] if re.fullmatch(r"\d{1,3}\n", status) else ["status: no exit status"])
 
 
-def words_of(case):
-    """The words after the program's name."""
-    text = read(f"{case}/args")
+def words_of(path):
+    """The words that a file has."""
+    text = read(path)
     return text.removesuffix(b"\n").split(b"\n") if text else []
+
+
+def from_rows(rows):
+    """The text that rows of a count and a text stand for."""
+    pairs = [line.split(" ", 1) for line in rows.decode().splitlines()]
+    texts = [(int(count), json.loads(text)) for count, text in pairs]
+    parts = [text * count if "{}" not in text else "".join(text.replace("{}", str(at)) for at in range(count)) for count, text in texts]
+    return "".join(parts).encode()
+
+
+def inputs_of(case):
+    """The inputs of a case, by their names."""
+    inputs = {name: text for name, text in texts_below(case).items() if name.split("/")[0] not in ABOUT}
+    long = {name for name in inputs if name.endswith(".rows")}
+    made = {name.removesuffix(".rows"): from_rows(inputs[name]) for name in long}
+    return {**{name: inputs[name] for name in inputs if name not in long}, **made}
 
 
 def left_in(case, room, inputs):
@@ -92,21 +111,18 @@ def left_in(case, room, inputs):
     return wrong
 
 
-def failures(program, case):
-    """What is wrong with a run of the program on a case."""
-    wrong = malformed(case)
-    if wrong:
-        return wrong
-    inputs = {name: text for name, text in texts_below(case).items() if name.split("/")[0] not in ABOUT}
+def failures_by(program, case, words, inputs):
+    """What is wrong with a run of the program on a case by these words."""
     with tempfile.TemporaryDirectory(prefix="case-") as room:
-        for name in inputs:
+        for name, text in inputs.items():
             os.makedirs(os.path.dirname(f"{room}/{name}"), exist_ok=True)
-            shutil.copyfile(f"{case}/{name}", f"{room}/{name}")
-        words = [program.encode(), *words_of(case)]
+            with open(f"{room}/{name}", "wb") as file:
+                file.write(text)
         try:
-            ran = subprocess.run(words, cwd=room, stdin=subprocess.DEVNULL, capture_output=True, timeout=SECONDS)
+            ran = subprocess.run([program.encode(), *words], cwd=room, stdin=subprocess.DEVNULL, capture_output=True, timeout=SECONDS)
         except subprocess.TimeoutExpired:
             return [f"it had not ended after {SECONDS} seconds"]
+        wrong = []
         status = int(read(f"{case}/status", b"0"))
         if ran.returncode != status:
             wrong.append(f"status: wanted {status}, given {ran.returncode}; standard error: {ran.stderr[-200:]!r}")
@@ -114,6 +130,17 @@ def failures(program, case):
         if os.path.isfile(f"{case}/stderr"):
             wrong += first_difference("stderr", read(f"{case}/stderr"), ran.stderr)
         return wrong + left_in(case, room, inputs)
+
+
+def failures(program, case):
+    """What is wrong with the runs of the program on a case."""
+    wrong = malformed(case)
+    if wrong:
+        return wrong
+    inputs, words, more = inputs_of(case), words_of(f"{case}/args"), words_of(f"{case}/again")
+    wrong = failures_by(program, case, words, inputs)
+    again = failures_by(program, case, words + more, inputs) if more else []
+    return wrong + [f"again: {line}" for line in again]
 
 
 def cases_below(folder):
