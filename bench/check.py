@@ -9,7 +9,7 @@ Printed are the sets, the lines of the log, the numbers of its chains and its by
 runs (3) each but for the first. They are the processor's, where it isn't said that they are the clock's:
 
     find s     the making or finding (one run)
-    form s     the circuit and the unrolling: of a run of `print_form` (crates/print_form, built beside) the share that it says
+    form s     the circuit and the unrolling: of a run of `bench_tool form` (crates/bench_tool, built beside) the share that it says
     read s     reading the texts: `check` on the log of other inputs, which ends behind reading and the unrolling, without form s
     sets s     simulating the sets, and the pass over the form's clauses that makes none: `check` on a log without steps, less `check` on
                the same of other inputs
@@ -87,7 +87,7 @@ def form_of(words, room, runs):
     """The seconds of the circuit and the unrolling."""
     least_seconds = []
     for _ in range(runs):
-        said, _, clock, processor, _ = measured(["sh", "-c", 'exec "$@" 2>&1', "sh", FORMS, "counts", *words], room)
+        said, _, clock, processor, _ = measured(["sh", "-c", 'exec "$@" 2>&1', "sh", FORMS, "form", "counts", *words], room)
         told = re.search(r"circuit (\d+) unrolling (\d+) clauses (\d+)", said)
         least_seconds.append(sum(map(int, told.groups()[:2])) / 1000 * processor / clock)
     return min(least_seconds)

@@ -1,10 +1,10 @@
 #!/usr/bin/env python3
 """A second reader of value change dumps, written from the rules of docs/formats.md alone, and random dumps on which the built program
-of crates/dump_trace must answer as it does.
+of crates/bench_tool must answer as it does.
 
     bench/dump_model.py [PROGRAM] [--dumps N] [--seed S]
 
-PROGRAM is crates/dump_trace/out/dump_trace where it isn't given. The dumps (4,000) have headers in several manners, codes of one to ten
+PROGRAM is crates/bench_tool/out/bench_tool where it isn't given. The dumps (4,000) have headers in several manners, codes of one to ten
 bytes, ports that lack or differ, ports with one code, changes before the first time, times that stand twice; some are cut off, or have a
 byte or a line changed. The model keeps every change, and looks for the last one before each stamp: it is slow, and shares no code and no
 way of working with the program.
@@ -19,7 +19,7 @@ import subprocess
 import sys
 
 HERE = os.path.dirname(os.path.abspath(__file__))
-BUILT = os.path.join(HERE, "..", "crates", "dump_trace", "out", "dump_trace")
+BUILT = os.path.join(HERE, "..", "crates", "bench_tool", "out", "bench_tool")
 MARKS = (b"$dumpvars", b"$dumpall", b"$dumpon", b"$dumpoff", b"$end")
 REAL = rb"[+-]?(inf|nan|[0-9]+(\.[0-9]+)?(e[+-]?[0-9]+)?)"
 
@@ -270,7 +270,7 @@ def main():
     parser.add_argument("--seed", type=int, default=1)
     given = parser.parse_args()
     if not os.path.exists(given.program):
-        sys.exit("no program at %s: build it by `rt run` in crates/dump_trace" % given.program)
+        sys.exit("no program at %s: build it by `rt run` in crates/bench_tool" % given.program)
     rng = random.Random(given.seed)
     kinds = collections.Counter()
     for _dump in range(given.dumps):
@@ -278,7 +278,7 @@ def main():
         clock = Port("clock", b"clk", 1, 0) if rng.random() < 0.67 else None
         first = 1 if clock else 0
         ports = [Port("in", b"d", 2, first), Port("out", b"q", 4, first + 1)]
-        words = [given.program, "clk" if clock else "-", "rows", "in", "d", "2", "out", "q", "4"]
+        words = [given.program, "dump", "clk" if clock else "-", "rows", "in", "d", "2", "out", "q", "4"]
         got = subprocess.run(words, input=text, capture_output=True).stdout.decode().rstrip("\n")
         want = answer(text, clock, ports)
         if got != want:

@@ -6,7 +6,7 @@
     bench/dumps.py --waves [PROGRAM] [--runs N]
     bench/dumps.py --judge [PROGRAM] [--seeds N]
 
-PROGRAM is crates/dump_trace/out/dump_trace where it isn't given. A family is one shape of dump at growing sizes:
+PROGRAM is crates/bench_tool/out/bench_tool where it isn't given. A family is one shape of dump at growing sizes:
 
     datapath    a clock and signals of 64 bits, of which twelve are ports; all change in each of 60,000 cycles
     scalars     5,000 variables of one bit, 120 changes a stamp; three are ports
@@ -34,7 +34,7 @@ import sys
 import tempfile
 
 HERE = os.path.dirname(os.path.abspath(__file__))
-BUILT = os.path.join(HERE, "..", "crates", "dump_trace", "out", "dump_trace")
+BUILT = os.path.join(HERE, "..", "crates", "bench_tool", "out", "bench_tool")
 MEGABYTE = 1000000
 CYCLES = 60000
 
@@ -123,7 +123,7 @@ def spent(words, path, runs):
 def timed(given, folder, family, shown, words, path):
     """One line: ours beside `vcd2fst`."""
     length = os.path.getsize(path)
-    ours, memory, status = spent([given.program] + words, path, given.runs)
+    ours, memory, status = spent([given.program, "dump"] + words, path, given.runs)
     row = "%-16s %8.1f %6d %8.2f %8.2f %8.0f" % (shown, length / MEGABYTE, status, ours, ours * 1e9 / length, memory - length / MEGABYTE)
     peer = shutil.which("vcd2fst")
     if peer:
@@ -174,12 +174,12 @@ def waves(given):
             least = None
             for _ in range(given.runs):
                 with open(path) as text, open(wave, "w") as out:
-                    run = subprocess.run([program, "clk", "wave", *ports], stdin=text, stdout=out, stderr=subprocess.PIPE, text=True, check=True)
+                    run = subprocess.run([program, "dump", "clk", "wave", *ports], stdin=text, stdout=out, stderr=subprocess.PIPE, text=True, check=True)
                 least = min(int(run.stderr), least) if least is not None else int(run.stderr)
             rows = []
             for name in (path, wave):
                 with open(name) as text:
-                    rows.append(subprocess.run([program, "clk", "rows", *ports], stdin=text, capture_output=True, check=True).stdout)
+                    rows.append(subprocess.run([program, "dump", "clk", "rows", *ports], stdin=text, capture_output=True, check=True).stdout)
             if rows[0] != rows[1]:
                 sys.exit("%d cycles: another trace is read of the wave" % cycles)
             fst = "-"
@@ -235,7 +235,7 @@ PORTS = [("in", "en", 1), ("in", "d", 7), ("in", "w", 71), ("out", "q", 71), ("o
 
 
 def printed(line, cycle):
-    """The row that `dump_trace` must print, from the bits that the run printed."""
+    """The row that `bench_tool dump` must print, from the bits that the run printed."""
     row = [str(cycle)]
     for (direction, _name, _width), bits in zip(PORTS, line.split()):
         known = "".join("0" if bit in "xz" else "1" for bit in bits)
@@ -248,7 +248,7 @@ def judge(given):
     for tool in ("iverilog", "vvp", "vcd2fst", "fst2vcd"):
         if not shutil.which(tool):
             sys.exit("no %s: Debian's packages iverilog and gtkwave have it" % tool)
-    words = [os.path.abspath(given.program), "clk", "rows"] + [str(word) for port in PORTS for word in port]
+    words = [os.path.abspath(given.program), "dump", "clk", "rows"] + [str(word) for port in PORTS for word in port]
     for seed in range(1, given.seeds + 1):
         with tempfile.TemporaryDirectory() as folder:
             with open(os.path.join(folder, "bench.v"), "w") as out:
@@ -283,7 +283,7 @@ def main():
     parser.add_argument("--megabytes", default="1,10,100")
     given = parser.parse_args()
     if not os.path.exists(given.program):
-        sys.exit("no program at %s: build it by `rt run` in crates/dump_trace" % given.program)
+        sys.exit("no program at %s: build it by `rt run` in crates/bench_tool" % given.program)
     if given.judge:
         judge(given)
     elif given.waves:

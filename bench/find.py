@@ -10,7 +10,7 @@ given) answers it by `find`, bench/ask_z3.py by yosys and z3, which are ended af
 seconds are the processor's, of the process and those that it began, since those of the clock hang on what else the machine does. Printed
 are the cycles and the sets, and:
 
-    form s     reading the texts and making the form: a run of `print_form` (crates/print_form, built beside)
+    form s     reading the texts and making the form: a run of `bench_tool form` (crates/bench_tool, built beside)
     to set     from there to the first set: what `find` has used when that line is read, less form s
     find s     all of `find`, and MB the most memory that it held
     conflicts  the `l` lines of the log, and its bytes
@@ -35,7 +35,7 @@ from simulation import test_of  # noqa: E402
 
 HERE = os.path.dirname(os.path.abspath(__file__))
 BUILT = os.path.join(HERE, "..", "crates", "localise", "out", "localise")
-FORMS = os.path.join(HERE, "..", "crates", "print_form", "out", "print_form")
+FORMS = os.path.join(HERE, "..", "crates", "bench_tool", "out", "bench_tool")
 
 # the design, how many cycles are recorded, the right text and the wrong one
 BUGS = {
@@ -106,7 +106,7 @@ def listed(words, room):
 
 def formed(words, room):
     """The seconds in which the same texts are read and the same form is made, where the program for that is built."""
-    return measured(["sh", "-c", 'exec "$@" 2>/dev/null', "sh", FORMS, *words], room)[3] if os.path.exists(FORMS) else None
+    return measured(["sh", "-c", 'exec "$@" 2>/dev/null', "sh", FORMS, "form", *words], room)[3] if os.path.exists(FORMS) else None
 
 
 def log_of(room):

@@ -5,7 +5,7 @@
     bench/forms.py [PROGRAM] --limits [--runs N]
     bench/forms.py [PROGRAM] --digests FILE
 
-The first runs `print_form` (crates/print_form/out/print_form where PROGRAM isn't given; build it there by `rt run`) on the designs of
+The first runs `bench_tool form` (crates/bench_tool/out/bench_tool where PROGRAM isn't given; build it there by `rt run`) on the designs of
 bench/designs, with dumps that Icarus Verilog writes of random inputs, and prints the nodes of the circuit, the variables, clauses and
 literals of the form, the seconds of the unrolling and of the clauses, the nanoseconds a literal, the growth from line to line, and the most
 memory of the run (at least what this script holds). Debian's package `iverilog` must be installed.
@@ -29,7 +29,7 @@ import sys
 import tempfile
 
 HERE = os.path.dirname(os.path.abspath(__file__))
-BUILT = os.path.join(HERE, "..", "crates", "print_form", "out", "print_form")
+BUILT = os.path.join(HERE, "..", "crates", "bench_tool", "out", "bench_tool")
 sys.path.insert(0, HERE)
 from simulation import DESIGNS, test_of  # noqa: E402
 
@@ -98,7 +98,7 @@ def recorded(room, name, cycles):
 
 def counted(program, room, words):
     """The numbers that the program prints, the milliseconds of its steps and its MB; or why there are none."""
-    words = [program, "counts", "2", *words]
+    words = [program, "form", "counts", "2", *words]
     with open(os.path.join(room, "said"), "w+") as said:
         ran = subprocess.Popen(words, cwd=room, stdout=subprocess.PIPE, stderr=said, text=True)
         printed = ran.stdout.read()
@@ -172,7 +172,7 @@ def compare(program, path):
             for name, text in (("design.v", row["design"]), ("dump.vcd", row["trace"])):
                 with open(os.path.join(room, name), "w") as file:
                     file.write(text)
-            words = [program, "clauses", str(row["size"]), row["kinds"], row["clock"] or "-", "design.v", row["top"], "dump.vcd"]
+            words = [program, "form", "clauses", str(row["size"]), row["kinds"], row["clock"] or "-", "design.v", row["top"], "dump.vcd"]
             ran = subprocess.run(words, cwd=room, capture_output=True, text=True)
         head, _, clauses = ran.stdout.partition("\n")
         found = {

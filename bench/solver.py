@@ -4,7 +4,7 @@
     python3 bench/solver.py [PROGRAM] [--limit SECONDS] [--quick] [--family NAME]
     python3 bench/solver.py [PROGRAM] --largest
 
-PROGRAM is the built crate solve_cnf (default: crates/solve_cnf/out/solve_cnf). Each formula is written in DIMACS CNF,
+PROGRAM is the built crate bench_tool (default: crates/bench_tool/out/bench_tool). Each formula is written in DIMACS CNF,
 given to PROGRAM and, where `minisat` is installed, to minisat, with its preprocessing and without; the answers must agree. A family of growing formulas ends
 with the first that takes longer than the limit (10 seconds, or 2 with --quick). All formulas are the same each time:
 the random ones have fixed seeds.
@@ -23,7 +23,7 @@ import tempfile
 import time
 
 ROOT = os.path.dirname(os.path.dirname(os.path.abspath(__file__)))
-BUILT = os.path.join(ROOT, "crates", "solve_cnf", "out", "solve_cnf")
+BUILT = os.path.join(ROOT, "crates", "bench_tool", "out", "bench_tool")
 ANSWERS = {10: "sat", 20: "unsat", 30: "unknown"}
 
 
@@ -289,14 +289,14 @@ def measure(program, name, formula, folder, stop, faults):
     path = os.path.join(folder, name + ".cnf")
     with open(path, "w") as file:
         file.write(formula.text())
-    code, out, err, wall, processor, peak = run_child([program, "--times"], path, stop)
+    code, out, err, wall, processor, peak = run_child([program, "solve", "--times"], path, stop)
     base = [name, formula.vars, len(formula.clauses)]
     if code is None:
         row(base + ["stopped", "-", "-", "> %d000" % stop, "-", "-", "%.1f" % peak] + ["-"] * 5)
         return None
     told, times = fields(out), fields(err)
     for _ in range(2 if wall < 1 else 0):
-        _, _, again, _, spent, _ = run_child([program, "--times"], path, stop)
+        _, _, again, _, spent, _ = run_child([program, "solve", "--times"], path, stop)
         times = {name: min(time, fields(again).get(name, time)) for name, time in times.items()}
         processor = min(processor, spent)
     if code not in ANSWERS or "log accepted" not in out or (code == 10 and "model satisfies every clause" not in out):
@@ -307,7 +307,7 @@ def measure(program, name, formula, folder, stop, faults):
     plain, plain_time, plain_conflicts = minisat_on(path, stop, ["-no-pre"])
     answer = ANSWERS[code]
     if other is not None and answer != "unknown" and other != answer:
-        faults.append("%s: solve_cnf says %s, minisat says %s" % (name, answer, other))
+        faults.append("%s: bench_tool says %s, minisat says %s" % (name, answer, other))
     solve, check = times["solve"], times["check"]
     row(base + [
         answer,
@@ -359,7 +359,7 @@ def measure_largest(program, folder, clauses, units_first, faults):
     """Prints a row."""
     path = os.path.join(folder, "largest.cnf")
     literals = write_largest(path, clauses, units_first)
-    code, out, err, wall, _, peak = run_child([program, "--times"], path, 600)
+    code, out, err, wall, _, peak = run_child([program, "solve", "--times"], path, 600)
     if code != 20 or "log accepted" not in out:
         faults.append("%d literals: status %s, %r %r" % (literals, code, out, err))
         return
@@ -391,7 +391,7 @@ def main():
     given = words.parse_args()
     limit = 2 if given.quick else given.limit
     if not os.access(given.program, os.X_OK):
-        sys.exit("no program at %s: build it with `rt run` or `rt test` in crates/solve_cnf" % given.program)
+        sys.exit("no program at %s: build it with `rt run` in crates/bench_tool" % given.program)
     if given.largest:
         faults = largest(given.program)
         for fault in faults:

@@ -3,7 +3,7 @@
 
     bench/synthesis.py [PROGRAM] [--family NAME].. [--runs N] [--no-yosys]
 
-PROGRAM is crates/print_form/out/print_form where it isn't given: its `counts` prints how many nodes the circuit of a design has, inputs
+PROGRAM is crates/bench_tool/out/bench_tool where it isn't given: its `form counts` prints how many nodes the circuit of a design has, inputs
 and states with them, and the milliseconds that the net of words and the circuit took together, by the clock, without the reading. The
 trace is one cycle. A family is one shape of design at growing sizes; `ns each` divides the time by the nodes, `MB` is the most memory
 that the whole run held, with the reading, the unrolling and the clauses of one cycle (at least what this script holds as it begins the
@@ -23,7 +23,7 @@ import tempfile
 import time
 
 HERE = os.path.dirname(os.path.abspath(__file__))
-BUILT = os.path.join(HERE, "..", "crates", "print_form", "out", "print_form")
+BUILT = os.path.join(HERE, "..", "crates", "bench_tool", "out", "bench_tool")
 # A yosys that takes longer is stopped.
 PATIENCE = 30
 
@@ -182,7 +182,7 @@ def row(asked, name, size, before, with_yosys):
             with open(os.path.join(folder, file), "w") as out:
                 out.write(what)
         clock = "clk" if "input clk" in text else "-"
-        words = [asked.program, "counts", "0", "instance", clock, "design.v", "top", "trace.vcd"]
+        words = [asked.program, "form", "counts", "0", "instance", clock, "design.v", "top", "trace.vcd"]
         now = min(circuit_of(words, folder) for _ in range(asked.runs))
         theirs = yosys(folder) if with_yosys else "| |"
     taken, nodes, memory = now

@@ -3,7 +3,7 @@
 
     bench/widths.py [PROGRAM] [--runs N]
 
-PROGRAM is crates/size_expression/out/size_expression where it isn't given. It reads an expression, sizes it a number of times, and says how
+PROGRAM is crates/bench_tool/out/bench_tool where it isn't given. It reads an expression, sizes it a number of times, and says how
 many microseconds that took, without the reading: the least of N runs (3) counts. A family is one shape of expression at growing sizes; `x before`
 divides a time by that of the line above, and `ns each` by the levels or the parts, so it says whether one costs the same at every size. `MB` is
 the most memory that the program held, the text and its tree with it. Counts, bounds and indexes stand within one another, each in the one
@@ -17,7 +17,7 @@ import sys
 import tempfile
 
 HERE = os.path.dirname(os.path.abspath(__file__))
-BUILT = os.path.join(HERE, "..", "crates", "size_expression", "out", "size_expression")
+BUILT = os.path.join(HERE, "..", "crates", "bench_tool", "out", "bench_tool")
 
 
 def nested(front, middle, behind):
@@ -28,7 +28,7 @@ def nested(front, middle, behind):
 def run(program, what, times, path):
     """The microseconds, the most memory in MB, and what was printed."""
     with open(path) as text, tempfile.TemporaryFile("w+") as printed, tempfile.TemporaryFile("w+") as spent:
-        child = subprocess.Popen([program, what, str(times)], stdin=text, stdout=printed, stderr=spent)
+        child = subprocess.Popen([program, "size", what, str(times)], stdin=text, stdout=printed, stderr=spent)
         _, status, used = os.wait4(child.pid, 0)
         child.returncode = os.waitstatus_to_exitcode(status)
         printed.seek(0)

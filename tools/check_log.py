@@ -3,7 +3,7 @@
 
     tools/check_log.py FORM LOG REPORT
 
-FORM has the clauses in DIMACS, as crates/print_form prints them of the same design, dumps, kinds and size; LOG and REPORT are what `find`
+FORM has the clauses in DIMACS, as `bench_tool form` prints them of the same design, dumps, kinds and size; LOG and REPORT are what `find`
 wrote. It goes by docs/formats.md, in plain steps, and is slow. Printed is what `localise check` prints of the log: `no step N` with the first
 step that may not stand there, `no closing`, or `yes N`; that each set makes the dumps right it doesn't look at. The status is 0 for yes, 8 for no, and 2 where
 a file can't be read.
@@ -24,7 +24,7 @@ def read_form(path):
     head = re.fullmatch("p cnf ([0-9]+) ([0-9]+)", lines[0])
     clauses = [frozenset(map(int, line.split()[:-1])) for line in lines[1:] if re.fullmatch("(-?[1-9][0-9]* )*0 ?", line)]
     if not head or len(clauses) != int(head[2]) or len(lines) != len(clauses) + 2:
-        raise ReportError("%s: no DIMACS as print_form prints it" % path)
+        raise ReportError("%s: no DIMACS as bench_tool prints it" % path)
     return clauses
 
 

@@ -53,7 +53,7 @@ class Checking(unittest.TestCase):
         self.assertEqual(self.answer("x 1\n"), (2, "check_log.py: log: line 3 is no step"))
         self.assertEqual(self.answer("b -1\nl 1 -1 : 2\n"), (2, "check_log.py: log: line 4 is no step"))
         self.assertEqual(self.answer("", head="log\n"), (2, "check_log.py: log: no log of localise"))
-        self.assertEqual(self.answer("", form="1 0\n"), (2, "check_log.py: form: no DIMACS as print_form prints it"))
+        self.assertEqual(self.answer("", form="1 0\n"), (2, "check_log.py: form: no DIMACS as bench_tool prints it"))
         self.assertEqual(self.answer("", inputs="1" * 64)[0], 2)
 
 

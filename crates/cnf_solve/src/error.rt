@@ -105,7 +105,7 @@ fn form_text(alloc: Global, error: FormErr) -> Result<String, AllocError> {
 /// The line that names a failure.
 pub fn failure_text(alloc: Global, failure: Failure) -> Result<String, AllocError> {
     match failure {
-        Failure::Usage => format!(in alloc; "usage: solve_cnf [BUDGET] [--times]\n"),
+        Failure::Usage => format!(in alloc; "usage: bench_tool solve [BUDGET] [--times]\n"),
         Failure::Input => format!(in alloc; "unreadable input\n"),
         Failure::Form(error) => form_text(alloc, error),
         Failure::Output => format!(in alloc; "failed output\n"),

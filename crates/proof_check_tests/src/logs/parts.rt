@@ -2,8 +2,8 @@
 
 ghost use Rattle.std.specs.Prelude.{◌<◌};
 
-use crate::tests::pieces::WORKERS;
-use crate::tests::{LINES, STEPS, with_front};
+use crate::logs::pieces::WORKERS;
+use crate::logs::{LINES, STEPS, with_front};
 use loc_base::NoMemory;
 use proof_check::types::LogErr;
 use proof_check::{log_text, read_log_parallel};

@@ -1,20 +1,15 @@
-//! `size_expression typed|constant TIMES`: reads an expression from standard input, sizes it so many times, or
+//! `bench_tool size typed|constant TIMES`: reads an expression from standard input, sizes it so many times, or
 //! computes it as a constant, prints what it is or why it is refused, and how many microseconds all of it took on
 //! standard error.
 //!
 //! The names are the signals `a`, unsigned, and `s`, signed, both of 8 bits; for a constant they are parameters with
 //! the value 9.
-#![tactic(auto)]
-
-mod failure;
 mod names;
 
 use crate::failure::Failure;
-use crate::names::{name, parameters, signals};
+use crate::input::input;
+use crate::size::names::{name, parameters, signals};
 use std::alloc::Global;
-use std::env;
-use std::io::Read;
-use std::process::ExitCode;
 use std::time::Instant;
 use v_lexer::tokens;
 use v_syntax::Expr;
@@ -28,23 +23,9 @@ enum Asked {
     Constant,
 }
 
-/// The words behind the program's name.
-fn words(rt: &HostRuntime) -> Result<Vec<String>, Failure> {
-    let Ok(mut given) = env::args(rt) else {
-        return Err(Failure::Words);
-    };
-    let _name = given.next();
-    let mut words = Vec::new(rt.alloc());
-    for word in given {
-        words.push(word)?;
-    }
-    Ok(words)
-}
-
 /// What is asked, and how often.
-fn request(rt: &HostRuntime) -> Result<(Asked, u32), Failure> {
-    let words = words(rt)?;
-    let [what, times] = words.as_slice() else {
+fn request(words: &[String]) -> Result<(Asked, u32), Failure> {
+    let [what, times] = words else {
         return Err(Failure::Words);
     };
     let what = match what.as_str() {
@@ -55,15 +36,6 @@ fn request(rt: &HostRuntime) -> Result<(Asked, u32), Failure> {
     match times.parse::<u32>() {
         Ok(times) => Ok((what, times)),
         Err(_) => Err(Failure::Words),
-    }
-}
-
-/// What standard input holds.
-fn input(rt: &HostRuntime) -> Result<Vec<u8>, Failure> {
-    let mut bytes = Vec::new(rt.alloc());
-    match rt.reader().read_to_end(&mut bytes) {
-        Ok(_) => Ok(bytes),
-        Err(_) => Err(Failure::Stream),
     }
 }
 
@@ -108,8 +80,8 @@ fn sized(alloc: Global, e: &Expr, scope: &Scope<'_>, asked: Asked) -> Result<Siz
 }
 
 /// Sizes, prints, and gives the exit status.
-fn run(rt: &HostRuntime) -> Result<u8, Failure> {
-    let (asked, times) = request(rt)?;
+pub(crate) fn run(rt: &HostRuntime, words: &[String]) -> Result<u8, Failure> {
+    let (asked, times) = request(words)?;
     let text = input(rt)?;
     let e = expression(rt.alloc(), text.as_slice())?;
     let (a, s) = (name(rt.alloc(), b"a")?, name(rt.alloc(), b"s")?);
@@ -132,16 +104,6 @@ fn run(rt: &HostRuntime) -> Result<u8, Failure> {
         Err(fault) => {
             println!(rt; "{fault:?}")?;
             Ok(1)
-        }
-    }
-}
-
-fn main(rt: HostRuntime) -> ExitCode {
-    match run(&rt) {
-        Ok(status) => ExitCode::from(status),
-        Err(failure) => {
-            let _printed = eprintln!(rt; "{failure:?}");
-            ExitCode::from(2)
         }
     }
 }

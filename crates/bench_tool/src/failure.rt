@@ -1,4 +1,4 @@
-//! Why no form was printed.
+//! Why a part of the product had no answer.
 use bit_circuit::BlastErr;
 use clause_form::FormErr;
 use front_end::DesignErr;
@@ -11,9 +11,11 @@ use unroller::UnrollErr;
 use vcd_traces::VcdErr;
 
 #[derive(Drop, Debug)]
-pub enum Failure {
+pub(crate) enum Failure {
     /// The words behind the program's name aren't of its form.
     Words,
+    /// Standard input has no expression.
+    Text,
     /// A text can't be read.
     Load(LoadErr),
     /// The design's text means none.
@@ -30,7 +32,7 @@ pub enum Failure {
     Literals(FormErr),
     /// A number is larger than those below it allow.
     Large,
-    /// Standard output or the clock failed.
+    /// Standard input, standard output or the clock failed.
     Stream,
     /// Memory was refused.
     NoMemory,

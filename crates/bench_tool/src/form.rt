@@ -1,21 +1,17 @@
-//! `print_form clauses|counts SIZE KINDS CLOCK DESIGN TOP TRACE..`: prints the form in which sets of suspects of a design are
+//! `bench_tool form clauses|counts SIZE KINDS CLOCK DESIGN TOP TRACE..`: prints the form in which sets of suspects of a design are
 //! searched that make traces right, in DIMACS.
 //!
 //! KINDS are names of kinds of suspects between commas, CLOCK is the clock's name, or `-` where there is none. `clauses` prints
 //! the form; `counts` prints the numbers of nodes, variables, clauses and literals alone, and on standard error the milliseconds
 //! that the circuit, the unrolling and the clauses took.
-#![tactic(auto)]
-
-mod failure;
 mod make;
 mod request;
 
 use crate::failure::Failure;
-use crate::make::{Made, form_of, read_parts};
-use crate::request::read_request;
+use crate::form::make::{Made, form_of, read_parts};
+use crate::form::request::read_request;
 use clause_base::Form;
 use std::io::{self, BufWriter, Write};
-use std::process::ExitCode;
 
 /// Prints a form in DIMACS.
 fn print_clauses(rt: &HostRuntime, form: &Form) -> Result<(), Failure> {
@@ -55,24 +51,15 @@ fn print_counts(rt: &HostRuntime, made: &Made) -> Result<(), Failure> {
     Ok(())
 }
 
-/// Makes a form and prints it.
-fn run(rt: &HostRuntime) -> Result<(), Failure> {
-    let request = read_request(rt)?;
+/// Makes a form and prints it. The exit status is 0.
+pub(crate) fn run(rt: &HostRuntime, words: &[String]) -> Result<u8, Failure> {
+    let request = read_request(rt.alloc(), words)?;
     let parts = read_parts(rt, &request)?;
     let made = form_of(rt, &parts, request.size)?;
     if request.counts {
-        print_counts(rt, &made)
+        print_counts(rt, &made)?;
     } else {
-        print_clauses(rt, &made.form)
+        print_clauses(rt, &made.form)?;
     }
-}
-
-fn main(rt: HostRuntime) -> ExitCode {
-    match run(&rt) {
-        Ok(()) => ExitCode::from(0),
-        Err(failure) => {
-            let _printed = eprintln!(rt; "{failure:?}");
-            ExitCode::from(2)
-        }
-    }
+    Ok(0)
 }

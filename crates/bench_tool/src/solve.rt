@@ -1,8 +1,6 @@
-//! `solve_cnf [BUDGET] [--times]`: solves a formula in DIMACS CNF from standard input, checks the log of the solver, and
+//! `bench_tool solve [BUDGET] [--times]`: solves a formula in DIMACS CNF from standard input, checks the log of the solver, and
 //! tells what came of it.
-#![tactic(auto)]
-
-ghost use Rattle.std.specs.Prelude.{◌<◌, ◌^◌, IfOk, length};
+ghost use Rattle.std.specs.Prelude.{◌<◌, ◌^◌, length};
 ghost use Rattle.clause_base.specs.Literal.{AreWithin};
 
 use clause_base::Form;
@@ -12,24 +10,8 @@ use cnf_solve::{
 };
 use loc_base::Bytes;
 use std::io::Read;
-use std::process::ExitCode;
+use std::str;
 use std::time::{Duration, Instant};
-use std::{env, str};
-
-/// What the words behind the program's name ask for.
-fn read_request(rt: &HostRuntime) -> Result<Request, Failure>
-    ensures { IfOk result (λ request. request.units < 2 ^ 31) }
-{
-    let Ok(mut words) = env::args(rt) else {
-        return Err(Failure::Usage);
-    };
-    let _name = words.next();
-    let mut rest = Vec::new(rt.alloc());
-    for word in words {
-        rest.push(word)?;
-    }
-    request_of(&rest).ok_or(Failure::Usage)
-}
 
 /// What standard input holds.
 fn read_input(rt: &HostRuntime) -> Result<Vec<u8>, Failure> {
@@ -96,23 +78,26 @@ fn print_told(rt: &HostRuntime, told: &Told, times: bool) -> Result<(), Failure>
 }
 
 /// Solves, checks, prints, and gives the exit status.
-fn answer(rt: &HostRuntime) -> Result<u8, Failure> {
-    let request = read_request(rt)?;
+fn answer(rt: &HostRuntime, words: &[String]) -> Result<u8, Failure> {
+    let Some(request) = request_of(words) else {
+        return Err(Failure::Usage);
+    };
     let form = read_form(rt.alloc(), read_input(rt)?)?;
     let told = tell(rt, &form, request.units)?;
     print_told(rt, &told, request.times)?;
     Ok(status_of(&told.report))
 }
 
-fn main(rt: HostRuntime) -> ExitCode {
-    match answer(&rt) {
-        Ok(status) => ExitCode::from(status),
+/// Solves, checks and prints, or prints why there is no answer, and gives the exit status.
+pub(crate) fn run(rt: &HostRuntime, words: &[String]) -> u8 {
+    match answer(rt, words) {
+        Ok(status) => status,
         Err(failure) => {
             let told = failure_text(rt.alloc(), failure);
             if let Ok(text) = told {
                 let _printed = rt.print(text);
             }
-            ExitCode::from(failure_status(failure))
+            failure_status(failure)
         }
     }
 }

@@ -1,21 +1,17 @@
-//! `dump_trace CLOCK SHOWN [in|out NAME WIDTH]..`: reads a value change dump from standard input as one of a design with
+//! `bench_tool dump CLOCK SHOWN [in|out NAME WIDTH]..`: reads a value change dump from standard input as one of a design with
 //! these ports, and prints its trace or why it holds none.
 //!
 //! CLOCK is the clock's name, or `-` where there is none. SHOWN is `rows` for a line a cycle, `count` for their number
 //! alone, `time` for the milliseconds too, on standard error, or `wave` for the trace as a dump of its own, with the
 //! milliseconds of its writing on standard error.
-#![tactic(auto)]
-
 mod design;
-mod failure;
 
-use crate::design::{clock_of, design_of};
+use crate::dump::design::{clock_of, design_of};
 use crate::failure::Failure;
+use crate::input::input;
 use design_core::{Design, Trace};
 use loc_base::Name;
-use std::env;
-use std::io::{self, BufWriter, Read, Write};
-use std::process::ExitCode;
+use std::io::{self, BufWriter, Write};
 use std::time::Instant;
 use vcd_traces::{VcdErr, has_ports, samples};
 use vcd_waves::{Wave, has_rows, wave_text};
@@ -26,28 +22,6 @@ struct Request<'a> {
     shown: &'a str,
     design: &'a Design,
     clock: Option<&'a Name>,
-}
-
-/// The words behind the program's name.
-fn words(rt: &HostRuntime) -> Result<Vec<String>, Failure> {
-    let Ok(mut given) = env::args(rt) else {
-        return Err(Failure::Words);
-    };
-    let _name = given.next();
-    let mut words = Vec::new(rt.alloc());
-    for word in given {
-        words.push(word)?;
-    }
-    Ok(words)
-}
-
-/// What standard input holds.
-fn input(rt: &HostRuntime) -> Result<Vec<u8>, Failure> {
-    let mut bytes = Vec::new(rt.alloc());
-    match rt.reader().read_to_end(&mut bytes) {
-        Ok(_) => Ok(bytes),
-        Err(_) => Err(Failure::Stream),
-    }
 }
 
 /// One line for each cycle: its inputs, and its outputs with the bits that are known.
@@ -125,9 +99,8 @@ fn print_answer(
 }
 
 /// Reads, prints, and gives the exit status.
-fn run(rt: &HostRuntime) -> Result<u8, Failure> {
-    let words = words(rt)?;
-    let [clock, shown, ports @ ..] = words.as_slice() else {
+pub(crate) fn run(rt: &HostRuntime, words: &[String]) -> Result<u8, Failure> {
+    let [clock, shown, ports @ ..] = words else {
         return Err(Failure::Words);
     };
     let design = design_of(rt.alloc(), clock, ports)?;
@@ -150,14 +123,4 @@ fn run(rt: &HostRuntime) -> Result<u8, Failure> {
         clock,
     };
     print_answer(rt, &request, &answer)
-}
-
-fn main(rt: HostRuntime) -> ExitCode {
-    match run(&rt) {
-        Ok(status) => ExitCode::from(status),
-        Err(failure) => {
-            let _printed = eprintln!(rt; "{failure:?}");
-            ExitCode::from(2)
-        }
-    }
 }

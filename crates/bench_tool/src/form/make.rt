@@ -3,7 +3,7 @@ ghost use Rattle.std.specs.Prelude.{IfOk};
 ghost use Rattle.front_end.specs.Means.{IsReady};
 
 use crate::failure::Failure;
-use crate::request::Request;
+use crate::form::request::Request;
 use bit_circuit::{Circuit, blast};
 use clause_base::Form;
 use clause_form::form;

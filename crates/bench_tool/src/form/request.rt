@@ -1,12 +1,11 @@
-//! What the words behind the program's name ask for.
+//! What the words behind `form` ask for.
 use crate::failure::Failure;
 use loc_base::Name;
 use std::alloc::Global;
-use std::env;
 
 /// A form: the greatest size of a set, the kinds of suspects, the clock, the names of the texts and of the top.
 #[derive(Drop)]
-pub struct Request {
+pub(crate) struct Request {
     /// Whether the numbers and the times alone are printed.
     pub counts: bool,
     pub size: u32,
@@ -15,19 +14,6 @@ pub struct Request {
     pub design: String,
     pub top: Name,
     pub traces: Vec<String>,
-}
-
-/// The words behind the program's name.
-fn words(rt: &HostRuntime) -> Result<Vec<String>, Failure> {
-    let Ok(mut given) = env::args(rt) else {
-        return Err(Failure::Words);
-    };
-    let _name = given.next();
-    let mut words = Vec::new(rt.alloc());
-    for word in given {
-        words.push(word)?;
-    }
-    Ok(words)
 }
 
 /// The name that a word is.
@@ -73,10 +59,8 @@ fn copies(alloc: Global, words: &[String]) -> Result<Vec<String>, Failure> {
 }
 
 /// What the words ask for.
-pub fn read_request(rt: &HostRuntime) -> Result<Request, Failure> {
-    let alloc = rt.alloc();
-    let words = words(rt)?;
-    let [shown, size, kinds, clock, design, top, traces @ ..] = words.as_slice() else {
+pub(crate) fn read_request(alloc: Global, words: &[String]) -> Result<Request, Failure> {
+    let [shown, size, kinds, clock, design, top, traces @ ..] = words else {
         return Err(Failure::Words);
     };
     Ok(Request {
