@@ -115,18 +115,26 @@ def note(edit, sources, answer):
         file.write(f"# tried {datetime.date.today()} over {sources}: {told(answer)}\n{text}")
 
 
-def try_all(folder, names, since):
-    """Tries what isn't settled of the edits that the gate only keeps, and returns whether each was refused."""
-    below, sums, is_well = libraries(), {}, True
+def unsettled(names, since):
+    """What isn't settled of the edits that the gate only keeps: of each crate its sources and the edits."""
+    below, sums, found = libraries(), {}, {}
     for crate in below:
         if crate in names or not names:
             sources = sources_of(crate, below, sums)
             edits = [it for it in edits_of(crate) if it.endswith(".md") and not is_settled(it, sources, since)]
-            answers = try_edits(folder, crate, edits) if edits else {}
-            for edit, answer in answers.items():
-                if answer != "not tried":
-                    note(edit, sources, answer)
-                is_well = is_well and answer.startswith("refused")
+            if edits:
+                found[crate] = sources, edits
+    return found
+
+
+def try_all(folder, found):
+    """Tries these, and returns whether each was refused."""
+    is_well = True
+    for crate, (sources, edits) in found.items():
+        for edit, answer in try_edits(folder, crate, edits).items():
+            if answer != "not tried":
+                note(edit, sources, answer)
+            is_well = is_well and answer.startswith("refused")
     return is_well
 
 
@@ -150,11 +158,14 @@ def words():
 
 def main():
     is_all, since, names = words()
+    found = unsettled(names, since) if is_all else {}
+    if is_all and not found:
+        return 0
     # (beside the repository's own files, so that files can be linked)
     with tempfile.TemporaryDirectory(prefix="edits-", dir=".git") as folder:
         top = os.path.realpath(folder)
         prepare(top)
-        is_well = try_all(top, names, since) if is_all else try_each(top, names)
+        is_well = try_all(top, found) if is_all else try_each(top, names)
     return 0 if is_well else 1
 
 
