@@ -1,8 +1,14 @@
 //! Workers run side by side: the second one begins while the first one is held.
 
-use crate::tried::tried;
-use crate::workers::{both_sets, wrong_twice};
+ghost use Rattle.std.specs.Prelude.{All, IsTrue, length, ◌↔◌, ◌<◌, ◌^◌};
+ghost use Rattle.cycle_sim.specs.Misses.{AreValuesFor};
+
+use design_core::{Design, Members, SetWithValues, Trace, Values};
 use loc_base::Gate;
+use replay_sets::are_values_for;
+use set_replays::replay_all;
+use small_networks::{OR_NOT, network, traces, word};
+use std::alloc::Global;
 use std::sync::atomic::{AtomicBool, Ordering};
 use std::test::Fail;
 
@@ -42,15 +48,50 @@ impl Gate for HoldingGate {
     }
 }
 
-/// The gate's own note says that piece 1 entered while piece 0 was held, and the answer is that of a free gate.
+/// A set of one suspect, with values of its only place cycle by cycle.
+fn set_of(alloc: Global, suspect: u32, place: u32, words: &[bool]) -> Result<SetWithValues, Fail> {
+    let mut members = Members::new(alloc);
+    members.push(suspect)?;
+    let mut values = Values {
+        places: Vec::from_slice(alloc, &[place])?,
+        rows: Vec::new(alloc),
+    };
+    for one in words {
+        values.rows.push(word(*one)?)?;
+    }
+    Ok(SetWithValues { members, values })
+}
+
+/// Whether the values of sets are for traces of a design.
+fn have_values(design: &Design, traces: &[Trace], sets: &[SetWithValues]) -> bool
+    requires { length traces.now < 2 ^ 32 }
+    ensures { IsTrue result ↔ All (λ set. AreValuesFor design.now traces.now set.values) sets.now }
+{
+    sets.iter()
+        .all(|set| are_values_for(design, traces, &set.values))
+}
+
+/// Of the traces with a b y: 001, 011, 101, 110, in which y is wrong in the second and third cycles, the two sets that explain it.
+fn both_sets(alloc: Global) -> Result<Vec<SetWithValues>, Fail> {
+    let mut sets = Vec::new(alloc);
+    sets.push(set_of(alloc, 1, 0, &[false, false, false, true])?)?;
+    sets.push(set_of(alloc, 2, 1, &[true, true, true, false])?)?;
+    Ok(sets)
+}
+
+/// The gate's own note says that piece 1 entered while piece 0 was held, and the answer is that both sets are right.
 #[test]
 fn the_second_worker_begins_while_the_first_is_held(rt: HostRuntime) -> Result<(), Fail> {
     let alloc = rt.alloc();
-    let traces = wrong_twice(alloc)?;
+    let found = network(alloc, OR_NOT)?;
+    let design = &found.design;
+    let traces = traces(alloc, design, &[&["001", "011", "101", "110"]])?;
     let sets = both_sets(alloc)?;
+    assert!(rt; traces.len() == 1 && sets.len() == 2 && design.outputs.len() == 1);
+    assert!(rt; have_values(design, &traces, &sets));
     let gate = HoldingGate::new();
-    let found = tried(&rt, alloc, &traces, &sets, 2, &gate)?;
-    assert!(rt; found.is_none());
+    let miss = replay_all(&rt, alloc, design, &found.order, &traces, &sets, 2, &gate)?;
+    assert!(rt; miss.is_none());
     assert!(rt; gate.noted.load(Ordering::SeqCst));
     Ok(())
 }

@@ -1,23 +1,38 @@
-//! Each public call by itself, on a register that toggles and has an asynchronous reset.
+//! Calls of the plain simulator by themselves, on a register that toggles and has an asynchronous reset, and on three assignments.
 
-use crate::build::{bits, design_of};
-use crate::resets::TOGGLE;
+use design_core::Design;
 use design_fits::{can_run, samples_fit};
+use front_end::FrontEnd;
+use loc_base::Bits;
 use plain_sim::{compute_cycle, is_cycle, start_words};
 use plain_values::run_statement;
+use small_networks::{FAN_OUT, name, network};
+use std::alloc::Global;
 use std::test::Fail;
+use verilog_front_end::Verilog;
+
+const TOGGLE: &[u8] =
+    b"module m(input clk, input rst, output reg q = 1'b1); always @(posedge clk or posedge rst) if (rst) q <= 1'b0; else q <= ~q; endmodule";
+
+fn toggle(alloc: Global) -> Result<Design, Fail> {
+    let (top, clock) = (name(alloc, "m")?, name(alloc, "clk")?);
+    match Verilog.read(alloc, TOGGLE, &top, Some(&clock)) {
+        Ok(found) => Ok(found.design),
+        Err(_) => Err(Fail::new("no design")),
+    }
+}
 
 /// The body of the block leaves q at 1 and updates it to 0 later.
 #[test]
 fn a_nonblocking_assignment_updates_later(rt: HostRuntime) -> Result<(), Fail> {
     let alloc = rt.alloc();
-    let design = design_of(alloc, &TOGGLE)?;
+    let design = toggle(alloc)?;
     assert!(rt; can_run(&design));
     assert!(rt; design.places.len() == 2);
     assert!(rt; design.clocked.len() == 1);
     let mut now = start_words(alloc, &design)?;
     let mut later = start_words(alloc, &design)?;
-    let zero = bits(1, 0)?;
+    let zero = Bits::zero(1);
     let body = &design.clocked[0].body;
     run_statement(
         &design,
@@ -38,8 +53,8 @@ fn a_nonblocking_assignment_updates_later(rt: HostRuntime) -> Result<(), Fail> {
 #[test]
 fn a_cycle_is_computed_and_recognized(rt: HostRuntime) -> Result<(), Fail> {
     let alloc = rt.alloc();
-    let design = design_of(alloc, &TOGGLE)?;
-    let zero = bits(1, 0)?;
+    let design = toggle(alloc)?;
+    let zero = Bits::zero(1);
     let samples = [zero];
     let freed = [false, false];
     let chosen = [zero, zero];
@@ -82,5 +97,26 @@ fn a_cycle_is_computed_and_recognized(rt: HostRuntime) -> Result<(), Fail> {
             &words.next
         )?
     );
+    Ok(())
+}
+
+/// Orders of the drivers, and whether each comes behind those that it reads.
+const ORDERS: [([u32; 3], bool); 2] = [([0, 2, 1], true), ([2, 1, 0], false)];
+
+/// Of `n = a; y = n | b; x = n;` with a at 1: where a driver is computed before one that it reads, what comes out is no cycle.
+#[test]
+fn an_order_that_is_none_finds_no_cycle(rt: HostRuntime) -> Result<(), Fail> {
+    let alloc = rt.alloc();
+    let found = network(alloc, FAN_OUT)?;
+    let (design, zero) = (&found.design, Bits::zero(1));
+    let (samples, chosen) = ([Bits::from_bool(true), zero], [zero; 3]);
+    assert!(rt; can_run(design));
+    assert!(rt; design.places.len() == 3);
+    assert!(rt; samples_fit(&design.signals, &design.inputs, &samples));
+    let state = start_words(alloc, design)?;
+    for (order, is_one) in &ORDERS {
+        let words = compute_cycle(alloc, design, order, &samples, &state, &[false; 3], &chosen)?;
+        assert!(rt; words.is_some() == *is_one);
+    }
     Ok(())
 }

@@ -1,26 +1,19 @@
 //! Designs, each as it is printed. The numbers are worked out by hand from the rules of the numbering: the ports of an instance before
 //! its other signals, its items before the instances in it; a place by the numbers of its first token and of its item's.
 use crate::printed::printed;
-use std::alloc::Global;
-use std::process::Abort;
 use std::test::Fail;
 
-/// A text, whether its input `clk` is the clock, and its design.
+/// What a row shows, a text, whether its input `clk` is the clock, and its design.
 struct Row {
+    shows: &'static str,
     text: &'static [u8],
     is_clocked: bool,
     lines: &'static [u8],
 }
 
-/// The design of a row's text is printed as the row says.
-fn is_printed(rt: &impl Abort, alloc: Global, row: &Row) -> Result<(), Fail> {
-    let lines = printed(alloc, row.text, row.is_clocked)?;
-    assert!(rt; lines.as_slice() == row.lines);
-    Ok(())
-}
-
 /// Two instances, by order and by name, and a gate.
 const HALVES: Row = Row {
+    shows: "an instance has its own signals and places",
     text: b"module half(input a, input b, output s, output c);
   assign s = a ^ b;
   assign c = a & b;
@@ -33,8 +26,7 @@ module top(input x, input y, input z, output s, output c);
 endmodule
 ",
     is_clocked: false,
-    lines: b"
- x input 1 0 0 0
+    lines: b" x input 1 0 0 0
  y input 1 0 0 0
  z input 1 0 0 0
  s net 1 0 0 0
@@ -69,6 +61,7 @@ endmodule
 
 /// A generate loop with a condition, whose blocks have a label or none.
 const PARTS: Row = Row {
+    shows: "a generate block stands where it is written",
     text: b"module top(input [2:0] a, output [2:0] y);
   genvar i;
   wire [2:0] c;
@@ -85,8 +78,7 @@ const PARTS: Row = Row {
 endmodule
 ",
     is_clocked: false,
-    lines: b"
- a input 3 2 0 0
+    lines: b" a input 3 2 0 0
  y net 3 2 0 0
  c net 3 2 0 0
  top.part[0].t net 1 0 0 0
@@ -109,6 +101,7 @@ endmodule
 
 /// An array.
 const MEMORY: Row = Row {
+    shows: "an array has a signal for each word",
     text: b"module top(input clk, input a, input [3:0] d, output [3:0] q);
   reg [3:0] mem [2:1];
   always @(posedge clk) mem[a] <= d;
@@ -116,8 +109,7 @@ const MEMORY: Row = Row {
 endmodule
 ",
     is_clocked: true,
-    lines: b"
- clk input 1 0 0 0
+    lines: b" clk input 1 0 0 0
  a input 1 0 0 0
  d input 4 3 0 0
  q net 4 3 0 0
@@ -135,6 +127,7 @@ endmodule
 
 /// Start values, a clocked block with a reset, and one without.
 const RESETS: Row = Row {
+    shows: "a reset is a signal with a level",
     text: b"module top(input clk, input rn, input d, output reg q, output reg [3:0] n);
   initial q = 1;
   reg [3:0] s = 4'd3;
@@ -147,8 +140,7 @@ const RESETS: Row = Row {
 endmodule
 ",
     is_clocked: true,
-    lines: b"
- clk input 1 0 0 0
+    lines: b" clk input 1 0 0 0
  rn input 1 0 0 0
  d input 1 0 0 0
  q reg 1 0 0 1
@@ -168,6 +160,7 @@ endmodule
 
 /// A procedural loop, and a case.
 const LOOPS: Row = Row {
+    shows: "a loop has a place for each turn",
     text: b"module top(input [1:0] s, input [3:0] a, output reg [3:0] q, output reg z);
   integer i;
   always @* begin
@@ -182,8 +175,7 @@ const LOOPS: Row = Row {
 endmodule
 ",
     is_clocked: false,
-    lines: b"
- s input 2 1 0 0
+    lines: b" s input 2 1 0 0
  a input 4 3 0 0
  q reg 4 3 0 0
  z reg 1 0 0 0
@@ -202,6 +194,7 @@ endmodule
 
 /// An output connected to a concatenation, an open output, and inputs connected to expressions.
 const CONNECTED: Row = Row {
+    shows: "an output connection is a place",
     text: b"module child(output [2:0] o, input i, output open, input [1:0] wide);
   assign o = {i, wide};
   assign open = i;
@@ -211,8 +204,7 @@ module top(input [1:0] a, output [1:0] y, output z);
 endmodule
 ",
     is_clocked: false,
-    lines: b"
- a input 2 1 0 0
+    lines: b" a input 2 1 0 0
  y net 2 1 0 0
  z net 1 0 0 0
  top.u.o net 3 2 0 0
@@ -232,6 +224,7 @@ endmodule
 
 /// Gates with a name and without one, with two outputs, and in a block.
 const GATES: Row = Row {
+    shows: "each output of a gate is a place",
     text: b"module top(input a, b, output [1:0] y, output w);
   not (y[1], y[0], a);
   if (1) begin : inner
@@ -240,8 +233,7 @@ const GATES: Row = Row {
 endmodule
 ",
     is_clocked: false,
-    lines: b"
- a input 1 0 0 0
+    lines: b" a input 1 0 0 0
  b input 1 0 0 0
  y net 2 1 0 0
  w net 1 0 0 0
@@ -258,6 +250,7 @@ endmodule
 
 /// Parameters, signed nets and ascending ranges.
 const SIZED: Row = Row {
+    shows: "parameters give widths",
     text: b"module leaf #(parameter W = 2, parameter signed [0:3] S = -1) (input signed [0:W-1] d, output [W:1] q);
   wire signed [W-1:0] n = S;
   assign q = d + n;
@@ -268,8 +261,7 @@ module top(input [2:0] a, output [1:0] y, output [2:0] z);
 endmodule
 ",
     is_clocked: false,
-    lines: b"
- a input 3 2 0 0
+    lines: b" a input 3 2 0 0
  y net 2 1 0 0
  z net 3 2 0 0
  top.u.d net 2 0 1 signed 0
@@ -292,42 +284,17 @@ endmodule
 ",
 };
 
-#[test]
-fn an_instance_has_its_own_signals_and_places(rt: HostRuntime) -> Result<(), Fail> {
-    is_printed(&rt, rt.alloc(), &HALVES)
-}
+const DESIGNS: [Row; 8] = [
+    HALVES, PARTS, MEMORY, RESETS, LOOPS, CONNECTED, GATES, SIZED,
+];
 
 #[test]
-fn a_generate_block_stands_where_it_is_written(rt: HostRuntime) -> Result<(), Fail> {
-    is_printed(&rt, rt.alloc(), &PARTS)
-}
-
-#[test]
-fn an_array_has_a_signal_for_each_word(rt: HostRuntime) -> Result<(), Fail> {
-    is_printed(&rt, rt.alloc(), &MEMORY)
-}
-
-#[test]
-fn a_reset_is_a_signal_with_a_level(rt: HostRuntime) -> Result<(), Fail> {
-    is_printed(&rt, rt.alloc(), &RESETS)
-}
-
-#[test]
-fn a_loop_has_a_place_for_each_turn(rt: HostRuntime) -> Result<(), Fail> {
-    is_printed(&rt, rt.alloc(), &LOOPS)
-}
-
-#[test]
-fn an_output_connection_is_a_place(rt: HostRuntime) -> Result<(), Fail> {
-    is_printed(&rt, rt.alloc(), &CONNECTED)
-}
-
-#[test]
-fn each_output_of_a_gate_is_a_place(rt: HostRuntime) -> Result<(), Fail> {
-    is_printed(&rt, rt.alloc(), &GATES)
-}
-
-#[test]
-fn parameters_give_widths(rt: HostRuntime) -> Result<(), Fail> {
-    is_printed(&rt, rt.alloc(), &SIZED)
+fn each_design_is_printed_as_its_row_says(rt: HostRuntime) -> Result<(), Fail> {
+    for row in &DESIGNS {
+        let lines = printed(rt.alloc(), row.text, row.is_clocked)?;
+        if lines.as_slice() != row.lines {
+            return Err(Fail::new(row.shows));
+        }
+    }
+    Ok(())
 }

@@ -1,13 +1,9 @@
-//! Tests of the front end for Verilog, and of crates that it stands on: `v_elaborate` (`instances`) and `bind_statements` (`statements`).
+//! Tests of the front end for Verilog: designs that no run of the program prints, and texts too large for a file beside the cases.
 #![tactic(auto)]
 
 #[cfg(test)]
+mod bytes;
+#[cfg(test)]
 mod designs;
 #[cfg(test)]
-mod instances;
-#[cfg(test)]
 mod printed;
-#[cfg(test)]
-mod refusals;
-#[cfg(test)]
-mod statements;

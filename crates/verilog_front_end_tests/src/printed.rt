@@ -1,10 +1,9 @@
 //! What is printed of a text: its design, a line for each signal and each place, and one each for the drivers, the clocked blocks, the
-//! ports and the order; or, where it is refused, the line of the refusal.
+//! ports and the order.
 use design_core::{Clocked, Design, Driver, Place, PlaceKind, Signal, SignalKind};
-use front_end::{DesignErr, FrontEnd};
+use front_end::FrontEnd;
 use loc_base::{Name, NoMemory};
 use printed_text::{push_bytes, push_number, push_value};
-use refusal_lines::{Code, binding_code, circle_code, elaboration_code, lexical_code, syntax_code};
 use std::alloc::Global;
 use std::test::Fail;
 use verilog_front_end::Verilog;
@@ -115,18 +114,6 @@ fn push_design(text: &mut Vec<u8>, design: &Design) -> Result<(), NoMemory> {
     push_list(text, b"outputs", design.outputs.as_slice())
 }
 
-/// The code of a refusal.
-fn code_of(fault: DesignErr) -> Code {
-    match fault {
-        DesignErr::Lexical(fault) => lexical_code(fault),
-        DesignErr::Syntax(fault) => syntax_code(fault),
-        DesignErr::Elaboration(fault) => elaboration_code(fault),
-        DesignErr::Binding(fault) => binding_code(fault),
-        DesignErr::Circle(span) => circle_code(span),
-        DesignErr::NoMemory => Code::Memory,
-    }
-}
-
 /// What is printed of a text with the top `top`, where `clk` is the clock or there is none.
 pub fn printed(alloc: Global, text: &[u8], is_clocked: bool) -> Result<Vec<u8>, Fail> {
     let top = Name::new(alloc, b"top")?.unwrap();
@@ -135,11 +122,10 @@ pub fn printed(alloc: Global, text: &[u8], is_clocked: bool) -> Result<Vec<u8>, 
     let mut lines = Vec::new(alloc);
     match Verilog.read(alloc, text, &top, clock) {
         Ok(found) => {
-            push_bytes(&mut lines, b"\n")?;
             push_design(&mut lines, &found.design)?;
             push_list(&mut lines, b"order", found.order.as_slice())?;
         }
-        Err(fault) => code_of(fault).push(&mut lines)?,
+        Err(_) => return Err(Fail::new("no design")),
     }
     Ok(lines)
 }

@@ -1,9 +1,11 @@
-//! Tests of the crates of dumps: `vcd_words`, `vcd_traces` and `vcd_waves`.
+//! Tests of the crates of dumps (`vcd_words`, `vcd_traces`, `vcd_waves`): what no run of the program shows, or only by a file too large.
 #![tactic(auto)]
 
 #[cfg(test)]
-mod dump_words;
+mod codes;
 #[cfg(test)]
-mod traces;
+mod cycles;
 #[cfg(test)]
-mod waves;
+mod design;
+#[cfg(test)]
+mod texts;

@@ -1,4 +1,5 @@
-use crate::waves::design::{add_place, add_signal, empty, expect, name, trace, word};
+//! The text of a wave with bits that are not checked, written down by hand.
+use crate::design::{add_place, add_signal, empty, expect, name, trace, word};
 use design_core::{Design, SignalKind};
 use loc_base::Name;
 use std::alloc::Global;
@@ -9,67 +10,6 @@ use vcd_waves::{Wave, has_rows, wave_text};
 /// The clock of a design that has none.
 fn no_clock(_top: &Name) -> Option<&Name> {
     None
-}
-
-/// A clock and an output of 4 bits, in this order.
-fn stepper(rt: &impl Abort, alloc: Global) -> Result<Design, Fail> {
-    let mut design = empty(alloc);
-    add_signal(&mut design, name(rt, alloc, "clk")?, 1, SignalKind::Input)?;
-    add_signal(&mut design, name(rt, alloc, "q")?, 4, SignalKind::Reg)?;
-    design.outputs.push(1)?;
-    Ok(design)
-}
-
-const STEPPER: &str = "$timescale 1ns $end
-$scope module m $end
-$var wire 1 ! clk $end
-$var wire 4 \" q $end
-$upscope $end
-$enddefinitions $end
-#0
-0!
-b0000 \"
-#5
-1!
-#10
-0!
-b0001 \"
-#15
-1!
-#20
-0!
-b0010 \"
-#25
-1!
-";
-
-#[test]
-fn the_clock_rises_behind_the_values_of_a_cycle(rt: HostRuntime) -> Result<(), Fail> {
-    let design = stepper(&rt, rt.alloc())?;
-    let (top, clock) = (name(&rt, rt.alloc(), "m")?, name(&rt, rt.alloc(), "clk")?);
-    let mut trace = trace(rt.alloc(), 3);
-    for value in 0..3u8 {
-        expect(
-            &mut trace,
-            word(&rt, 4, u128::from(value)),
-            word(&rt, 4, 15),
-        )?;
-    }
-    let clock = Some(&clock);
-    let wave = Wave {
-        top: &top,
-        design: &design,
-        clock,
-        trace: &trace,
-        places: &[],
-        chosen: &[],
-    };
-    assert!(rt; has_rows(&wave));
-    assert_eq!(rt;
-        wave_text(rt.alloc(), &wave)?.as_slice(),
-        STEPPER.as_bytes()
-    );
-    Ok(())
 }
 
 /// An output of 1 bit before an input of 2 bits and an output of 3 bits, and three places.
@@ -147,23 +87,10 @@ fn ports_are_in_port_order_and_freed_places_in_their_own_scope(
     };
     assert!(rt; has_rows(&wave));
     assert_eq!(rt; wave_text(rt.alloc(), &wave)?.as_slice(), MIXED.as_bytes());
-    Ok(())
-}
-
-#[test]
-fn rows_are_counted(rt: HostRuntime) -> Result<(), Fail> {
-    let design = stepper(&rt, rt.alloc())?;
-    let top = name(&rt, rt.alloc(), "m")?;
-    let trace = trace(rt.alloc(), 1);
-    let clock = no_clock(&top);
-    let wave = Wave {
-        top: &top,
-        design: &design,
-        clock,
-        trace: &trace,
-        places: &[],
+    let without_values = Wave {
         chosen: &[],
+        ..wave
     };
-    assert!(rt; !has_rows(&wave));
+    assert!(rt; !has_rows(&without_values));
     Ok(())
 }

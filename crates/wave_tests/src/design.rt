@@ -1,4 +1,4 @@
-//! Designs without drivers, for waves ask for signals and places alone.
+//! Designs without drivers, for waves and dumps ask for signals and places alone.
 use design_core::{Checked, Design, Place, PlaceKind, Signal, SignalKind, Trace};
 use loc_base::{Bits, Name, NoMemory};
 use std::alloc::Global;

@@ -1,6 +1,0 @@
-//! The instances of texts.
-
-mod hierarchy;
-mod limits;
-mod reading;
-mod refusals;

@@ -1,4 +1,0 @@
-//! Whole texts, written down by hand.
-
-mod design;
-mod texts;
