@@ -22,7 +22,7 @@ import report  # noqa: E402
 DESIGN = "module m(input a, input b, output y);\nwire n;\nassign n = a | b;\nassign y = ~n;\nendmodule\n"
 DUMP = ("$scope module m $end\n$var wire 1 a a $end\n$var wire 1 b b $end\n$var wire 1 y y $end\n$upscope $end\n$enddefinitions $end\n"
         "#0 0a 0b 1y\n#1 1b\n#2 1a 0b\n#3 1b 0y\n")
-# (of this design and this dump alone, size 2 and kind stmt; crates/localise_cmd_tests has the same digest for `find`)
+# (of this design and this dump alone, size 2 and kind stmt; cases/words/find_alone_with_its_usual_values has the same digest)
 DIGEST = "4e8cae5cec1457bb6699c30389d997b502e30db26b5b032c76537885b4803196"
 SUSPECT = {"kind": "stmt", "label": "m", "line": 3}
 REPORT = {"clock": "", "ending": "complete", "inputs": "0" * 64, "kinds": ["stmt"], "size": 2, "top": "m", "version": 1,

@@ -1,5 +1,5 @@
 -- The one suspect with all places.
-use Rattle.std.proofs.Common.{◌≡◌, ℕ, ◌+◌, ◌<◌, true, List, [], ◌∷◌, ◌++◌, length, get_or, take, refl, sym, ◌∙◌, ap, arith, replicate}
+use Rattle.std.proofs.Common.{◌≡◌, ℕ, ◌+◌, ◌<◌, true, List, [], ◌∷◌, ◌++◌, length, get_or, take, refl, sym, ◌∙◌, ap, arith}
 use Rattle.std.specs.Prelude.{All, codes}
 use Rattle.std.specs.List.Sorted.{IsStrictlyIncreasing}
 use Rattle.std.proofs.lemmas.List.{length-take-le}
@@ -10,7 +10,7 @@ use Rattle.suspect_map.specs.declared.group.Group.{Group}
 use Rattle.suspect_map.specs.Groups.{AreAscending, AreWithin, numbers_at}
 use Rattle.suspect_map.proofs.Ascending.{numbers_at-ascend}
 use Rattle.suspect_map.proofs.GroupLaws.{numbers_at-within}
-use Rattle.find_tests.specs.Own.{everything, nobody}
+use Rattle.localise_cmd_tests.specs.Own.{everything}
 
 -- the numbers of one more
 every-push : {A : Type 0} (at : ℕ) (xs : List A) (x : A) → numbers_at (λ (_ : A). true) at (xs ++ x ∷ []) ≡ numbers_at (λ (_ : A). true) at xs ++ (at + length xs) ∷ []

@@ -1,6 +1,6 @@
 //! What is left where a call of the shelf or of the sink fails, for each call of each command in turn.
 
-use crate::runs::{Asked, NAMES, Ran, printed, run, run_by, run_over, texts_with, words, written};
+use crate::runs::{Asked, Ran, TEXTS, found, printed, run, run_by, texts_with, words, written};
 use crate::same::same;
 use io_ports::Texts;
 use loc_base::{Bytes, FreeGate};
@@ -18,6 +18,23 @@ enum Due<'a> {
     Put(&'a str, &'a [u8]),
     Print(&'a str),
 }
+
+/// The names of the texts that the commands read or write here.
+const NAMES: [&str; 13] = [
+    "m.v",
+    "t.vcd",
+    "u.vcd",
+    "c.v",
+    "c.vcd",
+    "r",
+    "l",
+    "localise.log",
+    "localise.json",
+    "made.v",
+    "made.vcd",
+    "w-1-1.vcd",
+    "w-2-1.vcd",
+];
 
 /// No text here has it as a part.
 const END: &[u8] = b"\n\n";
@@ -37,7 +54,22 @@ const FIRST: &str = "set {1}\n  1 stmt 3 m\n";
 
 const SECOND: &str = "set {2}\n  2 stmt 4 m\n";
 
-const FOUND: [Due<'static>; 16] = [
+const LISTED: [Due<'static>; 12] = [
+    Due::Load("m.v"),
+    Due::Load("t.vcd"),
+    Due::Begin(LOG),
+    Due::Put(LOG, OR_NOT_HEAD),
+    Due::Put(LOG, b"\nb -1\n"),
+    Due::Print(FIRST),
+    Due::Put(LOG, b"\nb -2\n"),
+    Due::Print(SECOND),
+    Due::Put(LOG, END),
+    Due::Begin(REPORT),
+    Due::Put(REPORT, END),
+    Due::Print("complete 2\n"),
+];
+
+const WAVED: [Due<'static>; 16] = [
     Due::Load("m.v"),
     Due::Load("t.vcd"),
     Due::Begin(LOG),
@@ -110,8 +142,9 @@ const COUNTED: [Due<'static>; 6] = [
 /// Words, the calls that are due, and the status where none fails.
 type Row = (&'static str, &'static [Due<'static>], u8);
 
-const RUNS: [Row; 7] = [
-    ("find m.v m t.vcd --waves w", &FOUND, 0),
+const RUNS: [Row; 8] = [
+    ("find m.v m t.vcd", &LISTED, 0),
+    ("find m.v m t.vcd --waves w", &WAVED, 0),
     ("find m.v m t.vcd --sets 1", &FRONT, 1),
     ("make 0", &MADE, 0),
     ("check m.v m r l t.vcd u.vcd", &JUDGED, 0),
@@ -179,29 +212,29 @@ fn prints(dues: &[Due]) -> u64 {
     count
 }
 
-/// The words of a run in which the call behind some fails.
+/// The words of a run in which the call behind some fails, and where a text isn't loaded, whether the line that says so can be printed.
 #[derive(Clone, Copy)]
 struct Failing<'a> {
     line: &'a str,
     before: &'a [Due<'a>],
     due: Due<'a>,
+    is_told: bool,
 }
 
 impl Failing<'_> {
     fn run<R: Threads + Sync>(&self, rt: &R, alloc: Global, texts: Texts) -> Result<Ran, Fail> {
         let lines = prints(self.before);
-        let sink = [lines];
-        let shelf = [(self.before.len() as u64).wrapping_sub(lines)];
-        let asked = match self.due {
-            Due::Print(_lines) => Asked {
-                sink_fails: &sink,
-                ..words(self.line)
-            },
-            _ => Asked {
-                shelf_fails: &shelf,
-                ..words(self.line)
-            },
-        };
+        let print = [lines];
+        let call = [(self.before.len() as u64).wrapping_sub(lines)];
+        let mut asked = words(self.line);
+        match self.due {
+            Due::Print(_lines) => asked.sink_fails = &print,
+            Due::Load(_name) if !self.is_told => {
+                asked.shelf_fails = &call;
+                asked.sink_fails = &print;
+            }
+            _ => asked.shelf_fails = &call,
+        }
         run_by(rt, alloc, texts, asked, &FreeGate)
     }
 
@@ -237,11 +270,13 @@ impl Failing<'_> {
         match self.due {
             Due::Load(name) => {
                 let line = format!(in alloc; "read fault {name}\n")?;
-                Ok(text == line.as_bytes())
+                let is_whole = text.len() == line.len();
+                Ok(line.as_bytes().starts_with(text) && is_whole == self.is_told)
             }
             Due::Print(lines) => {
                 let due = format!(in alloc; "{before}{lines}")?;
-                Ok(text.starts_with(before.as_bytes()) && due.as_bytes().starts_with(text))
+                let is_front = due.as_bytes().starts_with(text) && text.len() < due.len();
+                Ok(is_front && text.starts_with(before.as_bytes()))
             }
             _ => Ok(text == before.as_bytes()),
         }
@@ -249,7 +284,7 @@ impl Failing<'_> {
 
     fn status(&self) -> u8 {
         match self.due {
-            Due::Load(_name) => 5,
+            Due::Load(_name) if self.is_told => 5,
             _ => 6,
         }
     }
@@ -269,8 +304,8 @@ fn stops<R: Threads + Sync + Abort>(
     failing: &Failing,
     beside: &Beside,
 ) -> Result<(), Fail> {
-    let row = (failing.line, failing.before.len());
-    let texts = texts_with(alloc, beside.found, &["r", "l"])?;
+    let row = (failing.line, failing.before.len(), failing.is_told);
+    let texts = texts_with(alloc, &TEXTS, Some(beside.found))?;
     let ran = failing.run(rt, alloc, texts)?;
     same(rt, &row, &ran.status, &failing.status());
     same(rt, &row, &failing.is_printed(alloc, printed(&ran))?, &true);
@@ -286,7 +321,7 @@ fn each_stops<R: Threads + Sync + Abort>(
     row: &Row,
 ) -> Result<(), Fail> {
     let (line, dues, status) = *row;
-    let whole = run_over(rt, alloc, texts_with(alloc, found, &["r", "l"])?, line)?;
+    let whole = run(rt, alloc, texts_with(alloc, &TEXTS, Some(found))?, line)?;
     let lines = lines_of(alloc, dues)?;
     same(rt, &line, &printed(&whole), &lines.as_bytes());
     same(rt, &line, &whole.status, &status);
@@ -295,12 +330,15 @@ fn each_stops<R: Threads + Sync + Abort>(
         whole: &whole,
     };
     for place in 0..dues.len() {
-        let failing = Failing {
-            line,
-            before: &dues[..place],
-            due: dues[place],
-        };
-        stops(rt, alloc, &failing, &beside)?;
+        for is_told in [true, false] {
+            let failing = Failing {
+                line,
+                before: &dues[..place],
+                due: dues[place],
+                is_told,
+            };
+            stops(rt, alloc, &failing, &beside)?;
+        }
     }
     Ok(())
 }
@@ -310,7 +348,7 @@ fn a_call_that_fails_is_the_last_and_leaves_a_front_of_what_was_due(
     rt: HostRuntime,
 ) -> Result<(), Fail> {
     let alloc = rt.alloc();
-    let found = run(&rt, alloc, "find m.v m t.vcd u.vcd --report r --log l")?;
+    let found = found(&rt, alloc)?;
     for row in &RUNS {
         each_stops(&rt, alloc, &found, row)?;
     }

@@ -1,8 +1,6 @@
 //! The work of several workers: each piece of it passes the gate, and where one is held the others go on.
 
-use crate::runs::{
-    Ran, lines, printed, run, run_by, run_over, texts_of, texts_with, words, written,
-};
+use crate::runs::{Ran, TEXTS, found, printed, run, run_by, texts_with, words, written};
 use crate::same::same;
 use loc_base::Gate;
 use std::sync::atomic::{AtomicU32, Ordering};
@@ -72,15 +70,26 @@ impl Gate for NotingGate {
     }
 }
 
-/// A number divided by another, rounded up.
-fn portions(number: usize, by: usize) -> usize {
-    if by == 0 { 0 } else { number.div_ceil(by) }
+/// How many lines a text has.
+fn lines(text: &[u8]) -> usize {
+    let mut count = 0usize;
+    for byte in text {
+        if *byte == b'\n' {
+            count = count.wrapping_add(1);
+        }
+    }
+    count
 }
 
 /// How many pieces the log of a run is cut into: each but the last has as many steps as there are for each worker, rounded up.
 fn pieces_of(ran: &Ran, workers: usize) -> usize {
     let steps = lines(written(ran, "localise.log")).wrapping_sub(2);
-    portions(steps, portions(steps, workers))
+    let each = if workers == 0 {
+        0
+    } else {
+        steps.div_ceil(workers)
+    };
+    if each == 0 { 0 } else { steps.div_ceil(each) }
 }
 
 /// Words, and how many workers they ask for.
@@ -97,7 +106,13 @@ fn each_piece_of_the_log_of_a_whole_list_enters_once(rt: HostRuntime) -> Result<
     let alloc = rt.alloc();
     for (line, workers) in &LOGGED {
         let gate = NotingGate::new(false);
-        let ran = run_by(&rt, alloc, texts_of(alloc)?, words(*line), &gate)?;
+        let ran = run_by(
+            &rt,
+            alloc,
+            texts_with(alloc, &TEXTS, None)?,
+            words(*line),
+            &gate,
+        )?;
         same(&rt, line, &ran.status, &0);
         let pieces = pieces_of(&ran, *workers);
         same(&rt, line, &(pieces > 1), &(*workers > 1));
@@ -121,12 +136,12 @@ const HELD: [(&str, &str, u32); 3] = [
 #[test]
 fn a_piece_that_is_held_holds_no_other_and_changes_nothing(rt: HostRuntime) -> Result<(), Fail> {
     let alloc = rt.alloc();
-    let line = "find m.v m t.vcd u.vcd --report r --log l";
-    let found = run(&rt, alloc, line)?;
+    let found = found(&rt, alloc)?;
     for (plain, line, times) in &HELD {
-        let one = run_over(&rt, alloc, texts_with(alloc, &found, &["r", "l"])?, *plain)?;
+        let texts = texts_with(alloc, &TEXTS, Some(&found))?;
+        let one = run(&rt, alloc, texts, *plain)?;
         let gate = NotingGate::new(true);
-        let texts = texts_with(alloc, &found, &["r", "l"])?;
+        let texts = texts_with(alloc, &TEXTS, Some(&found))?;
         let more = run_by(&rt, alloc, texts, words(*line), &gate)?;
         same(&rt, line, &gate.met.load(Ordering::SeqCst), times);
         same(&rt, line, &(one.status, more.status), &(0, 0));

@@ -4,12 +4,13 @@ ghost use Rattle.std.specs.Prelude.{All};
 ghost use Rattle.design_core.specs.TraceFits.{IsTraceOf};
 ghost use Rattle.plain_list.specs.Network.{IsNetwork};
 
-use crate::dumps::Ports;
-use crate::random::{FIRST_LINE, Gate, Numbers, changed, cycle, gates, text};
-use crate::runs::{Example, Ran, printed, run_line};
+use crate::random::{Numbers, changed, cycle, gates, text};
+use crate::runs::{printed, run};
 use crate::same::same;
 use design_core::{SetWithValues, Trace};
 use front_end::Ordered;
+use io_ports::Texts;
+use loc_base::Bytes;
 use plain_list::PlainSearch;
 use small_networks::{network, traces};
 use std::alloc::Global;
@@ -17,10 +18,19 @@ use std::process::Abort;
 use std::test::Fail;
 use std::thread::Threads;
 
-const PORTS: Ports<'static> = Ports {
-    widths: &[("a", 1), ("b", 1), ("c", 1), ("y", 1), ("z", 1)],
-    is_clocked: false,
-};
+/// The header of a dump of the ports.
+const HEAD: &[u8] = b"$scope module m $end
+$var wire 1 a n0 $end
+$var wire 1 b n1 $end
+$var wire 1 c n2 $end
+$var wire 1 y n6 $end
+$var wire 1 z n7 $end
+$upscope $end
+$enddefinitions $end
+";
+
+/// Their identifier codes.
+const CODES: &[u8] = b"abcyz";
 
 /// How many networks are tried.
 const NETWORKS: u32 = 200;
@@ -56,7 +66,7 @@ fn set_lines(alloc: Global, members: &[u32]) -> Result<String, Fail> {
     }
     lines.push_str("}\n")?;
     for member in members {
-        let at = FIRST_LINE.wrapping_add(*member).wrapping_sub(1);
+        let at = member.wrapping_add(4);
         let line = format!(in alloc; "  {member} stmt {at} m\n")?;
         lines.push_str(line.as_str())?;
     }
@@ -76,103 +86,57 @@ fn list_lines(alloc: Global, sets: &[SetWithValues]) -> Result<String, Fail> {
     Ok(lines)
 }
 
-/// Three cycles of gates by the same inputs, with these letters between their digits.
-fn rows(
-    alloc: Global,
-    gates: &[Gate],
-    inputs: [u32; 3],
-    between: &str,
-) -> Result<Vec<String>, Fail> {
-    let mut rows = Vec::new(alloc);
-    for input in inputs {
-        rows.push(cycle(alloc, gates, input, between)?)?;
-    }
-    Ok(rows)
-}
-
-fn slices<'a>(alloc: Global, rows: &'a [String]) -> Result<Vec<&'a str>, Fail> {
-    let mut slices = Vec::new(alloc);
-    for row in rows {
-        slices.push(row.as_str())?;
-    }
-    Ok(slices)
-}
-
-/// A list of one dump.
-fn only<'a>(alloc: Global, rows: &'a [&'a str]) -> Result<Vec<&'a [&'a str]>, Fail> {
-    let mut dumps = Vec::new(alloc);
-    dumps.push(rows)?;
-    Ok(dumps)
-}
-
-/// What a plain trial lists for a design and a dump's rows.
-fn plain(alloc: Global, design: &str, rows: &[&str]) -> Result<String, Fail> {
+/// What a plain trial lists for a design and a dump's cycles.
+fn plain(alloc: Global, design: &str, cycles: &[&str]) -> Result<String, Fail> {
     let ordered = network(alloc, design.as_bytes())?;
-    let dumps = only(alloc, rows)?;
+    let dumps = [cycles];
     let traces = traces(alloc, &ordered.design, &dumps)?;
     let search = tried(alloc, &ordered, &traces)?;
     list_lines(alloc, search.found())
 }
 
-/// What `find` does for a design and a dump's rows.
-fn found<R: Threads + Sync>(
-    rt: &R,
-    alloc: Global,
-    design: &str,
-    rows: &[&str],
-) -> Result<Ran, Fail> {
-    let dumps = only(alloc, rows)?;
-    let example = Example {
-        design,
-        ports: PORTS,
-        dumps: &dumps,
-    };
-    run_line(rt, alloc, &example, "find m.v m t1.vcd")
+/// The dump of cycles, each of which has a digit for each port.
+fn dump(alloc: Global, cycles: &[&str]) -> Result<Bytes, Fail> {
+    let mut dump = Bytes::copy_of(alloc, HEAD)?;
+    for (time, cycle) in cycles.iter().enumerate() {
+        dump.append(format!(in alloc; "#{time}\n")?.as_bytes())?;
+        for (digit, code) in cycle.as_bytes().iter().zip(CODES) {
+            dump.push(*digit)?;
+            dump.push(*code)?;
+            dump.push(b'\n')?;
+        }
+    }
+    Ok(dump)
 }
 
-/// The text of a network, and rows of the network as it was, for the plain trial and for a dump.
-#[derive(Drop)]
-struct Changed {
-    design: String,
-    letters: Vec<String>,
-    words: Vec<String>,
-}
-
-/// A network with other operators at two of its gates.
-fn changed_network(alloc: Global, numbers: &mut Numbers) -> Result<Changed, Fail> {
-    let right = gates(alloc, numbers)?;
-    let wrong = changed(alloc, &right, numbers)?;
-    let inputs = [numbers.below(8), numbers.below(8), numbers.below(8)];
-    Ok(Changed {
-        design: text(alloc, &wrong)?,
-        letters: rows(alloc, &right, inputs, "")?,
-        words: rows(alloc, &right, inputs, " ")?,
-    })
-}
-
-/// The list of the network of a number is that of a plain trial.
+/// The list of a random network, with other operators at two of its gates, is that of a plain trial, by a dump of the network as it was.
 fn is_tried<R: Threads + Sync + Abort>(
     rt: &R,
     alloc: Global,
     number: u32,
-    changed: &Changed,
+    numbers: &mut Numbers,
 ) -> Result<(), Fail> {
-    let design = changed.design.as_str();
-    let wanted = plain(alloc, design, &slices(alloc, &changed.letters)?)?;
-    let ran = found(rt, alloc, design, &slices(alloc, &changed.words)?)?;
+    let right = gates(alloc, numbers)?;
+    let design = text(alloc, &changed(alloc, &right, numbers)?)?;
+    let first = cycle(alloc, &right, numbers.below(8))?;
+    let second = cycle(alloc, &right, numbers.below(8))?;
+    let third = cycle(alloc, &right, numbers.below(8))?;
+    let cycles = [first.as_str(), second.as_str(), third.as_str()];
+    let wanted = plain(alloc, design.as_str(), &cycles)?;
+    let mut texts = Texts::new(alloc);
+    texts.add("m.v", Bytes::copy_of(alloc, design.as_bytes())?)?;
+    texts.add("t.vcd", dump(alloc, &cycles)?)?;
+    let ran = run(rt, alloc, texts, "find m.v m t.vcd")?;
     same(rt, &number, &printed(&ran), &wanted.as_bytes());
     same(rt, &number, &ran.status, &0);
     Ok(())
 }
 
-/// Networks with other operators at two of their gates, by dumps of the networks as they were.
 #[test]
 fn random_networks_have_the_lists_of_a_plain_trial(rt: HostRuntime) -> Result<(), Fail> {
-    let alloc = rt.alloc();
-    let mut numbers = Numbers::new(1);
+    let mut numbers = Numbers { state: 1 };
     for number in 0..NETWORKS {
-        let changed = changed_network(alloc, &mut numbers)?;
-        is_tried(&rt, alloc, number, &changed)?;
+        is_tried(&rt, rt.alloc(), number, &mut numbers)?;
     }
     Ok(())
 }

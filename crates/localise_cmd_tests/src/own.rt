@@ -1,7 +1,7 @@
 //! A kind of suspects of the tests' own.
 ghost use Rattle.std.specs.Prelude.{◌≡◌, IfOk, codes};
 ghost use Rattle.loc_base.specs.Name.{IsName};
-ghost use Rattle.find_tests.specs.Own.{everything};
+ghost use Rattle.localise_cmd_tests.specs.Own.{everything};
 
 use design_core::Place;
 use loc_base::{Items, Name, NoMemory};

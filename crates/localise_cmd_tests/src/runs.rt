@@ -1,12 +1,13 @@
 //! Runs of the program over a shelf and a sink in memory.
 
+use crate::own::Everything;
 use io_ports::{MemShelf, MemSink, Numbers, Texts};
 use loc_base::{Bytes, FreeGate, Gate};
 use localise_cmd::run_words;
 use std::alloc::Global;
 use std::test::Fail;
 use std::thread::Threads;
-use suspect_map::{Blocks, Granularity, Statements};
+use suspect_map::{Blocks, Gates, Granularity, InstanceOutputs, Statements};
 
 /// Two assignments.
 const OR_NOT: &[u8] =
@@ -67,29 +68,18 @@ b10 \"
 1!
 ";
 
-/// The same counter with an output of its own.
-const SHOWN: &[u8] = b"module d(input clk, output [3:0] q);
-reg [3:0] r;
-always @(posedge clk) r <= r + 2;
-assign q = r;
-endmodule
-";
+/// The two assignments as gates.
+const GATES: &[u8] =
+    b"module m(input a, input b, output y);\nwire n;\nor g1(n, a, b);\nnot g2(y, n);\nendmodule\n";
 
-/// The names of the texts that the commands read or write here.
-pub(super) const NAMES: [&str; 13] = [
-    "m.v",
-    "t.vcd",
-    "u.vcd",
-    "c.v",
-    "c.vcd",
-    "r",
-    "l",
-    "localise.log",
-    "localise.json",
-    "made.v",
-    "made.vcd",
-    "w-1-1.vcd",
-    "w-2-1.vcd",
+/// The names of the texts above, each with its text.
+pub(super) const TEXTS: [(&str, &[u8]); 6] = [
+    ("m.v", OR_NOT),
+    ("t.vcd", OR_NOT_TRACE),
+    ("u.vcd", RIGHT_TRACE),
+    ("c.v", BY_TWO),
+    ("c.vcd", BY_TWO_TRACE),
+    ("g.v", GATES),
 ];
 
 /// What a run left.
@@ -117,23 +107,32 @@ pub(super) fn words(line: &str) -> Asked<'_> {
     }
 }
 
-/// Their names.
-const TEXTS: [(&str, &[u8]); 6] = [
-    ("m.v", OR_NOT),
-    ("t.vcd", OR_NOT_TRACE),
-    ("u.vcd", RIGHT_TRACE),
-    ("c.v", BY_TWO),
-    ("c.vcd", BY_TWO_TRACE),
-    ("d.v", SHOWN),
-];
-
-/// The texts above.
-pub(super) fn texts_of(alloc: Global) -> Result<Texts, Fail> {
+/// Texts, and beside them those that a run wrote as a report and a log, if any.
+pub(super) fn texts_with(
+    alloc: Global,
+    given: &[(&str, &[u8])],
+    found: Option<&Ran>,
+) -> Result<Texts, Fail> {
     let mut texts = Texts::new(alloc);
-    for (name, text) in &TEXTS {
+    for (name, text) in given {
         texts.add(*name, Bytes::copy_of(alloc, *text)?)?;
     }
+    if let Some(ran) = found {
+        texts.add("r", Bytes::copy_of(alloc, written(ran, "r"))?)?;
+        texts.add("l", Bytes::copy_of(alloc, written(ran, "l"))?)?;
+    }
     Ok(texts)
+}
+
+/// Four kinds of suspects of Verilog texts, and one that holds all places.
+fn kinds(alloc: Global) -> Result<Vec<Box<dyn Granularity>>, Fail> {
+    let mut kinds: Vec<Box<dyn Granularity>> = Vec::new(alloc);
+    kinds.push(Box::new(alloc, Statements)?)?;
+    kinds.push(Box::new(alloc, Blocks)?)?;
+    kinds.push(Box::new(alloc, Gates)?)?;
+    kinds.push(Box::new(alloc, InstanceOutputs)?)?;
+    kinds.push(Box::new(alloc, Everything)?)?;
+    Ok(kinds)
 }
 
 /// Runs words over texts, with a gate that the workers pass.
@@ -148,9 +147,7 @@ pub(super) fn run_by<R: Threads + Sync, G: Gate + Sync>(
     for word in asked.line.split_whitespace() {
         words.push(String::from_str(alloc, word)?)?;
     }
-    let mut kinds: Vec<Box<dyn Granularity>> = Vec::new(alloc);
-    kinds.push(Box::new(alloc, Statements)?)?;
-    kinds.push(Box::new(alloc, Blocks)?)?;
+    let kinds = kinds(alloc)?;
     let mut shelf = MemShelf::new(alloc, texts, Numbers::copy_of(alloc, asked.shelf_fails)?);
     let mut out = MemSink::new(alloc, Numbers::copy_of(alloc, asked.sink_fails)?);
     let status = run_words(
@@ -166,7 +163,7 @@ pub(super) fn run_by<R: Threads + Sync, G: Gate + Sync>(
 }
 
 /// Runs words over texts.
-pub(super) fn run_over<R: Threads + Sync>(
+pub(super) fn run<R: Threads + Sync>(
     rt: &R,
     alloc: Global,
     texts: Texts,
@@ -175,9 +172,15 @@ pub(super) fn run_over<R: Threads + Sync>(
     run_by(rt, alloc, texts, words(line), &FreeGate)
 }
 
-/// Runs words over the texts above.
-pub(super) fn run<R: Threads + Sync>(rt: &R, alloc: Global, line: &str) -> Result<Ran, Fail> {
-    run_over(rt, alloc, texts_of(alloc)?, line)
+/// A run that leaves a report and a log of two traces.
+pub(super) fn found<R: Threads + Sync>(rt: &R, alloc: Global) -> Result<Ran, Fail> {
+    let texts = texts_with(alloc, &TEXTS, None)?;
+    run(
+        rt,
+        alloc,
+        texts,
+        "find m.v m t.vcd u.vcd --report r --log l",
+    )
 }
 
 /// What was written under a name; nothing where it wasn't begun.
@@ -191,30 +194,4 @@ pub(super) fn written<'a>(ran: &'a Ran, name: &str) -> &'a [u8] {
 /// What a run printed.
 pub(super) fn printed(ran: &Ran) -> &[u8] {
     ran.out.text().as_slice()
-}
-
-/// Whether a text was begun under a name.
-pub(super) fn begun(ran: &Ran, name: &str) -> bool {
-    ran.shelf.text(name).is_some()
-}
-
-/// The texts above, and beside them those that a run wrote under names.
-pub(super) fn texts_with(alloc: Global, ran: &Ran, names: &[&str]) -> Result<Texts, Fail> {
-    let mut texts = texts_of(alloc)?;
-    for name in names {
-        let text = Bytes::copy_of(alloc, written(ran, *name))?;
-        texts.add(*name, text)?;
-    }
-    Ok(texts)
-}
-
-/// How many lines a text has.
-pub(super) fn lines(text: &[u8]) -> usize {
-    let mut count = 0usize;
-    for byte in text {
-        if *byte == b'\n' {
-            count = count.wrapping_add(1);
-        }
-    }
-    count
 }

@@ -1,5 +1,5 @@
 use Rattle.plain_list.specs.Search.{IsSearch}
-use Rattle.find_tests.proofs.networks.tried.Given as goal
+use Rattle.localise_cmd_tests.proofs.networks.tried.Given as goal
 
 abbrev pub invariant-loop-step : goal.invariant-loop-step
 invariant-loop-step l = IsSearch l.ordered.design l.traces l.search

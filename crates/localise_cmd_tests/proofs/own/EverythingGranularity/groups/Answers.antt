@@ -5,8 +5,8 @@ use Rattle.std.proofs.lemmas.Option.{get_or_from_slice_get}
 use Rattle.loc_base.proofs.ShelfLists.{slice_get-some}
 use Rattle.suspect_map.specs.declared.group.Group.{Group}
 use Rattle.suspect_map.specs.Groups.{AreAscending, AreWithin, numbers_at}
-use Rattle.find_tests.proofs.Everything.{every-next, everything-within, everything-ascends}
-use Rattle.find_tests.proofs.own.EverythingGranularity.groups.Goals as goal
+use Rattle.localise_cmd_tests.proofs.Everything.{every-next, everything-within, everything-ascends}
+use Rattle.localise_cmd_tests.proofs.own.EverythingGranularity.groups.Goals as goal
 
 pub loop-place-preserved : goal.loop-place-preserved
 loop-place-preserved c =
