@@ -1,6 +1,6 @@
 //! Logs that are cut, at each of their bytes.
 
-use crate::runs::{TEXTS, printed, run, texts_with};
+use crate::runs::{printed, run, texts_with};
 use crate::same::same;
 use loc_base::Bytes;
 use std::alloc::Global;
@@ -41,7 +41,7 @@ fn is_answered<R: Threads + Sync + Abort>(
         _ => (refused.as_str(), 3),
     };
     for words in LINES {
-        let mut texts = texts_with(alloc, &TEXTS, None)?;
+        let mut texts = texts_with(alloc, None)?;
         texts.add("r", Bytes::copy_of(alloc, REPORT)?)?;
         texts.add("l", Bytes::copy_of(alloc, front)?)?;
         let ran = run(rt, alloc, texts, words)?;

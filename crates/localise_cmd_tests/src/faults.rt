@@ -1,6 +1,6 @@
 //! What is left where a call of the shelf or of the sink fails, for each call of each command in turn.
 
-use crate::runs::{Asked, Ran, TEXTS, found, printed, run, run_by, texts_with, words, written};
+use crate::runs::{Asked, Ran, found, printed, run, run_by, texts_with, words, written};
 use crate::same::same;
 use io_ports::Texts;
 use loc_base::{Bytes, FreeGate};
@@ -226,15 +226,21 @@ impl Failing<'_> {
         let lines = prints(self.before);
         let print = [lines];
         let call = [(self.before.len() as u64).wrapping_sub(lines)];
-        let mut asked = words(self.line);
-        match self.due {
-            Due::Print(_lines) => asked.sink_fails = &print,
-            Due::Load(_name) if !self.is_told => {
-                asked.shelf_fails = &call;
-                asked.sink_fails = &print;
-            }
-            _ => asked.shelf_fails = &call,
-        }
+        let asked = match self.due {
+            Due::Print(_lines) => Asked {
+                sink_fails: &print,
+                ..words(self.line)
+            },
+            Due::Load(_name) if !self.is_told => Asked {
+                line: self.line,
+                shelf_fails: &call,
+                sink_fails: &print,
+            },
+            _ => Asked {
+                shelf_fails: &call,
+                ..words(self.line)
+            },
+        };
         run_by(rt, alloc, texts, asked, &FreeGate)
     }
 
@@ -305,7 +311,7 @@ fn stops<R: Threads + Sync + Abort>(
     beside: &Beside,
 ) -> Result<(), Fail> {
     let row = (failing.line, failing.before.len(), failing.is_told);
-    let texts = texts_with(alloc, &TEXTS, Some(beside.found))?;
+    let texts = texts_with(alloc, Some(beside.found))?;
     let ran = failing.run(rt, alloc, texts)?;
     same(rt, &row, &ran.status, &failing.status());
     same(rt, &row, &failing.is_printed(alloc, printed(&ran))?, &true);
@@ -321,7 +327,7 @@ fn each_stops<R: Threads + Sync + Abort>(
     row: &Row,
 ) -> Result<(), Fail> {
     let (line, dues, status) = *row;
-    let whole = run(rt, alloc, texts_with(alloc, &TEXTS, Some(found))?, line)?;
+    let whole = run(rt, alloc, texts_with(alloc, Some(found))?, line)?;
     let lines = lines_of(alloc, dues)?;
     same(rt, &line, &printed(&whole), &lines.as_bytes());
     same(rt, &line, &whole.status, &status);

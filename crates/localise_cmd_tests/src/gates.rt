@@ -1,6 +1,6 @@
 //! The work of several workers: each piece of it passes the gate, and where one is held the others go on.
 
-use crate::runs::{Ran, TEXTS, found, printed, run, run_by, texts_with, words, written};
+use crate::runs::{Ran, found, printed, run, run_by, texts_with, words, written};
 use crate::same::same;
 use loc_base::Gate;
 use std::sync::atomic::{AtomicU32, Ordering};
@@ -106,13 +106,7 @@ fn each_piece_of_the_log_of_a_whole_list_enters_once(rt: HostRuntime) -> Result<
     let alloc = rt.alloc();
     for (line, workers) in &LOGGED {
         let gate = NotingGate::new(false);
-        let ran = run_by(
-            &rt,
-            alloc,
-            texts_with(alloc, &TEXTS, None)?,
-            words(*line),
-            &gate,
-        )?;
+        let ran = run_by(&rt, alloc, texts_with(alloc, None)?, words(*line), &gate)?;
         same(&rt, line, &ran.status, &0);
         let pieces = pieces_of(&ran, *workers);
         same(&rt, line, &(pieces > 1), &(*workers > 1));
@@ -138,10 +132,10 @@ fn a_piece_that_is_held_holds_no_other_and_changes_nothing(rt: HostRuntime) -> R
     let alloc = rt.alloc();
     let found = found(&rt, alloc)?;
     for (plain, line, times) in &HELD {
-        let texts = texts_with(alloc, &TEXTS, Some(&found))?;
+        let texts = texts_with(alloc, Some(&found))?;
         let one = run(&rt, alloc, texts, *plain)?;
         let gate = NotingGate::new(true);
-        let texts = texts_with(alloc, &TEXTS, Some(&found))?;
+        let texts = texts_with(alloc, Some(&found))?;
         let more = run_by(&rt, alloc, texts, words(*line), &gate)?;
         same(&rt, line, &gate.met.load(Ordering::SeqCst), times);
         same(&rt, line, &(one.status, more.status), &(0, 0));

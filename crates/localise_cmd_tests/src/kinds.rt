@@ -1,6 +1,6 @@
 //! Suspects of a kind that the caller brings.
 
-use crate::runs::{TEXTS, printed, run, texts_with};
+use crate::runs::{printed, run, texts_with};
 use crate::same::same;
 use std::test::Fail;
 
@@ -20,7 +20,7 @@ const RUNS: [(&str, &str); 2] = [
 fn a_kind_of_the_caller_s_own_is_listed(rt: HostRuntime) -> Result<(), Fail> {
     let alloc = rt.alloc();
     for (line, wanted) in &RUNS {
-        let ran = run(&rt, alloc, texts_with(alloc, &TEXTS, None)?, *line)?;
+        let ran = run(&rt, alloc, texts_with(alloc, None)?, *line)?;
         same(&rt, line, &printed(&ran), &wanted.as_bytes());
         same(&rt, line, &ran.status, &0);
     }

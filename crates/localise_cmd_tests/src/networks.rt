@@ -100,7 +100,7 @@ fn dump(alloc: Global, cycles: &[&str]) -> Result<Bytes, Fail> {
     let mut dump = Bytes::copy_of(alloc, HEAD)?;
     for (time, cycle) in cycles.iter().enumerate() {
         dump.append(format!(in alloc; "#{time}\n")?.as_bytes())?;
-        for (digit, code) in cycle.as_bytes().iter().zip(CODES) {
+        for (digit, code) in cycle.as_bytes().iter().zip(CODES.iter()) {
             dump.push(*digit)?;
             dump.push(*code)?;
             dump.push(b'\n')?;
@@ -121,7 +121,10 @@ fn is_tried<R: Threads + Sync + Abort>(
     let first = cycle(alloc, &right, numbers.below(8))?;
     let second = cycle(alloc, &right, numbers.below(8))?;
     let third = cycle(alloc, &right, numbers.below(8))?;
-    let cycles = [first.as_str(), second.as_str(), third.as_str()];
+    let one = first.as_str();
+    let two = second.as_str();
+    let three = third.as_str();
+    let cycles = [one, two, three];
     let wanted = plain(alloc, design.as_str(), &cycles)?;
     let mut texts = Texts::new(alloc);
     texts.add("m.v", Bytes::copy_of(alloc, design.as_bytes())?)?;

@@ -112,11 +112,8 @@ fn values(gates: &[Gate], inputs: u32) -> u32 {
     for gate in gates {
         let left = values.wrapping_shr(gate.left) & 1;
         let right = values.wrapping_shr(gate.right) & 1;
-        let value = gate
-            .operator
-            .3
-            .wrapping_shr(left.wrapping_add(right.wrapping_mul(2)))
-            & 1;
+        let (_begins, _between, _ends, table) = gate.operator;
+        let value = table.wrapping_shr(left.wrapping_add(right.wrapping_mul(2))) & 1;
         values |= value.wrapping_shl(net);
         net = net.wrapping_add(1);
     }

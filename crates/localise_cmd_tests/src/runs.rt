@@ -73,7 +73,7 @@ const GATES: &[u8] =
     b"module m(input a, input b, output y);\nwire n;\nor g1(n, a, b);\nnot g2(y, n);\nendmodule\n";
 
 /// The names of the texts above, each with its text.
-pub(super) const TEXTS: [(&str, &[u8]); 6] = [
+const TEXTS: [(&str, &[u8]); 6] = [
     ("m.v", OR_NOT),
     ("t.vcd", OR_NOT_TRACE),
     ("u.vcd", RIGHT_TRACE),
@@ -107,14 +107,10 @@ pub(super) fn words(line: &str) -> Asked<'_> {
     }
 }
 
-/// Texts, and beside them those that a run wrote as a report and a log, if any.
-pub(super) fn texts_with(
-    alloc: Global,
-    given: &[(&str, &[u8])],
-    found: Option<&Ran>,
-) -> Result<Texts, Fail> {
+/// The texts above, and beside them those that a run wrote as a report and a log, if any.
+pub(super) fn texts_with(alloc: Global, found: Option<&Ran>) -> Result<Texts, Fail> {
     let mut texts = Texts::new(alloc);
-    for (name, text) in given {
+    for (name, text) in &TEXTS {
         texts.add(*name, Bytes::copy_of(alloc, *text)?)?;
     }
     if let Some(ran) = found {
@@ -174,7 +170,7 @@ pub(super) fn run<R: Threads + Sync>(
 
 /// A run that leaves a report and a log of two traces.
 pub(super) fn found<R: Threads + Sync>(rt: &R, alloc: Global) -> Result<Ran, Fail> {
-    let texts = texts_with(alloc, &TEXTS, None)?;
+    let texts = texts_with(alloc, None)?;
     run(
         rt,
         alloc,
