@@ -1,34 +1,38 @@
 #!/usr/bin/env python3
-"""Gives the texts that the reader's tests accept to Icarus Verilog: what is read here is to be read there.
+"""Gives the texts that cases accept to Icarus Verilog: what is read here is to be read there.
 
     bench/icarus.py
 
-The texts are those of the tables READ in the files `.._texts.rt` of crates/grammar_tests/src. Each is given to
-`iverilog -g2005 -t null`, which must take it; those of the table READ_HERE it must refuse. Debian's package
+The texts are the designs `m.v` of the cases below cases/reading whose status is 0. Each is given to
+`iverilog -g2005 -t null`, which must take it; those of ONLY_HERE it must refuse. Debian's package
 `iverilog` must be installed. The status is 1 where one differs.
 """
 
-import ast
 import glob
 import os
-import re
 import shutil
 import subprocess
 import sys
 import tempfile
 
 HERE = os.path.dirname(os.path.abspath(__file__))
-TESTS = os.path.join(HERE, "..", "crates", "grammar_tests", "src", "*_texts.rt")
-REFUSED = "READ_HERE"
+CASES = os.path.join(HERE, "..", "cases", "reading", "*")
+# delays and values where it has no grammar for them, a region in a generate block, a loop over the name of a parameter
+ONLY_HERE = {
+    "delays_of_nets",
+    "two_output_registers_with_values",
+    "wires_of_which_one_is_assigned",
+    "blocks_of_generates_with_labels",
+    "parameter_inside_with_the_name_of_an_integer",
+}
 
 
-def tables():
-    """Each test that accepts, and its texts."""
-    for path in sorted(glob.glob(TESTS)):
-        with open(path) as file:
-            source = file.read()
-        for name, body in re.findall(r"const (READ\w*): \[&\[u8\]; \d+\] = \[\n(.*?)\n\];", source, re.DOTALL):
-            yield name, [ast.literal_eval(text) for text in re.findall(r'b"(?:[^"\\]|\\.)*"', body)]
+def texts():
+    """Each case that accepts, by its name, and its text."""
+    for case in sorted(glob.glob(CASES)):
+        if not os.path.isfile(os.path.join(case, "status")):
+            with open(os.path.join(case, "m.v"), "rb") as file:
+                yield os.path.basename(case), file.read()
 
 
 def is_taken(icarus, text):
@@ -44,12 +48,11 @@ def main():
     if icarus is None:
         sys.exit("iverilog isn't installed")
     count, wrong = 0, 0
-    for name, texts in tables():
-        for text in texts:
-            count += 1
-            if is_taken(icarus, text) == (name == REFUSED):
-                wrong += 1
-                print("%s: %r" % (name, text))
+    for name, text in texts():
+        count += 1
+        if is_taken(icarus, text) == (name in ONLY_HERE):
+            wrong += 1
+            print("%s: %s" % (name, "taken" if name in ONLY_HERE else "refused"))
     print("%d texts, %d differ" % (count, wrong))
     sys.exit(1 if wrong or not count else 0)
 

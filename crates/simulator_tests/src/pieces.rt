@@ -1,12 +1,11 @@
 //! Calls of the plain simulator by themselves, on a register that toggles and has an asynchronous reset, and on three assignments.
 
-use design_core::Design;
-use design_fits::{can_run, samples_fit};
-use front_end::FrontEnd;
+use design_fits::{are_chosen, can_run, is_trace_of, samples_fit};
+use front_end::{FrontEnd, Ordered};
 use loc_base::Bits;
-use plain_sim::{compute_cycle, is_cycle, start_words};
+use plain_sim::{compute_cycle, is_cycle, meets, start_words};
 use plain_values::run_statement;
-use small_networks::{FAN_OUT, name, network};
+use small_networks::{FAN_OUT, name, network, traces};
 use std::alloc::Global;
 use std::test::Fail;
 use verilog_front_end::Verilog;
@@ -14,10 +13,10 @@ use verilog_front_end::Verilog;
 const TOGGLE: &[u8] =
     b"module m(input clk, input rst, output reg q = 1'b1); always @(posedge clk or posedge rst) if (rst) q <= 1'b0; else q <= ~q; endmodule";
 
-fn toggle(alloc: Global) -> Result<Design, Fail> {
+fn toggle(alloc: Global) -> Result<Ordered, Fail> {
     let (top, clock) = (name(alloc, "m")?, name(alloc, "clk")?);
     match Verilog.read(alloc, TOGGLE, &top, Some(&clock)) {
-        Ok(found) => Ok(found.design),
+        Ok(found) => Ok(found),
         Err(_) => Err(Fail::new("no design")),
     }
 }
@@ -26,16 +25,17 @@ fn toggle(alloc: Global) -> Result<Design, Fail> {
 #[test]
 fn a_nonblocking_assignment_updates_later(rt: HostRuntime) -> Result<(), Fail> {
     let alloc = rt.alloc();
-    let design = toggle(alloc)?;
-    assert!(rt; can_run(&design));
+    let found = toggle(alloc)?;
+    let design = &found.design;
+    assert!(rt; can_run(design));
     assert!(rt; design.places.len() == 2);
     assert!(rt; design.clocked.len() == 1);
-    let mut now = start_words(alloc, &design)?;
-    let mut later = start_words(alloc, &design)?;
+    let mut now = start_words(alloc, design)?;
+    let mut later = start_words(alloc, design)?;
     let zero = Bits::zero(1);
     let body = &design.clocked[0].body;
     run_statement(
-        &design,
+        design,
         &[false, false],
         &[zero, zero],
         &mut now,
@@ -53,16 +53,16 @@ fn a_nonblocking_assignment_updates_later(rt: HostRuntime) -> Result<(), Fail> {
 #[test]
 fn a_cycle_is_computed_and_recognized(rt: HostRuntime) -> Result<(), Fail> {
     let alloc = rt.alloc();
-    let design = toggle(alloc)?;
-    let zero = Bits::zero(1);
+    let found = toggle(alloc)?;
+    let (design, zero) = (&found.design, Bits::zero(1));
     let samples = [zero];
     let freed = [false, false];
     let chosen = [zero, zero];
-    assert!(rt; can_run(&design));
+    assert!(rt; can_run(design));
     assert!(rt; design.places.len() == 2);
     assert!(rt; samples_fit(&design.signals, &design.inputs, &samples));
-    let state = start_words(alloc, &design)?;
-    let Some(words) = compute_cycle(alloc, &design, &[], &samples, &state, &freed, &chosen)? else {
+    let state = start_words(alloc, design)?;
+    let Some(words) = compute_cycle(alloc, design, &[], &samples, &state, &freed, &chosen)? else {
         return Err(Fail::new("no cycle"));
     };
     assert!(rt; words.now.len() == 3 && words.next.len() == 3);
@@ -71,7 +71,7 @@ fn a_cycle_is_computed_and_recognized(rt: HostRuntime) -> Result<(), Fail> {
     assert!(rt;
         is_cycle(
             alloc,
-            &design,
+            design,
             &samples,
             &state,
             &freed,
@@ -82,13 +82,13 @@ fn a_cycle_is_computed_and_recognized(rt: HostRuntime) -> Result<(), Fail> {
     );
     assert!(rt;
         !is_cycle(
-            alloc, &design, &samples, &state, &freed, &chosen, &words.now, &words.now
+            alloc, design, &samples, &state, &freed, &chosen, &words.now, &words.now
         )?
     );
     assert!(rt;
         !is_cycle(
             alloc,
-            &design,
+            design,
             &samples,
             &state,
             &freed,
@@ -108,15 +108,17 @@ const ORDERS: [([u32; 3], bool); 2] = [([0, 2, 1], true), ([2, 1, 0], false)];
 fn an_order_that_is_none_finds_no_cycle(rt: HostRuntime) -> Result<(), Fail> {
     let alloc = rt.alloc();
     let found = network(alloc, FAN_OUT)?;
-    let (design, zero) = (&found.design, Bits::zero(1));
-    let (samples, chosen) = ([Bits::from_bool(true), zero], [zero; 3]);
+    let design = &found.design;
+    let traces = traces(alloc, design, &[&["1011"]])?;
+    let (freed, chosen) = ([false; 3], [Bits::zero(1); 3]);
     assert!(rt; can_run(design));
-    assert!(rt; design.places.len() == 3);
-    assert!(rt; samples_fit(&design.signals, &design.inputs, &samples));
-    let state = start_words(alloc, design)?;
-    for (order, is_one) in &ORDERS {
-        let words = compute_cycle(alloc, design, order, &samples, &state, &[false; 3], &chosen)?;
-        assert!(rt; words.is_some() == *is_one);
+    assert!(rt; traces.len() == 1);
+    let trace = &traces[0];
+    assert!(rt; is_trace_of(design, trace));
+    assert!(rt; are_chosen(design, trace, &freed, &chosen));
+    for (order, is_right) in &ORDERS {
+        let found = meets(alloc, design, order, trace, &freed, &chosen)?;
+        assert!(rt; found == *is_right);
     }
     Ok(())
 }
