@@ -19,7 +19,7 @@ import tempfile
 
 HERE = os.path.dirname(os.path.abspath(__file__))
 TOP = os.path.dirname(HERE)
-DOCUMENTS = ["walkthrough.md", "annotate.md", "waves.md", "long-tests.md"]
+DOCUMENTS = ["walkthrough.md", "annotate.md", "waves.md", "long-tests.md", "reading-the-list.md"]
 PASSED = {"gtkwave"}
 END = "\x1dend of the command\x1d"
 
