@@ -15,7 +15,7 @@ use word_values::{
 };
 
 /// What `check` is asked for.
-#[derive(Debug, Drop)]
+#[derive(Drop)]
 pub struct CheckWords {
     /// The name of the design's text.
     pub design: String,

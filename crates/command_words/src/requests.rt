@@ -5,7 +5,7 @@ use find_words::{FindWords, SimWords};
 use make_words::MakeWords;
 
 /// A command, with what it is asked for.
-#[derive(Debug, Drop)]
+#[derive(Drop)]
 pub enum Request {
     Find(FindWords),
     Sim(SimWords),

@@ -20,7 +20,7 @@ use word_values::{
 };
 
 /// What `find` is asked for.
-#[derive(Debug, Drop)]
+#[derive(Drop)]
 pub struct FindWords {
     /// The name of the design's text.
     pub design: String,

@@ -15,7 +15,7 @@ use word_values::{
 };
 
 /// What `sim` is asked for.
-#[derive(Debug, Drop)]
+#[derive(Drop)]
 pub struct SimWords {
     /// The name of the design's text.
     pub design: String,

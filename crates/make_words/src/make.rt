@@ -18,7 +18,7 @@ use word_values::{
 };
 
 /// What `make` is asked for.
-#[derive(Debug, Drop)]
+#[derive(Drop)]
 pub struct MakeWords {
     /// The number of the input that is made.
     pub number: u32,
