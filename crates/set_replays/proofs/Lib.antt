@@ -1,2 +1,3 @@
+pub mod FittingLaws
 pub mod Crossing
 pub mod SetLaws

@@ -14,7 +14,7 @@ use Rattle.design_core.specs.Explained.{cycles_before, place_width, row_of, IsRo
 use Rattle.design_core.proofs.CyclesBefore.{cycles_before-none, cycles_before-next}
 use Rattle.cycle_sim.specs.Misses.{AreValuesFor}
 use Rattle.cycle_sim.proofs.Chosen.{row-is}
-use Rattle.replay_sets.specs.Fitting.{AreRowsBefore, row_fits}
+use Rattle.set_replays.specs.Fitting.{AreRowsBefore, row_fits}
 
 eqb_true : (n : ℕ) → (n == n) ≡ true
 eqb_true n = grind (arith, nat_tests)

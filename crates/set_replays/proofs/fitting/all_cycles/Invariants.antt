@@ -1,6 +1,6 @@
 use Rattle.std.proofs.Common.{◌≡◌, ◌≤◌, ◌*◌}
 use Rattle.design_core.specs.Explained.{cycles_before}
-use Rattle.replay_sets.proofs.fitting.all_cycles.Given as goal
+use Rattle.set_replays.proofs.fitting.all_cycles.Given as goal
 
 abbrev pub invariant-loop-j : goal.invariant-loop-j
 invariant-loop-j l =

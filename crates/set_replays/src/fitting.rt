@@ -4,7 +4,7 @@ ghost use Rattle.std.specs.Prelude.{◌≡◌, ◌↔◌, ◌+◌, ◌*◌, ◌^
 ghost use Rattle.std.specs.List.{list_all};
 ghost use Rattle.design_core.specs.Explained.{cycles_before, place_width, row_of, IsRow};
 ghost use Rattle.cycle_sim.specs.Misses.{AreValuesFor};
-ghost use Rattle.replay_sets.specs.Fitting.{AreRowsBefore, row_fits};
+ghost use Rattle.set_replays.specs.Fitting.{AreRowsBefore, row_fits};
 
 use design_core::{Design, Trace, Values};
 use loc_base::Bits;
