@@ -5,7 +5,7 @@ ghost use Rattle.cycle_sim.specs.Misses.{AreValuesFor};
 
 use design_core::{Design, Members, SetWithValues, Trace, Values};
 use loc_base::Gate;
-use replay_sets::are_values_for;
+use set_replays::are_values_for;
 use set_replays::replay_all;
 use small_networks::{OR_NOT, network, traces, word};
 use std::alloc::Global;
