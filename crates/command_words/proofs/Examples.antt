@@ -4,10 +4,10 @@ use Rattle.clap.proofs.OnLiterals.{clap_on_literals}
 use Rattle.word_values.specs.declared.usage.Usage.{Usage}
 use Rattle.word_values.specs.declared.usage.Usage.TheVariants.{Command, Words, Number, Name, Kind}
 use Rattle.word_values.specs.Arguments.{read_by}
-use Rattle.check_words.specs.Check.{check_arguments}
-use Rattle.find_words.specs.Find.{find_arguments}
-use Rattle.find_words.specs.Sim.{sim_arguments}
-use Rattle.make_words.specs.Make.{make_arguments}
+use Rattle.command_words.specs.Check.{check_arguments}
+use Rattle.command_words.specs.Find.{find_arguments}
+use Rattle.command_words.specs.Sim.{sim_arguments}
+use Rattle.command_words.specs.Make.{make_arguments}
 use Rattle.command_words.specs.Asked.{Asked, find, sim, check, make}
 use Rattle.command_words.specs.Words.{asked as asked_by}
 

@@ -1,2 +1,6 @@
+pub mod MakeHolding
+pub mod CheckHolding
+pub mod SimHolding
+pub mod FindHolding
 mod Examples
 pub mod Commands

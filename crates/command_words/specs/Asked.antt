@@ -1,9 +1,9 @@
 -- What is asked for, as plain data, and what holds of it.
 use Rattle.std.specs.Prelude.{ℕ, List}
-use Rattle.check_words.specs.Check.{CheckAsked, IsCheckAsked}
-use Rattle.find_words.specs.Find.{FindAsked, IsFindAsked}
-use Rattle.find_words.specs.Sim.{IsSimAsked, SimAsked}
-use Rattle.make_words.specs.Make.{IsMakeAsked, MakeAsked}
+use Rattle.command_words.specs.Check.{CheckAsked, IsCheckAsked}
+use Rattle.command_words.specs.Find.{FindAsked, IsFindAsked}
+use Rattle.command_words.specs.Sim.{IsSimAsked, SimAsked}
+use Rattle.command_words.specs.Make.{IsMakeAsked, MakeAsked}
 
 pub data Asked : Type 0 where
   find : FindAsked → Asked

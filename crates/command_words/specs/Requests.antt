@@ -1,7 +1,7 @@
 -- What a request asks for.
-use Rattle.check_words.specs.Requests.{check_asked_of}
-use Rattle.find_words.specs.Requests.{find_asked_of, sim_asked_of}
-use Rattle.make_words.specs.Requests.{make_asked_of}
+use Rattle.command_words.specs.CheckRequests.{check_asked_of}
+use Rattle.command_words.specs.FindRequests.{find_asked_of, sim_asked_of}
+use Rattle.command_words.specs.MakeRequests.{make_asked_of}
 use Rattle.command_words.specs.declared.requests.Request.{Request}
 use Rattle.command_words.specs.declared.requests.Request.TheVariants.{Find, Sim, Check, Make}
 use Rattle.command_words.specs.Asked.{Asked, find, sim, check, make}

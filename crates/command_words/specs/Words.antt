@@ -4,10 +4,10 @@ use Rattle.std.specs.Prelude.{ℕ, if◌then◌else◌, List, [], ◌∷◌, Res
 use Rattle.std.specs.Str.{bytes_eq}
 use Rattle.word_values.specs.declared.usage.Usage.{Usage}
 use Rattle.word_values.specs.declared.usage.Usage.TheVariants.{Command}
-use Rattle.check_words.specs.Check.{check_asked}
-use Rattle.find_words.specs.Find.{find_asked}
-use Rattle.find_words.specs.Sim.{sim_asked}
-use Rattle.make_words.specs.Make.{make_asked}
+use Rattle.command_words.specs.Check.{check_asked}
+use Rattle.command_words.specs.Find.{find_asked}
+use Rattle.command_words.specs.Sim.{sim_asked}
+use Rattle.command_words.specs.Make.{make_asked}
 use Rattle.command_words.specs.Asked.{Asked, find, sim, check, make}
 
 -- what one command's words ask for, as what any command's do

@@ -1,8 +1,9 @@
 //! Requests of all commands.
 
-use check_words::CheckWords;
-use find_words::{FindWords, SimWords};
-use make_words::MakeWords;
+use crate::check::CheckWords;
+use crate::find::FindWords;
+use crate::make::MakeWords;
+use crate::sim::SimWords;
 
 /// A command, with what it is asked for.
 #[derive(Drop)]

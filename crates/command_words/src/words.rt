@@ -5,10 +5,11 @@ ghost use Rattle.command_words.specs.Asked.{IsAsked};
 ghost use Rattle.command_words.specs.Words.{asked};
 ghost use Rattle.command_words.specs.Requests.{asked_of};
 
+use crate::check::check_words;
+use crate::find::find_words;
+use crate::make::make_words;
 use crate::requests::Request;
-use check_words::check_words;
-use find_words::{find_words, sim_words};
-use make_words::make_words;
+use crate::sim::sim_words;
 use std::alloc::Global;
 use word_values::{Usage, WordsErr};
 

@@ -5,10 +5,10 @@ use Rattle.refusal_lines.specs.Refusals.{memory_line}
 use Rattle.command_contract.specs.Contract.{Keeps, Run, Texts}
 use Rattle.command_contract.proofs.Statuses.{input-refusal}
 use Rattle.word_values.specs.declared.usage.Usage.{Usage}
-use Rattle.check_words.specs.Check.{CheckAsked}
-use Rattle.find_words.specs.Find.{FindAsked}
-use Rattle.find_words.specs.Sim.{SimAsked}
-use Rattle.make_words.specs.Make.{MakeAsked}
+use Rattle.command_words.specs.Check.{CheckAsked}
+use Rattle.command_words.specs.Find.{FindAsked}
+use Rattle.command_words.specs.Sim.{SimAsked}
+use Rattle.command_words.specs.Make.{MakeAsked}
 use Rattle.command_words.specs.Asked.{Asked, find, sim, check, make}
 use Rattle.check_cmd.specs.Asked.{Asked as Checking}
 use Rattle.check_cmd.specs.Checking.{checking}

@@ -7,10 +7,10 @@ use Rattle.std.proofs.lemmas.List.Elements.{All-head, All-tail}
 use Rattle.loc_base.proofs.ShelfLists.{Contains-cons, Contains-empty}
 use Rattle.suspect_map.specs.Choose.{named, unknown, unknown_or}
 use Rattle.suspect_map.proofs.Steps.{same_name}
-use Rattle.check_words.specs.Check.{CheckAsked, IsCheckAsked}
-use Rattle.find_words.specs.Find.{FindAsked, IsFindAsked, IsWavePrefix, other_names}
+use Rattle.command_words.specs.Check.{CheckAsked, IsCheckAsked}
+use Rattle.command_words.specs.Find.{FindAsked, IsFindAsked, IsWavePrefix, other_names}
 use Rattle.set_waves.specs.Names.{IsNoWave}
-use Rattle.make_words.specs.Make.{IsMakeAsked, MakeAsked}
+use Rattle.command_words.specs.Make.{IsMakeAsked, MakeAsked}
 use Rattle.check_cmd.specs.Asked.{Asked as Checking, IsAsked as IsCheckable}
 use Rattle.find_sets.specs.Asked.{AreKnown, Asked as Finding, IsAsked}
 use Rattle.make_cmd.specs.Asked.{Asked as Making, IsAsked as IsMakeable, finding_of as list_of}

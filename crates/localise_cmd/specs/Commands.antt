@@ -3,10 +3,10 @@
 use Rattle.std.specs.Prelude.{ℕ, List, Result, Ok, Err}
 use Rattle.command_contract.specs.Contract.{Case, Keeps, Run}
 use Rattle.word_values.specs.declared.usage.Usage.{Usage}
-use Rattle.check_words.specs.Check.{CheckAsked}
-use Rattle.find_words.specs.Find.{FindAsked}
-use Rattle.find_words.specs.Sim.{SimAsked}
-use Rattle.make_words.specs.Make.{MakeAsked}
+use Rattle.command_words.specs.Check.{CheckAsked}
+use Rattle.command_words.specs.Find.{FindAsked}
+use Rattle.command_words.specs.Sim.{SimAsked}
+use Rattle.command_words.specs.Make.{MakeAsked}
 use Rattle.command_words.specs.Asked.{Asked, find, sim, check, make}
 use Rattle.command_words.specs.Words.{asked as asked_by}
 use Rattle.check_cmd.specs.Asked.{Asked as Checking}

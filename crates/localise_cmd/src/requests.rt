@@ -1,11 +1,11 @@
 //! What words ask for, and the commands' own requests.
 ghost use Rattle.std.specs.Prelude.{◌≡◌, IfOk, map, string_bytes};
 ghost use Rattle.word_values.specs.Answers.{Gives};
-ghost use Rattle.check_words.specs.Requests.{check_asked_of};
-ghost use Rattle.make_words.specs.Requests.{make_asked_of};
+ghost use Rattle.command_words.specs.CheckRequests.{check_asked_of};
+ghost use Rattle.command_words.specs.MakeRequests.{make_asked_of};
 ghost use Rattle.command_words.specs.Asked.{IsAsked};
 ghost use Rattle.command_words.specs.Requests.{asked_of};
-ghost use Rattle.find_words.specs.Requests.{find_asked_of, sim_asked_of};
+ghost use Rattle.command_words.specs.FindRequests.{find_asked_of, sim_asked_of};
 ghost use Rattle.command_words.specs.Words.{asked};
 ghost use Rattle.check_cmd.specs.Asked.{asked_of as asked_of_check};
 ghost use Rattle.find_sets.specs.Requests.{asked_of as asked_of_find};

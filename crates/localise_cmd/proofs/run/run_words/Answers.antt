@@ -4,9 +4,9 @@ use Rattle.std.proofs.lemmas.Bool.{and_parts}
 use Rattle.command_contract.specs.Contract.{Keeps, Run, counts_of, run_of}
 use Rattle.suspect_map.specs.Choose.{joined}
 use Rattle.command_words.specs.Words.{asked}
-use Rattle.check_words.specs.Requests.{check_asked_of}
-use Rattle.find_words.specs.Requests.{find_asked_of, sim_asked_of}
-use Rattle.make_words.specs.Requests.{make_asked_of}
+use Rattle.command_words.specs.CheckRequests.{check_asked_of}
+use Rattle.command_words.specs.FindRequests.{find_asked_of, sim_asked_of}
+use Rattle.command_words.specs.MakeRequests.{make_asked_of}
 use Rattle.check_cmd.specs.Asked.{asked_of as asked_of_check}
 use Rattle.find_sets.specs.Requests.{asked_of as asked_of_find}
 use Rattle.make_cmd.specs.Requests.{asked_of as asked_of_make}

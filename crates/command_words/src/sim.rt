@@ -1,0 +1,95 @@
+//! The words of `sim`.
+ghost use Rattle.std.specs.Prelude.{◌≡◌, IfOk, true, map, string_bytes};
+ghost use Rattle.word_values.specs.Answers.{Gives, Says};
+ghost use Rattle.word_values.specs.Arguments.{IsPlain};
+ghost use Rattle.word_values.specs.Tables.{arguments_of};
+ghost use Rattle.command_words.specs.FindRequests.{sim_asked_of};
+ghost use Rattle.command_words.specs.Sim.{IsSimAsked, are_sim_names, sim_arguments, sim_asked, sim_in};
+ghost use Rattle.command_words.specs.Views.{sim_values};
+
+use loc_base::{Name, NoMemory};
+use std::alloc::Global;
+use word_values::{
+    Given, Sources, Table, Usage, WordsErr, are_source_names, copies_of, given_by, is_name_if,
+    name_if, name_of, sources_in,
+};
+
+/// What `sim` is asked for.
+#[derive(Drop)]
+pub struct SimWords {
+    /// The name of the design's text.
+    pub design: String,
+    /// The module that is the top.
+    pub top: Name,
+    /// The names of the traces' texts.
+    pub traces: Vec<String>,
+    /// The input of the top that is the clock.
+    pub clock: Option<Name>,
+}
+
+/// The values of the command's arguments.
+#[derive(Clone, Copy)]
+pub(crate) struct SimValues<'m, 'a> {
+    pub(crate) texts: Sources<'m, 'a>,
+    pub(crate) clock: Option<&'a str>,
+}
+
+#[tactic(auto, unfolding(crate::specs::Sim::sim_arguments))]
+fn sim_table() -> Table<'static>
+    ensures is { arguments_of result ≡ sim_arguments }
+    ensures plain { IsPlain (arguments_of result) }
+{
+    Table {
+        command: "sim",
+        words: &["design", "top"],
+        rest: Some("trace"),
+        options: &["clock"],
+    }
+}
+
+/// The values of the arguments that say what is read.
+pub(crate) fn values_in<'m, 'a>(given: &'m Given<'a>) -> Result<SimValues<'m, 'a>, Usage>
+    ensures { Says sim_values (sim_in given.entry.now) result }
+{
+    let Some(texts) = sources_in(given) else {
+        return Err(Usage::Words);
+    };
+    Ok(SimValues {
+        texts,
+        clock: given.value("clock"),
+    })
+}
+
+/// Whether the names are names, and there are 1 to 256 traces.
+pub(crate) fn are_names(values: &SimValues) -> bool
+    ensures { result ≡ are_sim_names (sim_values values.now) }
+{
+    are_source_names(&values.texts) && is_name_if(values.clock)
+}
+
+pub(crate) fn copied(alloc: Global, values: &SimValues) -> Result<SimWords, NoMemory>
+    requires { are_sim_names (sim_values values.now) ≡ true }
+    ensures { IfOk result (λ request. sim_asked_of request ≡ sim_values values.now) }
+{
+    Ok(SimWords {
+        design: String::from_str(alloc, values.texts.design)?,
+        top: name_of(alloc, values.texts.top)?,
+        traces: copies_of(alloc, values.texts.traces)?,
+        clock: name_if(alloc, values.clock)?,
+    })
+}
+
+/// What the words of the command ask for, itself the first.
+pub fn sim_words(alloc: Global, words: &[String]) -> Result<SimWords, WordsErr>
+    ensures gives { Gives sim_asked_of (sim_asked (map string_bytes words.now)) result }
+    ensures holds { IfOk result (λ words. IsSimAsked (sim_asked_of words)) }
+{
+    let Some(given) = given_by(alloc, sim_table(), words)? else {
+        return Err(WordsErr::Usage(Usage::Words));
+    };
+    let values = values_in(&given)?;
+    if !are_names(&values) {
+        return Err(WordsErr::Usage(Usage::Name));
+    }
+    Ok(copied(alloc, &values)?)
+}

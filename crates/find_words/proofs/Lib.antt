@@ -1,2 +1,0 @@
-pub mod SimHolding
-pub mod FindHolding

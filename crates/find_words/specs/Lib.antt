@@ -1,4 +1,0 @@
-pub mod Sim
-pub mod Find
-pub mod Requests
-pub mod Views

@@ -1,6 +1,0 @@
-//! The words of `make`.
-#![tactic(auto)]
-
-mod make;
-
-pub use make::{MakeWords, make_words};
