@@ -3,6 +3,7 @@
 ghost use Rattle.std.specs.Prelude.{All, IsTrue, length, ◌↔◌, ◌<◌, ◌^◌};
 ghost use Rattle.cycle_sim.specs.Misses.{AreValuesFor};
 
+use cycle_sim::can_simulate;
 use design_core::{Design, Members, SetWithValues, Trace, Values};
 use loc_base::Gate;
 use set_replays::are_values_for;
@@ -87,6 +88,7 @@ fn the_second_worker_begins_while_the_first_is_held(rt: HostRuntime) -> Result<(
     let design = &found.design;
     let traces = traces(alloc, design, &[&["001", "011", "101", "110"]])?;
     let sets = both_sets(alloc)?;
+    assert!(rt; can_simulate(design, &found.order));
     assert!(rt; traces.len() == 1 && sets.len() == 2 && design.outputs.len() == 1);
     assert!(rt; have_values(design, &traces, &sets));
     let gate = HoldingGate::new();
