@@ -17,13 +17,22 @@ import tempfile
 
 HERE = os.path.dirname(os.path.abspath(__file__))
 CASES = os.path.join(HERE, "..", "cases", "reading", "*")
-# delays and values where it has no grammar for them, a region in a generate block, a loop over the name of a parameter
+# what it refuses: delays and values where it has no grammar for them, a region in a generate block, a loop over the name of a parameter, a
+# bit of a register of one bit, a name on the line behind its directive, a comment that goes on with its macro, a directive in a module,
+# a number without a size in a concatenation, the word `config`, and `&&&`, which it takes for one token
 ONLY_HERE = {
     "delays_of_nets",
     "two_output_registers_with_values",
     "wires_of_which_one_is_assigned",
     "blocks_of_generates_with_labels",
     "parameter_inside_with_the_name_of_an_integer",
+    "index_by_a_number_before_a_register",
+    "directives_in_comments",
+    "macro_of_three_lines",
+    "directives_that_are_read_over",
+    "operators_without_spaces",
+    "port_with_the_name_config",
+    "word_before_a_number_in_a_macro",
 }
 
 
