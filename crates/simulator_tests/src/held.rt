@@ -1,6 +1,6 @@
 //! Workers run side by side: the second one begins while the first one is held.
 
-ghost use Rattle.std.specs.Prelude.{All, IsTrue, length, ◌↔◌, ◌<◌, ◌^◌};
+ghost use Rattle.std.specs.Prelude.{All, IsTrue, length, ◌<◌, ◌^◌};
 ghost use Rattle.cycle_sim.specs.Misses.{AreValuesFor};
 
 use cycle_sim::can_simulate;
@@ -64,12 +64,17 @@ fn set_of(alloc: Global, suspect: u32, place: u32, words: &[bool]) -> Result<Set
 }
 
 /// Whether the values of sets are for traces of a design.
+#[tactic(auto, using(crate::proofs::Lists::list_rules))]
 fn have_values(design: &Design, traces: &[Trace], sets: &[SetWithValues]) -> bool
     requires { length traces.now < 2 ^ 32 }
-    ensures { IsTrue result ↔ All (λ set. AreValuesFor design.now traces.now set.values) sets.now }
+    ensures { IsTrue result → All (λ set. AreValuesFor design.now traces.now set.values) sets.now }
 {
-    sets.iter()
-        .all(|set| are_values_for(design, traces, &set.values))
+    match sets.split_first() {
+        Some((first, rest)) => {
+            are_values_for(design, traces, &first.values) && have_values(design, traces, rest)
+        }
+        None => true,
+    }
 }
 
 /// Of the traces with a b y: 001, 011, 101, 110, in which y is wrong in the second and third cycles, the two sets that explain it.

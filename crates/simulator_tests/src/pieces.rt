@@ -101,7 +101,7 @@ fn a_cycle_is_computed_and_recognized(rt: HostRuntime) -> Result<(), Fail> {
 }
 
 /// Orders of the drivers, and whether each comes behind those that it reads.
-const ORDERS: [([u32; 3], bool); 2] = [([0, 2, 1], true), ([2, 1, 0], false)];
+const ORDERS: [(&[u32], bool); 2] = [(&[0, 2, 1], true), (&[2, 1, 0], false)];
 
 /// Of `n = a; y = n | b; x = n;` with a at 1: where a driver is computed before one that it reads, what comes out is no cycle.
 #[test]
@@ -110,14 +110,15 @@ fn an_order_that_is_none_finds_no_cycle(rt: HostRuntime) -> Result<(), Fail> {
     let found = network(alloc, FAN_OUT)?;
     let design = &found.design;
     let traces = traces(alloc, design, &[&["1011"]])?;
-    let (freed, chosen) = ([false; 3], [Bits::zero(1); 3]);
+    let zero = Bits::zero(1);
+    let (freed, chosen) = ([false, false, false], [zero, zero, zero]);
     assert!(rt; can_run(design));
     assert!(rt; traces.len() == 1);
     let trace = &traces[0];
     assert!(rt; is_trace_of(design, trace));
     assert!(rt; are_chosen(design, trace, &freed, &chosen));
     for (order, is_right) in &ORDERS {
-        let found = meets(alloc, design, order, trace, &freed, &chosen)?;
+        let found = meets(alloc, design, *order, trace, &freed, &chosen)?;
         assert!(rt; found == *is_right);
     }
     Ok(())
