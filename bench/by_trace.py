@@ -226,7 +226,7 @@ def altered(asked, seed, words, room, whole):
         return None
     kind = alter(random.Random(seed), room, names)
     status, printed = run(by_trace_words(asked, 1, "by", words) + ["--join"], room)
-    if status and "set" not in printed and "complete" not in printed:
+    if status and not re.search("^(set|complete) ", printed, re.M):
         return "refused"
     if (status, printed) != (0, whole):
         print("seed %d, %s: %d %r for %r" % (seed, kind, status, printed, whole), flush=True)
