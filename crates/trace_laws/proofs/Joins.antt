@@ -27,11 +27,14 @@ within-unless one other never =
 all-other : {X : Type 0} (P Q : X → Type 0) (xs : List X) → ((x : X) → P x → Q x) → All P xs → All Q xs
 all-other P Q xs turn all k d below = turn _ (all k d below)
 
-module _ (d : Design) (traces : List Trace) (groups : Groups) (k : ℕ) (lists : List (List (List ℕ))) (well : IsWellFormed d)
+module _ (d : Design) (traces : List Trace) (groups : Groups) (k : ℕ) (lists : List (List (List ℕ)))
+    (well : IsWellFormed d)
     (are : AreTraceLists d traces groups k lists) where
   -- a set works exactly where it has one of each
-  pub works-has_each : (set : List ℕ) → IsSet groups set → length set ≤ k → Works d traces groups set → has_one_of_each lists set ≡ true
-  works-has_each set suspects few works = works-each d groups k traces lists are set suspects few (works-one d groups k traces set works)
+  pub works-has_each : (set : List ℕ) → IsSet groups set → length set ≤ k → Works d traces groups set
+      → has_one_of_each lists set ≡ true
+  works-has_each set suspects few works = works-each d groups k traces lists are set suspects few
+      (works-one d groups k traces set works)
 
   pub has_each-works : (set : List ℕ) → has_one_of_each lists set ≡ true → Works d traces groups set
   has_each-works set has = each-works d groups k well traces lists are set has
@@ -40,10 +43,12 @@ module _ (d : Design) (traces : List Trace) (groups : Groups) (k : ℕ) (lists :
   union-works set u = has_each-works set (union-has lists set u)
 
   -- a union within a minimal set is all of it
-  entry-least : (set : List ℕ) → IsEntry d traces groups k set → (inner : List ℕ) → IsUnion lists inner → IsWithin inner set → IsWithin set inner
+  entry-least : (set : List ℕ) → IsEntry d traces groups k set → (inner : List ℕ) → IsUnion lists inner
+      → IsWithin inner set → IsWithin set inner
   entry-least set entry inner u within =
       within-unless set inner
-      (λ proper. entry.minimal.least inner (union-suspects d groups k traces lists inner are u) within proper (union-works inner u))
+      (λ proper. entry.minimal.least inner (union-suspects d groups k traces lists inner are u) within proper
+      (union-works inner u))
 
   -- a minimal set is a least union
   entry-union : (set : List ℕ) → IsEntry d traces groups k set → IsLeastUnion k lists set
@@ -52,7 +57,8 @@ module _ (d : Design) (traces : List Trace) (groups : Groups) (k : ℕ) (lists :
       itself : IsUnion lists set
       itself =
           let (inner, u, within) =
-          union-in lists set entry.suspects.ascending (works-has_each set entry.suspects entry.size entry.minimal.works) in
+          union-in lists set entry.suspects.ascending
+          (works-has_each set entry.suspects entry.size entry.minimal.works) in
           union-same lists inner set entry.suspects.ascending u within (entry-least set entry inner u within)
 
   -- and a least union is minimal
@@ -63,11 +69,14 @@ module _ (d : Design) (traces : List Trace) (groups : Groups) (k : ℕ) (lists :
       suspects : IsSet groups set
       suspects = union-suspects d groups k traces lists set are l.union
 
-      least : (inner : List ℕ) → IsSet groups inner → IsWithin inner set → ¬ IsWithin set inner → ¬ Works d traces groups inner
+      least : (inner : List ℕ) → IsSet groups inner → IsWithin inner set → ¬ IsWithin set inner
+          → ¬ Works d traces groups inner
       least inner part within proper working =
           let few : length inner ≤ length set =
-          within-few set inner (AllPairs-from_increasing set suspects.ascending) (AllPairs-from_increasing inner part.ascending) within in
-          let (deep, u, deeper) = union-in lists inner part.ascending (works-has_each inner part (omega (arith, few, l.size)) working) in
+          within-few set inner (AllPairs-from_increasing set suspects.ascending)
+          (AllPairs-from_increasing inner part.ascending) within in
+          let (deep, u, deeper) = union-in lists inner part.ascending
+          (works-has_each inner part (omega (arith, few, l.size)) working) in
           proper (within-within set deep inner (l.least deep u (within-within deep inner set deeper within)) deeper)
 
   -- a join is the list
@@ -88,22 +97,30 @@ module _ (d : Design) (traces : List Trace) (groups : Groups) (k : ℕ) (lists :
 
 -- ---- a trace that is right with nothing freed
 
-module _ (d : Design) (trace : Trace) (groups : Groups) (k : ℕ) (c : Choices) (meets : Meets d trace (λ _. false) c) where
+module _ (d : Design) (trace : Trace) (groups : Groups) (k : ℕ) (c : Choices)
+    (meets : Meets d trace (λ _. false) c) where
   empty-set : IsSet groups []
-  empty-set = record { ascending = λ i below. absurd (omega (arith, below)); numbers = All-nil (λ m. (1 ≤ m) × (m ≤ length groups)) }
+  empty-set = record {
+    ascending = λ i below. absurd (omega (arith, below));
+    numbers = All-nil (λ m. (1 ≤ m) × (m ≤ length groups));
+  }
 
   empty-works : Works d (trace ∷ []) groups []
   empty-works other member = at (Contains-cons trace [] other member)
     where
       at : (trace ≡ other) ⊎ Contains [] other → WorksFor d groups [] other
-      at (inl same) = subst (WorksFor d groups []) same (c, (λ t p place is free. let wrong : false ≡ true = free in cc), meets)
+      at (inl same) = subst (WorksFor d groups []) same
+          (c, (λ t p place is free. let wrong : false ≡ true = free in cc), meets)
       at (inr none) = absurd (Contains-empty other none)
 
   empty-entry : IsEntry d (trace ∷ []) groups k []
   empty-entry = record {
     suspects = empty-set;
     size = omega arith;
-    minimal = record { works = empty-works; least = λ inner part within proper working. proper (All-nil (Contains inner)) };
+    minimal = record {
+      works = empty-works;
+      least = λ inner part within proper working. proper (All-nil (Contains inner));
+    };
   }
 
   -- no other set is minimal

@@ -28,20 +28,27 @@ pub record Choice (lists : List (List (List ℕ))) (set : List ℕ) : Type 0 whe
 
 -- where it has one of each, there is such a choice
 pub choice-of : (lists : List (List (List ℕ))) (set : List ℕ) → has_one_of_each lists set ≡ true → Choice lists set
-choice-of [] set has = record { chosen = []; one_of_each = tt; within = λ one member. absurd (Contains-empty one member) }
+choice-of [] set has = record {
+  chosen = [];
+  one_of_each = tt;
+  within = λ one member. absurd (Contains-empty one member);
+}
 choice-of (list ∷ lists) set has =
     let (here, behind) = and_parts (has_one list set) (has_one_of_each lists set) has in
     joined (list_any-found (λ one. is_within one set) list here) (choice-of lists set behind)
   where
-    among : (one other : List ℕ) → is_within one set ≡ true → (one ≡ other) ⊎ (is_within other set ≡ true) → is_within other set ≡ true
+    among : (one other : List ℕ) → is_within one set ≡ true → (one ≡ other) ⊎ (is_within other set ≡ true)
+        → is_within other set ≡ true
     among one other within (inl same) = subst (λ it. is_within it set ≡ true) same within
     among one other within (inr is) = is
 
-    part : (one other : List ℕ) (rest : Choice lists set) → (one ≡ other) ⊎ Contains rest.chosen other → (one ≡ other) ⊎ (is_within other set ≡ true)
+    part : (one other : List ℕ) (rest : Choice lists set) → (one ≡ other) ⊎ Contains rest.chosen other
+        → (one ≡ other) ⊎ (is_within other set ≡ true)
     part one other rest (inl same) = inl same
     part one other rest (inr later) = inr (rest.within other later)
 
-    joined : (one : List ℕ) × Contains list one × (is_within one set ≡ true) → Choice lists set → Choice (list ∷ lists) set
+    joined : (one : List ℕ) × Contains list one × (is_within one set ≡ true) → Choice lists set
+        → Choice (list ∷ lists) set
     joined (one, member, within) rest = record {
       chosen = one ∷ rest.chosen;
       one_of_each = (member, rest.one_of_each);
@@ -64,7 +71,8 @@ module _ (chosen : List (List ℕ)) (set : List ℕ) where
   abbrev InOne : ℕ → Bool
   InOne m = list_any (λ one. has one m) chosen
 
-  pub union-from : ((one : List ℕ) → Contains chosen one → is_within one set ≡ true) → ((m : ℕ) → Contains set m → InOne m ≡ true)
+  pub union-from : ((one : List ℕ) → Contains chosen one → is_within one set ≡ true)
+      → ((m : ℕ) → Contains set m → InOne m ≡ true)
       → is_union_of chosen set ≡ true
   union-from within from =
       and_from (list_all (λ one. is_within one set) chosen) (list_all InOne set)
@@ -72,18 +80,21 @@ module _ (chosen : List (List ℕ)) (set : List ℕ) where
 
   pub union-within : is_union_of chosen set ≡ true → (one : List ℕ) → Contains chosen one → is_within one set ≡ true
   union-within is one member =
-      list_all-member (λ it. is_within it set) chosen one (and_parts (list_all (λ it. is_within it set) chosen) (list_all InOne set) is).0 member
+      list_all-member (λ it. is_within it set) chosen one
+      (and_parts (list_all (λ it. is_within it set) chosen) (list_all InOne set) is).0 member
 
   pub union-of : is_union_of chosen set ≡ true → (m : ℕ) → Contains set m → InOne m ≡ true
   union-of is m member =
-      list_all-member InOne set m (and_parts (list_all (λ it. is_within it set) chosen) (list_all InOne set) is).1 member
+      list_all-member InOne set m
+      (and_parts (list_all (λ it. is_within it set) chosen) (list_all InOne set) is).1 member
 
 -- a union has one of each
 pub union-has : (lists : List (List (List ℕ))) (set : List ℕ) → IsUnion lists set → has_one_of_each lists set ≡ true
 union-has lists set u = chosen-has lists u.chosen set u.one_of_each (union-within u.chosen set u.union)
 
 -- the union of a choice
-pub union-in : (lists : List (List (List ℕ))) (set : List ℕ) → IsStrictlyIncreasing set → has_one_of_each lists set ≡ true
+pub union-in : (lists : List (List (List ℕ))) (set : List ℕ) → IsStrictlyIncreasing set
+    → has_one_of_each lists set ≡ true
     → (inner : List ℕ) × IsUnion lists inner × IsWithin inner set
 union-in lists set ascends has_each = (
   inner,
@@ -114,13 +125,15 @@ union-in lists set ascends has_each = (
         (list_any-member (λ it. has it m) choice.chosen one member (has-member one m in_one))))
 
 -- a set that such a union isn't smaller than is one
-pub union-same : (lists : List (List (List ℕ))) (inner set : List ℕ) → IsStrictlyIncreasing set → IsUnion lists inner → IsWithin inner set
+pub union-same : (lists : List (List (List ℕ))) (inner set : List ℕ) → IsStrictlyIncreasing set → IsUnion lists inner
+    → IsWithin inner set
     → IsWithin set inner → IsUnion lists set
 union-same lists inner set ascends u within back = record {
   ascending = ascends;
   chosen = u.chosen;
   one_of_each = u.one_of_each;
-  union = union-from u.chosen set holds (λ m member. union-of u.chosen inner u.union m (within-member set inner back m member));
+  union = union-from u.chosen set holds
+      (λ m member. union-of u.chosen inner u.union m (within-member set inner back m member));
 }
   where
     holds : (one : List ℕ) → Contains u.chosen one → is_within one set ≡ true
@@ -136,7 +149,8 @@ module _ (d : Design) (groups : Groups) (k : ℕ) where
   abbrev Suspect : ℕ → Type 0
   Suspect m = (1 ≤ m) × (m ≤ length groups)
 
-  chosen-suspects : (traces : List Trace) (lists : List (List (List ℕ))) (chosen : List (List ℕ)) → AreTraceLists d traces groups k lists
+  chosen-suspects : (traces : List Trace) (lists : List (List (List ℕ))) (chosen : List (List ℕ))
+      → AreTraceLists d traces groups k lists
       → AreChosen lists chosen → (one : List ℕ) → Contains chosen one → IsSet groups one
   chosen-suspects traces [] [] are of one member = absurd (Contains-empty one member)
   chosen-suspects traces [] (other ∷ chosen) are of one member = absurd of
@@ -147,20 +161,27 @@ module _ (d : Design) (groups : Groups) (k : ℕ) where
     where
       at : (other ≡ one) ⊎ Contains chosen one → (Contains chosen one → IsSet groups one) → IsSet groups one
       at (inl same) rest =
-          subst (IsSet groups) same (All-member (IsEntry d (trace ∷ []) groups k) list other are.0.entries of.0).suspects
+          subst (IsSet groups) same
+          (All-member (IsEntry d (trace ∷ []) groups k) list other are.0.entries of.0).suspects
       at (inr later) rest = rest later
 
   -- a union is a set of suspects
-  pub union-suspects : (traces : List Trace) (lists : List (List (List ℕ))) (set : List ℕ) → AreTraceLists d traces groups k lists
+  pub union-suspects : (traces : List Trace) (lists : List (List (List ℕ))) (set : List ℕ)
+      → AreTraceLists d traces groups k lists
       → IsUnion lists set → IsSet groups set
-  union-suspects traces lists set are u = record { ascending = u.ascending; numbers = each-suspect set (λ m member. suspect m (union-of u.chosen set u.union m member)) }
+  union-suspects traces lists set are u = record {
+    ascending = u.ascending;
+    numbers = each-suspect set (λ m member. suspect m (union-of u.chosen set u.union m member));
+  }
     where
       suspect : (m : ℕ) → list_any (λ one. has one m) u.chosen ≡ true → Suspect m
       suspect m is =
           let (one, member, here) = list_any-found (λ one. has one m) u.chosen is in
-          All-member Suspect one m (chosen-suspects traces lists u.chosen are u.one_of_each one member).numbers (member-has one m here)
+          All-member Suspect one m (chosen-suspects traces lists u.chosen are u.one_of_each one member).numbers
+          (member-has one m here)
 
       each-suspect : (xs : List ℕ) → ((m : ℕ) → Contains xs m → Suspect m) → All Suspect xs
       each-suspect [] each = All-nil Suspect
       each-suspect (x ∷ xs) each =
-          All-cons Suspect x xs (each x (Contains-first x xs)) (each-suspect xs (λ m member. each m (Contains-later x xs m member)))
+          All-cons Suspect x xs (each x (Contains-first x xs))
+          (each-suspect xs (λ m member. each m (Contains-later x xs m member)))

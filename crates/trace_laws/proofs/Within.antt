@@ -12,31 +12,37 @@ use Rattle.trace_laws.specs.Joined.{has, is_within}
 -- ---- by the tests
 
 -- a test that each member passes
-pub list_all-each : {X : Type 0} (test : X → Bool) (xs : List X) → ((x : X) → Contains xs x → test x ≡ true) → list_all test xs ≡ true
+pub list_all-each : {X : Type 0} (test : X → Bool) (xs : List X) → ((x : X) → Contains xs x → test x ≡ true)
+    → list_all test xs ≡ true
 list_all-each test [] each = refl
 list_all-each test (x ∷ xs) each =
-    and_from (test x) (list_all test xs) (each x (Contains-first x xs)) (list_all-each test xs (λ y member. each y (Contains-later x xs y member)))
+    and_from (test x) (list_all test xs) (each x (Contains-first x xs))
+    (list_all-each test xs (λ y member. each y (Contains-later x xs y member)))
 
 pub has-member : (set : List ℕ) (m : ℕ) → Contains set m → has set m ≡ true
 has-member set m member = list_any-member (λ n. n == m) set m member (eq-eqb m m refl)
 
 pub member-has : (set : List ℕ) (m : ℕ) → has set m ≡ true → Contains set m
-member-has set m is = let (n, member, same) = list_any-found (λ n. n == m) set is in subst (Contains set) (eqb-true n m same) member
+member-has set m is =
+    let (n, member, same) = list_any-found (λ n. n == m) set is in subst (Contains set) (eqb-true n m same) member
 
 -- what is within a set, by its members
 pub within-each : (inner outer : List ℕ) → ((m : ℕ) → Contains inner m → Contains outer m) → IsWithin inner outer
 within-each [] outer each = All-nil (Contains outer)
 within-each (x ∷ xs) outer each =
-    All-cons (Contains outer) x xs (each x (Contains-first x xs)) (within-each xs outer (λ m member. each m (Contains-later x xs m member)))
+    All-cons (Contains outer) x xs (each x (Contains-first x xs))
+    (within-each xs outer (λ m member. each m (Contains-later x xs m member)))
 
 pub within-member : (inner outer : List ℕ) → IsWithin inner outer → (m : ℕ) → Contains inner m → Contains outer m
 within-member inner outer within m member = All-member (Contains outer) inner m within member
 
 pub within-is : (inner outer : List ℕ) → is_within inner outer ≡ true → IsWithin inner outer
-within-is inner outer is = within-each inner outer (λ m member. member-has outer m (list_all-member (has outer) inner m is member))
+within-is inner outer is = within-each inner outer
+    (λ m member. member-has outer m (list_all-member (has outer) inner m is member))
 
 pub is-within : (inner outer : List ℕ) → IsWithin inner outer → is_within inner outer ≡ true
-is-within inner outer within = list_all-each (has outer) inner (λ m member. has-member outer m (within-member inner outer within m member))
+is-within inner outer within = list_all-each (has outer) inner
+    (λ m member. has-member outer m (within-member inner outer within m member))
 
 -- a set that is within one which is within a third
 pub within-within : (one two three : List ℕ) → IsWithin one two → IsWithin two three → IsWithin one three
@@ -49,8 +55,11 @@ abbrev pub Ascends : List ℕ → Type 0
 Ascends set = AllPairs (λ x y. x < y) set
 
 -- what is within a list and hasn't its first is within the rest
-past-first : (inner : List ℕ) (y : ℕ) (ys : List ℕ) → IsWithin inner (y ∷ ys) → ((m : ℕ) → Contains inner m → y < m) → IsWithin inner ys
-past-first inner y ys within above = within-each inner ys (λ m member. at m (above m member) (Contains-cons y ys m (within-member inner (y ∷ ys) within m member)))
+past-first : (inner : List ℕ) (y : ℕ) (ys : List ℕ) → IsWithin inner (y ∷ ys) → ((m : ℕ) → Contains inner m → y < m)
+    → IsWithin inner ys
+past-first inner y ys within above =
+    within-each inner ys
+    (λ m member. at m (above m member) (Contains-cons y ys m (within-member inner (y ∷ ys) within m member)))
   where
     at : (m : ℕ) → y < m → (y ≡ m) ⊎ Contains ys m → Contains ys m
     at m more (inl same) = absurd (omega (arith, more, same))
@@ -64,7 +73,8 @@ from-first x xs ascends m member = at (Contains-cons x xs m member)
     at (inl same) = omega (arith, same)
     at (inr later) = let more : x < m = AllPairs-first (λ a b. a < b) x xs m ascends later in omega (arith, more)
 
-module _ (x y : ℕ) (xs ys : List ℕ) (one : Ascends (x ∷ xs)) (other : Ascends (y ∷ ys)) (within : IsWithin (x ∷ xs) (y ∷ ys)) where
+module _ (x y : ℕ) (xs ys : List ℕ) (one : Ascends (x ∷ xs)) (other : Ascends (y ∷ ys))
+    (within : IsWithin (x ∷ xs) (y ∷ ys)) where
   -- where the firsts are one, the rest is within the rest
   rest-within : y ≡ x → IsWithin xs ys
   rest-within same =
@@ -75,12 +85,15 @@ module _ (x y : ℕ) (xs ys : List ℕ) (one : Ascends (x ∷ xs)) (other : Asce
   all-within : Contains ys x → IsWithin (x ∷ xs) ys
   all-within later =
       let below : y < x = AllPairs-first (λ a b. a < b) y ys x other later in
-      past-first (x ∷ xs) y ys within (λ m member. let least : x ≤ m = from-first x xs one m member in omega (arith, below, least))
+      past-first (x ∷ xs) y ys within
+      (λ m member. let least : x ≤ m = from-first x xs one m member in omega (arith, below, least))
 
 -- a set has no more members than one that it is within
-pub within-few : (outer inner : List ℕ) → Ascends outer → Ascends inner → IsWithin inner outer → length inner ≤ length outer
+pub within-few : (outer inner : List ℕ) → Ascends outer → Ascends inner → IsWithin inner outer
+    → length inner ≤ length outer
 within-few [] [] other one within = omega arith
-within-few [] (x ∷ xs) other one within = absurd (Contains-empty x (within-member (x ∷ xs) [] within x (Contains-first x xs)))
+within-few [] (x ∷ xs) other one within = absurd
+    (Contains-empty x (within-member (x ∷ xs) [] within x (Contains-first x xs)))
 within-few (y ∷ ys) [] other one within = omega arith
 within-few (y ∷ ys) (x ∷ xs) other one within =
     at (Contains-cons y ys x (within-member (x ∷ xs) (y ∷ ys) within x (Contains-first x xs)))
@@ -92,12 +105,15 @@ within-few (y ∷ ys) (x ∷ xs) other one within =
     at : (y ≡ x) ⊎ Contains ys x → Rest → length (x ∷ xs) ≤ length (y ∷ ys)
     at (inl same) rest =
         let few : length xs ≤ length ys =
-        rest xs (AllPairs-later (λ a b. a < b) x xs one) (rest-within x y xs ys one other within same) in omega (arith, few)
+        rest xs (AllPairs-later (λ a b. a < b) x xs one) (rest-within x y xs ys one other within same) in
+        omega (arith, few)
     at (inr later) rest =
-        let few : length (x ∷ xs) ≤ length ys = rest (x ∷ xs) one (all-within x y xs ys one other within later) in omega (arith, few)
+        let few : length (x ∷ xs) ≤ length ys = rest (x ∷ xs) one
+        (all-within x y xs ys one other within later) in omega (arith, few)
 
 -- and fewer where the other isn't within it
-pub within-fewer : (outer inner : List ℕ) → Ascends outer → Ascends inner → IsWithin inner outer → ¬ IsWithin outer inner
+pub within-fewer : (outer inner : List ℕ) → Ascends outer → Ascends inner → IsWithin inner outer
+    → ¬ IsWithin outer inner
     → length inner < length outer
 within-fewer [] inner other one within proper = absurd (proper (All-nil (Contains inner)))
 within-fewer (y ∷ ys) [] other one within proper = omega arith
@@ -113,12 +129,14 @@ within-fewer (y ∷ ys) (x ∷ xs) other one within proper =
         All-cons (Contains (x ∷ xs)) y ys (subst (Contains (x ∷ xs)) (sym same) (Contains-first x xs))
         (within-each ys (x ∷ xs) (λ m member. Contains-later x xs m (within-member ys xs back m member)))
 
-    at : (y ≡ x) ⊎ Contains ys x → (IsWithin xs ys → ¬ IsWithin ys xs → length xs < length ys) → length (x ∷ xs) < length (y ∷ ys)
+    at : (y ≡ x) ⊎ Contains ys x → (IsWithin xs ys → ¬ IsWithin ys xs → length xs < length ys)
+        → length (x ∷ xs) < length (y ∷ ys)
     at (inl same) rest =
         let fewer : length xs < length ys =
         rest (rest-within x y xs ys one other within same) (λ back. proper (longer same back)) in omega (arith, fewer)
     at (inr later) rest =
-        let few : length (x ∷ xs) ≤ length ys = within-few ys (x ∷ xs) tail one (all-within x y xs ys one other within later) in
+        let few : length (x ∷ xs) ≤ length ys = within-few ys (x ∷ xs) tail one
+        (all-within x y xs ys one other within later) in
         omega (arith, few)
 
 -- ---- those that pass a test
@@ -126,7 +144,8 @@ within-fewer (y ∷ ys) (x ∷ xs) other one within proper =
 -- a member that passes is among those that pass
 pub filter-has : (p : ℕ → Bool) (xs : List ℕ) (x : ℕ) → Contains xs x → p x ≡ true → Contains (filter p xs) x
 filter-has p [] x member passes = member
-filter-has p (y ∷ xs) x member passes = at (Contains-cons y xs x member) (p y) refl (λ later. filter-has p xs x later passes)
+filter-has p (y ∷ xs) x member passes = at (Contains-cons y xs x member) (p y) refl
+    (λ later. filter-has p xs x later passes)
   where
     at : (y ≡ x) ⊎ Contains xs x → (b : Bool) → p y ≡ b → (Contains xs x → Contains (filter p xs) x)
         → Contains (cond b (y ∷ filter p xs) (filter p xs)) x
