@@ -9,7 +9,7 @@ is asked for. PROGRAM is crates/localise/out/localise where it isn't given. Prin
 by the clock:
 
     find       one run of `find` on all dumps; in brackets the processor's seconds
-    check      `check` of its list
+    check      `check` of its list, and the processor's seconds
     by N       tools/by_trace.py with --jobs N: all runs of `sim`, `find` and `check`, and the join; behind the first in brackets the processor's seconds
     join       the joining of the lists alone
     x          how many times as fast the last `by` is as `find` and `check` together, and in brackets as `find` alone
@@ -97,13 +97,13 @@ def row_of(asked, name):
         traces = recorded(name, cycles, asked.tests, room)
         words = ["wrong.v", name, *traces, "--clock", "clk", "--size", str(asked.size), "--budget", "10000000"]
         joint, _, find, find_cpu, joint_memory = measured([asked.program, "find", *words], room)
-        said, _, check, _, _ = measured([asked.program, "check", "wrong.v", name, "localise.json", "localise.log", *traces], room)
+        said, _, check, check_cpu, _ = measured([asked.program, "check", "wrong.v", name, "localise.json", "localise.log", *traces], room)
         ran = [measured(by_trace_words(asked, jobs, "by%d" % jobs, words), room) for jobs in asked.jobs]
         prefix = "by%d" % asked.jobs[0]
         join, fail = join_alone(room, prefix, asked.tests, asked.size), failing(room, prefix, asked.tests)
     right = all(it[0] == by_trace_of(joint) for it in ran) and last_line(said).startswith("yes")
     ratios = ((find + check) / ran[-1][2], find / ran[-1][2])
-    row = [name, cycles, fail, str(sizes_of(joint)), "%.2f (%.2f)" % (find, find_cpu), "%.2f" % check]
+    row = [name, cycles, fail, str(sizes_of(joint)), "%.2f (%.2f)" % (find, find_cpu), "%.2f (%.2f)" % (check, check_cpu)]
     row += ["%.2f" % it[2] + (" (%.2f)" % it[3] if it is ran[0] else "") for it in ran]
     row += ["%.4f" % join, "%.1f (%.1f)" % ratios, "%.0f %.0f" % (joint_memory, max(it[4] for it in ran))]
     print_row(asked, row)
@@ -113,7 +113,7 @@ def row_of(asked, name):
 
 
 def print_row(asked, row):
-    print(" ".join(["%-12s %6s %4s %-22s %16s %7s" % tuple(row[:6])] + ["%15s" % it for it in row[6:-3]] + ["%8s %12s %9s" % tuple(row[-3:])]), flush=True)
+    print(" ".join(["%-12s %6s %4s %-22s %16s %16s" % tuple(row[:6])] + ["%15s" % it for it in row[6:-3]] + ["%8s %12s %9s" % tuple(row[-3:])]), flush=True)
 
 
 def measure(asked):
