@@ -1,0 +1,12 @@
+pub mod Joining
+pub mod Tests
+pub mod Reaching
+pub mod Seeing
+pub mod Whole
+pub mod OneAnswer
+pub mod Left
+pub mod Ascending
+pub mod Choosing
+pub mod Fronted
+pub mod Finished
+pub mod Examples

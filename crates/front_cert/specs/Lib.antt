@@ -1,0 +1,6 @@
+pub mod Shows
+pub mod Unshown
+pub mod Reaches
+pub mod Left
+pub mod Fronts
+pub mod Certificates
