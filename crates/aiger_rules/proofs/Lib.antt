@@ -1,0 +1,4 @@
+pub mod FirstLaws
+pub mod LiteralSteps
+pub mod LiteralLaws
+pub mod Examples

@@ -1,0 +1,4 @@
+pub mod First
+pub mod Literals
+pub mod Refusals
+pub mod Laws

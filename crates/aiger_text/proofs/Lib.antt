@@ -1,0 +1,11 @@
+pub mod CutSteps
+pub mod Splits
+pub mod NumberSteps
+pub mod LineSteps
+pub mod RowSteps
+pub mod SymbolSteps
+pub mod ContentSteps
+pub mod Same
+pub mod ContentLaws
+pub mod RefusalLaws
+pub mod Examples
