@@ -6,8 +6,7 @@ ghost use Rattle.trail_core.specs.Values.{IsVariable, IsUnassignedIn, IsFalsifie
 ghost use Rattle.trail_core.specs.TrailState.{TrailState, IsTrail, IsNumber, MayAdd, AllRest, Propagates, with_clause, with_decision, back_at, values_of, level_in, reason_in};
 
 use crate::plain::PlainTrail;
-use crate::propagation::{number_of, watch};
-use crate::shorts::{Shorts, enter, make_short_room, no_short_clauses};
+use crate::watch::{number_of, watch};
 use crate::watches::{Watches, go_back, make_room, watches_of};
 use clause_base::Lit;
 use loc_base::NoMemory;
@@ -21,7 +20,6 @@ use std::marker::Model;
 pub struct Trail {
     plain: PlainTrail,
     watches: Watches,
-    shorts: Shorts,
 }
 
 impl Model for Trail {
@@ -32,7 +30,7 @@ impl Model for Trail {
 
     ghost view = { λ t. t.plain };
 
-    ghost invariant = { λ t. IsWatching t.plain t.watches t.shorts };
+    ghost invariant = { λ t. IsWatching t.plain t.watches };
 }
 
 impl Trail {
@@ -43,12 +41,7 @@ impl Trail {
     {
         let plain = PlainTrail::new(alloc, vars)?;
         let watches = watches_of(alloc, vars)?;
-        let shorts = no_short_clauses(alloc, vars)?;
-        Ok(Trail {
-            plain,
-            watches,
-            shorts,
-        })
+        Ok(Trail { plain, watches })
     }
 
     /// Adds a clause of these literals and gives its number, the first being 1. Unchanged after `NoMemory`.
@@ -63,10 +56,7 @@ impl Trail {
         ensures trail { IsTrail self.new }
     {
         make_room(&mut self.watches, self.plain.count(), literals)?;
-        make_short_room(&mut self.shorts, literals)?;
-        let number = self.plain.add_clause(literals)?;
-        enter(&mut self.shorts, number, literals);
-        Ok(number)
+        self.plain.add_clause(literals)
     }
 
     /// Makes literals true at the present level for as long as a clause is unit, each with that clause as its
@@ -79,7 +69,7 @@ impl Trail {
         ensures rest { IfNone result (AllRest self.new.clauses (values_of self.new.entries)) }
         ensures trail { IsTrail self.new }
     {
-        number_of(watch(&mut self.plain, &mut self.watches, &self.shorts))
+        number_of(watch(&mut self.plain, &mut self.watches))
     }
 
     /// Raises the decision level by one, and makes a literal true there as its decision. It takes no memory.
@@ -91,7 +81,7 @@ impl Trail {
         ensures trail { IsTrail self.new }
     {
         // All clauses rest, so it forces nothing: it goes over the last true literals.
-        let _rests = watch(&mut self.plain, &mut self.watches, &self.shorts);
+        let _rests = watch(&mut self.plain, &mut self.watches);
         self.plain.decide(l);
     }
 
