@@ -12,7 +12,7 @@ A case is a folder `cases/LAYER/NAME/`:
     stderr     what stands on standard error (no such file: it isn't looked at)
     written/   each text that the run leaves, by its name
     writes     the names, one a line, of texts that the run leaves and that aren't compared
-    again      more words, one a line: a second run, with them behind those of `args`, does the same
+    again      more words, one a line: a second run, with them after those of `args`, does the same
 
 Every other file is an input: the design, the dumps, a report, a log. The program runs in a folder of its own with copies of
 the inputs. It must leave them as they were, leave each text of `written/` and `writes`, and leave no other. An input that is
