@@ -4,7 +4,7 @@ ghost use Rattle.std.specs.Prelude.{All};
 ghost use Rattle.design_core.specs.TraceFits.{IsTraceOf};
 ghost use Rattle.plain_list.specs.Network.{IsNetwork};
 
-use crate::random::{Numbers, changed, cycle, gates, text};
+use crate::random::{Gate, Numbers, changed, cycle, gates, text};
 use crate::runs::{printed, run};
 use crate::same::same;
 use design_core::{SetWithValues, Trace};
@@ -86,10 +86,34 @@ fn list_lines(alloc: Global, sets: &[SetWithValues]) -> Result<String, Fail> {
     Ok(lines)
 }
 
+/// Three cycles of a network by random inputs, each with a digit for each port.
+fn rows(alloc: Global, gates: &[Gate], numbers: &mut Numbers) -> Result<Vec<String>, Fail> {
+    let mut rows = Vec::new(alloc);
+    for _ in 0..3 {
+        rows.push(cycle(alloc, gates, numbers.below(8))?)?;
+    }
+    Ok(rows)
+}
+
+fn slices<'a>(alloc: Global, rows: &'a [String]) -> Result<Vec<&'a str>, Fail> {
+    let mut slices = Vec::new(alloc);
+    for row in rows {
+        slices.push(row.as_str())?;
+    }
+    Ok(slices)
+}
+
+/// A list of one dump.
+fn only<'a>(alloc: Global, cycles: &'a [&'a str]) -> Result<Vec<&'a [&'a str]>, Fail> {
+    let mut dumps = Vec::new(alloc);
+    dumps.push(cycles)?;
+    Ok(dumps)
+}
+
 /// What a plain trial lists for a design and a dump's cycles.
 fn plain(alloc: Global, design: &str, cycles: &[&str]) -> Result<String, Fail> {
     let ordered = network(alloc, design.as_bytes())?;
-    let dumps = [cycles];
+    let dumps = only(alloc, cycles)?;
     let traces = traces(alloc, &ordered.design, &dumps)?;
     let search = tried(alloc, &ordered, &traces)?;
     list_lines(alloc, search.found())
@@ -118,13 +142,8 @@ fn is_tried<R: Threads + Sync + Abort>(
 ) -> Result<(), Fail> {
     let right = gates(alloc, numbers)?;
     let design = text(alloc, &changed(alloc, &right, numbers)?)?;
-    let first = cycle(alloc, &right, numbers.below(8))?;
-    let second = cycle(alloc, &right, numbers.below(8))?;
-    let third = cycle(alloc, &right, numbers.below(8))?;
-    let one = first.as_str();
-    let two = second.as_str();
-    let three = third.as_str();
-    let cycles = [one, two, three];
+    let rows = rows(alloc, &right, numbers)?;
+    let cycles = slices(alloc, &rows)?;
     let wanted = plain(alloc, design.as_str(), &cycles)?;
     let mut texts = Texts::new(alloc);
     texts.add("m.v", Bytes::copy_of(alloc, design.as_bytes())?)?;
