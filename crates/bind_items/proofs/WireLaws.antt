@@ -5,6 +5,7 @@ use Rattle.std.proofs.lemmas.List.{length-map, length-take-le, map_more, get_or-
 use Rattle.std.specs.Option.{option_or}
 use Rattle.std.specs.Cmp.Lexicographic.{same_text}
 use Rattle.std.proofs.lemmas.Option.{none-some}
+use Rattle.loc_base.proofs.ShelfOptions.{option_map-none}
 use Rattle.v_syntax.specs.declared.item.NamedConnection.{NamedConnection}
 use Rattle.v_syntax.specs.ItemTree.{PlainConnection, connection_of}
 use Rattle.v_hierarchy.specs.Names.{same_name}
@@ -60,14 +61,10 @@ first-pushed name (d ∷ ds) c =
 pub ruleset pushed_laws = (first-pushed)
 
 -- ---- what a name is connected to
-suc-none : (o : Option ℕ) → option_map suc o ≡ None → o ≡ None
-suc-none None e = refl
-suc-none (Some n) e = absurd (none-some (suc n) (sym e))
-
 none-behind : (same : Bool) (first : Option ℕ) (own rest : Option Wire) → (if same then Some 0 else option_map suc first) ≡ None → (first ≡ None → rest ≡ None)
     → (if same then own else rest) ≡ None
 none-behind true first own rest none more = absurd (none-some 0 (sym none))
-none-behind false first own rest none more = more (suc-none first none)
+none-behind false first own rest none more = more (option_map-none suc first none)
 
 pub named-none : (name : List ℕ) (cs : List PlainConnection) → first_named name cs ≡ None → wire_named name cs ≡ None
 named-none name [] none = refl

@@ -9,13 +9,14 @@ use Rattle.std.proofs.lemmas.List.Quantifiers.{all_pairs_push}
 use Rattle.loc_base.proofs.ShelfLists.{All-member, Contains-cons, Contains-empty}
 use Rattle.clause_base.specs.Satisfaction.{Satisfies}
 use Rattle.card_counter.proofs.Said.{satisfies-behind, satisfies-both, satisfies-front}
-use Rattle.design_core.specs.Listing.{IsEntry, IsFront, IsList, is_before}
+use Rattle.loc_base.specs.Sets.{is_before}
+use Rattle.loc_base.proofs.SetOrder.{before-fewer, before-total}
+use Rattle.design_core.specs.Listing.{IsEntry, IsFront, IsList}
 use Rattle.design_core.specs.Works.{IsSet, IsWithin, Works}
 use Rattle.set_enum.specs.Sets.{IsFirst, IsSetOf, NoneBelow, block_of, selected}
 use Rattle.set_enum.proofs.Selecting.{selected-IsSetOf}
 use Rattle.debug_core.specs.Listed.{EncodesListed, IsSelected, Listed, with_blocks}
 use Rattle.debug_core.proofs.Blocked.{Unmet, met-apart, met-or-unmet, unmet-within}
-use Rattle.debug_core.proofs.Orders.{before-fewer, before-same, before-total}
 use Rattle.debug_core.proofs.Selected.{within-few, within-fewer, within-same}
 
 -- sets of suspects, and sets of the numbers up to theirs
@@ -120,7 +121,7 @@ module _ (of : Listed) (encodes : EncodesListed of) (front : IsFront of.design o
     not-before : (other : List ℕ) → length other ≤ of.k → IsSelected n (with_blocks of) other → is_before other set ≡ true → ⊥
     not-before other few chosen before =
         let fails = first.first chosen.assignment chosen.satisfies (omega (arith, ap length chosen.selects, few)) in
-        let same = sym (before-same (selected n chosen.assignment) set) ∙ ap (λ s. is_before s set) chosen.selects in
+        let same = ap (λ s. is_before s set) chosen.selects in
         let wrong : true ≡ false = sym before ∙ (sym same ∙ fails) in cc
 
     least : (inner : List ℕ) → IsSet of.groups inner → IsWithin inner set → ¬ IsWithin set inner → ¬ Work inner

@@ -1,6 +1,5 @@
 pub mod Selected
 pub mod Blocked
-pub mod Orders
 pub mod Fronts
 pub mod OfForm
 pub mod Logs

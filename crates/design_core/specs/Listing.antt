@@ -1,34 +1,41 @@
 -- The main statement: what the right list of suspect sets is, and what may be listed where the search was cut off.
-use Rattle.std.specs.Prelude.{ℕ, ◌≤◌, ◌==◌, Bool, false, ◌&&◌, ◌||◌, nat_lt, IsTrue, List, [], ◌∷◌, length, All, AllPairs, Contains}
+use Rattle.std.specs.Prelude.{ℕ, ◌≤◌, IsTrue, List, length, All, AllPairs, Contains}
+use Rattle.loc_base.specs.Sets.{is_before}
 use Rattle.design_core.specs.declared.design.Design.{Design}
 use Rattle.design_core.specs.declared.trace.Trace.{Trace}
-use Rattle.design_core.specs.Works.{Groups, IsSet, IsMinimal}
+use Rattle.design_core.specs.Works.{Groups, IsSet, IsMinimalFor, Works}
 
--- whether one list of numbers stands before another of its length: by the first number that differs
-abbrev pub is_lower : List ℕ → List ℕ → Bool
-is_lower [] ys = false
-is_lower (x ∷ xs) [] = false
-is_lower (x ∷ xs) (y ∷ ys) = nat_lt x y || (x == y && is_lower xs ys)
-
--- whether one set is listed before another: by size, then by members
-abbrev pub is_before : List ℕ → List ℕ → Bool
-is_before one other = nat_lt (length one) (length other) || (length one == length other && is_lower one other)
+-- ---- of whatever is asked of a set
 
 -- a minimal set of at most k suspects
-pub record IsEntry (d : Design) (traces : List Trace) (groups : Groups) (k : ℕ) (set : List ℕ) : Type 0 where
+pub record IsEntryFor (Work : List ℕ → Type 0) (groups : Groups) (k : ℕ) (set : List ℕ) : Type 0 where
   pub suspects : IsSet groups set
   pub size : length set ≤ k
-  pub minimal : IsMinimal d traces groups set
+  pub minimal : IsMinimalFor Work groups set
 
 -- the whole list: every minimal set of at most k suspects, and nothing else, in order
-pub record IsList (d : Design) (traces : List Trace) (groups : Groups) (k : ℕ) (sets : List (List ℕ)) : Type 0 where
-  pub entries : All (IsEntry d traces groups k) sets
+pub record IsListFor (Work : List ℕ → Type 0) (groups : Groups) (k : ℕ) (sets : List (List ℕ)) : Type 0 where
+  pub entries : All (IsEntryFor Work groups k) sets
   pub ordered : AllPairs (λ one other. IsTrue (is_before one other)) sets
-  pub complete : (set : List ℕ) → IsEntry d traces groups k set → Contains sets set
+  pub complete : (set : List ℕ) → IsEntryFor Work groups k set → Contains sets set
 
 -- a front: minimal sets of at most k suspects in order, and none is missing before one that is there
-pub record IsFront (d : Design) (traces : List Trace) (groups : Groups) (k : ℕ) (sets : List (List ℕ)) : Type 0 where
-  pub entries : All (IsEntry d traces groups k) sets
+pub record IsFrontFor (Work : List ℕ → Type 0) (groups : Groups) (k : ℕ) (sets : List (List ℕ)) : Type 0 where
+  pub entries : All (IsEntryFor Work groups k) sets
   pub ordered : AllPairs (λ one other. IsTrue (is_before one other)) sets
-  pub none_missing : (set listed : List ℕ) → IsEntry d traces groups k set → Contains sets listed
+  pub none_missing : (set listed : List ℕ) → IsEntryFor Work groups k set → Contains sets listed
       → IsTrue (is_before set listed) → Contains sets set
+
+-- ---- of sets that work
+
+-- a minimal working set of at most k suspects
+abbrev pub IsEntry : Design → List Trace → Groups → ℕ → List ℕ → Type 0
+IsEntry d traces groups k set = IsEntryFor (Works d traces groups) groups k set
+
+-- the whole list of the minimal working sets of at most k suspects
+abbrev pub IsList : Design → List Trace → Groups → ℕ → List (List ℕ) → Type 0
+IsList d traces groups k sets = IsListFor (Works d traces groups) groups k sets
+
+-- a front of that list
+abbrev pub IsFront : Design → List Trace → Groups → ℕ → List (List ℕ) → Type 0
+IsFront d traces groups k sets = IsFrontFor (Works d traces groups) groups k sets

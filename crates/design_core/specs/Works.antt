@@ -42,7 +42,11 @@ pub record IsSet (groups : Groups) (set : List ℕ) : Type 0 where
 abbrev pub IsWithin : List ℕ → List ℕ → Type 0
 IsWithin inner outer = All (Contains outer) inner
 
+-- a set of which something holds that holds of no proper subset of it
+pub record IsMinimalFor (Work : List ℕ → Type 0) (groups : Groups) (set : List ℕ) : Type 0 where
+  pub works : Work set
+  pub least : (inner : List ℕ) → IsSet groups inner → IsWithin inner set → ¬ IsWithin set inner → ¬ Work inner
+
 -- a set that works, and no proper subset of it does
-pub record IsMinimal (d : Design) (traces : List Trace) (groups : Groups) (set : List ℕ) : Type 0 where
-  pub works : Works d traces groups set
-  pub least : (inner : List ℕ) → IsSet groups inner → IsWithin inner set → ¬ IsWithin set inner → ¬ Works d traces groups inner
+abbrev pub IsMinimal : Design → List Trace → Groups → List ℕ → Type 0
+IsMinimal d traces groups set = IsMinimalFor (Works d traces groups) groups set

@@ -1,6 +1,6 @@
 use loc_base::Name;
 
-/// Where a value is assigned.
+/// Where a value is assigned or computed.
 #[derive(Clone, Copy, Debug, PartialEq, Eq)]
 pub enum PlaceKind {
     /// A continuous assignment.
@@ -13,6 +13,10 @@ pub enum PlaceKind {
     PortOut,
     /// An AND of an AIGER file.
     And,
+    /// The condition of an `if`, or the subject of a `case`.
+    Cond,
+    /// An input port connection of a module instance.
+    PortIn,
 }
 
 /// A place: one assignment of the elaborated design, whose value a suspect set may choose in each cycle.

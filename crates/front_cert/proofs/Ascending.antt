@@ -7,7 +7,7 @@ use Rattle.std.proofs.lemmas.Bool.{and_from, and_parts, eq-eqb, lt-ltb, ltb-true
 use Rattle.std.proofs.lemmas.List.Elements.{All-contains_itself, All-head, All-tail}
 use Rattle.loc_base.proofs.ShelfBools.{equal-true, suc-add_one}
 use Rattle.loc_base.proofs.ShelfLists.{Contains-cons, Contains-empty, Contains-first, Contains-later}
-use Rattle.design_core.specs.Listing.{is_before, is_lower}
+use Rattle.loc_base.specs.Sets.{is_before, is_lower}
 use Rattle.design_core.specs.Works.{IsWithin}
 
 -- the numbers ascend from above one on

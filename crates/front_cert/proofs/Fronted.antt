@@ -12,7 +12,8 @@ use Rattle.clause_base.specs.Satisfaction.{Satisfies}
 use Rattle.clause_base.specs.Counted.{IsPassedOver}
 use Rattle.card_counter.specs.InForm.{NamesNoCounter, literals_from}
 use Rattle.card_counter.specs.Means.{true_count}
-use Rattle.design_core.specs.Listing.{IsEntry, IsFront, is_before, is_lower}
+use Rattle.loc_base.specs.Sets.{is_before, is_lower}
+use Rattle.design_core.specs.Listing.{IsEntry, IsFront}
 use Rattle.design_core.specs.Works.{Groups, IsSet, IsWithin, Works}
 use Rattle.front_cert.specs.Fronts.{Claimed, IsChosen, IsShown, block}
 use Rattle.front_cert.specs.Left.{IsLogged, IsNotBefore, Logged}

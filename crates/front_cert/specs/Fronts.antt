@@ -2,7 +2,8 @@
 use Rattle.std.specs.Prelude.{◌≡◌, ℕ, ◌≤◌, ◌↔◌, Bool, true, IsTrue, List, length, map, All, AllPairs, Contains}
 use Rattle.design_core.specs.declared.design.Design.{Design}
 use Rattle.design_core.specs.declared.trace.Trace.{Trace}
-use Rattle.design_core.specs.Listing.{IsFront, is_before}
+use Rattle.loc_base.specs.Sets.{is_before}
+use Rattle.design_core.specs.Listing.{IsFront}
 use Rattle.design_core.specs.Works.{Groups, IsSet, IsWithin, Works}
 use Rattle.clause_base.specs.declared.literal.Lit.{Lit}
 use Rattle.clause_base.specs.declared.log.Step.{Step}

@@ -4,6 +4,7 @@ use Rattle.std.specs.Prelude.{All, true, ◌&&◌, nat_lt}
 use Rattle.std.specs.List.{list_all}
 use Rattle.std.proofs.lemmas.Bool.{lt-ltb}
 use Rattle.std.proofs.lemmas.List.{length-map}
+use Rattle.loc_base.proofs.ShelfLists.{list_all-below}
 use Rattle.gate_base.specs.Nodes.{counted}
 use Rattle.plain_sim.proofs.EvaluateRun.{can-run}
 use Rattle.suspect_map.specs.declared.group.Group.{Group}
@@ -22,16 +23,10 @@ use Rattle.debug_core.specs.Listed.{Encodes}
 use Rattle.design_core.specs.Works.{Works}
 
 -- ---- the design
-below-passes : (n : ℕ) (xs : List ℕ) → All (λ p. p < n) xs → list_all (λ i. nat_lt i n) xs ≡ true
-below-passes n [] all = refl
-below-passes n (x ∷ xs) all =
-    ap (λ b. b && list_all (λ i. nat_lt i n) xs) (lt-ltb x n (all 0 x (omega arith)))
-    ∙ below-passes n xs (λ i d low. all (suc i) d (omega (arith, low)))
-
 pub can-simulate : (p : Problem) → IsProblem p → CanSimulate p.design p.order
 can-simulate p can = record {
   can_run = can-run p.design can.well_formed;
-  numbers = below-passes (length p.design.drivers.items) p.order can.ordered.numbers;
+  numbers = list_all-below (length p.design.drivers.items) p.order can.ordered.numbers;
 }
 
 pub simulable : (p : Problem) → IsProblem p → IsSimulable p.design p.order

@@ -3,7 +3,7 @@ use Rattle.std.proofs.Common.{◌≡◌, ◌⊎◌, inl, inr, ℕ, ◌<◌, ◌�
 use Rattle.std.specs.Prelude.{nat_lt}
 use Rattle.std.proofs.lemmas.Bool.{and_from, and_parts, eq-eqb, lt-ltb, ltb-true, or_cases, or_left, or_right}
 use Rattle.loc_base.proofs.ShelfBools.{equal-true}
-use Rattle.design_core.specs.Listing.{is_before, is_lower}
+use Rattle.loc_base.specs.Sets.{is_before, is_lower}
 
 below : (x y : ℕ) (rest : Bool) → x < y → (nat_lt x y || ((x == y) && rest)) ≡ true
 below x y rest less = or_left (nat_lt x y) ((x == y) && rest) (lt-ltb x y less)

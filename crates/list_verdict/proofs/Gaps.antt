@@ -5,7 +5,7 @@ use Rattle.std.specs.List.Sorted.{IsStrictlyIncreasing}
 use Rattle.std.proofs.lemmas.Bool.{and_parts, ltb-false, ltb-true}
 use Rattle.loc_base.proofs.ShelfBools.{equal-true}
 use Rattle.loc_base.proofs.ShelfLists.{All-member, Contains-cons, Contains-empty, Contains-first, Contains-later}
-use Rattle.design_core.specs.Listing.{is_before, is_lower}
+use Rattle.loc_base.specs.Sets.{is_before, is_lower}
 use Rattle.suspect_map.proofs.Ascending.{ascending-head, ascending-tail}
 use Rattle.list_verdict.specs.Judging.{shares_gap}
 use Rattle.list_verdict.proofs.Comparing.{compared}

@@ -4,7 +4,7 @@ use Rattle.std.specs.Prelude.{Contains, None, slice_get}
 use Rattle.std.specs.List.Sorted.{IsStrictlyIncreasing}
 use Rattle.std.proofs.lemmas.Bool.{cases_lt}
 use Rattle.loc_base.proofs.ShelfLists.{All-member, Contains-at}
-use Rattle.design_core.specs.Listing.{is_before}
+use Rattle.loc_base.specs.Sets.{is_before}
 use Rattle.design_core.specs.Works.{IsWithin}
 use Rattle.report_doc.specs.declared.types.ReportSet.{ReportSet}
 use Rattle.debug_core.proofs.Selected.{within-same}

@@ -9,7 +9,7 @@ use Rattle.std.proofs.lemmas.Option.{slice_get_within}
 use Rattle.loc_base.proofs.ShelfLists.{slice_get-some}
 use Rattle.design_core.specs.declared.values.SetWithValues.{SetWithValues}
 use Rattle.design_core.specs.declared.values.Values.{Values}
-use Rattle.design_core.specs.Listing.{is_before}
+use Rattle.loc_base.specs.Sets.{is_before}
 use Rattle.suspect_map.specs.declared.group.Group.{Group}
 use Rattle.report_doc.specs.declared.types.ReportSet.{ReportSet}
 use Rattle.report_values.specs.Written.{HasValues, IsWritten}

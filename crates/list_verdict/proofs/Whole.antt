@@ -13,7 +13,8 @@ use Rattle.clause_base.specs.Acceptance.{Follows}
 use Rattle.clause_base.proofs.Accepted.{log_holds}
 use Rattle.card_counter.proofs.Said.{satisfies-both}
 use Rattle.design_core.specs.Explained.{choices_in}
-use Rattle.design_core.specs.Listing.{IsEntry, is_before}
+use Rattle.loc_base.specs.Sets.{is_before}
+use Rattle.design_core.specs.Listing.{IsEntry}
 use Rattle.design_core.specs.Works.{IsSet, IsWithin, Works}
 use Rattle.set_enum.specs.Sets.{IsSetOf, NoneBelow, block_of}
 use Rattle.debug_core.specs.Listed.{Encodes, IsSelected}

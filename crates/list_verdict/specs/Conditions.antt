@@ -2,7 +2,7 @@
 -- it closes the list. For each, what it is to hold, and which set or step is named where it doesn't: the first.
 use Rattle.std.specs.Prelude.{ℕ, ◌≢◌, ◌-◌, ◌<◌, ◌≤◌, IsTrue, List, length, map}
 use Rattle.design_core.specs.declared.values.Values.{Values}
-use Rattle.design_core.specs.Listing.{is_before}
+use Rattle.loc_base.specs.Sets.{is_before}
 use Rattle.design_core.specs.Works.{IsSet, IsWithin}
 use Rattle.clause_base.specs.declared.literal.Lit.{Lit}
 use Rattle.clause_base.specs.Acceptance.{IsAccepted, IsLeastRefused}

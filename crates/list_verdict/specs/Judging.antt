@@ -2,7 +2,7 @@
 use Rattle.std.specs.Prelude.{ℕ, ◌≡◌, ◌+◌, ◌<◌, ◌≤◌, ◌==◌, Bool, false, true, ◌&&◌, nat_lt, if◌then◌else◌, List, [], ◌∷◌, length, slice_get, All, Option, Some, None}
 use Rattle.std.specs.List.Sorted.{IsStrictlyIncreasing}
 use Rattle.design_core.specs.declared.values.SetWithValues.{SetWithValues}
-use Rattle.design_core.specs.Listing.{is_before}
+use Rattle.loc_base.specs.Sets.{is_before}
 use Rattle.design_core.specs.Works.{IsSet, IsWithin}
 use Rattle.report_doc.specs.declared.types.ReportSet.{ReportSet}
 use Rattle.report_values.specs.Written.{HasValues}

@@ -2,7 +2,7 @@
 
 ghost use Rattle.std.specs.Prelude.{◌≡◌, ◌≤◌, ◌<◌, ◌↔◌, All, IsTrue, Contains, length};
 ghost use Rattle.std.specs.List.Sorted.{IsStrictlyIncreasing};
-ghost use Rattle.design_core.specs.Listing.{is_before, is_lower};
+ghost use Rattle.loc_base.specs.Sets.{is_before, is_lower};
 ghost use Rattle.design_core.specs.Works.{IsWithin};
 ghost use Rattle.debug_core.specs.Problems.{problem_of};
 ghost use Rattle.list_verdict.specs.Judging.{AreMembers, shares_gap};

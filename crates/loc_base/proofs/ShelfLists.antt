@@ -1,9 +1,9 @@
 -- Laws of lists: their places, their members, what each or some of them is, and pairs of them.
 use Rattle.std.proofs.Common.{◌≡◌, ◌≢◌, ℕ, zero, suc, ◌+◌, ◌<◌, Bool, true, false, List, [], ◌∷◌, ◌++◌, length, get_or, take, drop, map, Some, refl, sym, ◌∙◌, ap, ap₂, subst, arith, add-one, drop-cons, ◌⊎◌, inl, inr}
 use Rattle.std.proofs.Math.ListN.{set}
-use Rattle.std.specs.Prelude.{All, Contains, slice_get}
+use Rattle.std.specs.Prelude.{All, Contains, ◌&&◌, nat_lt, slice_get}
 use Rattle.std.specs.List.{list_all, list_any, AllZip}
-use Rattle.std.proofs.lemmas.Bool.{both_ways, and_parts, or_cases, or_left, or_right}
+use Rattle.std.proofs.lemmas.Bool.{both_ways, and_parts, lt-ltb, or_cases, or_left, or_right}
 use Rattle.std.proofs.lemmas.List.{take_more, map_more}
 use Rattle.std.proofs.lemmas.Option.{slice_get_read, slice_get_within, slice_get-get_or, get_or_from_slice_get}
 
@@ -88,6 +88,13 @@ list_all-member test (y ∷ ys) x all member =
     at : (y ≡ x) ⊎ Contains ys x → (Contains ys x → test x ≡ true) → test x ≡ true
     at (inl same) behind = sym (ap test same) ∙ (and_parts (test y) (list_all test ys) all).0
     at (inr later) behind = behind later
+
+-- numbers that are below a bound pass the test for it
+pub list_all-below : (n : ℕ) (xs : List ℕ) → All (λ p. p < n) xs → list_all (λ i. nat_lt i n) xs ≡ true
+list_all-below n [] all = refl
+list_all-below n (x ∷ xs) all =
+    ap (λ b. b && list_all (λ i. nat_lt i n) xs) (lt-ltb x n (all 0 x (omega arith)))
+    ∙ list_all-below n xs (λ i d low. all (suc i) d (omega (arith, low)))
 
 -- a test that a member passes, some element passes
 pub list_any-member : {X : Type 0} (test : X → Bool) (xs : List X) (x : X) → Contains xs x → test x ≡ true → list_any test xs ≡ true

@@ -12,3 +12,11 @@ pub struct FreeGate;
 impl Gate for FreeGate {
     fn enter(&self, _piece: u32) {}
 }
+
+/// So many workers, from 1 to 64, with the runtime that starts them and the gate that each passes.
+#[derive(Clone, Copy)]
+pub struct Workers<'a, R, G> {
+    pub runtime: &'a R,
+    pub gate: &'a G,
+    pub count: u32,
+}

@@ -19,7 +19,7 @@ pub use ascii::{is_decimal, is_visible, is_white};
 pub use bits::Bits;
 pub use boxed::Boxed;
 pub use digest::Digest;
-pub use gate::{FreeGate, Gate};
+pub use gate::{FreeGate, Gate, Workers};
 pub use items::{Bytes, Items};
 pub use memory::NoMemory;
 pub use name::Name;

@@ -3,13 +3,13 @@ ghost use Rattle.std.specs.Bool.{OnTrue, OnFalse};
 ghost use Rattle.loc_base.specs.NameTable.{number_of, has_number, with_number};
 
 use crate::memory::NoMemory;
+use indexmap::IndexMap;
 use std::alloc::Global;
-use std::collections::HashMap;
 
-/// Numbers by name: at most one for each name. To find or to add one takes the time of its bytes, whatever the table
-/// holds.
+/// Numbers by name: at most one for each name, kept in the order in which the names came. To find or to add one takes the
+/// time of its bytes, whatever the table holds.
 pub struct NameTable<'a> {
-    by_name: HashMap<&'a [u8], u32>,
+    by_name: IndexMap<&'a [u8], u32>,
 }
 
 // A `drop` is written out, so that it is proved once, here: a derived one is proved again by each crate that lets a value go.
@@ -25,7 +25,7 @@ impl<'a> NameTable<'a> {
         ensures { (name : List ℕ) → number_of result name ≡ None }
     {
         NameTable {
-            by_name: HashMap::new(alloc),
+            by_name: IndexMap::new(alloc),
         }
     }
 

@@ -7,7 +7,7 @@ use Rattle.std.specs.List.Sorted.{IsStrictlyIncreasing}
 use Rattle.std.proofs.lemmas.List.Elements.{All-nil, All-cons, All-head, All-tail, All-append, Contains-append_left, Contains-append_right}
 use Rattle.std.proofs.lemmas.Grind.{common_steps}
 use Rattle.loc_base.proofs.ShelfBools.{suc-add_one}
-use Rattle.design_core.specs.Listing.{is_lower, is_before}
+use Rattle.loc_base.specs.Sets.{is_lower, is_before}
 use Rattle.plain_list.specs.Candidates.{combinations, numbers_from, candidates_of}
 use Rattle.plain_list.proofs.Rising.{Rises, IsChosen, IsLower, All-implied, AllPairs-append, combinations-each, combinations-ordered, combinations-complete}
 

@@ -7,7 +7,7 @@ use Rattle.std.proofs.lemmas.List.Elements.{All-nil, All-cons, All-append, All-m
 use Rattle.std.proofs.lemmas.List.Kept.{AllPairs-cons}
 use Rattle.std.proofs.lemmas.Grind.{common_steps}
 use Rattle.loc_base.proofs.ShelfLists.{Contains-first}
-use Rattle.design_core.specs.Listing.{is_lower}
+use Rattle.loc_base.specs.Sets.{is_lower}
 use Rattle.plain_list.specs.Candidates.{combinations, numbers_from, behind}
 
 -- a list that rises from `low` on, below `high`

@@ -9,9 +9,11 @@ use Rattle.design_core.specs.declared.design.Design.{Design}
 use Rattle.design_core.specs.declared.trace.Trace.{Trace}
 use Rattle.design_core.specs.declared.values.SetWithValues.{SetWithValues}
 use Rattle.design_core.specs.Works.{IsSet, IsWithin, Works}
-use Rattle.design_core.specs.Listing.{is_before, IsEntry, IsFront, IsList}
+use Rattle.loc_base.specs.Sets.{is_before}
+use Rattle.design_core.specs.Listing.{IsEntry, IsFront, IsList}
 use Rattle.design_core.proofs.Lists.{All-member}
-use Rattle.design_core.proofs.ListingLaws.{is_before-strict, front-list}
+use Rattle.loc_base.proofs.SetOrder.{is_before-strict}
+use Rattle.design_core.proofs.ListingLaws.{front-list}
 use Rattle.plain_list.specs.declared.search.PlainSearch.{PlainSearch}
 use Rattle.plain_list.specs.Candidates.{candidates_of}
 use Rattle.plain_list.specs.Groups.{groups_of}
@@ -164,7 +166,7 @@ take-long (x ∷ xs) (suc n) h = ap (λ ys. x ∷ ys) (take-long xs n (omega (ar
 pub search-list : (d : Design) (traces : List Trace) (search : PlainSearch) → IsSearch d traces search → length search.candidates.items ≤ search.at
     → IsList d traces (groups_of d) search.size (members_of (found_of search))
 search-list d traces search s h =
-    front-list d traces (groups_of d) search.size (members_of (found_of search)) (search-front d traces search s)
+    front-list (Works d traces (groups_of d)) (groups_of d) search.size (members_of (found_of search)) (search-front d traces search s)
     (λ set e. passed-entry d traces search.size (members_of (found_of search)) set s.entries
     (All-member (IsPassed d traces (members_of (found_of search))) (passed_of search) set s.passed
     (subst (λ xs. Contains xs set) (sym (take-long search.candidates.items search.at h)) (search-listed d traces search set s e.suspects e.size)))

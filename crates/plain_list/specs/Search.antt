@@ -4,7 +4,8 @@ use Rattle.design_core.specs.declared.design.Design.{Design}
 use Rattle.design_core.specs.declared.trace.Trace.{Trace}
 use Rattle.design_core.specs.declared.values.SetWithValues.{SetWithValues}
 use Rattle.design_core.specs.Works.{IsWithin, Works}
-use Rattle.design_core.specs.Listing.{is_before, IsEntry}
+use Rattle.loc_base.specs.Sets.{is_before}
+use Rattle.design_core.specs.Listing.{IsEntry}
 use Rattle.plain_list.specs.declared.search.PlainSearch.{PlainSearch}
 use Rattle.plain_list.specs.Candidates.{candidates_of}
 use Rattle.plain_list.specs.Groups.{groups_of}

@@ -18,7 +18,8 @@ use Rattle.card_counter.proofs.InForms.{follows, few-selected}
 use Rattle.card_counter.proofs.Said.{satisfies-front, satisfies-behind, satisfies-both}
 use Rattle.sat_core.specs.SolverState.{SolverState, IsSolver, IsGreatestModel, IsAtLeast, assignment_of, blocks_of}
 use Rattle.sat_core.specs.Outcome.{IsRefuted}
-use Rattle.set_enum.specs.Sets.{numbers_from, selected, IsBlock, IsFirst, NoneBelow, block_of, is_lower}
+use Rattle.loc_base.specs.Sets.{is_lower}
+use Rattle.set_enum.specs.Sets.{numbers_from, selected, IsBlock, IsFirst, NoneBelow, block_of}
 use Rattle.set_enum.specs.Bounds.{bound_at}
 use Rattle.set_enum.specs.EnumState.{AreChainless}
 use Rattle.set_enum.specs.Standing.{assumed, next_size}

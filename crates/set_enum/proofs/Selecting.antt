@@ -13,7 +13,8 @@ use Rattle.clause_base.specs.Satisfaction.{value_of}
 use Rattle.card_counter.specs.InForm.{literals_from}
 use Rattle.card_counter.specs.Means.{true_count}
 use Rattle.sat_core.specs.SolverState.{IsAtLeast, assignment_of}
-use Rattle.set_enum.specs.Sets.{numbers_from, selected, IsSetOf, block_of, is_lower, is_before}
+use Rattle.loc_base.specs.Sets.{is_lower, is_before}
+use Rattle.set_enum.specs.Sets.{numbers_from, selected, IsSetOf, block_of}
 
 pub numbers-length : (first count : ℕ) → length (numbers_from first count) ≡ count
 numbers-length first zero = refl

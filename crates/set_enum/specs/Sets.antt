@@ -1,7 +1,8 @@
 -- Sets of the variables from 1 to n, as ascending lists of numbers: which assignments select them, in which order they come,
 -- and which of them comes first.
-use Rattle.std.specs.Prelude.{◌≡◌, ℕ, zero, suc, ◌+◌, ◌≤◌, ◌==◌, Bool, false, ◌&&◌, ◌||◌, nat_lt, List, [], ◌∷◌, length, map, filter, All}
+use Rattle.std.specs.Prelude.{◌≡◌, ℕ, zero, suc, ◌+◌, ◌≤◌, Bool, false, List, [], ◌∷◌, length, map, filter, All}
 use Rattle.std.specs.List.Sorted.{IsStrictlyIncreasing}
+use Rattle.loc_base.specs.Sets.{is_before}
 use Rattle.clause_base.specs.declared.literal.Lit.{Lit}
 use Rattle.clause_base.specs.Literal.{negative}
 use Rattle.clause_base.specs.Satisfaction.{Satisfies}
@@ -29,16 +30,6 @@ pub record IsBlock (n : ℕ) (clause : List Lit) : Type 0 where
   pub set : List ℕ
   pub of : IsSetOf n set
   pub is : clause ≡ block_of set
-
--- whether one list of numbers stands before another of its length: by the first number that differs
-abbrev pub is_lower : List ℕ → List ℕ → Bool
-is_lower [] ys = false
-is_lower (x ∷ xs) [] = false
-is_lower (x ∷ xs) (y ∷ ys) = nat_lt x y || (x == y && is_lower xs ys)
-
--- whether one set comes before another: by size, then by members
-abbrev pub is_before : List ℕ → List ℕ → Bool
-is_before one other = nat_lt (length one) (length other) || (length one == length other && is_lower one other)
 
 -- no assignment of the clauses selects fewer than `size` of the variables from 1 to n
 abbrev pub NoneBelow : ℕ → ℕ → List (List Lit) → Type 0

@@ -4,6 +4,7 @@ use Rattle.std.proofs.lemmas.List.{length-append}
 use Rattle.clause_base.specs.declared.literal.Lit.{Lit}
 use Rattle.debug_core.specs.Debugging.{IsListOf}
 use Rattle.debug_core.specs.Problems.{IsFormFor, suspects_of}
+use Rattle.design_core.specs.Works.{Works}
 use Rattle.design_core.proofs.ListingLaws.{front-prefix}
 use Rattle.report_doc.specs.declared.types.Ending.{Ending}
 use Rattle.report_doc.specs.declared.types.Ending.TheVariants.{Complete, Budget, Sets, Earlier}
@@ -21,7 +22,7 @@ enough-whole of list budget sets = of.is.has_status ∙ at of.is.ending of.is.is
     at Complete ends spent = refl
     at Budget ends spent = absurd (omega (arith, spent refl, budget of.is.vars of.is.form of.is.is_form))
     at Sets ends spent =
-        let behind = front-prefix of.asked.problem.design of.asked.problem.traces (suspects_of of.asked.problem) of.asked.problem.k
+        let behind = front-prefix (Works of.asked.problem.design of.asked.problem.traces (suspects_of of.asked.problem)) (suspects_of of.asked.problem) of.asked.problem.k
         (sets_of of.is.portions) of.list of.is.is_ended.found.front list in
         absurd (omega (arith, ends, sets, ap length behind.1, length-append (sets_of of.is.portions) behind.0))
     at Earlier ends spent = absurd ends

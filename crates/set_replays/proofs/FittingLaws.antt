@@ -4,6 +4,7 @@ use Rattle.std.specs.Prelude.{◌==◌, ◌&&◌, ◌↔◌, All, IsTrue, nat_lt
 use Rattle.std.specs.List.{list_all}
 use Rattle.std.proofs.lemmas.Bool.{and_parts, cases_lt, eqb-true, false≢true, lt-ltb, ltb-true}
 use Rattle.std.proofs.lemmas.Bool.Decides.{nat_tests}
+use Rattle.loc_base.proofs.ShelfLists.{list_all-below}
 use Rattle.loc_base.specs.declared.bits.Bits.{Bits}
 use Rattle.loc_base.specs.Bits.{width_of}
 use Rattle.design_core.specs.declared.design.Design.{Design}
@@ -65,13 +66,8 @@ below-found n [] h i d low = absurd (omega (arith, low))
 below-found n (x ∷ xs) h zero d low = ltb-true x n (and_parts (nat_lt x n) (list_all (λ i. nat_lt i n) xs) h).0
 below-found n (x ∷ xs) h (suc i) d low = below-found n xs (and_parts (nat_lt x n) (list_all (λ i. nat_lt i n) xs) h).1 i d (omega (arith, low))
 
-below-passes : (n : ℕ) (xs : List ℕ) → All (λ p. p < n) xs → list_all (λ i. nat_lt i n) xs ≡ true
-below-passes n [] all = refl
-below-passes n (x ∷ xs) all =
-    ap (λ b. b && list_all (λ i. nat_lt i n) xs) (lt-ltb x n (all 0 x (omega arith))) ∙ below-passes n xs (λ i d low. all (suc i) d (omega (arith, low)))
-
 pub below-decided : (n : ℕ) (xs : List ℕ) (answer : Bool) → answer ≡ list_all (λ i. nat_lt i n) xs → IsTrue answer ↔ All (λ p. p < n) xs
-below-decided n xs answer is = (λ holds. below-found n xs (sym is ∙ holds), λ all. is ∙ below-passes n xs all)
+below-decided n xs answer is = (λ holds. below-found n xs (sym is ∙ holds), λ all. is ∙ list_all-below n xs all)
 
 pub ruleset cycles_rules = (cycles_before-none, cycles_before-next)
 

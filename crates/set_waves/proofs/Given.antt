@@ -7,6 +7,7 @@ use Rattle.std.proofs.lemmas.Bool.{and_parts, eqb-true, lt-ltb, ltb-true}
 use Rattle.std.proofs.lemmas.List.Folds.{list_any_at}
 use Rattle.std.proofs.Common.{eq-eqb}
 use Rattle.std.proofs.lemmas.Option.{get_or_from_slice_get, slice_get_within}
+use Rattle.loc_base.proofs.ShelfLists.{list_all-below}
 use Rattle.plain_sim.proofs.EvaluateRun.{can-run}
 use Rattle.design_core.specs.declared.design.Design.{Design}
 use Rattle.design_core.specs.declared.trace.Trace.{Trace}
@@ -21,16 +22,10 @@ use Rattle.cycle_sim.specs.Simulated.{CanSimulate, IsSimulable}
 use Rattle.set_waves.specs.Waved.{AreRuns, CanBeWaved, Runs, Waved}
 
 -- ---- the design
-below-passes : (n : ℕ) (xs : List ℕ) → All (λ p. p < n) xs → list_all (λ i. nat_lt i n) xs ≡ true
-below-passes n [] all = refl
-below-passes n (x ∷ xs) all =
-    ap (λ b. b && list_all (λ i. nat_lt i n) xs) (lt-ltb x n (all 0 x (omega arith)))
-    ∙ below-passes n xs (λ i d low. all (suc i) d (omega (arith, low)))
-
 pub can-simulate : (d : Design) (order : List ℕ) → IsSimulable d order → CanSimulate d order
 can-simulate d order is = record {
   can_run = can-run d is.well_formed;
-  numbers = below-passes (length d.drivers.items) order is.ordered.numbers;
+  numbers = list_all-below (length d.drivers.items) order is.ordered.numbers;
 }
 
 -- its outputs are signals

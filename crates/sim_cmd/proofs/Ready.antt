@@ -3,6 +3,7 @@ use Rattle.std.proofs.Common.{ℕ, suc, ◌≡◌, ◌<◌, List, [], ◌∷◌,
 use Rattle.std.specs.Prelude.{All, true, ◌&&◌, nat_lt}
 use Rattle.std.specs.List.{list_all}
 use Rattle.std.proofs.lemmas.Bool.{lt-ltb}
+use Rattle.loc_base.proofs.ShelfLists.{list_all-below}
 use Rattle.design_core.specs.declared.design.Design.{Design}
 use Rattle.plain_sim.proofs.EvaluateRun.{can-run}
 use Rattle.design_core.specs.declared.trace.Trace.{Trace}
@@ -11,17 +12,11 @@ use Rattle.sim_lines.specs.CanShow.{CanShow}
 use Rattle.front_end.specs.Means.{IsReady}
 use Rattle.run_inputs.specs.Means.{IsReadOf}
 
-below-passes : (n : ℕ) (xs : List ℕ) → All (λ p. p < n) xs → list_all (λ i. nat_lt i n) xs ≡ true
-below-passes n [] all = refl
-below-passes n (x ∷ xs) all =
-    ap (λ b. b && list_all (λ i. nat_lt i n) xs) (lt-ltb x n (all 0 x (omega arith)))
-    ∙ below-passes n xs (λ i d low. all (suc i) d (omega (arith, low)))
-
 pub can-show : (d : Design) (order : List ℕ) → IsReady d order → CanShow d order
 can-show d order ready = record {
   can = record {
     can_run = can-run d ready.well_formed;
-    numbers = below-passes (length d.drivers.items) order ready.ordered.numbers;
+    numbers = list_all-below (length d.drivers.items) order ready.ordered.numbers;
   };
   simulable = record { well_formed = ready.well_formed; once = ready.once; ordered = ready.ordered };
   few = ready.outputs;

@@ -6,7 +6,8 @@ use Rattle.std.specs.List.Sorted.{IsStrictlyIncreasing}
 use Rattle.design_core.specs.declared.design.Design.{Design}
 use Rattle.design_core.specs.declared.trace.Trace.{Trace}
 use Rattle.design_core.specs.Works.{Groups, IsWithin}
-use Rattle.design_core.specs.Listing.{IsList, is_before}
+use Rattle.loc_base.specs.Sets.{is_before}
+use Rattle.design_core.specs.Listing.{IsList}
 
 -- for each trace, in order, the list of that trace alone
 abbrev pub AreTraceLists : Design → List Trace → Groups → ℕ → List (List (List ℕ)) → Type 0

@@ -3,16 +3,13 @@ use Rattle.std.proofs.Common.{◌≡◌, ℕ, zero, suc, ◌<◌, Bool, true, fa
 use Rattle.std.specs.Prelude.{if◌then◌else◌, option_map, slice_get, slice_set, Result, Ok, Err}
 use Rattle.std.proofs.lemmas.Option.{none-some}
 use Rattle.std.proofs.lemmas.Slice.Eq.{bytes_eq-Decides}
+use Rattle.loc_base.proofs.ShelfOptions.{option_map-none}
 use Rattle.v_hierarchy.specs.declared.error.ElabErr.{ElabErr}
 use Rattle.v_hierarchy.specs.declared.error.ElabErr.TheVariants as fault
 use Rattle.v_hierarchy.specs.Names.{Entry, Standing, same_name, find, again, declared}
 use Rattle.v_hierarchy.specs.Places.{place_of}
 
 -- ---- options
-suc-none : (o : Option ℕ) → option_map suc o ≡ None → o ≡ None
-suc-none None e = refl
-suc-none (Some n) e = absurd (none-some (suc n) (sym e))
-
 record Below (o : Option ℕ) (k : ℕ) : Type 0 where
   place : ℕ
   is : o ≡ Some place
@@ -57,7 +54,7 @@ declared-new new (old ∷ rest) none = declared-is new old rest ∙ step (same_n
         → (place_of new.name.name rest ≡ None → declared new rest ≡ Ok (rest ++ new ∷ []))
         → (if same then both_of old new rest (again old.standing new.standing) else behind old (declared new rest)) ≡ Ok (old ∷ rest ++ new ∷ [])
     step true e more = absurd (none-some 0 (sym e))
-    step false e more = ap (behind old) (more (suc-none (place_of new.name.name rest) e))
+    step false e more = ap (behind old) (more (option_map-none suc (place_of new.name.name rest) e))
 
 -- ---- one that is
 abbrev pub put : List Entry → ℕ → Entry → Entry → Option Standing → Result (List Entry) ElabErr
@@ -112,8 +109,8 @@ place-push name new (e ∷ es) none =
     step true true false apart none more = let e : false ≡ true = apart refl refl in cc
     step true false r apart none more = refl
     step false q true apart none more = absurd (none-some 0 (sym none))
-    step false true false apart none more = ap (option_map suc) (more (suc-none (place_of new.name.name es) none))
-    step false false false apart none more = ap (option_map suc) (more (suc-none (place_of new.name.name es) none))
+    step false true false apart none more = ap (option_map suc) (more (option_map-none suc (place_of new.name.name es) none))
+    step false false false apart none more = ap (option_map suc) (more (option_map-none suc (place_of new.name.name es) none))
 
 pub place-set : (name : List ℕ) (old : Entry) (both : Standing) (es : List Entry) (k : ℕ) → slice_get es k ≡ Some old
     → place_of name (slice_set es k (record { name = old.name; standing = both })) ≡ place_of name es
@@ -139,7 +136,7 @@ find-none name (x ∷ es) e = step (same_name x.name.name name) e (find-none nam
     step : (same : Bool) → (if same then Some 0 else option_map suc (place_of name es)) ≡ None → (place_of name es ≡ None → find name es ≡ None)
         → (if same then Some x.standing else find name es) ≡ None
     step true e more = absurd (none-some 0 (sym e))
-    step false e more = more (suc-none (place_of name es) e)
+    step false e more = more (option_map-none suc (place_of name es) e)
 
 pub find-some : (name : List ℕ) (es : List Entry) (k : ℕ) (found : Entry) → place_of name es ≡ Some k → slice_get es k ≡ Some found → find name es ≡ Some found.standing
 find-some name [] k found e at = absurd (none-some k e)

@@ -5,6 +5,7 @@ use Rattle.std.specs.Option.{option_or}
 use Rattle.std.proofs.lemmas.List.{map-append, length-map}
 use Rattle.std.proofs.lemmas.Option.{none-some}
 use Rattle.std.proofs.lemmas.Slice.Eq.{bytes_eq-Decides}
+use Rattle.loc_base.proofs.ShelfOptions.{option_map-none}
 use Rattle.v_syntax.specs.declared.module.Module.{Module}
 use Rattle.v_syntax.specs.declared.declaration.Identifier.{Identifier}
 use Rattle.v_syntax.specs.ModuleTree.{PlainModule, module_of, name_ports}
@@ -114,10 +115,6 @@ behind : (o : Option ℕ) (k : ℕ) → option_map suc o ≡ Some k → Behind o
 behind None k e = absurd (none-some k e)
 behind (Some j) k e = let same : suc j ≡ k = cc in record { place = j; is = refl; next = same }
 
-suc-none : (o : Option ℕ) → option_map suc o ≡ None → o ≡ None
-suc-none None e = refl
-suc-none (Some n) e = absurd (none-some (suc n) (sym e))
-
 pub place-within : (name : List ℕ) (names : List (List ℕ)) (k : ℕ) → place_among name names ≡ Some k → k < length names
 place-within name [] k e = absurd (none-some k e)
 place-within name (x ∷ xs) k e = step (same_name x name) k e (place-within name xs)
@@ -147,7 +144,7 @@ module _ {X Y : Type 0} (name_of : X → List ℕ) (value_of : X → Y) where
       step : (same : Bool) → (if same then Some 0 else option_map suc (place_among name (map name_of xs))) ≡ None
           → (place_among name (map name_of xs) ≡ None → first name xs ≡ None) → (if same then Some (value_of x) else first name xs) ≡ None
       step true e more = absurd (none-some 0 (sym e))
-      step false e more = more (suc-none (place_among name (map name_of xs)) e)
+      step false e more = more (option_map-none suc (place_among name (map name_of xs)) e)
 
   pub first-some : (name : List ℕ) (xs : List X) (k : ℕ) (x : X) → place_among name (map name_of xs) ≡ Some k → slice_get xs k ≡ Some x → first name xs ≡ Some (value_of x)
   first-some name [] k x e at = absurd (none-some k e)

@@ -7,10 +7,11 @@ use Rattle.clause_base.specs.declared.literal.Lit.{Lit}
 use Rattle.clause_base.specs.Acceptance.{IsAccepted}
 use Rattle.design_core.specs.declared.values.SetWithValues.{SetWithValues}
 use Rattle.design_core.specs.Explained.{choices_in}
-use Rattle.design_core.specs.Listing.{IsEntry, is_before}
+use Rattle.loc_base.specs.Sets.{is_before}
+use Rattle.design_core.specs.Listing.{IsEntry}
 use Rattle.design_core.specs.Run.{Meets}
 use Rattle.design_core.specs.Works.{IsSet, IsWithin}
-use Rattle.design_core.proofs.ListingLaws.{is_before-strict}
+use Rattle.loc_base.proofs.SetOrder.{is_before-strict}
 use Rattle.set_enum.specs.Sets.{block_of}
 use Rattle.debug_core.proofs.Selected.{within-few, within-same}
 use Rattle.report_doc.specs.declared.types.Ending.{Ending}

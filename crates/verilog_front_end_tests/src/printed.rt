@@ -50,6 +50,8 @@ fn place_kind(kind: PlaceKind) -> &'static [u8] {
         PlaceKind::Gate => b"gate",
         PlaceKind::PortOut => b"output",
         PlaceKind::And => b"and",
+        PlaceKind::Cond => b"condition",
+        PlaceKind::PortIn => b"input",
     }
 }
 

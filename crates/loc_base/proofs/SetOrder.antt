@@ -1,19 +1,9 @@
--- The order of sets: any two are the same, or one stands before the other.
+-- The order of sets: any two are the same, or one stands before the other, and not both.
 use Rattle.std.proofs.Common.{◌≡◌, ◌⊎◌, inl, inr, ℕ, ◌<◌, ◌≤◌, ◌==◌, Bool, true, ◌&&◌, ◌||◌, List, [], ◌∷◌, length}
 use Rattle.std.proofs.Common.{refl, ap, ap₂, sym, arith}
-use Rattle.std.specs.Prelude.{nat_lt}
-use Rattle.std.proofs.lemmas.Bool.{cases_lt, and_from, eq-eqb, lt-ltb, or_left, or_right}
-use Rattle.design_core.specs.Listing.{is_before, is_lower}
-use Rattle.set_enum.specs.Sets.{is_before as is_before_in_sets, is_lower as is_lower_in_sets}
-
--- the two definitions of the order are one
-lower-same : (xs ys : List ℕ) → is_lower_in_sets xs ys ≡ is_lower xs ys
-lower-same [] ys = refl
-lower-same (x ∷ xs) [] = refl
-lower-same (x ∷ xs) (y ∷ ys) = ap (λ b. nat_lt x y || ((x == y) && b)) (lower-same xs ys)
-
-pub before-same : (one other : List ℕ) → is_before_in_sets one other ≡ is_before one other
-before-same one other = ap (λ b. nat_lt (length one) (length other) || ((length one == length other) && b)) (lower-same one other)
+use Rattle.std.specs.Prelude.{IsTrue, nat_lt}
+use Rattle.std.proofs.lemmas.Bool.{cases_lt, and_from, and_parts, eq-eqb, eqb-true, lt-ltb, ltb-true, or_cases, or_left, or_right}
+use Rattle.loc_base.specs.Sets.{is_before, is_lower}
 
 -- three cases of two numbers
 compared : (x y : ℕ) → (x < y) ⊎ ((x ≡ y) ⊎ (y < x))
@@ -64,3 +54,29 @@ before-total one other = at (compared (length one) (length other))
     at (inl less) = inl (before-fewer one other less)
     at (inr (inl same)) = as_long same (lower-total one other same)
     at (inr (inr more)) = inr (inr (before-fewer other one more))
+
+-- a number below another, or the same and a fact of what follows
+below_or_same : (x y : ℕ) (t : Bool) → (nat_lt x y || ((x == y) && t)) ≡ true → (x < y) ⊎ ((x ≡ y) × (t ≡ true))
+below_or_same x y t h = split (or_cases (nat_lt x y) ((x == y) && t) h)
+  where
+    split : (nat_lt x y ≡ true) ⊎ (((x == y) && t) ≡ true) → (x < y) ⊎ ((x ≡ y) × (t ≡ true))
+    split (inl e) = inl (ltb-true x y e)
+    split (inr e) = inr (eqb-true x y (and_parts (x == y) t e).0, (and_parts (x == y) t e).1)
+
+-- two numbers in both orders, where what follows is apart
+apart : (x y : ℕ) (P Q : Type 0) → (P → Q → ⊥) → (x < y) ⊎ ((x ≡ y) × P) → (y < x) ⊎ ((y ≡ x) × Q) → ⊥
+apart x y P Q rest (inl a) (inl b) = omega arith
+apart x y P Q rest (inl a) (inr (e, b)) = omega arith
+apart x y P Q rest (inr (e, a)) (inl b) = omega arith
+apart x y P Q rest (inr (e, a)) (inr (e', b)) = rest a b
+
+-- no two lists of numbers stand before each other
+is_lower-strict : (xs ys : List ℕ) → is_lower xs ys ≡ true → is_lower ys xs ≡ true → ⊥
+is_lower-strict [] ys one other = cc
+is_lower-strict (x ∷ xs) [] one other = cc
+is_lower-strict (x ∷ xs) (y ∷ ys) one other = apart x y (is_lower xs ys ≡ true) (is_lower ys xs ≡ true) (is_lower-strict xs ys) (below_or_same x y (is_lower xs ys) one) (below_or_same y x (is_lower ys xs) other)
+
+pub is_before-strict : (one other : List ℕ) → IsTrue (is_before one other) → IsTrue (is_before other one) → ⊥
+is_before-strict one other before after =
+    apart (length one) (length other) (is_lower one other ≡ true) (is_lower other one ≡ true) (is_lower-strict one other)
+    (below_or_same (length one) (length other) (is_lower one other) before) (below_or_same (length other) (length one) (is_lower other one) after)
