@@ -23,7 +23,12 @@ impl Numbered for Blocks {
     fn number_of(place: &Place) -> Option<u32> {
         match place.kind {
             PlaceKind::Step => Some(place.home),
-            PlaceKind::Assign | PlaceKind::Gate | PlaceKind::PortOut | PlaceKind::And | PlaceKind::Cond | PlaceKind::PortIn => None,
+            PlaceKind::Assign
+            | PlaceKind::Gate
+            | PlaceKind::PortOut
+            | PlaceKind::And
+            | PlaceKind::Cond
+            | PlaceKind::PortIn => None,
         }
     }
 }

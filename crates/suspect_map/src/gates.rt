@@ -22,7 +22,12 @@ impl Numbered for Gates {
     fn number_of(place: &Place) -> Option<u32> {
         match place.kind {
             PlaceKind::Gate => Some(place.copy),
-            PlaceKind::Assign | PlaceKind::Step | PlaceKind::PortOut | PlaceKind::And | PlaceKind::Cond | PlaceKind::PortIn => None,
+            PlaceKind::Assign
+            | PlaceKind::Step
+            | PlaceKind::PortOut
+            | PlaceKind::And
+            | PlaceKind::Cond
+            | PlaceKind::PortIn => None,
         }
     }
 }

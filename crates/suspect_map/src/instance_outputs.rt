@@ -23,7 +23,12 @@ impl Numbered for InstanceOutputs {
     fn number_of(place: &Place) -> Option<u32> {
         match place.kind {
             PlaceKind::PortOut => Some(place.copy),
-            PlaceKind::Assign | PlaceKind::Step | PlaceKind::Gate | PlaceKind::And | PlaceKind::Cond | PlaceKind::PortIn => None,
+            PlaceKind::Assign
+            | PlaceKind::Step
+            | PlaceKind::Gate
+            | PlaceKind::And
+            | PlaceKind::Cond
+            | PlaceKind::PortIn => None,
         }
     }
 }

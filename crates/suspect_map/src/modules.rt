@@ -1,33 +1,54 @@
-ghost use Rattle.std.specs.Prelude.{◌≡◌, ◌<◌, ◌^◌, ℕ, List, Some, length, map, nat_eq, IfOk, OnOk, codes};
+ghost use Rattle.std.specs.Prelude.{◌≡◌, ◌<◌, ◌^◌, ℕ, List, length, map, nat_eq, option_copied, IfOk, OnOk, codes};
 ghost use Rattle.std.specs.Cmp.Lexicographic.{pointwise};
 ghost use Rattle.loc_base.specs.NameTable.{number_of};
 ghost use Rattle.suspect_map.specs.Groups.{groups_of};
 ghost use Rattle.suspect_map.specs.Grouping.{after, firsts_by, met, PointsWithin};
-ghost use Rattle.suspect_map.specs.Modules.{modules};
+ghost use Rattle.suspect_map.specs.Modules.{module_key, modules};
 
 use crate::granularity::Granularity;
 use crate::group::Groups;
 use crate::grouping::Grain;
 use crate::label::Label;
-use design_core::Place;
+use design_core::{Place, PlaceKind};
 use loc_base::{NameTable, NoMemory};
 use std::alloc::Global;
 
-/// A suspect for each module of the text that has a place, with all places whose text stands in it. It is called `module`,
-/// and its label is the module's name.
+/// A suspect for each module of the text that has a place, with all places whose text stands in it, but for conditions and
+/// input connections. It is called `module`, and its label is the module's name.
 #[derive(Clone, Copy, Drop)]
 pub struct Modules;
 
-/// The number of a name: the one that it has, which is the given one from now on where it had none.
-fn meet<'a>(table: &mut NameTable<'a>, name: &'a [u8], new: u32) -> Result<u32, NoMemory>
-    ensures number { IfOk result (λ number. Some number ≡ met (number_of table.old) new (Some name.now)) }
-    ensures table { OnOk result ((q : List ℕ) → number_of table.new q ≡ after (pointwise nat_eq) (number_of table.old) new (Some name.now) q) }
+/// The name of the module that a place counts to.
+fn module_of(place: &Place) -> Option<&[u8]>
+    ensures { option_copied result ≡ module_key place.now place.now.kind }
 {
+    match place.kind {
+        PlaceKind::Cond | PlaceKind::PortIn => None,
+        PlaceKind::Assign
+        | PlaceKind::Step
+        | PlaceKind::Gate
+        | PlaceKind::PortOut
+        | PlaceKind::And => Some(place.module.as_bytes()),
+    }
+}
+
+/// The number of a name: the one that it has, which is the given one from now on where it had none.
+fn meet<'a>(
+    table: &mut NameTable<'a>,
+    name: Option<&'a [u8]>,
+    new: u32,
+) -> Result<Option<u32>, NoMemory>
+    ensures number { IfOk result (λ number. number ≡ met (number_of table.old) new (option_copied name.entry)) }
+    ensures table { OnOk result ((q : List ℕ) → number_of table.new q ≡ after (pointwise nat_eq) (number_of table.old) new (option_copied name.entry) q) }
+{
+    let Some(name) = name else {
+        return Ok(None);
+    };
     if let Some(number) = table.find(name) {
-        return Ok(number);
+        return Ok(Some(number));
     }
     table.add(name, new)?;
-    Ok(new)
+    Ok(Some(new))
 }
 
 /// For each place, the first place of its module.
@@ -39,8 +60,8 @@ fn firsts_by_module(alloc: Global, places: &[Place]) -> Result<Vec<Option<u32>>,
     let mut firsts = Vec::new(alloc);
     let mut table = NameTable::new(alloc);
     for at in 0..places.len() {
-        let first = meet(&mut table, places[at].module.as_bytes(), at as u32)?;
-        firsts.push(Some(first))?;
+        let first = meet(&mut table, module_of(&places[at]), at as u32)?;
+        firsts.push(first)?;
     }
     Ok(firsts)
 }

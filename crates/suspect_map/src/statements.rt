@@ -23,7 +23,11 @@ impl Numbered for Statements {
     fn number_of(place: &Place) -> Option<u32> {
         match place.kind {
             PlaceKind::Assign | PlaceKind::Step => Some(place.site),
-            PlaceKind::Gate | PlaceKind::PortOut | PlaceKind::And | PlaceKind::Cond | PlaceKind::PortIn => None,
+            PlaceKind::Gate
+            | PlaceKind::PortOut
+            | PlaceKind::And
+            | PlaceKind::Cond
+            | PlaceKind::PortIn => None,
         }
     }
 }

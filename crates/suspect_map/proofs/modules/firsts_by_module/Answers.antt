@@ -1,7 +1,7 @@
-use Rattle.std.proofs.Common.{◌≡◌, ◌<◌, ◌≤◌, ◌++◌, ◌∷◌, [], ◌∙◌, sym, ap, ap₂, arith, get_or, length, map, Option, Some, ℕ, List, nat_eq}
+use Rattle.std.proofs.Common.{◌≡◌, ◌<◌, ◌≤◌, ◌++◌, ◌∷◌, [], ◌∙◌, sym, ap, ap₂, arith, get_or, length, map, Option, ℕ, List, nat_eq}
+use Rattle.std.specs.Prelude.{option_copied}
 use Rattle.std.specs.Cmp.Lexicographic.{pointwise}
 use Rattle.std.proofs.lemmas.List.{length-map, take_all}
-use Rattle.design_core.specs.declared.place.Place.{Place}
 use Rattle.loc_base.specs.NameTable.{number_of}
 use Rattle.loc_base.proofs.ShelfLists.{map-take_at}
 use Rattle.suspect_map.specs.Grouping.{first_by}
@@ -15,9 +15,8 @@ pub loop-at-preserved : goal.loop-at-preserved
 loop-at-preserved c =
     let keys : List (Option (List ℕ)) = map modules.key c.args.places.now in
     let i = c.loop-at.at in
-    let key : Option (List ℕ) = Some c.as_bytes.result.now in
-    let is : key ≡ get_or keys i key = module-key c.args.places.now i c.index-places-at.result c.as_bytes.result.now c.loop-at-test.true c.index-places-at.is
-    (c.as_bytes.ensures.same ∙ ap (λ (p : Place). p.«module») (sym c.index-places-at.is)) in
+    let key : Option (List ℕ) = option_copied c.module_of.result in
+    let is : key ≡ get_or keys i key = module-key c.args.places.now i c.index-places-at.result key c.loop-at-test.true c.index-places-at.is c.module_of.ensures in
     let within : i < length keys = omega (arith, c.loop-at-test.true, length-map c.args.places.now modules.key) in (
       c.in_ok-push.ensures.items
           ∙ ap₂ (λ xs x. xs ++ x ∷ []) c.loop-at.invariant.0
