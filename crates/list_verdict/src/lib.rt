@@ -13,4 +13,4 @@ mod verdict;
 
 pub use judgement::judge;
 pub use laws::{whole_is_judged, whole_is_list};
-pub use verdict::{Listed, Verdict, Workers};
+pub use verdict::{Listed, Verdict};

@@ -31,11 +31,3 @@ pub struct Listed<'a> {
     pub sets: &'a [ReportSet],
     pub log: &'a Log,
 }
-
-/// So many workers, from 1 to 64, with the runtime that starts them and the gate that each passes.
-#[derive(Clone, Copy)]
-pub struct Workers<'a, R, G> {
-    pub runtime: &'a R,
-    pub gate: &'a G,
-    pub count: u32,
-}
