@@ -7,3 +7,4 @@ pub mod Blocks
 pub mod Gates
 pub mod InstanceOutputs
 pub mod Modules
+pub mod Ands

@@ -1,9 +1,10 @@
 //! Suspects: which places of a design are looked at as one (Smith, Veneris, Ali and Viglas, IEEE TCAD 2005).
 //!
 //! A granularity groups the places of a design. It is an object behind the trait `Granularity`, so that a caller can hand
-//! in one of its own. The ones of this crate are those of Verilog texts, one in a file each.
+//! in one of its own. The ones of this crate are those of Verilog texts and AIGER files, one in a file each.
 #![tactic(auto)]
 
+mod ands;
 mod blocks;
 mod chains;
 mod choose;
@@ -19,6 +20,7 @@ mod modules;
 mod numbered;
 mod statements;
 
+pub use ands::Ands;
 pub use blocks::Blocks;
 pub use choose::{ChooseErr, chosen};
 pub use gates::Gates;
