@@ -8,3 +8,5 @@ pub mod Gates
 pub mod InstanceOutputs
 pub mod Modules
 pub mod Ands
+pub mod Conditions
+pub mod InputConnections
