@@ -3,7 +3,7 @@
 
 usage: docs/lemmas.py [--into FILE]     at the top of the repository
 
-With `--into` it takes the place of the table that FILE has (docs/architecture.md has one, under its heading on lemmas). A crate
+With `--into` it takes the place of the table that FILE has (docs/crates.md has one, under its heading on lemmas). A crate
 that the table has keeps its row; a new one comes last, in the order of crates.txt.
 """
 
