@@ -14,8 +14,8 @@ abbrev pub one_more : ℕ → ℕ
 one_more count = min (count + 1) last_count
 
 -- ---- the faults of a shelf
--- how many of its calls failed, how many of those were writes, which are `begin` and `put`, and the name of the text whose load
--- failed last: no bytes before the first
+-- how many of its calls failed, how many of those were writes, which are `can_begin`, `begin` and `put`, and the name of the text
+-- whose load failed last: no bytes before the first
 pub record FaultCounts : Type 0 where
   pub all : ℕ
   pub writes : ℕ
@@ -24,9 +24,9 @@ pub record FaultCounts : Type 0 where
 abbrev pub fault_counts : ℕ → ℕ → List ℕ → FaultCounts
 fault_counts all writes failed_name = record { all = all; writes = writes; failed_name = failed_name }
 
--- a load failed, and no write
+-- one load failed, and no write
 abbrev pub LoadRose : FaultCounts → FaultCounts → Type 0
-LoadRose old new = Rose old.all new.all × (new.writes ≡ old.writes)
+LoadRose old new = Rose old.all new.all × (new.writes ≡ old.writes) × (new.all ≡ one_more old.all)
 
 -- and the last that failed was that of the text under a name
 abbrev pub LoadRoseOf : List ℕ → FaultCounts → FaultCounts → Type 0

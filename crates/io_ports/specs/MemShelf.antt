@@ -22,7 +22,7 @@ write_faults_of shelf = shelf.write_faults
 
 -- the name of the text whose load failed last
 abbrev pub failed_name_of : MemShelf → List ℕ
-failed_name_of shelf = shelf.failed_name
+failed_name_of shelf = shelf.failed_name.bytes
 
 -- all three
 abbrev pub fault_counts_of : MemShelf → FaultCounts

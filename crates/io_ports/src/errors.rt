@@ -1,34 +1,43 @@
 ghost use Rattle.std.specs.Prelude.{◌≡◌};
 
+use crate::fault_kind::FaultKind;
 use loc_base::NoMemory;
 use std::alloc::AllocError;
+use thiserror::Error;
 
 /// Why a text is not loaded.
-#[derive(Clone, Copy, Debug, PartialEq, Eq)]
+#[derive(Clone, Copy, Debug, PartialEq, Eq, Error)]
 pub enum LoadErr {
     /// The text has more bytes than the limit.
+    #[error("the text is longer than it may be")]
     TooBig,
-    /// The shelf has no such text, or it failed. Its count of faults rose, and the name of the text is kept.
-    Failed,
-    /// Memory was refused, for the text or for the name of one whose load failed.
+    /// The shelf has no such text, or it failed. Its count of faults rose.
+    #[error(transparent)]
+    Failed(FaultKind),
+    /// Memory was refused.
+    #[error("out of memory")]
     NoMemory,
 }
 
 /// Why a text of a shelf is not begun, or a piece not appended to it.
-#[derive(Clone, Copy, Debug, PartialEq, Eq)]
+#[derive(Clone, Copy, Debug, PartialEq, Eq, Error)]
 pub enum PutErr {
-    /// The shelf failed. Its count of faults rose.
-    Failed,
+    /// The shelf failed. Its counts of faults rose.
+    #[error(transparent)]
+    Failed(FaultKind),
     /// Memory was refused.
+    #[error("out of memory")]
     NoMemory,
 }
 
 /// Why a piece is not appended to the text of a sink.
-#[derive(Clone, Copy, Debug, PartialEq, Eq)]
+#[derive(Clone, Copy, Debug, PartialEq, Eq, Error)]
 pub enum SinkFault {
     /// The sink failed. Its count of faults rose.
-    Failed,
+    #[error(transparent)]
+    Failed(FaultKind),
     /// Memory was refused.
+    #[error("out of memory")]
     NoMemory,
 }
 

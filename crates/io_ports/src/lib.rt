@@ -3,8 +3,10 @@
 #![tactic(auto)]
 
 mod errors;
+mod fault_kind;
 mod fault_plan;
 mod file_shelf;
+mod kept_name;
 mod mem_shelf;
 mod mem_sink;
 mod out_sink;
@@ -14,6 +16,7 @@ mod texts;
 mod transfer;
 
 pub use errors::{LoadErr, PutErr, SinkFault};
+pub use fault_kind::FaultKind;
 pub use file_shelf::FileShelf;
 pub use mem_shelf::MemShelf;
 pub use mem_sink::MemSink;

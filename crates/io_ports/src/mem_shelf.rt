@@ -1,26 +1,28 @@
-ghost use Rattle.std.specs.Prelude.{◌≡◌, ◌≢◌, ◌≤◌, ◌↔◌, ◌⊎◌, ℕ, List, [], length, Err, None, IsSome, IfOk, IsErrOf, IsTrue, false, option_copied};
+ghost use Rattle.std.specs.Prelude.{◌≡◌, ◌≢◌, ◌≤◌, ◌↔◌, ◌⊎◌, ℕ, List, [], length, None, IsSome, IfOk, IsTrue, false, option_copied};
 ghost use Rattle.std.specs.List.Sorted.{IsPermutation};
-ghost use Rattle.io_ports.specs.Faults.{WriteRose};
-ghost use Rattle.io_ports.specs.Shelf.{LoadCause, Loads, PutCause, Begins, Appends};
+ghost use Rattle.io_ports.specs.Faults.{LoadRoseOf, WriteRose};
+ghost use Rattle.io_ports.specs.Shelf.{LoadCause, Loads, IsFailedLoad, PutCause, Begins, Appends, IsFailedWrite};
 ghost use Rattle.io_ports.specs.Texts.{text_of};
 
 use crate::Numbers;
 use crate::errors::{LoadErr, PutErr};
+use crate::fault_kind::FaultKind;
 use crate::fault_plan::FaultPlan;
+use crate::kept_name::KeptName;
 use crate::shelf::Shelf;
 use crate::texts::Texts;
-use loc_base::{Bytes, NoMemory};
+use loc_base::Bytes;
 use std::alloc::Global;
 
-/// A shelf in memory. It tells its texts. A write fails exactly at the calls that it was told to; a load there and at absent
-/// names, where it wants memory if there is none for the name.
+/// A shelf in memory. It tells its texts. A call fails exactly where it was told to, and a load at absent names too. The kind
+/// of each fault is `Other`.
 #[derive(Drop)]
 pub struct MemShelf {
     texts: Texts,
     written: Texts,
     plan: FaultPlan,
     write_faults: u64,
-    failed_name: Bytes,
+    failed_name: KeptName,
 }
 
 impl MemShelf {
@@ -42,7 +44,7 @@ impl MemShelf {
             written: Texts::new(alloc),
             plan: FaultPlan::new(fails),
             write_faults: 0,
-            failed_name: Bytes::new(alloc),
+            failed_name: KeptName::of(b""),
         }
     }
 
@@ -67,33 +69,21 @@ impl MemShelf {
         self.write_faults
     }
 
-    /// The name of the text whose load failed last, and no bytes before the first.
-    pub fn failed_name(&self) -> &Bytes
-        ensures { result.now ≡ failed_name_of self.now }
-    {
-        &self.failed_name
-    }
-
-    /// Counts a fault of a load and keeps its name, or wants memory for it.
-    fn load_fault(&mut self, alloc: Global, name: &str) -> LoadErr
+    /// Counts a fault of a load of the text under a name.
+    fn load_fault(&mut self, name: &str) -> LoadErr
         ensures texts { self.new.texts ≡ self.old.texts }
         ensures written { self.new.written ≡ self.old.written }
         ensures calls { calls_of self.new ≡ calls_of self.old }
         ensures fails { failing_calls self.new ≡ failing_calls self.old }
-        ensures answer { (result ≡ LoadErr.Failed) ⊎ (result ≡ LoadErr.NoMemory) }
-        ensures cause { LoadCause name.now (fault_counts_of self.old) (fault_counts_of self.new) (Err result) }
+        ensures answer { result ≡ LoadErr.Failed FaultKind.Other }
+        ensures cause { LoadRoseOf name.now (fault_counts_of self.old) (fault_counts_of self.new) }
     {
-        match Bytes::copy_of(alloc, name.as_bytes()) {
-            Ok(copy) => {
-                self.failed_name = copy;
-                self.plan.fault();
-                LoadErr::Failed
-            }
-            Err(NoMemory) => LoadErr::NoMemory,
-        }
+        self.failed_name = KeptName::of(name.as_bytes());
+        self.plan.fault();
+        LoadErr::Failed(FaultKind::Other)
     }
 
-    /// Counts one call of `begin` or `put`, and a fault where it is to fail, as the answer says.
+    /// Counts one call of `can_begin`, `begin` or `put`, and a fault where it is to fail, as the answer says.
     fn write_fails(&mut self) -> bool
         ensures texts { self.new.texts ≡ self.old.texts }
         ensures written { self.new.written ≡ self.old.written }
@@ -129,23 +119,38 @@ impl Shelf for MemShelf {
         ensures limit { IfOk result (λ text. length text ≤ limit) }
         ensures cause { LoadCause name.now (fault_counts_of self.old) (fault_counts_of self.new) result }
 
-        // It fails only where it was told to and at an absent name; there it fails, or wants memory for the name.
-        ensures only { IsErrOf result LoadErr.Failed → IsToFail self.old ⊎ (texts_of self.old name.now ≡ None) }
-        ensures failed { IsToFail self.old ⊎ (texts_of self.old name.now ≡ None)
-            → IsErrOf result LoadErr.Failed ⊎ IsErrOf result LoadErr.NoMemory }
+        // It fails exactly where it was told to and at an absent name.
+        ensures failed { IsFailedLoad result ↔ IsToFail self.old ⊎ (texts_of self.old name.now ≡ None) }
         ensures counted { CountsCall self.old self.new }
     {
         if self.plan.call_is_to_fail() {
-            return Err(self.load_fault(alloc, name));
+            return Err(self.load_fault(name));
         }
         let Some(text) = self.texts.get(name) else {
-            return Err(self.load_fault(alloc, name));
+            return Err(self.load_fault(name));
         };
         if text.len() as u64 > limit {
             return Err(LoadErr::TooBig);
         }
         let copy = Bytes::copy_of(alloc, text.as_slice())?;
         Ok(copy)
+    }
+
+    /// It is a call like the others, whatever the name.
+    fn can_begin(&mut self, _name: &str) -> Result<(), PutErr>
+        ensures texts { texts_of self.new ≡ texts_of self.old }
+        ensures written { written_of self.new ≡ written_of self.old }
+        ensures cause { PutCause (fault_counts_of self.old) (fault_counts_of self.new) result }
+
+        // It fails exactly where it was told to.
+        ensures failed { IsFailedWrite result ↔ IsToFail self.old }
+        ensures counted { CountsCall self.old self.new }
+    {
+        let fails = self.write_fails();
+        if fails {
+            return Err(PutErr::Failed(FaultKind::Other));
+        }
+        Ok(())
     }
 
     fn begin(&mut self, name: &str) -> Result<(), PutErr>
@@ -155,11 +160,11 @@ impl Shelf for MemShelf {
         ensures cause { PutCause (fault_counts_of self.old) (fault_counts_of self.new) result }
 
         // It fails exactly where it was told to.
-        ensures failed { IsErrOf result PutErr.Failed ↔ IsToFail self.old }
+        ensures failed { IsFailedWrite result ↔ IsToFail self.old }
         ensures counted { CountsCall self.old self.new }
     {
         if self.write_fails() {
-            return Err(PutErr::Failed);
+            return Err(PutErr::Failed(FaultKind::Other));
         }
         self.written.clear(name)?;
         Ok(())
@@ -174,12 +179,12 @@ impl Shelf for MemShelf {
         ensures cause { PutCause (fault_counts_of self.old) (fault_counts_of self.new) result }
 
         // It fails exactly where it was told to.
-        ensures failed { IsErrOf result PutErr.Failed ↔ IsToFail self.old }
+        ensures failed { IsFailedWrite result ↔ IsToFail self.old }
         ensures counted { CountsCall self.old self.new }
     {
         if self.write_fails() {
             let _ = self.written.append(name, &piece[..piece.len() / 2]);
-            return Err(PutErr::Failed);
+            return Err(PutErr::Failed(FaultKind::Other));
         }
         self.written.append(name, piece)?;
         Ok(())

@@ -1,15 +1,17 @@
-ghost use Rattle.std.specs.Prelude.{◌≡◌, ◌↔◌, [], IsErrOf};
+ghost use Rattle.std.specs.Prelude.{◌≡◌, ◌↔◌, []};
 ghost use Rattle.std.specs.List.Sorted.{IsPermutation};
-ghost use Rattle.io_ports.specs.Sink.{SinkCause, SinkAppends};
+ghost use Rattle.io_ports.specs.Sink.{SinkCause, SinkAppends, IsFailedPut};
 
 use crate::Numbers;
 use crate::errors::SinkFault;
+use crate::fault_kind::FaultKind;
 use crate::fault_plan::FaultPlan;
 use crate::sink::Sink;
 use loc_base::Bytes;
 use std::alloc::Global;
 
-/// A sink in memory. It tells its text, and fails exactly at the calls that it was told to.
+/// A sink in memory. It tells its text, and fails exactly at the calls that it was told to. The kind of each fault is
+/// `Other`.
 #[derive(Drop)]
 pub struct MemSink {
     text: Bytes,
@@ -63,12 +65,12 @@ impl Sink for MemSink {
         ensures cause { SinkCause (faults_of self.old) (faults_of self.new) result }
 
         // It fails exactly where it was told to.
-        ensures failed { IsErrOf result SinkFault.Failed ↔ IsToFail self.old }
+        ensures failed { IsFailedPut result ↔ IsToFail self.old }
         ensures counted { CountsCall self.old self.new }
     {
         if self.plan.call_fails() {
             let _ = self.text.append(&piece[..piece.len() / 2]);
-            return Err(SinkFault::Failed);
+            return Err(SinkFault::Failed(FaultKind::Other));
         }
         self.text.append(piece)?;
         Ok(())

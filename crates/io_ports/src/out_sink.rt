@@ -31,10 +31,10 @@ impl<P: Print> Sink for OutSink<'_, P> {
     ghost faults = { λ sink. sink.faults };
 
     fn put(&mut self, piece: &[u8]) -> Result<(), SinkFault> {
-        if write_piece(&mut io::writer(self.rt), piece) {
+        let Err(kind) = write_piece(&mut io::writer(self.rt), piece) else {
             return Ok(());
-        }
+        };
         self.faults = self.faults.saturating_add(1);
-        Err(SinkFault::Failed)
+        Err(SinkFault::Failed(kind))
     }
 }

@@ -9,8 +9,8 @@ use std::alloc::Global;
 /// Texts by their names: some to be loaded, and some that are written.
 ///
 /// Its meaning: `texts` are those to be loaded, which no call changes; `written` are those that were begun; `faults`
-/// counts the failures, all of them and those of writes, which are `begin` and `put`, and keeps the name of the text whose
-/// load failed last. A shelf need not tell its texts: what the clauses say of them holds where `tells` is true. What they
+/// counts the failures, all of them and those of writes, which are `can_begin`, `begin` and `put`, and has the name of the
+/// text whose load failed last, which a shelf need not hold in memory. A shelf need not tell its texts: what the clauses say of them holds where `tells` is true. What they
 /// say of the faults holds always.
 pub trait Shelf {
     ghost tells: { Self → Bool };
@@ -30,6 +30,14 @@ pub trait Shelf {
         ensures text { tells self.old ≡ true → Loads (texts self.old name.now) limit result }
         ensures limit { IfOk result (λ text. length text ≤ limit) }
         ensures cause { LoadCause name.now (faults self.old) (faults self.new) result };
+
+    /// Asks whether a text can be begun under a name, before there is anything to write. No text changes, and `begin` may
+    /// still fail.
+    fn can_begin(&mut self, name: &str) -> Result<(), PutErr>
+        ensures tells { tells self.new ≡ tells self.old }
+        ensures texts { texts self.new ≡ texts self.old }
+        ensures written { written self.new ≡ written self.old }
+        ensures cause { PutCause (faults self.old) (faults self.new) result };
 
     /// Makes the written text under a name empty. After `Failed` it is as before or empty, after `NoMemory` as before.
     fn begin(&mut self, name: &str) -> Result<(), PutErr>

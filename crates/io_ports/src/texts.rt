@@ -1,16 +1,17 @@
 ghost use Rattle.std.specs.Prelude.{◌≡◌, ◌≢◌, ◌++◌, [], List, ℕ, Some, unwrap_or, option_copied, IsSome, OnOk, OnErr};
 ghost use Rattle.io_ports.specs.Texts.{text_of};
 
+use indexmap::IndexMap;
 use loc_base::{Bytes, NoMemory};
 use std::alloc::Global;
-use std::collections::BTreeMap;
 use std::marker::Model;
 
-/// Texts under names. Contracts see it as a list of pairs of a name and a text, of which the first of a name counts.
+/// Texts under names, in the order in which the names came. Contracts see it as a list of pairs of a name and a text, of
+/// which the first of a name counts.
 #[derive(Drop)]
 pub struct Texts {
     alloc: Global,
-    entries: BTreeMap<String, Bytes>,
+    entries: IndexMap<String, Bytes>,
 }
 
 impl Model for Texts {
@@ -28,7 +29,7 @@ impl Texts {
     {
         Texts {
             alloc,
-            entries: BTreeMap::new(alloc),
+            entries: IndexMap::new(alloc),
         }
     }
 

@@ -1,9 +1,10 @@
 //! A text read from a reader, and a piece written to a writer, by as many calls of theirs as it takes.
-ghost use Rattle.std.specs.Prelude.{◌≡◌, ◌<◌, ◌≤◌, length, false, IfOk, IsErrOf, IsTrue};
+ghost use Rattle.std.specs.Prelude.{◌≡◌, ◌<◌, ◌≤◌, length, IfOk, IsErrOf, OnOk, OnErr};
 ghost use Rattle.std.specs.Io.KnownBytes.{Appends};
 ghost use Rattle.io_ports.specs.Transfer.{AppendsSome, IsAllOf, IsMoreThan};
 
 use crate::errors::LoadErr;
+use crate::fault_kind::FaultKind;
 use loc_base::Bytes;
 use std::alloc::Global;
 use std::io::{Read, Write};
@@ -35,8 +36,9 @@ fn read_through<R: Read>(
 {
     let mut text = Bytes::new(alloc);
     while text.len() as u64 <= limit {
-        let Ok(count) = reader.read(buffer) else {
-            return Err(LoadErr::Failed);
+        let count = match reader.read(buffer) {
+            Ok(count) => count,
+            Err(error) => return Err(LoadErr::Failed(FaultKind::from(error))),
         };
         if count == 0 {
             return Ok(text);
@@ -46,20 +48,21 @@ fn read_through<R: Read>(
     Err(LoadErr::TooBig)
 }
 
-/// Writes a piece, and says whether the writer took all of it. Else it took a front of it.
-pub fn write_piece<W: Write>(writer: &mut W, piece: &[u8]) -> bool
-    ensures taken { IsTrue result → Appends (W.contents writer.old) (W.contents writer.new) piece.now }
-    ensures front { result ≡ false → AppendsSome (W.contents writer.old) (W.contents writer.new) piece.now }
+/// Writes a piece. The writer took all of it, or a front of it where it failed.
+pub fn write_piece<W: Write>(writer: &mut W, piece: &[u8]) -> Result<(), FaultKind>
+    ensures taken { OnOk result (Appends (W.contents writer.old) (W.contents writer.new) piece.now) }
+    ensures front { OnErr result (AppendsSome (W.contents writer.old) (W.contents writer.new) piece.now) }
 {
     let mut rest = piece;
     while !rest.is_empty() {
-        let Ok(count) = writer.write(rest) else {
-            return false;
+        let count = match writer.write(rest) {
+            Ok(count) => count,
+            Err(error) => return Err(FaultKind::from(error)),
         };
         if count == 0 {
-            return false;
+            return Err(FaultKind::Other);
         }
         rest = &rest[count..];
     }
-    true
+    Ok(())
 }
