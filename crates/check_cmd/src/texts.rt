@@ -26,7 +26,7 @@ fn fetch<S: Shelf>(alloc: Global, name: &str, shelf: &mut S) -> Result<Bytes, Lo
     match shelf.load(alloc, name, MOST_BYTES) {
         Ok(text) => Ok(text),
         Err(LoadErr::TooBig) => Err(LoadFault::Size),
-        Err(LoadErr::Failed) => Err(LoadFault::Fault),
+        Err(LoadErr::Failed(_)) => Err(LoadFault::Fault),
         Err(LoadErr::NoMemory) => Err(LoadFault::NoMemory),
     }
 }

@@ -21,13 +21,14 @@ enum Stop {
 
 impl From<PutErr> for Stop {
     ghost use Rattle.io_ports.specs.declared.errors.PutErr.TheVariants as put;
+    ghost use Rattle.io_ports.specs.declared.fault_kind.FaultKind.{FaultKind};
     ghost use Rattle.ground_tests.specs.declared.caller.Stop.TheVariants as stop;
 
-    ghost from_gives = { λ e s. (e ≡ put.Failed → s ≡ stop.WriteFault) × (e ≡ put.NoMemory → s ≡ stop.Memory) };
+    ghost from_gives = { λ e s. ((kind : FaultKind) → e ≡ put.Failed kind → s ≡ stop.WriteFault) × (e ≡ put.NoMemory → s ≡ stop.Memory) };
 
     fn from(error: PutErr) -> Stop {
         match error {
-            PutErr::Failed => Stop::WriteFault,
+            PutErr::Failed(_) => Stop::WriteFault,
             PutErr::NoMemory => Stop::Memory,
         }
     }
@@ -49,7 +50,7 @@ fn copy_twice<S: Shelf>(shelf: &mut S, alloc: Global, from: &str, to: &str) -> R
 {
     let text = match shelf.load(alloc, from, 100) {
         Ok(text) => text,
-        Err(LoadErr::Failed) => return Err(Stop::ReadFault),
+        Err(LoadErr::Failed(_)) => return Err(Stop::ReadFault),
         Err(LoadErr::TooBig) => return Err(Stop::Size),
         Err(LoadErr::NoMemory) => return Err(Stop::Memory),
     };

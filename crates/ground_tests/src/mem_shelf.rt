@@ -1,6 +1,6 @@
 //! A shelf in memory.
 
-use io_ports::{LoadErr, MemShelf, Numbers, PutErr, Shelf, Texts};
+use io_ports::{FaultKind, LoadErr, MemShelf, Numbers, PutErr, Shelf, Texts};
 use loc_base::Bytes;
 use std::alloc::Global;
 use std::test::Fail;
@@ -47,25 +47,51 @@ fn a_text_over_the_limit_is_too_big_and_no_fault(rt: HostRuntime) -> Result<(), 
 #[test]
 fn an_absent_name_fails_and_is_a_fault(rt: HostRuntime) -> Result<(), Fail> {
     let mut shelf = shelf(rt.alloc(), &[])?;
-    assert!(rt; matches!(shelf.load(rt.alloc(), "c", 100), Err(LoadErr::Failed)));
+    assert!(rt;
+        matches!(
+            shelf.load(rt.alloc(), "c", 100),
+            Err(LoadErr::Failed(FaultKind::Other))
+        )
+    );
     assert!(rt; shelf.faults() == 1);
     assert!(rt; shelf.write_faults() == 0);
-    assert!(rt; shelf.failed_name().as_slice() == b"c".as_slice());
     Ok(())
 }
 
 #[test]
 fn calls_fail_by_their_numbers(rt: HostRuntime) -> Result<(), Fail> {
     let mut shelf = shelf(rt.alloc(), &[3, 0])?;
-    assert!(rt; shelf.failed_name().is_empty());
-    assert!(rt; matches!(shelf.load(rt.alloc(), "a", 9), Err(LoadErr::Failed)));
+    assert!(rt;
+        matches!(
+            shelf.load(rt.alloc(), "a", 9),
+            Err(LoadErr::Failed(FaultKind::Other))
+        )
+    );
     assert!(rt; shelf.load(rt.alloc(), "b", 9).is_ok());
     shelf.begin("log")?;
-    assert!(rt; matches!(shelf.begin("log"), Err(PutErr::Failed)));
+    assert!(rt; matches!(shelf.begin("log"), Err(PutErr::Failed(FaultKind::Other))));
     shelf.begin("log")?;
     assert!(rt; shelf.faults() == 2);
     assert!(rt; shelf.write_faults() == 1);
-    assert!(rt; shelf.failed_name().as_slice() == b"a".as_slice());
+    Ok(())
+}
+
+#[test]
+fn asking_is_a_call_and_begins_nothing(rt: HostRuntime) -> Result<(), Fail> {
+    let mut shelf = shelf(rt.alloc(), &[1])?;
+    shelf.can_begin("log")?;
+    assert!(rt; shelf.text("log").is_none());
+    assert!(rt;
+        matches!(
+            shelf.can_begin("log"),
+            Err(PutErr::Failed(FaultKind::Other))
+        )
+    );
+    assert!(rt; shelf.write_faults() == 1);
+    shelf.begin("log")?;
+    shelf.put("log", b"one")?;
+    shelf.can_begin("log")?;
+    assert!(rt; has_text(&shelf, "log", b"one"));
     Ok(())
 }
 
@@ -87,7 +113,12 @@ fn a_put_that_fails_leaves_a_front(rt: HostRuntime) -> Result<(), Fail> {
     let mut shelf = shelf(rt.alloc(), &[2])?;
     shelf.begin("log")?;
     shelf.put("log", b"one")?;
-    assert!(rt; matches!(shelf.put("log", b"twos"), Err(PutErr::Failed)));
+    assert!(rt;
+        matches!(
+            shelf.put("log", b"twos"),
+            Err(PutErr::Failed(FaultKind::Other))
+        )
+    );
     assert!(rt; has_text(&shelf, "log", b"onetw"));
     assert!(rt; shelf.faults() == 1);
     assert!(rt; shelf.write_faults() == 1);

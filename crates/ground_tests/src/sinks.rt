@@ -1,6 +1,6 @@
 //! Sinks, in memory and over what prints.
 
-use io_ports::{MemSink, Numbers, OutSink, Sink, SinkFault};
+use io_ports::{FaultKind, MemSink, Numbers, OutSink, Sink, SinkFault};
 use loc_base::Bytes;
 use std::cell::{Cell, RefCell};
 use std::fmt::Display;
@@ -32,7 +32,7 @@ impl Recorder {
 }
 
 fn refusal() -> io::Error {
-    io::Error::from(io::ErrorKind::Other)
+    io::Error::from(io::ErrorKind::BrokenPipe)
 }
 
 impl Print for Recorder {
@@ -80,7 +80,12 @@ fn what_is_put_is_printed(rt: HostRuntime) -> Result<(), Fail> {
 fn what_is_not_printed_to_its_end_is_a_fault(rt: HostRuntime) -> Result<(), Fail> {
     let recorder = Recorder::new(&rt, 1);
     let mut sink = OutSink::new(&recorder);
-    assert!(rt; matches!(sink.put(b"abcd"), Err(SinkFault::Failed)));
+    assert!(rt;
+        matches!(
+            sink.put(b"abcd"),
+            Err(SinkFault::Failed(FaultKind::BrokenPipe))
+        )
+    );
     assert!(rt; recorder.has_printed(b"abc"));
     Ok(())
 }
@@ -97,7 +102,7 @@ fn a_put_that_fails_leaves_a_front(rt: HostRuntime) -> Result<(), Fail> {
     fails.push(1)?;
     let mut sink = MemSink::new(rt.alloc(), fails);
     sink.put(b"one")?;
-    assert!(rt; matches!(sink.put(b"twos"), Err(SinkFault::Failed)));
+    assert!(rt; matches!(sink.put(b"twos"), Err(SinkFault::Failed(FaultKind::Other))));
     sink.put(b"!")?;
     assert!(rt; sink.text().as_slice() == b"onetw!".as_slice());
     assert!(rt; sink.faults() == 1);

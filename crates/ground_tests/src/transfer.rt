@@ -1,6 +1,6 @@
 //! The loops over reads and writes that stop on the way.
 
-use io_ports::{LoadErr, read_text, write_piece};
+use io_ports::{FaultKind, LoadErr, read_text, write_piece};
 use loc_base::Bytes;
 use std::alloc::Global;
 use std::io;
@@ -24,7 +24,7 @@ impl Slow {
 
     fn call(&mut self) -> io::Result<()> {
         if self.calls == 0 {
-            return Err(io::Error::from(io::ErrorKind::Other));
+            return Err(io::Error::from(io::ErrorKind::StorageFull));
         }
         self.calls -= 1;
         Ok(())
@@ -78,7 +78,7 @@ fn a_read_that_fails_on_the_way_is_no_end(rt: HostRuntime) {
     assert!(rt;
         matches!(
             read_text(rt.alloc(), &mut reader, 100),
-            Err(LoadErr::Failed)
+            Err(LoadErr::Failed(FaultKind::NoSpace))
         )
     );
     let mut reader = Slow::new(rt.alloc(), 3);
@@ -88,14 +88,14 @@ fn a_read_that_fails_on_the_way_is_no_end(rt: HostRuntime) {
 #[test]
 fn a_writer_of_single_bytes_takes_all(rt: HostRuntime) {
     let mut writer = Slow::new(rt.alloc(), 4);
-    assert!(rt; write_piece(&mut writer, b"abcd"));
+    assert!(rt; write_piece(&mut writer, b"abcd").is_ok());
     assert!(rt; writer.written.as_slice() == b"abcd".as_slice());
 }
 
 #[test]
 fn a_write_that_fails_on_the_way_leaves_a_front(rt: HostRuntime) {
     let mut writer = Slow::new(rt.alloc(), 2);
-    assert!(rt; !write_piece(&mut writer, b"abcd"));
+    assert!(rt; write_piece(&mut writer, b"abcd") == Err(FaultKind::NoSpace));
     assert!(rt; writer.written.as_slice() == b"ab".as_slice());
 }
 
@@ -103,6 +103,6 @@ fn a_write_that_fails_on_the_way_leaves_a_front(rt: HostRuntime) {
 fn a_writer_that_takes_nothing_fails(rt: HostRuntime) {
     let mut room = [0u8; 2];
     let mut writer = room.as_mut_slice();
-    assert!(rt; !write_piece(&mut writer, b"abc"));
+    assert!(rt; write_piece(&mut writer, b"abc") == Err(FaultKind::Other));
     assert!(rt; room == [b'a', b'b']);
 }

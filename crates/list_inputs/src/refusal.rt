@@ -144,7 +144,7 @@ pub fn print_line<O: Sink>(line: &[u8], status: u8, out: &mut O) -> u8
 {
     match out.put(line) {
         Ok(()) => status,
-        Err(SinkFault::Failed) => 6,
+        Err(SinkFault::Failed(_)) => 6,
         Err(SinkFault::NoMemory) => 7,
     }
 }

@@ -37,7 +37,7 @@ fn print<O: Sink>(line: &[u8], out: &mut O) -> Printed
 {
     match out.put(line) {
         Ok(()) => Printed::Whole,
-        Err(SinkFault::Failed) => Printed::Failed,
+        Err(SinkFault::Failed(_)) => Printed::Failed,
         Err(SinkFault::NoMemory) => Printed::NoMemory,
     }
 }

@@ -58,6 +58,10 @@ impl Shelf for MadeShelf<'_> {
         Ok(copy)
     }
 
+    fn can_begin(&mut self, name: &str) -> Result<(), PutErr> {
+        Err(PutErr::NoMemory)
+    }
+
     fn begin(&mut self, name: &str) -> Result<(), PutErr> {
         Err(PutErr::NoMemory)
     }

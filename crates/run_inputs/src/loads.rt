@@ -39,7 +39,7 @@ fn load<S: Shelf>(alloc: Global, shelf: &mut S, name: &str) -> Result<Bytes, Loa
     match shelf.load(alloc, name, MOST_BYTES) {
         Ok(text) => Ok(text),
         Err(LoadErr::TooBig) => Err(LoadFault::Size),
-        Err(LoadErr::Failed) => Err(LoadFault::Fault),
+        Err(LoadErr::Failed(_)) => Err(LoadFault::Fault),
         Err(LoadErr::NoMemory) => Err(LoadFault::NoMemory),
     }
 }

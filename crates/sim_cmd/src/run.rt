@@ -30,7 +30,7 @@ fn put_memory<O: Sink>(out: &mut O) -> Outcome
 {
     match out.put(b"memory\n") {
         Ok(()) | Err(SinkFault::NoMemory) => Outcome::Memory,
-        Err(SinkFault::Failed) => Outcome::WriteFault,
+        Err(SinkFault::Failed(_)) => Outcome::WriteFault,
     }
 }
 
@@ -43,7 +43,7 @@ fn put_line<O: Sink>(line: &[u8], end: Outcome, out: &mut O) -> Outcome
 {
     match out.put(line) {
         Ok(()) => end,
-        Err(SinkFault::Failed) => Outcome::WriteFault,
+        Err(SinkFault::Failed(_)) => Outcome::WriteFault,
         Err(SinkFault::NoMemory) => Outcome::Memory,
     }
 }
@@ -105,7 +105,7 @@ fn show<O: Sink>(alloc: Global, ordered: &Ordered, traces: &[Trace], out: &mut O
     };
     match show_traces(alloc, &simulation, out) {
         Ok(()) => Outcome::Done,
-        Err(SinkFault::Failed) => Outcome::WriteFault,
+        Err(SinkFault::Failed(_)) => Outcome::WriteFault,
         Err(SinkFault::NoMemory) => put_memory(out),
     }
 }

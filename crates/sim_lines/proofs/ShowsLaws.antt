@@ -35,12 +35,12 @@ front-longer count xs ys = by_length (cases_lt (length xs) count)
 -- a line that is put
 pub shows-one : (X : Type 0) (line : Line) (old new : List ℕ) (r : Result X SinkFault) → SinkAppends (line_text line) old new r → Shows (line ∷ []) old new r
 shows-one X line old new (Ok x) is = is ∙ ap (λ t. old ++ t) (sym (one-text line))
-shows-one X line old new (Err Failed) is = record { count = is.count; is = is.is ∙ ap (λ t. old ++ take is.count t) (sym (one-text line)) }
+shows-one X line old new (Err (Failed kind)) is = record { count = is.count; is = is.is ∙ ap (λ t. old ++ take is.count t) (sym (one-text line)) }
 shows-one X line old new (Err NoMemory) is = record { count = 0; is = is ∙ sym (append-none old) }
 
 -- what stops the first lines stops all of them
 pub shows-stopped : (X Y : Type 0) (lines more : List Line) (old new : List ℕ) (e : SinkFault) → Shows {X = X} lines old new (Err e) → Shows {X = Y} (lines ++ more) old new (Err e)
-shows-stopped X Y lines more old new Failed is =
+shows-stopped X Y lines more old new (Failed kind) is =
     let front = front-longer is.count (text_of lines) (text_of more) in
     record {
       count = front.count;
@@ -55,7 +55,7 @@ pub shows-then : (X : Type 0) (lines more : List Line) (old now new : List ℕ) 
     → Shows (lines ++ more) old new r
 shows-then X lines more old now new (Ok x) before is =
     is ∙ ap (λ t. t ++ text_of more) before ∙ append_assoc old (text_of lines) (text_of more) ∙ ap (λ t. old ++ t) (sym (flat_map-append line_text lines more))
-shows-then X lines more old now new (Err Failed) before is = record {
+shows-then X lines more old now new (Err (Failed kind)) before is = record {
   count = length (text_of lines) + is.count;
   is = is.is ∙ ap (λ t. t ++ take is.count (text_of more)) before ∙ append_assoc old (text_of lines) (take is.count (text_of more))
       ∙ ap (λ t. old ++ t) (sym (take-append-add (text_of lines) (text_of more) is.count))

@@ -13,5 +13,5 @@ pub record PrintsSome (lines : List Line) (old new : List ℕ) : Type 0 where
 -- all of them, a front of their text where a put failed, some whole lines where memory was wanted
 abbrev pub Shows : {X : Type 0} → List Line → List ℕ → List ℕ → Result X SinkFault → Type 0
 Shows lines old new (Ok _) = new ≡ old ++ text_of lines
-Shows lines old new (Err Failed) = AppendsFront (text_of lines) old new
+Shows lines old new (Err (Failed _)) = AppendsFront (text_of lines) old new
 Shows lines old new (Err NoMemory) = PrintsSome lines old new

@@ -25,7 +25,7 @@ pub fn begin_text<S: Shelf>(shelf: &mut S, name: &str) -> Result<(), WriteErr>
 {
     match shelf.begin(name) {
         Ok(()) => Ok(()),
-        Err(PutErr::Failed) => Err(WriteErr::Failed),
+        Err(PutErr::Failed(_)) => Err(WriteErr::Failed),
         Err(PutErr::NoMemory) => Err(WriteErr::NoMemory),
     }
 }
@@ -43,7 +43,7 @@ pub fn put_piece<S: Shelf>(shelf: &mut S, name: &str, piece: &[u8]) -> Result<()
 {
     match shelf.put(name, piece) {
         Ok(()) => Ok(()),
-        Err(PutErr::Failed) => Err(WriteErr::Failed),
+        Err(PutErr::Failed(_)) => Err(WriteErr::Failed),
         Err(PutErr::NoMemory) => Err(WriteErr::NoMemory),
     }
 }
@@ -58,7 +58,7 @@ pub fn print_piece<O: Sink>(out: &mut O, piece: &[u8]) -> Result<(), WriteErr>
 {
     match out.put(piece) {
         Ok(()) => Ok(()),
-        Err(SinkFault::Failed) => Err(WriteErr::Failed),
+        Err(SinkFault::Failed(_)) => Err(WriteErr::Failed),
         Err(SinkFault::NoMemory) => Err(WriteErr::NoMemory),
     }
 }

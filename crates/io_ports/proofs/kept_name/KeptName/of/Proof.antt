@@ -1,5 +1,5 @@
 -- `of` makes the struct of no fields, at the bytes that its clause names. No code holds them, so the walk picks them.
-use Rattle.std.proofs.Common.{List, [], ◌∷◌, ◌++◌, ◌<◌, ◌^◌, ℕ, length, refl}
+use Rattle.std.proofs.Common.{List, [], ◌∷◌, ◌<◌, ◌^◌, ℕ, length, refl}
 use seplogic.Ra.Ura.{Ura}
 use mir.Syntax.{named}
 use mir.Val.{Val, vstruct, vnil}
@@ -23,7 +23,6 @@ use denote.Ref.{Bor}
 use denote.Shadow.{pure_i}
 use denote.Signature.{plain}
 use denote.Slice.{ShrSlice, slice_val, shr_slice_vals, shr_slice_Tells}
-use denote.Steps.{nothing}
 use denote.Triple.Entry.{on_entry}
 use denote.Triple.Spec.{Meets, triple_of}
 use denote.Triple.Table.{entered}
