@@ -51,7 +51,7 @@ OneRose counts = Rose counts.shelf.all counts.now_shelf.all ⊎ Rose counts.sink
 abbrev pub WriteFailed : Counts → Type 0
 WriteFailed counts = WriteRose counts.shelf counts.now_shelf ⊎ Rose counts.sink counts.now_sink
 
--- a load failed, and no write
+-- one load failed, and no write
 abbrev pub LoadFailed : Counts → Type 0
 LoadFailed counts = LoadRose counts.shelf counts.now_shelf × (counts.now_sink ≡ counts.sink)
 
@@ -110,8 +110,8 @@ pub record EndsRefused (c : Case) (run : Run) (status : ℕ) : Type 0 where
   pub printed : run.now_printed ≡ run.printed ++ line
   pub stands : c.Stands run
 
--- the counts of faults: none rose at an answer and at 2 to 4, that of all faults but not that of writes at 5, one of writes at 6, and
--- the sink's did not at 7
+-- the counts of faults: none rose at an answer and at 2 to 4, that of all faults by one but not that of writes at 5, one of writes at
+-- 6, and the sink's did not at 7
 pub record Causes (c : Case) (counts : Counts) (status : ℕ) : Type 0 where
   pub answer : c.MayAnswer status → NoneRose counts
   pub none : status ≤ 4 → NoneRose counts
