@@ -1,14 +1,14 @@
 ghost use Rattle.std.specs.Prelude.{◌≡◌, ℕ, List, None, OnOk, OnErr};
 ghost use Rattle.v_hierarchy.specs.Places.{place_in, with_place};
 
+use indexmap::IndexMap;
 use loc_base::NoMemory;
 use std::alloc::Global;
-use std::collections::HashMap;
 
 /// Places by name: at most one for each name. To find or to put one takes the time of its bytes, whatever the table
 /// holds.
 pub struct Places<'t> {
-    by_name: HashMap<&'t [u8], usize>,
+    by_name: IndexMap<&'t [u8], usize>,
 }
 
 // A `drop` is written out, so that it is proved once, here.
@@ -24,7 +24,7 @@ impl<'t> Places<'t> {
         ensures { (name : List ℕ) → place_in result name ≡ None }
     {
         Places {
-            by_name: HashMap::new(alloc),
+            by_name: IndexMap::new(alloc),
         }
     }
 

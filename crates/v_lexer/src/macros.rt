@@ -2,16 +2,16 @@
 ghost use Rattle.std.specs.Prelude.{◌≡◌, IfSome, IfNone, OnOk, Some, None};
 ghost use Rattle.std.specs.FinMap as map;
 
+use indexmap::IndexMap;
 use loc_base::NoMemory;
 use std::alloc::Global;
-use std::collections::HashMap;
 use std::marker::Model;
 
 /// The texts of the macros by their names. Contracts see them as a finite map.
 #[derive(Drop)]
 pub struct Macros {
     alloc: Global,
-    texts: HashMap<Vec<u8>, Vec<u8>>,
+    texts: IndexMap<Vec<u8>, Vec<u8>>,
 }
 
 impl Model for Macros {
@@ -36,7 +36,7 @@ impl Macros {
     {
         Macros {
             alloc,
-            texts: HashMap::new(alloc),
+            texts: IndexMap::new(alloc),
         }
     }
 
@@ -72,6 +72,6 @@ impl Macros {
     pub fn remove(&mut self, name: &[u8])
         ensures { self.new ≡ map.remove self.old name.now }
     {
-        let _ = self.texts.remove(name);
+        let _ = self.texts.swap_remove(name);
     }
 }

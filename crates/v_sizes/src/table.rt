@@ -2,14 +2,14 @@ ghost use Rattle.std.specs.Prelude.{◌≡◌, ℕ, List, None, OnErr, OnOk, IfO
 ghost use Rattle.v_sizes.specs.Table.{meaning_in, entry_in, is_in, with_entry};
 
 use crate::meaning::Meaning;
+use indexmap::IndexMap;
 use loc_base::NoMemory;
 use std::alloc::Global;
-use std::collections::HashMap;
 
 /// Meanings by name: at most one for each name.
 #[derive(Drop)]
 pub(crate) struct Table<'a> {
-    by_name: HashMap<&'a [u8], Option<Meaning>>,
+    by_name: IndexMap<&'a [u8], Option<Meaning>>,
 }
 
 impl<'a> Table<'a> {
@@ -18,7 +18,7 @@ impl<'a> Table<'a> {
         ensures { (name : List ℕ) → entry_in result name ≡ None }
     {
         Table {
-            by_name: HashMap::new(alloc),
+            by_name: IndexMap::new(alloc),
         }
     }
 

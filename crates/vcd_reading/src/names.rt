@@ -2,9 +2,9 @@
 ghost use Rattle.std.specs.Prelude.{◌≡◌, ℕ, List, Some, None, OnOk};
 ghost use Rattle.vcd_reading.specs.NameView.{number_at, with_first};
 
+use indexmap::IndexMap;
 use loc_base::NoMemory;
 use std::alloc::Global;
-use std::collections::HashMap;
 
 /// A name in a scope.
 #[derive(Clone, Copy, PartialEq, Eq, Hash)]
@@ -16,7 +16,7 @@ pub struct Key<'a> {
 /// The numbers of variables: at most one for each name in each scope.
 #[derive(Drop)]
 pub struct Names<'a> {
-    numbers: HashMap<Key<'a>, usize>,
+    numbers: IndexMap<Key<'a>, usize>,
 }
 
 impl<'a> Names<'a> {
@@ -25,7 +25,7 @@ impl<'a> Names<'a> {
         ensures { (scope : ℕ) (name : List ℕ) → number_at result scope name ≡ None }
     {
         Names {
-            numbers: HashMap::new(alloc),
+            numbers: IndexMap::new(alloc),
         }
     }
 

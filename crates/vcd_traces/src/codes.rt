@@ -2,9 +2,9 @@
 ghost use Rattle.std.specs.Prelude.{◌≡◌, ◌<◌, ℕ, List, None, OnOk, IfOk, IfSome, length};
 ghost use Rattle.vcd_traces.specs.Table.{near_place as place_near, role_of, with_role};
 
+use indexmap::IndexMap;
 use loc_base::NoMemory;
 use std::alloc::Global;
-use std::collections::HashMap;
 use vcd_words::code_place;
 
 /// What a declared code is to the ports.
@@ -23,7 +23,7 @@ pub enum Role {
 #[derive(Drop)]
 pub struct Codes<'a> {
     near: Vec<Option<Role>>,
-    far: HashMap<&'a [u8], Role>,
+    far: IndexMap<&'a [u8], Role>,
 }
 
 /// How many codes stand in the list, by the number of variables: all, where these are numbered densely.
@@ -48,7 +48,7 @@ impl<'a> Codes<'a> {
         }
         Ok(Codes {
             near,
-            far: HashMap::new(alloc),
+            far: IndexMap::new(alloc),
         })
     }
 
