@@ -7,34 +7,47 @@ use loc_base::NoMemory;
 use std::alloc::{AllocError, AllocFailed};
 use std::io;
 use suspect_map::ChooseErr;
+use thiserror::Error;
 use unroller::UnrollErr;
 use vcd_traces::VcdErr;
 
-#[derive(Drop, Debug)]
+#[derive(Debug, Drop, Error)]
 pub(crate) enum Failure {
     /// The words behind the program's name aren't of its form.
+    #[error("usage: bench_tool form|solve|size|dump WORD..")]
     Words,
     /// Standard input has no expression.
+    #[error("standard input has no expression")]
     Text,
     /// A text can't be read.
-    Load(LoadErr),
+    #[error(transparent)]
+    Load(#[from] LoadErr),
     /// The design's text means none.
-    Design(DesignErr),
+    #[error(transparent)]
+    Design(#[from] DesignErr),
     /// The names of kinds give no suspects.
-    Kinds,
+    #[error(transparent)]
+    Kinds(#[from] ChooseErr),
     /// A dump holds no trace of the design.
-    Trace(VcdErr),
+    #[error(transparent)]
+    Trace(#[from] VcdErr),
     /// The circuit has too many nodes.
-    Circuit(BlastErr),
+    #[error(transparent)]
+    Circuit(#[from] BlastErr),
     /// The form has too many variables.
-    Variables(UnrollErr),
+    #[error(transparent)]
+    Variables(#[from] UnrollErr),
     /// The clauses have too many literals.
-    Literals(FormErr),
+    #[error(transparent)]
+    Literals(#[from] FormErr),
     /// A number is larger than those below it allow.
+    #[error("a number is too large")]
     Large,
     /// Standard input, standard output or the clock failed.
-    Stream,
+    #[error(transparent)]
+    Stream(#[from] io::Error),
     /// Memory was refused.
+    #[error("out of memory")]
     NoMemory,
 }
 
@@ -53,56 +66,5 @@ impl From<AllocError> for Failure {
 impl<T: Drop> From<AllocFailed<T>> for Failure {
     fn from(_failed: AllocFailed<T>) -> Failure {
         Failure::NoMemory
-    }
-}
-
-impl From<io::Error> for Failure {
-    fn from(_error: io::Error) -> Failure {
-        Failure::Stream
-    }
-}
-
-impl From<LoadErr> for Failure {
-    fn from(fault: LoadErr) -> Failure {
-        Failure::Load(fault)
-    }
-}
-
-impl From<DesignErr> for Failure {
-    fn from(fault: DesignErr) -> Failure {
-        Failure::Design(fault)
-    }
-}
-
-impl From<ChooseErr> for Failure {
-    fn from(fault: ChooseErr) -> Failure {
-        match fault {
-            ChooseErr::UnknownKind { .. } | ChooseErr::Suspects => Failure::Kinds,
-            ChooseErr::NoMemory => Failure::NoMemory,
-        }
-    }
-}
-
-impl From<VcdErr> for Failure {
-    fn from(fault: VcdErr) -> Failure {
-        Failure::Trace(fault)
-    }
-}
-
-impl From<BlastErr> for Failure {
-    fn from(fault: BlastErr) -> Failure {
-        Failure::Circuit(fault)
-    }
-}
-
-impl From<UnrollErr> for Failure {
-    fn from(fault: UnrollErr) -> Failure {
-        Failure::Variables(fault)
-    }
-}
-
-impl From<FormErr> for Failure {
-    fn from(fault: FormErr) -> Failure {
-        Failure::Literals(fault)
     }
 }

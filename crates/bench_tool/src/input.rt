@@ -19,8 +19,6 @@ pub(crate) fn words(rt: &HostRuntime) -> Result<Vec<String>, Failure> {
 /// What standard input holds.
 pub(crate) fn input(rt: &HostRuntime) -> Result<Vec<u8>, Failure> {
     let mut bytes = Vec::new(rt.alloc());
-    match rt.reader().read_to_end(&mut bytes) {
-        Ok(_) => Ok(bytes),
-        Err(_) => Err(Failure::Stream),
-    }
+    rt.reader().read_to_end(&mut bytes)?;
+    Ok(bytes)
 }

@@ -32,7 +32,7 @@ fn main(rt: HostRuntime) -> ExitCode {
     match run(&rt) {
         Ok(status) => ExitCode::from(status),
         Err(failure) => {
-            let _printed = eprintln!(rt; "{failure:?}");
+            let _printed = eprintln!(rt; "{failure}");
             ExitCode::from(2)
         }
     }

@@ -3,11 +3,14 @@ ghost use Rattle.std.specs.Prelude.{◌≡◌};
 use gate_base::MakeErr;
 use loc_base::NoMemory as WantOfMemory;
 use std::alloc::AllocFailed;
+use thiserror::Error;
 
 /// Why a net has no circuit: it would have too many AND and free nodes, or want of memory.
-#[derive(Clone, Copy, Debug, PartialEq, Eq)]
+#[derive(Clone, Copy, Debug, PartialEq, Eq, Error)]
 pub enum BlastErr {
+    #[error("more AND and free nodes of the circuit than are allowed")]
     Nodes,
+    #[error("out of memory")]
     NoMemory,
 }
 

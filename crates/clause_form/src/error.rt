@@ -2,11 +2,14 @@ ghost use Rattle.std.specs.Prelude.{◌≡◌};
 
 use loc_base::NoMemory as WantOfMemory;
 use std::alloc::AllocFailed;
+use thiserror::Error;
 
 /// Why there is no form: its clauses would have too many literals, or want of memory.
-#[derive(Clone, Copy, Debug, PartialEq, Eq)]
+#[derive(Clone, Copy, Debug, PartialEq, Eq, Error)]
 pub enum FormErr {
+    #[error("more literals of the clauses than are allowed")]
     Literals,
+    #[error("out of memory")]
     NoMemory,
 }
 

@@ -3,27 +3,37 @@
 use loc_base::NoMemory;
 use std::alloc::{AllocError, AllocFailed, Global};
 use std::io;
+use thiserror::Error;
 
 /// Why a text isn't a formula in DIMACS CNF. Lines are counted from 1.
-#[derive(Clone, Copy, Debug, PartialEq, Eq)]
+#[derive(Clone, Copy, Debug, PartialEq, Eq, Error)]
 pub enum FormErr {
     /// The text isn't UTF-8.
+    #[error("no text")]
     NotText,
     /// No line `p cnf VARS CLAUSES` stands before the first clause.
+    #[error("no problem line")]
     NoProblem,
     /// A line that begins with `p` isn't the first one, isn't `p cnf VARS CLAUSES`, or has too many variables.
+    #[error("bad problem line {line}")]
     BadProblem { line: u64 },
     /// A word isn't a number of 32 bits.
+    #[error("bad word in line {line}")]
     BadWord { line: u64 },
     /// A literal's variable is greater than the problem line's number of variables.
+    #[error("variable out of range in line {line}")]
     OutOfRange { line: u64 },
     /// No 0 ends the last clause.
+    #[error("last clause without an end")]
     Unended,
     /// There are more or fewer clauses than the problem line says.
+    #[error("wrong number of clauses")]
     WrongCount,
     /// There are more clauses than a solver takes.
+    #[error("too many clauses")]
     TooMany,
     /// Memory was refused.
+    #[error("out of memory")]
     NoMemory,
 }
 
@@ -40,17 +50,22 @@ impl<T: Drop> From<AllocFailed<T>> for FormErr {
 }
 
 /// Why the program has no answer.
-#[derive(Clone, Copy, Debug, PartialEq, Eq)]
+#[derive(Clone, Copy, Debug, PartialEq, Eq, Error)]
 pub enum Failure {
     /// The words behind the program's name aren't `[BUDGET] [--times]`.
+    #[error("usage: bench_tool solve [BUDGET] [--times]")]
     Usage,
     /// Standard input can't be read.
+    #[error("unreadable input")]
     Input,
     /// Standard input holds no formula.
+    #[error(transparent)]
     Form(FormErr),
     /// Standard output, standard error or the clock failed.
+    #[error("failed output")]
     Output,
     /// Memory was refused.
+    #[error("out of memory")]
     NoMemory,
 }
 
@@ -87,30 +102,9 @@ impl From<io::Error> for Failure {
     }
 }
 
-/// The line that names a text's fault.
-fn form_text(alloc: Global, error: FormErr) -> Result<String, AllocError> {
-    match error {
-        FormErr::NotText => format!(in alloc; "no text\n"),
-        FormErr::NoProblem => format!(in alloc; "no problem line\n"),
-        FormErr::BadProblem { line } => format!(in alloc; "bad problem line {line}\n"),
-        FormErr::BadWord { line } => format!(in alloc; "bad word in line {line}\n"),
-        FormErr::OutOfRange { line } => format!(in alloc; "variable out of range in line {line}\n"),
-        FormErr::Unended => format!(in alloc; "last clause without an end\n"),
-        FormErr::WrongCount => format!(in alloc; "wrong number of clauses\n"),
-        FormErr::TooMany => format!(in alloc; "too many clauses\n"),
-        FormErr::NoMemory => format!(in alloc; "no memory\n"),
-    }
-}
-
 /// The line that names a failure.
 pub fn failure_text(alloc: Global, failure: Failure) -> Result<String, AllocError> {
-    match failure {
-        Failure::Usage => format!(in alloc; "usage: bench_tool solve [BUDGET] [--times]\n"),
-        Failure::Input => format!(in alloc; "unreadable input\n"),
-        Failure::Form(error) => form_text(alloc, error),
-        Failure::Output => format!(in alloc; "failed output\n"),
-        Failure::NoMemory => format!(in alloc; "no memory\n"),
-    }
+    format!(in alloc; "{failure}\n")
 }
 
 /// The exit status of a failure: 2 for words and texts that ask for nothing, 6 for input and output, 7 for want of memory.

@@ -4,15 +4,20 @@ use bit_circuit::BlastErr;
 use clause_form::FormErr;
 use loc_base::NoMemory as WantOfMemory;
 use std::alloc::AllocFailed;
+use thiserror::Error;
 use unroller::UnrollErr;
 
 /// Why there is no debugger: the circuit would have more than 4,000,000 AND and free nodes; else the form more than 4,000,000
 /// variables; else its clauses more than 64,000,000 literals; or want of memory.
-#[derive(Clone, Copy, Debug, PartialEq, Eq)]
+#[derive(Clone, Copy, Debug, PartialEq, Eq, Error)]
 pub enum DebugErr {
+    #[error("more than 4,000,000 AND and free nodes of the circuit")]
     Nodes,
+    #[error("more than 4,000,000 variables of the clauses")]
     Vars,
+    #[error("more than 64,000,000 literals of the clauses")]
     Literals,
+    #[error("out of memory")]
     NoMemory,
 }
 

@@ -1,12 +1,15 @@
 ghost use Rattle.std.specs.Prelude.{◌≡◌};
 
 use loc_base::NoMemory;
+use thiserror::Error;
 
 /// Why there is no order.
-#[derive(Debug, Drop)]
+#[derive(Debug, Drop, Error)]
 pub enum OrderErr {
+    #[error("out of memory")]
     NoMemory,
     /// Drivers that depend on each other in a circle: each on the next one, and the last on the first.
+    #[error("a combinational loop of {count} drivers", count = .drivers.len())]
     Circle { drivers: Vec<u32> },
 }
 

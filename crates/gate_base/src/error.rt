@@ -2,11 +2,14 @@ ghost use Rattle.std.specs.Prelude.{◌≡◌};
 
 use loc_base::NoMemory as WantOfMemory;
 use std::alloc::AllocFailed;
+use thiserror::Error;
 
 /// Why no node was made: the limit on AND and free nodes would be passed, or want of memory.
-#[derive(Clone, Copy, Debug, PartialEq, Eq)]
+#[derive(Clone, Copy, Debug, PartialEq, Eq, Error)]
 pub enum MakeErr {
+    #[error("more AND and free nodes than are allowed")]
     Limit,
+    #[error("out of memory")]
     NoMemory,
 }
 

@@ -14,13 +14,16 @@ use loc_base::NoMemory;
 use refusal_lines::Code;
 use run_inputs::{DesignFault, LoadFault, TraceFault, TraceName};
 use std::alloc::Global;
+use thiserror::Error;
 
 /// Why nothing is listed.
-#[derive(Debug, Drop)]
+#[derive(Debug, Drop, Error)]
 pub enum Refusal {
     /// A line that says so, with the status of the program.
+    #[error("refused with status {status}")]
     Line { status: u8, line: Vec<u8> },
     /// Memory was refused.
+    #[error("out of memory")]
     Memory,
 }
 

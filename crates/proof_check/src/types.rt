@@ -5,6 +5,7 @@ ghost use Rattle.proof_check.specs.declared.types.LogErr.TheVariants.{NoMemory a
 
 use clause_base::Log;
 use loc_base::{Digest, NoMemory};
+use thiserror::Error;
 
 /// A log with the digest of the inputs that it is for.
 #[derive(Drop)]
@@ -14,10 +15,12 @@ pub struct LogText {
 }
 
 /// Why a text wasn't read as a log.
-#[derive(Clone, Copy, Debug, PartialEq, Eq)]
+#[derive(Clone, Copy, Debug, PartialEq, Eq, Error)]
 pub enum LogErr {
     /// The text isn't of the form. The line is the first that isn't, counted from 1.
+    #[error("line {line} of the log isn't of its form")]
     LogSyntax { line: u64 },
+    #[error("out of memory")]
     NoMemory,
 }
 

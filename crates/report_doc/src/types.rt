@@ -6,6 +6,7 @@ ghost use Rattle.report_doc.specs.declared.types.ReportErr.TheVariants.{NoMemory
 use crate::cycle_texts::CycleTexts;
 use design_core::Members;
 use loc_base::{Digest, Items, Name, NoMemory};
+use thiserror::Error;
 
 /// How a list ended.
 #[derive(Clone, Copy, Debug, PartialEq, Eq)]
@@ -85,12 +86,15 @@ impl Drop for Report {
 }
 
 /// Why a text wasn't read as a report.
-#[derive(Clone, Copy, Debug, PartialEq, Eq)]
+#[derive(Clone, Copy, Debug, PartialEq, Eq, Error)]
 pub enum ReportErr {
     /// The text isn't JSON.
+    #[error("the report isn't JSON")]
     Syntax,
     /// It is JSON of another shape than a report's.
+    #[error("the report is JSON of another shape")]
     Shape,
+    #[error("out of memory")]
     NoMemory,
 }
 

@@ -13,32 +13,40 @@ use refusal_lines::{
     Code, binding_code, circle_code, dump_status, elaboration_code, lexical_code, push_dump,
     push_fault, syntax_code,
 };
+use thiserror::Error;
 use vcd_traces::VcdErr;
 
 /// Why a text isn't handed over.
-#[derive(Clone, Copy, Debug)]
+#[derive(Clone, Copy, Debug, Error)]
 pub enum LoadFault {
     /// It has more bytes than are read.
+    #[error("more than 1,073,741,824 bytes")]
     Size,
     /// The shelf failed.
+    #[error("the file can't be read")]
     Fault,
     /// Memory was refused.
+    #[error("out of memory")]
     NoMemory,
 }
 
 /// Why there is no design.
-#[derive(Clone, Copy, Debug)]
+#[derive(Clone, Copy, Debug, Error)]
 pub enum DesignFault {
+    #[error(transparent)]
     Load(LoadFault),
     /// The text means none.
+    #[error(transparent)]
     Text(DesignErr),
 }
 
 /// Why there is no trace.
-#[derive(Clone, Copy, Debug)]
+#[derive(Clone, Copy, Debug, Error)]
 pub enum TraceFault {
+    #[error(transparent)]
     Load(LoadFault),
     /// The text means none of the design.
+    #[error(transparent)]
     Text(VcdErr),
 }
 

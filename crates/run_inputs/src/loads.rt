@@ -23,6 +23,7 @@ use front_end::{FrontEnd, Ordered};
 use io_ports::{LoadErr, Shelf};
 use loc_base::{Bytes, Name};
 use std::alloc::Global;
+use thiserror::Error;
 use vcd_traces::samples;
 
 /// The most bytes that a text may have.
@@ -277,7 +278,8 @@ fn load_next<K: Imprint, S: Shelf>(
 }
 
 /// A trace that is refused: its place, from 0, and why.
-#[derive(Clone, Copy, Debug)]
+#[derive(Clone, Copy, Debug, Error)]
+#[error("dump {number}: {fault}", number = .place.saturating_add(1))]
 pub struct TraceRefusal {
     pub place: usize,
     pub fault: TraceFault,

@@ -1,12 +1,15 @@
 use loc_base::NoMemory;
 use std::alloc::{AllocError, AllocFailed};
+use thiserror::Error;
 
 /// Why there is no network, trace, word or name.
-#[derive(Clone, Copy, Debug, PartialEq, Eq)]
+#[derive(Clone, Copy, Debug, PartialEq, Eq, Error)]
 pub enum NetworkErr {
     /// What is written down is none.
+    #[error("what is written down is no network, trace, word or name")]
     Unfit,
     /// Memory was refused.
+    #[error("out of memory")]
     NoMemory,
 }
 

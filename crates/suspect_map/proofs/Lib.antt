@@ -4,6 +4,7 @@ pub mod ChooseLaws
 pub mod FirstLaws
 pub mod GroupLaws
 pub mod ModuleKeys
+pub mod NameText
 pub mod Steps
 pub mod SuspectLaws
 pub mod SuspectsFound

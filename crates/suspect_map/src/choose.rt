@@ -1,5 +1,5 @@
 //! The suspects of the granularities that are asked for.
-ghost use Rattle.std.specs.Prelude.{◌≡◌, ◌<◌, ◌≤◌, ◌^◌, None, length, option_map, nat_eq, IfOk, IfErr, IfSome};
+ghost use Rattle.std.specs.Prelude.{◌≡◌, ◌<◌, ◌≤◌, ◌^◌, None, length, option_map, nat_eq, IfOk, IfErr, IfSome, IsAscii};
 ghost use Rattle.std.specs.Cmp.Lexicographic.{pointwise};
 ghost use Rattle.suspect_map.specs.Groups.{AreAscending, AreWithin};
 ghost use Rattle.suspect_map.specs.Choose.{ChooseCause, joined, named, unknown};
@@ -10,18 +10,42 @@ use crate::group::Groups;
 use design_core::Place;
 use loc_base::{Items, Name, NoMemory};
 use std::alloc::{AllocError, AllocFailed, Global};
+use thiserror::Error;
 
 /// The most suspects that are looked at together.
 const MOST_SUSPECTS: usize = 4096;
 
 /// Why no suspects are given.
-#[derive(Drop)]
+#[derive(Debug, Drop, Error)]
 pub enum ChooseErr {
+    #[error("out of memory")]
     NoMemory,
     /// No granularity has the name.
+    #[error("no kind of suspects is called {kind}", kind = text_of(.name))]
     UnknownKind { name: Name },
     /// There are more than 4,096 suspects.
+    #[error("more than 4,096 suspects")]
     Suspects,
+}
+
+/// The text of bytes that are ASCII.
+#[tactic(auto, using(crate::proofs::NameText::name_text))]
+fn text_of_bytes(bytes: &[u8]) -> &str
+    requires { IsAscii bytes.now }
+    ensures { result.now ≡ bytes.now }
+{
+    match std::str::from_utf8(bytes) {
+        Ok(text) => text,
+        Err(_) => unreachable!(),
+    }
+}
+
+/// The text of a name.
+#[tactic(auto, using(crate::proofs::NameText::name_text))]
+fn text_of(name: &Name) -> &str
+    ensures { result.now ≡ name.now }
+{
+    text_of_bytes(name.as_bytes())
 }
 
 impl From<NoMemory> for ChooseErr {

@@ -3,11 +3,14 @@ ghost use Rattle.std.specs.Prelude.{◌≡◌};
 use gate_base::MakeErr;
 use loc_base::NoMemory as WantOfMemory;
 use std::alloc::AllocFailed;
+use thiserror::Error;
 
 /// Why a circuit isn't unrolled: the form would have too many variables, or want of memory.
-#[derive(Clone, Copy, Debug, PartialEq, Eq)]
+#[derive(Clone, Copy, Debug, PartialEq, Eq, Error)]
 pub enum UnrollErr {
+    #[error("more variables of the clauses than are allowed")]
     Vars,
+    #[error("out of memory")]
     NoMemory,
 }
 

@@ -1,15 +1,19 @@
 //! Numbers as they are written (IEEE 1364-2005, 3.5.1).
 use loc_base::Bytes;
 use std::marker::Model;
+use thiserror::Error;
 
 /// What is wrong with a number.
-#[derive(Clone, Copy)]
+#[derive(Clone, Copy, Debug, Error)]
 pub enum NumberFault {
     /// The base letter or the digits are missing, or a digit isn't one of the base.
+    #[error("a number without its base or its digits, or with a digit that its base doesn't have")]
     Malformed,
     /// An unknown digit, or a wildcard digit in base ten.
+    #[error("a number with an unknown digit, or with a wildcard digit in base ten")]
     Unknown,
     /// A size that isn't 1 to 128, or a value that is too wide.
+    #[error("a number whose size isn't 1 to 128, or whose value needs more than 128 bits (32 without a base)")]
     Wide,
 }
 

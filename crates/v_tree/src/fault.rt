@@ -8,36 +8,46 @@ use crate::input::place_span;
 use crate::mark::{mark_at, same};
 use loc_base::{NoMemory, Span};
 use std::alloc::{AllocError, AllocFailed};
+use thiserror::Error;
 use v_lexer::types::{Terminal, Token};
 
 /// Why tokens have no tree, and where: the span of the token that has no place, or of the end.
-#[derive(Clone, Copy, Debug, PartialEq, Eq)]
+#[derive(Clone, Copy, Debug, PartialEq, Eq, Error)]
 pub enum ParseErr {
     /// No production has the token here, or the tokens end too soon.
+    #[error("a token that can't stand here, or a text that ends too soon")]
     Unexpected(Span),
     /// The token belongs to a form of the standard that this profile leaves out.
+    #[error("a form of Verilog that is left out")]
     Unsupported(Span),
     /// The token makes the text nest too deep, or an expression of too many levels.
+    #[error("nesting deeper than 256, or an expression of more than 4,096 levels")]
     Deep(Span),
     /// Want of memory.
+    #[error("out of memory")]
     NoMemory,
 }
 
 /// Why tokens have no tree, and the number of the token that has no place; that of the end is the number of tokens.
-#[derive(Clone, Copy)]
+#[derive(Clone, Copy, Debug, Error)]
 pub enum Fault {
     /// No production has the token here.
+    #[error("a token that can't stand here, or a text that ends too soon")]
     Unexpected(usize),
     /// The token belongs to a form that this profile leaves out.
+    #[error("a form of Verilog that is left out")]
     Unsupported(usize),
     /// The token goes past a limit.
+    #[error("nesting deeper than 256, or an expression of more than 4,096 levels")]
     Deep(usize),
 }
 
 /// Why a reader stopped.
-#[derive(Clone, Copy)]
+#[derive(Clone, Copy, Debug, Error)]
 pub enum Stop {
+    #[error(transparent)]
     Fault(Fault),
+    #[error("out of memory")]
     NoMemory,
 }
 

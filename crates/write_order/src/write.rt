@@ -3,13 +3,16 @@ ghost use Rattle.std.specs.Prelude.{◌≡◌, [], ◌∷◌, ℕ, List, true, O
 ghost use Rattle.write_order.specs.Writes.{Leaves, PrintCause, WriteCause, begin_text, on_shelf, on_sink, print_piece, put_piece};
 
 use io_ports::{PutErr, Shelf, Sink, SinkFault};
+use thiserror::Error;
 
 /// Why a write isn't carried out.
-#[derive(Clone, Copy, Debug, PartialEq, Eq)]
+#[derive(Clone, Copy, Debug, PartialEq, Eq, Error)]
 pub enum WriteErr {
     /// The shelf or the sink failed. Its count of faults rose.
+    #[error("a write failed")]
     Failed,
     /// Memory was refused.
+    #[error("out of memory")]
     NoMemory,
 }
 
