@@ -14,7 +14,7 @@ sets, and of each the values that make the dumps right. It is one file and loads
 from 1), `--cycles` the cycles.
 
 The status is 0; 1 where all is printed, but the report and the design don't fit together, which standard error says; 2 where nothing
-could be done: words that ask for nothing, or a text that can't be read or is no report.
+could be done: wrong arguments, or a text that can't be read or is no report.
 """
 
 import argparse

@@ -15,12 +15,12 @@ What is printed are the sets that one run of `localise find` on all dumps lists,
 Then the lists are joined: a set of at most K suspects makes all dumps right exactly where it has within it a set of each dump's list, so the list of all
 is that of the least unions of one set of each (crates/trace_laws proves it). Standard error says of each dump who vouches for its list.
 
---only N looks at the dump N alone, and neither checks nor joins: for an engine that begins the runs. --join begins no `find`: the pairs have to stand.
+--only N looks at the dump N alone, and neither checks nor joins: for a scheduler that starts the runs. --join starts no `find`: the pairs have to be there.
 The other options are those of `find`, for each dump; --program is the program (`localise`).
 
 Where a dump has no whole list, there is none of all: printed is a line for each such dump, `trace N` and what the program said of it, as `trace 2 front
-7 budget`, and no set. The status is 0; 1 where a list stops early; 8 where `check` says no; 2 where the words ask for nothing, a file can't be read, or a pair is
-none of its dump, which standard error says; else that of the program.
+7 budget`, and no set. The status is 0; 1 where a list stops early; 8 where `check` says no; 2 where the arguments are wrong, a file can't be read, or a pair isn't
+of its dump, which standard error says; else that of the program.
 """
 
 import argparse
