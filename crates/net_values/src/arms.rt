@@ -9,11 +9,11 @@ ghost use Rattle.word_net.specs.Selects.{picked_bit, put_bits, put_picked};
 ghost use Rattle.word_net.specs.Values.{index_read, range_of, read};
 ghost use Rattle.plain_values.specs.Evaluate.{takes};
 
-use crate::bits::{blended, is_number, replaced};
+use crate::bits::{blended, is_number};
 use crate::select::{Index, Ranged};
 use design_core::{BinaryOp, UnaryOp};
 use loc_base::Bits;
-use plain_values::{binary, unary};
+use plain_values::{binary, replaced, unary};
 use word_net::{Operand, Select};
 
 /// Bits of a word that are replaced: so many from a position on.

@@ -1,44 +1,11 @@
-ghost use Rattle.std.specs.Prelude.{◌≡◌, ℕ, ◌+◌, ◌-◌, ◌^◌, ◌≤◌, ◌<◌, ◌&&◌, nat_le, nat_lt, if◌then◌else◌};
+ghost use Rattle.std.specs.Prelude.{◌≡◌, ◌^◌, ◌<◌, if◌then◌else◌};
 ghost use Rattle.std.specs.Ordering.{int_eq};
 ghost use Rattle.loc_base.specs.Bits.{width_of, value_of};
 ghost use Rattle.loc_base.specs.Word.{is_negative};
 ghost use Rattle.design_core.specs.Operator.{integer_of};
 ghost use Rattle.design_core.specs.Valuation.{bit, number};
-ghost use Rattle.word_net.specs.Selects.{put_bits};
 
 use loc_base::Bits;
-use plain_values::resized;
-
-/// A word with 0 below a position.
-#[tactic(auto, using(plain_values::proofs::EvaluateWrite::above))]
-fn above(word: Bits, from: u8) -> Bits
-    ensures width { width_of result ≡ width_of word }
-    ensures bits { (p : ℕ) → p < width_of word → bit (value_of result) p ≡ (nat_le from p && bit (value_of word) p) }
-{
-    let by = u128::from(from);
-    word.shift_right(by).shift_left(by)
-}
-
-/// A word with 0 from a position on.
-#[tactic(auto, using(plain_values::proofs::EvaluateWrite::below))]
-fn below(word: Bits, to: u8) -> Bits
-    requires { to ≤ width_of word }
-    ensures width { width_of result ≡ width_of word }
-    ensures bits { (p : ℕ) → p < width_of word → bit (value_of result) p ≡ (nat_lt p to && bit (value_of word) p) }
-{
-    let by = u128::from(word.width() - to);
-    word.shift_left(by).shift_right(by)
-}
-
-/// A word with some of its bits, from a position on, replaced by the lowest bits of a value.
-pub(crate) fn replaced(word: Bits, from: u8, size: u8, value: Bits) -> Bits
-    requires { from + size ≤ width_of word }
-    ensures width { width_of result ≡ width_of word }
-    ensures bits { (p : ℕ) → p < width_of word → bit (value_of result) p ≡ put_bits (bit (value_of word)) from size (bit (value_of value)) p }
-{
-    let placed = below(resized(value, false, word.width()), size).shift_left(u128::from(from));
-    above(word, from + size).or(below(word, from)).or(placed)
-}
 
 /// The bits of one word where a mask has 1, else those of another of its width.
 #[tactic(auto, using(crate::proofs::Replaced::blend_steps))]

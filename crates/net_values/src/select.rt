@@ -6,9 +6,9 @@ ghost use Rattle.design_core.specs.WellFormed.{is_width};
 ghost use Rattle.word_net.specs.Selects.{picked_bit, position_in, put_bit, put_picked};
 ghost use Rattle.plain_values.specs.Evaluate.{near_of};
 
-use crate::bits::{is_negative, replaced};
+use crate::bits::is_negative;
 use loc_base::Bits;
-use plain_values::{bit_of, distance_of, with_next};
+use plain_values::{bit_of, distance_of, replaced, with_next};
 
 /// Every index that is named by a range and an offset of 32 bits lies below this, and above its negation.
 const FAR: u128 = 1_099_511_627_776;

@@ -20,3 +20,4 @@ pub use signals::{is_listed, signal_at, width_at};
 pub use statement::{assigned, run_statement};
 pub use store::assign;
 pub use words::word_at;
+pub use write::replaced;

@@ -44,7 +44,7 @@ fn masked(word: Bits, from: u8, width: u8, value: Bits) -> Bits
 /// A word with `width` of its bits from a position on replaced by the lowest bits of a value. Most stores are of whole words,
 /// which need no masks.
 #[inline(always)]
-fn replaced(word: Bits, from: u8, width: u8, value: Bits) -> Bits
+pub fn replaced(word: Bits, from: u8, width: u8, value: Bits) -> Bits
     requires { from + width ≤ width_of word }
     ensures width { width_of result ≡ width_of word }
     ensures bits { (p : ℕ) → bit (value_of result) p
