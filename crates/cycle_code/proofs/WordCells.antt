@@ -8,6 +8,7 @@ use Rattle.std.proofs.lemmas.Bool.{cases_lt, le-leb, lt-ltb, le-ltb, ltb-true, e
 use Rattle.std.proofs.lemmas.Option.{slice_get-map, slice_get-get_or, slice_get_past, get_or_from_slice_get}
 use Rattle.std.proofs.lemmas.List.{length-map, length-take, length-drop, length-append, get_or-take, get_or-drop, get_or_append_left, get_or-append_right, take-map, drop-map}
 use Rattle.loc_base.specs.declared.bits.Bits.{Bits}
+use Rattle.design_core.specs.declared.expression.BinaryOp.{BinaryOp}
 use Rattle.loc_base.specs.Bits.{bit_of, width_of, value_of, value_of-range, width_of-high}
 use Rattle.loc_base.proofs.ShelfLists.{slice_get-some}
 use Rattle.loc_base.proofs.ShelfOptions.{option_map-some}
@@ -18,7 +19,9 @@ use Rattle.plain_values.proofs.EvaluateWrite.{written, bit-high}
 use Rattle.plain_values.proofs.EvaluateStore.{updates}
 use Rattle.cycle_code.specs.Program.{Program, signals_of, count_of}
 use Rattle.cycle_code.specs.Cells.{width_in, held, with_held, below, updates_in, with_updates}
-use Rattle.cycle_code.specs.Fitting.{is_cell, has_width, IsSound}
+use Rattle.cycle_code.specs.Operands.{AreOperands}
+use Rattle.cycle_code.specs.Fitting.{is_cell, has_width, operands_fit, IsSound}
+use Rattle.cycle_code.proofs.GrowthLaws.{is_own-cell, operands_fit-parts}
 use Rattle.cycle_code.proofs.CellLaws.{updates-same}
 
 -- ---- one cell
@@ -179,16 +182,18 @@ has_width-most p cells c width same h =
     let is : width_in p.widths c ≡ width = eqb-true (width_in p.widths c) width h in
     subst (λ n. n ≤ 128) (ap (λ ws. width_in ws c) same ∙ is) (width_in-most cells c)
 
--- two cells that fit one above the other
-pub join-most : (p : Program) (cells : List Bits) (high low to : ℕ) (one other : Bits) → map width_of cells ≡ p.widths
-    → width_of one ≡ width_in (map width_of cells) high → width_of other ≡ width_in (map width_of cells) low
-    → IsTrue (has_width p to (width_in p.widths high + width_in p.widths low)) → width_of one + width_of other ≤ 128
-join-most p cells high low to one other same e f h =
-    let most : width_in p.widths high + width_in p.widths low ≤ 128 =
-    has_width-most p cells to (width_in p.widths high + width_in p.widths low) same h in
-    let left : width_of one ≡ width_in p.widths high = e ∙ ap (λ ws. width_in ws high) same in
-    let right : width_of other ≡ width_in p.widths low = f ∙ ap (λ ws. width_in ws low) same in
-    omega arith
+-- the cells of a binary operator are there, and their widths stand beside each other
+pub operands-there : (p : Program) (cells : List Bits) (op : BinaryOp) (left right to : ℕ) → map width_of cells ≡ p.widths
+    → IsTrue (operands_fit p op left right to) → AreOperands op (map width_of cells) left right to
+operands-there p cells op left right to same h =
+    let t = operands_fit-parts p op left right to h in
+    subst (λ ws. AreOperands op ws left right to) (sym same)
+    (record {
+      first = ltb-true left (length p.widths) t.1;
+      second = ltb-true right (length p.widths) t.2;
+      target = ltb-true to (length p.widths) (is_own-cell p to t.0);
+      fits = t.3;
+    })
 
 -- a cell that fits a number of times
 pub repeat-most : (p : Program) (cells : List Bits) (times part to : ℕ) → map width_of cells ≡ p.widths

@@ -4,3 +4,4 @@ pub mod Choosing
 pub mod Effects
 pub mod Running
 pub mod Fitting
+pub mod Operands

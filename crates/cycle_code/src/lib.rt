@@ -6,6 +6,7 @@ mod assigning;
 mod cell;
 mod choices;
 mod code;
+mod common;
 mod instruction;
 mod operating;
 mod range;

@@ -1,15 +1,17 @@
-//! Instructions that put a word into a cell. One that copies a whole word, or passes one to a function of another crate, has a
-//! function of its own: the room for the locals of a function is cleared when it is entered, and so only where such an instruction
-//! runs.
+//! Instructions that put a word into a cell, a function each: the room for the locals of a function is cleared when it is entered, and
+//! so only where such an instruction runs.
 
-ghost use Rattle.std.specs.Prelude.{◌≡◌, ◌≤◌, ◌<◌, ◌*◌, IsTrue, length, map};
+ghost use Rattle.std.specs.Prelude.{◌≡◌, ◌≤◌, ◌<◌, ◌+◌, ◌*◌, ◌^◌, IsTrue, false, length, map, slice_get};
+ghost use Rattle.std.specs.Option.{option_map_or};
 ghost use Rattle.loc_base.specs.Bits.{width_of, value_of};
+ghost use Rattle.design_core.specs.Valuation.{number};
 ghost use Rattle.design_core.specs.Value.{value};
-ghost use Rattle.design_core.specs.WellFormed.{unary_fits, binary_fits};
+ghost use Rattle.design_core.specs.WellFormed.{unary_fits};
 ghost use Rattle.design_core.specs.Operator.{repeated, resized, unary, binary};
 ghost use Rattle.design_core.specs.Words.{valuation_of};
 ghost use Rattle.cycle_code.specs.Program.{program_of, signals_of, count_of};
 ghost use Rattle.cycle_code.specs.Cells.{width_in, held, with_held, below};
+ghost use Rattle.cycle_code.specs.Operands.{AreOperands, with_computed};
 ghost use Rattle.cycle_code.specs.Fitting.{tree_fits, IsSound};
 
 use crate::cell::{put, read, write};
@@ -29,6 +31,40 @@ pub(crate) fn move_word(cells: &mut [Bits], from: u32, to: u32)
         (held (map width_of cells.old) (valuation_of cells.old) from) (valuation_of cells.old) }
 {
     let word = read(cells, from);
+    write(cells, to, word);
+}
+
+/// Puts some bits of a cell into a cell.
+#[inline(always)]
+pub(crate) fn slice(cells: &mut [Bits], arg: u32, from: u8, width: u8, to: u32)
+    requires arg { arg < length cells.old }
+    requires to { to < length cells.old }
+    requires some { 1 ≤ width }
+    requires within { from + width ≤ width_in (map width_of cells.old) arg }
+    requires width { width_in (map width_of cells.old) to ≡ width }
+    ensures widths { map width_of cells.new ≡ map width_of cells.old }
+    ensures value { valuation_of cells.new ≡ with_held (map width_of cells.old) to
+        (number width (λ b. valuation_of cells.old arg (from + b))) (valuation_of cells.old) }
+{
+    let word = read(cells, arg).part(from, width);
+    write(cells, to, word);
+}
+
+/// Puts two cells, one above the other, into a cell.
+#[inline(always)]
+pub(crate) fn join(cells: &mut [Bits], high: u32, low: u32, to: u32)
+    requires high { high < length cells.old }
+    requires low { low < length cells.old }
+    requires to { to < length cells.old }
+    requires width { width_in (map width_of cells.old) to
+        ≡ width_in (map width_of cells.old) high + width_in (map width_of cells.old) low }
+    ensures widths { map width_of cells.new ≡ map width_of cells.old }
+    ensures value { valuation_of cells.new ≡ with_held (map width_of cells.old) to
+        (held (map width_of cells.old) (valuation_of cells.old) high * 2 ^ width_in (map width_of cells.old) low
+        + held (map width_of cells.old) (valuation_of cells.old) low)
+        (valuation_of cells.old) }
+{
+    let word = read(cells, high).join(read(cells, low));
     write(cells, to, word);
 }
 
@@ -90,11 +126,7 @@ pub(crate) fn combine(
     right_signed: bool,
     to: u32,
 )
-    requires left { left < length cells.old }
-    requires right { right < length cells.old }
-    requires to { to < length cells.old }
-    requires fits { IsTrue (binary_fits op (width_in (map width_of cells.old) to) (width_in (map width_of cells.old) left)
-        (width_in (map width_of cells.old) right)) }
+    requires { AreOperands op (map width_of cells.old) left right to }
     ensures widths { map width_of cells.new ≡ map width_of cells.old }
     ensures value { valuation_of cells.new ≡ with_held (map width_of cells.old) to
         (binary op (width_in (map width_of cells.old) left) left_signed right_signed
@@ -124,20 +156,18 @@ pub(crate) fn computed(code: &Code, e: &Typed, cells: &[Bits]) -> Bits
     value(signals, &cells[..signals.len()], e)
 }
 
-/// Puts the value of an expression in the words that are read into a cell.
+/// Puts the value of the expression of a number, in the words that are read, into a cell.
 #[inline(always)]
-pub(crate) fn compute(code: &Code, e: &Typed, to: u32, cells: &mut [Bits])
+pub(crate) fn compute(code: &Code, tree: u32, to: u32, cells: &mut [Bits])
     requires sound { IsSound (program_of code.now) }
     requires widths { map width_of cells.old ≡ (program_of code.now).widths }
-    requires fits { IsTrue (tree_fits (program_of code.now) e.now.width e.now) }
     requires to { to < length cells.old }
-    requires width { e.now.width ≡ width_in (map width_of cells.old) to }
+    requires fits { IsTrue (option_map_or (tree_fits (program_of code.now) (width_in (program_of code.now).widths to))
+        (slice_get (program_of code.now).trees tree) false) }
     ensures widths { map width_of cells.new ≡ map width_of cells.old }
-    ensures value { valuation_of cells.new ≡ with_held (map width_of cells.old) to
-        (value (signals_of (program_of code.now)) (below (count_of (program_of code.now)) (valuation_of cells.old)) e.now)
-        (valuation_of cells.old) }
+    ensures value { valuation_of cells.new ≡ with_computed (program_of code.now) tree to (valuation_of cells.old) }
 {
-    let word = computed(code, e, cells);
+    let word = computed(code, code.trees[tree as usize], cells);
     write(cells, to, word);
 }
 

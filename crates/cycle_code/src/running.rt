@@ -12,11 +12,12 @@ ghost use Rattle.cycle_code.specs.Running.{run};
 ghost use Rattle.cycle_code.specs.Fitting.{fits, IsSound};
 
 use crate::assigning::{set, store_cell, store_chosen};
-use crate::cell::{are_equal, holds, matches, read, write};
+use crate::cell::{are_equal, holds, matches};
 use crate::choices::Choices;
 use crate::code::Code;
+use crate::common::{add, and, equal, not, or, subtract, unlike, xor};
 use crate::instruction::Instruction;
-use crate::operating::{combine, compute, copy, move_word, operate, repeat, resize};
+use crate::operating::{combine, compute, copy, join, move_word, operate, repeat, resize, slice};
 use crate::range::Range;
 use loc_base::Bits;
 
@@ -48,52 +49,34 @@ fn perform(
         ≡ effect (program_of code.now) (as_choice choices.now) instruction (valuation_of cells.old) }
 {
     match instruction {
-        Instruction::Jump { next } => jumped(at, next, true),
-        Instruction::JumpIf { cond, next } => jumped(at, next, holds(cells, cond)),
-        Instruction::JumpUnless { cond, next } => jumped(at, next, !holds(cells, cond)),
+        Instruction::Jump { next } => return jumped(at, next, true),
+        Instruction::JumpIf { cond, next } => return jumped(at, next, holds(cells, cond)),
+        Instruction::JumpUnless { cond, next } => return jumped(at, next, !holds(cells, cond)),
         Instruction::JumpEqual { left, right, next } => {
-            jumped(at, next, are_equal(cells, left, right))
+            return jumped(at, next, are_equal(cells, left, right));
         }
         Instruction::JumpUnlike { left, right, next } => {
-            jumped(at, next, !are_equal(cells, left, right))
+            return jumped(at, next, !are_equal(cells, left, right));
         }
         Instruction::JumpNoMatch {
             subject,
             label,
             wild,
             next,
-        } => jumped(at, next, !matches(cells, subject, label, wild)),
-        Instruction::Move { from, to } => {
-            move_word(cells, from, to);
-            at
+        } => {
+            return jumped(at, next, !matches(cells, subject, label, wild));
         }
+        Instruction::Move { from, to } => move_word(cells, from, to),
         Instruction::Slice {
             arg,
             from,
             width,
             to,
-        } => {
-            let word = read(cells, arg).part(from, width);
-            write(cells, to, word);
-            at
-        }
-        Instruction::Join { high, low, to } => {
-            let word = read(cells, high).join(read(cells, low));
-            write(cells, to, word);
-            at
-        }
-        Instruction::Repeat { times, part, to } => {
-            repeat(cells, times, part, to);
-            at
-        }
-        Instruction::Resize { arg, signed, to } => {
-            resize(cells, arg, signed, to);
-            at
-        }
-        Instruction::Unary { op, arg, to } => {
-            operate(cells, op, arg, to);
-            at
-        }
+        } => slice(cells, arg, from, width, to),
+        Instruction::Join { high, low, to } => join(cells, high, low, to),
+        Instruction::Repeat { times, part, to } => repeat(cells, times, part, to),
+        Instruction::Resize { arg, signed, to } => resize(cells, arg, signed, to),
+        Instruction::Unary { op, arg, to } => operate(cells, op, arg, to),
         Instruction::Binary {
             op,
             left,
@@ -103,60 +86,18 @@ fn perform(
             to,
         } => {
             combine(cells, op, left, left_signed, right, right_signed, to);
-            at
         }
-        Instruction::Add { left, right, to } => {
-            let word = read(cells, left).add(read(cells, right));
-            write(cells, to, word);
-            at
-        }
-        Instruction::Subtract { left, right, to } => {
-            let word = read(cells, left).sub(read(cells, right));
-            write(cells, to, word);
-            at
-        }
-        Instruction::And { left, right, to } => {
-            let word = read(cells, left).and(read(cells, right));
-            write(cells, to, word);
-            at
-        }
-        Instruction::Or { left, right, to } => {
-            let word = read(cells, left).or(read(cells, right));
-            write(cells, to, word);
-            at
-        }
-        Instruction::Xor { left, right, to } => {
-            let word = read(cells, left).xor(read(cells, right));
-            write(cells, to, word);
-            at
-        }
-        Instruction::Not { arg, to } => {
-            let word = read(cells, arg).not();
-            write(cells, to, word);
-            at
-        }
-        Instruction::Equal { left, right, to } => {
-            let word = Bits::from_bool(are_equal(cells, left, right));
-            write(cells, to, word);
-            at
-        }
-        Instruction::Unlike { left, right, to } => {
-            let word = Bits::from_bool(!are_equal(cells, left, right));
-            write(cells, to, word);
-            at
-        }
-        Instruction::Value { tree, to } => {
-            compute(code, code.trees[tree as usize], to, cells);
-            at
-        }
-        Instruction::Set { place, value, to } => {
-            set(cells, choices, place, value, to);
-            at
-        }
-        Instruction::Put { value, to } => {
-            copy(cells, value, to);
-            at
-        }
+        Instruction::Add { left, right, to } => add(cells, left, right, to),
+        Instruction::Subtract { left, right, to } => subtract(cells, left, right, to),
+        Instruction::And { left, right, to } => and(cells, left, right, to),
+        Instruction::Or { left, right, to } => or(cells, left, right, to),
+        Instruction::Xor { left, right, to } => xor(cells, left, right, to),
+        Instruction::Not { arg, to } => not(cells, arg, to),
+        Instruction::Equal { left, right, to } => equal(cells, left, right, to),
+        Instruction::Unlike { left, right, to } => unlike(cells, left, right, to),
+        Instruction::Value { tree, to } => compute(code, tree, to, cells),
+        Instruction::Set { place, value, to } => set(cells, choices, place, value, to),
+        Instruction::Put { value, to } => copy(cells, value, to),
         Instruction::Assign {
             target,
             place,
@@ -164,17 +105,14 @@ fn perform(
             later,
         } => {
             store_chosen(code, choices, target, place, value, later, cells);
-            at
         }
         Instruction::Store {
             target,
             value,
             later,
-        } => {
-            store_cell(code, target, value, later, cells);
-            at
-        }
+        } => store_cell(code, target, value, later, cells),
     }
+    at
 }
 
 /// Runs the instructions of a range on the cells. The choices have one entry of each kind for each place of the design. Takes no
