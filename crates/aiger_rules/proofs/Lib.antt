@@ -2,3 +2,9 @@ pub mod FirstLaws
 pub mod LiteralSteps
 pub mod LiteralLaws
 pub mod Examples
+pub mod NameSteps
+pub mod PortSteps
+pub mod NamingSteps
+pub mod NameLaws
+pub mod NamingLaws
+pub mod NamingExamples

@@ -11,7 +11,7 @@ use loc_base::NoMemory;
 use std::alloc::Global;
 
 /// The literal that a row defines.
-fn defined(row: Row) -> Option<u64>
+pub(crate) fn defined(row: Row) -> Option<u64>
     ensures { result ≡ defined row }
 {
     match row {

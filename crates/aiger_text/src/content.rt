@@ -43,6 +43,7 @@ fn behind_header<'t>(alloc: Global, counts: Counts, text: &'t [u8]) -> Result<Co
     ensures counts { IfOk result (λ content. content.counts ≡ counts) }
     ensures ok { IfOk result (λ content. IsBehind (lines text.entry.now) (content_of content)) }
     ensures few { IfOk result (λ content. length content.rows.items ≤ 17179869180) }
+    ensures named { IfOk result (λ content. length content.symbols.items ≤ 16777216) }
     ensures err { IfErr result (LacksLine (lines text.entry.now) counts) }
 {
     let read = read_rows(alloc, text, counts)?;
@@ -60,6 +61,7 @@ pub fn read_content<'t>(alloc: Global, text: &'t [u8]) -> Result<Content<'t>, Ai
     ensures short { IfOk result (λ _. IsShort text.entry.now) }
     ensures ok { IfOk result (λ content. IsWritten text.entry.now (content_of content)) }
     ensures few { IfOk result (λ content. length content.rows.items ≤ 17179869180) }
+    ensures named { IfOk result (λ content. length content.symbols.items ≤ 16777216) }
     ensures err { IfErr result (TextCause text.entry.now) }
 {
     if MOST_BYTES < text.len() {

@@ -1,5 +1,5 @@
 //! What the header counts, and the rows behind it.
-ghost use Rattle.std.specs.Prelude.{◌≡◌, ◌==◌, length, slice_index, if◌then◌else◌, Some, None};
+ghost use Rattle.std.specs.Prelude.{◌≡◌, ◌≤◌, ◌==◌, length, slice_index, if◌then◌else◌, Some, None};
 ghost use Rattle.aiger_text.specs.Rows.{first_output, first_and, row_count, section_at, row_of};
 
 /// The counts of the header: the greatest variable, then how many inputs, latches, outputs and ANDs there are.
@@ -47,7 +47,8 @@ impl Counts {
 
     /// How many rows there are.
     pub fn rows(self) -> u64
-        ensures { result ≡ row_count self }
+        ensures count { result ≡ row_count self }
+        ensures low { result ≤ 17179869180 }
     {
         self.first_and() + u64::from(self.ands)
     }

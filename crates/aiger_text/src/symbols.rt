@@ -50,6 +50,7 @@ pub(crate) fn read_symbols<'t>(
     requires short { IsShort text.now }
     requires low { first ≤ 17179869184 }
     ensures ok { IfOk result (λ symbols. HasSymbols (lines text.entry.now) (map plain symbols.items)) }
+    ensures few { IfOk result (λ symbols. length symbols.items ≤ 16777216) }
     ensures lacking { IfErr result (SymbolsEnd (lines text.entry.now) first) }
 {
     let mut symbols = Vec::new(alloc);
