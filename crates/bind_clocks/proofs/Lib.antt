@@ -1,4 +1,3 @@
 pub mod EntryLaws
 pub mod ReadLaws
-pub mod RowLaws
 pub mod EdgeLaws

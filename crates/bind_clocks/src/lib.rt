@@ -1,7 +1,5 @@
 //! What is bound so far, and what reads the clock (IEEE 1364-2005, 6.1; IEEE 1364.1-2002, 5.2.2).
 //!
-//! The values of resets (IEEE 1364.1-2002, 5.2.2.1): statements that assign constants alone, to left sides without variable indexes.
-//!
 //! What blocks wait for (IEEE 1364.1-2002, 5.2.2).
 #![tactic(auto)]
 
@@ -10,7 +8,6 @@ mod driven;
 mod edges;
 mod frame;
 mod looked;
-mod reset;
 mod roots;
 mod wait;
 
@@ -18,5 +15,4 @@ pub use bound::{Bound, BoundLists};
 pub use driven::Made;
 pub use edges::wait_for;
 pub use frame::Frame;
-pub use reset::is_reset_values;
 pub use wait::{Resetting, Wait};

@@ -5,8 +5,8 @@ ghost use Rattle.design_core.specs.WellFormed.{is_reset_values};
 ghost use Rattle.v_binding.specs.Clocks.{arms_here, arms_of};
 ghost use Rattle.bind_statements.specs.Parted.{arms_in, arms_listed};
 
-use bind_clocks::is_reset_values;
 use design_core::Stmt;
+use design_fits::is_reset_values;
 use loc_base::Items;
 
 /// What the two arms have become.

@@ -10,4 +10,6 @@ mod trace;
 mod widths;
 
 pub use design::can_run;
+pub use reset::is_reset_values;
 pub use trace::{are_chosen, is_trace_of, samples_fit};
+pub use widths::{binary_fits, unary_fits};

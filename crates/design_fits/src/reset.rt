@@ -1,3 +1,4 @@
+//! Whether a statement is one of the values of a reset (IEEE 1364.1-2002, 5.2.2.1).
 ghost use Rattle.std.specs.Prelude.{◌≡◌};
 ghost use Rattle.std.specs.List.{list_all};
 ghost use Rattle.design_core.specs.Constant.{is_constant};
@@ -34,9 +35,9 @@ fn are_fixed(parts: &[Part]) -> bool
     parts.iter().all(|part| is_fixed(part))
 }
 
-/// Whether a statement assigns constants alone.
+/// Whether a statement assigns constants alone, without conditions, to left sides without variable indexes.
 #[cycle(values)]
-pub(crate) fn is_reset_values(statement: &Stmt) -> bool
+pub fn is_reset_values(statement: &Stmt) -> bool
     ensures { result ≡ is_reset_values statement.now }
 {
     match statement {

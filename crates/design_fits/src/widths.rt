@@ -66,7 +66,7 @@ pub(crate) fn words_fit(signals: &[Signal], first: u32, count: u32, from: u8, wi
 }
 
 /// Whether the width of an operator's result stands beside that of its operand.
-pub(crate) fn unary_fits(op: UnaryOp, width: u8, arg: u8) -> bool
+pub fn unary_fits(op: UnaryOp, width: u8, arg: u8) -> bool
     ensures { result ≡ unary_fits op width arg }
 {
     match op {
@@ -82,7 +82,7 @@ pub(crate) fn unary_fits(op: UnaryOp, width: u8, arg: u8) -> bool
 }
 
 /// Whether the width of an operator's result stands beside those of its operands.
-pub(crate) fn binary_fits(op: BinaryOp, width: u8, left: u8, right: u8) -> bool
+pub fn binary_fits(op: BinaryOp, width: u8, left: u8, right: u8) -> bool
     ensures { result ≡ binary_fits op width left right }
 {
     match op {

@@ -3,7 +3,8 @@
 ghost use Rattle.std.specs.Prelude.{◌≡◌, ◌≤◌, [], IsTrue};
 ghost use Rattle.word_net.specs.Fits.{AllFit, NodeFits, OperationFits, widths_of};
 
-use crate::operands::{binary_fits, has_width, is_below, is_operand, select_fits, unary_fits};
+use crate::operands::{has_width, is_below, is_operand, select_fits};
+use design_fits::{binary_fits, unary_fits};
 use word_net::{Operation, WordNode};
 
 /// Whether the operands of a node are there and have the widths that it asks for.

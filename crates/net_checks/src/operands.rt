@@ -1,11 +1,10 @@
-//! Whether operands, and the widths of operators, fit.
+//! Whether operands fit.
 
 ghost use Rattle.std.specs.Prelude.{◌≡◌, ◌<◌, ◌≤◌, ◌^◌, IsTrue};
 ghost use Rattle.design_core.specs.Valuation.{distance_of};
-ghost use Rattle.design_core.specs.WellFormed.{binary_fits, spans, unary_fits};
+ghost use Rattle.design_core.specs.WellFormed.{spans};
 ghost use Rattle.word_net.specs.Fits.{OfWidth, OperandFits, SelectFits};
 
-use design_core::{BinaryOp, UnaryOp};
 use word_net::{Operand, Select};
 
 /// Whether an operand is a node that is there, and has its width.
@@ -58,46 +57,4 @@ pub(crate) fn select_fits(widths: &[u8], word: Operand, select: &Select) -> bool
     ensures { IsTrue result → SelectFits widths.now word select.now }
 {
     is_operand(widths, select.index) && spans(word.width, select.left, select.right)
-}
-
-/// Whether a unary operator gives that width.
-pub(crate) fn unary_fits(op: UnaryOp, width: u8, arg: u8) -> bool
-    ensures { result ≡ unary_fits op width arg }
-{
-    match op {
-        UnaryOp::Plus | UnaryOp::Minus | UnaryOp::Not => width == arg,
-        UnaryOp::LogicalNot
-        | UnaryOp::ReduceAnd
-        | UnaryOp::ReduceNand
-        | UnaryOp::ReduceOr
-        | UnaryOp::ReduceNor
-        | UnaryOp::ReduceXor
-        | UnaryOp::ReduceXnor => width == 1,
-    }
-}
-
-/// Whether a binary operator gives that width.
-pub(crate) fn binary_fits(op: BinaryOp, width: u8, left: u8, right: u8) -> bool
-    ensures { result ≡ binary_fits op width left right }
-{
-    match op {
-        BinaryOp::Add
-        | BinaryOp::Subtract
-        | BinaryOp::Multiply
-        | BinaryOp::And
-        | BinaryOp::Or
-        | BinaryOp::Xor
-        | BinaryOp::Xnor => width == left && width == right,
-        BinaryOp::ShiftLeft
-        | BinaryOp::ShiftRight
-        | BinaryOp::ArithmeticShiftLeft
-        | BinaryOp::ArithmeticShiftRight => width == left,
-        BinaryOp::Less
-        | BinaryOp::LessEqual
-        | BinaryOp::Greater
-        | BinaryOp::GreaterEqual
-        | BinaryOp::Equal
-        | BinaryOp::NotEqual => width == 1 && left == right,
-        BinaryOp::LogicalAnd | BinaryOp::LogicalOr => width == 1,
-    }
 }
