@@ -11,7 +11,7 @@ use Rattle.v_lexer.specs.Acts.{goes, stops, opens, opens_if, undefines, is_some_
 use Rattle.v_lexer.specs.Outcomes.{IsWithin, HasSpan}
 
 pub span_word : (place : Position) (size word : ℕ) → 1 + word ≤ size → IsWithin place size → HasSpan place (1 + word)
-span_word (Text from line) size word fits within = omega (arith, within.0)
+span_word (Text from line fresh) size word fits within = omega (arith, within.0)
 span_word (Macro span line) size word fits within = tt
 
 pub ruleset span_rows = (span_word)

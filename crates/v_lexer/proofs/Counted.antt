@@ -8,7 +8,7 @@ use Rattle.v_syntax.specs.declared.token_kind.TokenKind.{TokenKind}
 use Rattle.v_lexer.specs.declared.pieces.Piece.{Piece}
 use Rattle.v_lexer.specs.declared.pieces.Piece.TheVariants as piece
 use Rattle.v_lexer.specs.declared.directives.Directive.{Directive}
-use Rattle.v_lexer.specs.declared.directives.Directive.TheVariants.{Define, Undef, Ifdef, Ifndef, Elsif, Else, Endif, ToLineEnd, Alone, Use}
+use Rattle.v_lexer.specs.declared.directives.Directive.TheVariants.{Define, Undef, Ifdef, Ifndef, Elsif, Else, Endif, Line, ToLineEnd, Alone, Use}
 use Rattle.v_lexer.specs.declared.position.Position.{Position}
 use Rattle.v_lexer.specs.declared.state.State.{State}
 use Rattle.v_syntax.specs.declared.literal.NumberFault.{NumberFault}
@@ -18,7 +18,8 @@ use Rattle.v_lexer.specs.Lexeme.{Lexeme}
 use Rattle.v_syntax.specs.Literals.{judge, skip_white}
 use Rattle.v_lexer.specs.Directives.{tail_of}
 use Rattle.v_lexer.specs.Conditionals.{is_skipping}
-use Rattle.v_lexer.specs.Acts.{Step, goes, stops, expands, adds, opens_if, goes_on, closes, defines, undefines, directs, skips, enters, uses, commands, takes, passes, does, number_refusal, span_of, word_span, is_in_text}
+use Rattle.v_lexer.specs.Acts.{Step, goes, stops, expands, adds, opens_if, goes_on, closes, defines, undefines, directs, skips, enters, uses, commands, takes, passes, does, number_refusal, span_of, word_span, may_stand}
+use Rattle.v_lexer.specs.LineDirectives.{is_line_tail}
 use Rattle.v_lexer.specs.Tokens.{Turn, Reads, at_end, at_fault, behind_piece, within_macro, behind_macro, HasOutcome, is_long, is_faulty, is_open, is_whole, HasTokens}
 
 abbrev pub IsFew : State → Type 0
@@ -73,6 +74,7 @@ few-directs s span Ifndef tail few = few-opens_if s span (skip_white tail) _ few
 few-directs s span Elsif tail few = few-goes_on s span _ _ false few
 few-directs s span Else tail few = few-goes_on s span true true true few
 few-directs s span Endif tail few = few-closes s span few
+few-directs s span Line tail few = few-either (is_line_tail tail) (goes s) (stops _) few tt
 few-directs s span ToLineEnd tail few = few
 few-directs s span Alone tail few = few
 few-directs s span Use tail few = few
@@ -85,6 +87,7 @@ few-skips s span Ifndef tail few = few
 few-skips s span Elsif tail few = few-goes_on s span _ _ false few
 few-skips s span Else tail few = few-goes_on s span true true true few
 few-skips s span Endif tail few = few-closes s span few
+few-skips s span Line tail few = few
 few-skips s span ToLineEnd tail few = few
 few-skips s span Alone tail few = few
 few-skips s span Use tail few = few
@@ -103,9 +106,9 @@ few-uses : (left : ℕ) (s : State) (span : Span) (name : List ℕ) → IsFew s 
 few-uses left s span name few = few-named (map.get s.macros name) left s span few
 
 few-directive : (s : State) (place : Position) (word : Directive) (span other : Span) (tail : List ℕ) → IsFew s
-    → StaysFew (if is_in_text place then directs s span word tail else stops (refused.Directive other))
+    → StaysFew (if may_stand place word then directs s span word tail else stops (refused.Directive other))
 few-directive s place word span other tail few =
-    few-either (is_in_text place) (directs s span word tail) (stops (refused.Directive other)) (few-directs s span word tail few) tt
+    few-either (may_stand place word) (directs s span word tail) (stops (refused.Directive other)) (few-directs s span word tail few) tt
 
 few-commands : (left : ℕ) (s : State) (place : Position) (word : Directive) (text : List ℕ) → IsFew s → StaysFew (commands left s place word text)
 few-commands left s place Use text few = few-uses left s (word_span place text) (drop 1 text) few
@@ -116,6 +119,7 @@ few-commands left s place Ifndef text few = few-directive s place Ifndef (word_s
 few-commands left s place Elsif text few = few-directive s place Elsif (word_span place text) (word_span place text) (tail_of (drop 1 text)) few
 few-commands left s place Else text few = few-directive s place Else (word_span place text) (word_span place text) (tail_of (drop 1 text)) few
 few-commands left s place Endif text few = few-directive s place Endif (word_span place text) (word_span place text) (tail_of (drop 1 text)) few
+few-commands left s place Line text few = few-directive s place Line (word_span place text) (word_span place text) (tail_of (drop 1 text)) few
 few-commands left s place ToLineEnd text few = few-directive s place ToLineEnd (word_span place text) (word_span place text) (tail_of (drop 1 text)) few
 few-commands left s place Alone text few = few-directive s place Alone (word_span place text) (word_span place text) (tail_of (drop 1 text)) few
 

@@ -4,7 +4,7 @@ use Rattle.std.specs.Prelude.{nat_eq}
 use Rattle.std.specs.List.{list_all, prefix_len}
 use Rattle.v_lexer.specs.declared.pieces.Piece.{Piece}
 use Rattle.v_lexer.specs.declared.directives.Directive.{Directive}
-use Rattle.v_lexer.specs.declared.directives.Directive.TheVariants.{Define, Undef, Ifdef, Ifndef, Elsif, Else, Endif, ToLineEnd, Alone, Use}
+use Rattle.v_lexer.specs.declared.directives.Directive.TheVariants.{Define, Undef, Ifdef, Ifndef, Elsif, Else, Endif, Line, ToLineEnd, Alone, Use}
 use Rattle.v_lexer.specs.declared.pieces.Piece.TheVariants.{Directive as DirectivePiece}
 use Rattle.v_syntax.specs.Bytes.{is_white, is_letter, is_name_byte, not_newline}
 use Rattle.v_lexer.specs.Directives.{is_spaced_name, is_named, is_line, is_nothing, is_tail, directive_of, word_size, word_of, tail_of}
@@ -162,6 +162,18 @@ to_line_end kind rest skipping off =
     tail_is (list_all not_newline) kind rest (prefix_len not_newline rest) skipping ToLineEnd
     (λ m. ap (λ b. cond b (is_nothing m) (list_all not_newline m)) off) (run_front not_newline kind rest)
 
+pub line_skipped : (kind : Piece) (rest : List ℕ) (skipping : Bool) → skipping ≡ true → HasFront (if_all (is_tail skipping Line) kind) rest kind 0
+unfolding is_tail
+line_skipped kind rest skipping on =
+    tail_is is_nothing kind rest 0 skipping Line (λ m. ap (λ b. cond b (is_nothing m) (list_all not_newline m)) on) (nothing_front kind rest)
+
+pub line_whole : (kind : Piece) (rest : List ℕ) (skipping : Bool) → skipping ≡ false
+    → HasFront (if_all (is_tail skipping Line) kind) rest kind (prefix_len not_newline rest)
+unfolding is_tail run_of if_all
+line_whole kind rest skipping off =
+    tail_is (list_all not_newline) kind rest (prefix_len not_newline rest) skipping Line
+    (λ m. ap (λ b. cond b (is_nothing m) (list_all not_newline m)) off) (run_front not_newline kind rest)
+
 pub undef_named : (kind : Piece) (rest : List ℕ) (size : ℕ) (skipping : Bool) → HasFront (if_all is_named kind) rest kind size
     → HasFront (if_all (is_tail skipping Undef) kind) rest kind size
 unfolding is_tail
@@ -198,7 +210,7 @@ pub use_alone : (kind : Piece) (rest : List ℕ) (skipping : Bool) → HasFront 
 unfolding is_tail
 use_alone kind rest skipping = tail_is is_nothing kind rest 0 skipping Use (λ m. refl) (nothing_front kind rest)
 
-pub ruleset tail_rows = (define_skipped, define_line, to_line_end_skipped, to_line_end, undef_named, ifdef_named, ifndef_named, elsif_named, else_alone, endif_alone, alone_alone, use_alone)
+pub ruleset tail_rows = (define_skipped, define_line, to_line_end_skipped, to_line_end, line_skipped, line_whole, undef_named, ifdef_named, ifndef_named, elsif_named, else_alone, endif_alone, alone_alone, use_alone)
 
 -- behind a backtick
 pub directive_front : (skipping : Bool) (rest : List ℕ) (size : ℕ)

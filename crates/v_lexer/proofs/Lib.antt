@@ -13,3 +13,4 @@ pub mod ReadingLaws
 pub mod Unique
 pub mod Counted
 pub mod SpellingLaws
+pub mod Examples

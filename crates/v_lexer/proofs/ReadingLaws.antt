@@ -79,14 +79,14 @@ newlines_fit : (piece : List ℕ) → count_by (λ byte. nat_eq byte 10) piece �
 newlines_fit piece = count_by-le-length (λ byte. nat_eq byte 10) piece
 
 within_past : (place : Position) (text piece behind : List ℕ) → text ≡ piece ++ behind → IsWithin place (length text) → IsWithin (past place piece) (length behind)
-within_past (Text from line) text piece behind e within =
+within_past (Text from line fresh) text piece behind e within =
     let sizes : length text ≡ length piece + length behind = ap length e ∙ length-append piece behind in
     let lines : count_by (λ byte. nat_eq byte 10) piece ≤ length piece = newlines_fit piece in
     (omega (arith, within.0), omega (arith, within.1))
 within_past (Macro span line) text piece behind e within = tt
 
 pub within_piece : (place : Position) (text piece behind : List ℕ) → text ≡ piece ++ behind → IsWithin place (length text) → IsWithin place (length piece)
-within_piece (Text from line) text piece behind e within =
+within_piece (Text from line fresh) text piece behind e within =
     let sizes : length text ≡ length piece + length behind = ap length e ∙ length-append piece behind in
     (omega (arith, within.0), within.1)
 within_piece (Macro span line) text piece behind e within = tt

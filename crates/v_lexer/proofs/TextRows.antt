@@ -15,7 +15,7 @@ use Rattle.v_lexer.specs.Symbols.{is_symbol}
 use Rattle.v_syntax.specs.Numbers.{is_number_rest, is_based, is_number}
 use Rattle.v_syntax.specs.Literals.{judge, IsNumber, IsWildNumber}
 use Rattle.v_lexer.specs.Directives.{is_nothing}
-use Rattle.v_lexer.specs.Pieces.{when, if_all, run_of, block_rest, slash_rest, directive_rest, symbol_rest, taken_rest, kind_in}
+use Rattle.v_lexer.specs.Pieces.{when, if_all, run_of, block_rest, slash_rest, attribute_rest, paren_rest, directive_rest, symbol_rest, taken_rest, kind_in}
 use Rattle.v_lexer.specs.Text.{IsTokenText}
 use Rattle.v_lexer.specs.Acts.{is_escaped_name}
 use Rattle.v_lexer.specs.Outcomes.{IsWithin, HasSpan, IsNumberKind}
@@ -61,12 +61,13 @@ cond_fits : (b : Bool) (f g : List ℕ → Option Piece) (rest bytes : List ℕ)
 cond_fits true f g rest bytes yes_fits no_fits = yes_fits refl
 cond_fits false f g rest bytes yes_fits no_fits = no_fits refl
 
-block_fits : (star : Bool) (rest bytes : List ℕ) → Fitting bytes (block_rest star rest)
+block_fits : (close : ℕ) (star : Bool) (rest bytes : List ℕ) → Fitting bytes (block_rest close star rest)
 unfolding block_rest Fitting TextOf
-block_fits star [] bytes = tt
-block_fits star (byte ∷ rest) bytes = by_close (star && nat_eq byte 47) (block_fits (nat_eq byte 42) rest bytes)
+block_fits close star [] bytes = tt
+block_fits close star (byte ∷ rest) bytes = by_close (star && nat_eq byte close) (block_fits close (nat_eq byte 42) rest bytes)
   where
-    by_close : (b : Bool) → Fitting bytes (block_rest (nat_eq byte 42) rest) → Fitting bytes (cond b (when (is_nothing rest) Blank) (block_rest (nat_eq byte 42) rest))
+    by_close : (b : Bool) → Fitting bytes (block_rest close (nat_eq byte 42) rest)
+        → Fitting bytes (cond b (when (is_nothing rest) Blank) (block_rest close (nat_eq byte 42) rest))
     by_close true below = when_fits (is_nothing rest) Blank bytes (λ h. tt)
     by_close false below = below
 
@@ -76,10 +77,30 @@ slash_fits [] = refl
 slash_fits (byte ∷ rest) =
     by_first (nat_eq byte 47) (nat_eq byte 42)
   where
-    by_first : (b d : Bool) → Fitting (47 ∷ byte ∷ rest) (cond b (run_of not_newline Blank rest) (cond d (block_rest false rest) None))
+    by_first : (b d : Bool) → Fitting (47 ∷ byte ∷ rest) (cond b (run_of not_newline Blank rest) (cond d (block_rest 47 false rest) None))
     by_first true d = when_fits (list_all not_newline rest) Blank (47 ∷ byte ∷ rest) (λ h. tt)
-    by_first false true = block_fits false rest (47 ∷ byte ∷ rest)
+    by_first false true = block_fits 47 false rest (47 ∷ byte ∷ rest)
     by_first false false = tt
+
+attribute_fits : (rest bytes : List ℕ) → Fitting bytes (attribute_rest rest)
+unfolding attribute_rest Fitting
+attribute_fits [] bytes = tt
+attribute_fits (byte ∷ rest) bytes = by_white (is_white byte) (nat_eq byte 41) (attribute_fits rest bytes)
+  where
+    by_white : (b d : Bool) → Fitting bytes (attribute_rest rest)
+        → Fitting bytes (cond b (attribute_rest rest) (cond d None (block_rest 41 (nat_eq byte 42) rest)))
+    by_white true d below = below
+    by_white false true below = tt
+    by_white false false below = block_fits 41 (nat_eq byte 42) rest bytes
+
+paren_fits : (rest : List ℕ) → Fitting (40 ∷ rest) (paren_rest rest)
+unfolding paren_rest Fitting TextOf is_mark
+paren_fits [] = refl
+paren_fits (byte ∷ rest) = by_star (nat_eq byte 42)
+  where
+    by_star : (b : Bool) → Fitting (40 ∷ byte ∷ rest) (cond b (attribute_rest rest) None)
+    by_star true = attribute_fits rest (40 ∷ byte ∷ rest)
+    by_star false = tt
 
 name_fits : (first : ℕ) (rest : List ℕ) → is_letter first ≡ true → list_all is_name_byte rest ≡ true → TextOf Name (first ∷ rest)
 unfolding TextOf
@@ -104,8 +125,9 @@ taken_fits first rest =
     cond_fits (nat_eq first 39) _ _ rest bytes (λ h. when_fits _ Number bytes (λ k. begins_with_quote first rest h5 h k)) (λ h6.
     cond_fits (nat_eq first 96) _ _ rest bytes (λ h. when_fits _ (Directive _) bytes (λ k. tt)) (λ h7.
     cond_fits (nat_eq first 47) _ _ rest bytes (λ h. subst (λ b. Fitting (b ∷ rest) (slash_rest rest)) (sym (eqb-true first 47 h)) (slash_fits rest)) (λ h8.
-    cond_fits (is_mark first) _ _ rest bytes (λ h. when_fits _ Symbol bytes (λ k. k)) (λ h9.
-    when_fits _ Stray bytes (λ k. tt))))))))))
+    cond_fits (nat_eq first 40) _ _ rest bytes (λ h. subst (λ b. Fitting (b ∷ rest) (paren_rest rest)) (sym (eqb-true first 40 h)) (paren_fits rest)) (λ h9.
+    cond_fits (is_mark first) _ _ rest bytes (λ h. when_fits _ Symbol bytes (λ k. k)) (λ h10.
+    when_fits _ Stray bytes (λ k. tt)))))))))))
 
 piece_fits : (bytes : List ℕ) (kind : Piece) → kind_in false bytes ≡ Some kind → TextOf kind bytes
 unfolding Fitting
@@ -151,11 +173,11 @@ escaped_all name rest byte e = subst (λ l. list_all is_visible l ≡ is_escaped
 
 -- spans can be written down
 pub span_whole : (place : Position) (size : ℕ) → IsWithin place size → HasSpan place size
-span_whole (Text from line) size within = omega (arith, within.0)
+span_whole (Text from line fresh) size within = omega (arith, within.0)
 span_whole (Macro span line) size within = tt
 
 pub span_small : (place : Position) (size small : ℕ) → small ≤ 2 → IsWithin place size → HasSpan place small
-span_small (Text from line) size small few within = omega (arith, within.0)
+span_small (Text from line fresh) size small few within = omega (arith, within.0)
 span_small (Macro span line) size small few within = tt
 
 pub span_one : (place : Position) (size : ℕ) → IsWithin place size → HasSpan place 1

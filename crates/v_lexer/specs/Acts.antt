@@ -1,7 +1,7 @@
 -- What a piece of a text does: it gives a token, carries out a directive, stands for a macro's text, or has no place
 -- (IEEE 1364-2005, clauses 3 and 19). Spans, lines and limits are this project's own.
-use Rattle.std.specs.Prelude.{ℕ, Bool, true, false, not, ◌+◌, ◌-◌, ◌||◌, List, [], ◌∷◌, ◌++◌, length, drop, count_by, if◌then◌else◌, ◌==◌, nat_lt, Some, None, Ok, Err}
-use Rattle.std.specs.List.{list_all}
+use Rattle.std.specs.Prelude.{ℕ, Bool, true, false, not, ◌+◌, ◌-◌, ◌&&◌, ◌||◌, List, [], ◌∷◌, ◌++◌, length, drop, count_by, if◌then◌else◌, ◌==◌, nat_lt, Some, None, Ok, Err}
+use Rattle.std.specs.List.{list_all, list_any}
 use Rattle.std.specs.FinMap as map
 use Rattle.loc_base.specs.declared.span.Span.{Span}
 use Rattle.v_syntax.specs.declared.token_kind.TokenKind.{TokenKind}
@@ -11,7 +11,7 @@ use Rattle.v_lexer.specs.declared.types.refusal.LexErr.TheVariants as refused
 use Rattle.v_syntax.specs.declared.literal.NumberFault.{NumberFault}
 use Rattle.v_syntax.specs.declared.literal.NumberFault.TheVariants.{Malformed, Unknown, Wide}
 use Rattle.v_lexer.specs.declared.directives.Directive.{Directive}
-use Rattle.v_lexer.specs.declared.directives.Directive.TheVariants.{Define, Undef, Ifdef, Ifndef, Elsif, Else, Endif, ToLineEnd, Alone, Use}
+use Rattle.v_lexer.specs.declared.directives.Directive.TheVariants.{Define, Undef, Ifdef, Ifndef, Elsif, Else, Endif, Line, ToLineEnd, Alone, Use}
 use Rattle.v_lexer.specs.declared.pieces.Piece.{Piece}
 use Rattle.v_lexer.specs.declared.pieces.Piece.TheVariants as piece
 use Rattle.v_lexer.specs.declared.position.Position.{Position}
@@ -20,35 +20,54 @@ use Rattle.v_lexer.specs.declared.conditionals.Arm.{Arm}
 use Rattle.v_lexer.specs.declared.conditionals.Arm.TheVariants.{Taken, Waiting, Nested}
 use Rattle.v_lexer.specs.declared.state.State.{State}
 use Rattle.v_lexer.specs.Conditionals.{next_arm, is_nested, is_skipping}
-use Rattle.v_syntax.specs.Bytes.{is_visible}
+use Rattle.v_syntax.specs.Bytes.{is_visible, is_white}
 use Rattle.v_lexer.specs.Words.{is_reserved, is_system}
 use Rattle.v_syntax.specs.Literals.{judge, skip_white}
 use Rattle.v_lexer.specs.Directives.{word_of, tail_of, definition_of}
+use Rattle.v_lexer.specs.LineDirectives.{is_line_tail}
 use Rattle.v_lexer.specs.Lexeme.{Lexeme}
 
 -- the span of so many bytes from a place on; in a macro's text, that of the macro's use
 abbrev pub span_of : Position → ℕ → Span
-span_of (Text from line) size = record { from = from; to = from + size }
+span_of (Text from line fresh) size = record { from = from; to = from + size }
 span_of (Macro span line) size = span
 
 -- the line of a place
 abbrev pub line_of : Position → ℕ
-line_of (Text from line) = line
+line_of (Text from line fresh) = line
 line_of (Macro span line) = line
+
+-- whether only white space stands on a line behind a piece, by whether only white space stood there before it
+abbrev pub stays_fresh : Bool → List ℕ → Bool
+stays_fresh fresh piece = list_all is_white piece && (fresh || list_any (λ byte. byte == 10) piece)
 
 -- the place behind a piece
 abbrev pub past : Position → List ℕ → Position
-past (Text from line) piece = Text (from + length piece) (line + count_by (λ byte. byte == 10) piece)
+past (Text from line fresh) piece = Text (from + length piece) (line + count_by (λ byte. byte == 10) piece) (stays_fresh fresh piece)
 past (Macro span line) piece = Macro span line
 
 -- any place in the text of a macro that a piece uses
 abbrev pub inside : Position → List ℕ → Position
 inside place piece = Macro (span_of place (length piece)) (line_of place)
 
--- whether a place is in the text itself
-abbrev pub is_in_text : Position → Bool
-is_in_text (Text from line) = true
-is_in_text (Macro span line) = false
+-- a directive that stands alone on its line
+abbrev pub is_line : Directive → Bool
+is_line Line = true
+is_line Define = false
+is_line Undef = false
+is_line Ifdef = false
+is_line Ifndef = false
+is_line Elsif = false
+is_line Else = false
+is_line Endif = false
+is_line ToLineEnd = false
+is_line Alone = false
+is_line Use = false
+
+-- whether a directive may stand at a place: in the text itself, and a `line` behind nothing but white space on its line
+abbrev pub may_stand : Position → Directive → Bool
+may_stand (Text from line fresh) word = fresh || not (is_line word)
+may_stand (Macro span line) word = false
 
 -- the span of what counts a whole text
 abbrev pub nowhere : Span
@@ -145,6 +164,10 @@ abbrev pub undefines : State → Span → List ℕ → Step
 undefines s span [] = stops (refused.Directive span)
 undefines s span (byte ∷ rest) = goes (record s { macros = map.remove s.macros (byte ∷ rest) })
 
+-- a `line` directive, which is read and ignored
+abbrev pub lines : State → Span → List ℕ → Step
+lines s span tail = if is_line_tail tail then goes s else stops (refused.Directive span)
+
 -- a directive in a part that is taken, by its span and what stands behind its word
 abbrev pub directs : State → Span → Directive → List ℕ → Step
 directs s span Define tail = defines s span tail
@@ -154,6 +177,7 @@ directs s span Ifndef tail = opens_if s span (skip_white tail) (not (is_defined 
 directs s span Elsif tail = goes_on s span (is_some_name (skip_white tail)) (is_defined s (skip_white tail)) false
 directs s span Else tail = goes_on s span true true true
 directs s span Endif tail = closes s span
+directs s span Line tail = lines s span tail
 directs s span ToLineEnd tail = goes s
 directs s span Alone tail = goes s
 directs s span Use tail = goes s
@@ -167,6 +191,7 @@ skips s span Ifndef tail = opens s span Nested
 skips s span Elsif tail = goes_on s span (is_some_name (skip_white tail)) (is_defined s (skip_white tail)) false
 skips s span Else tail = goes_on s span true true true
 skips s span Endif tail = closes s span
+skips s span Line tail = goes s
 skips s span ToLineEnd tail = goes s
 skips s span Alone tail = goes s
 skips s span Use tail = goes s
@@ -191,7 +216,7 @@ word_span place piece = span_of place (1 + length (word_of (drop 1 piece)))
 abbrev pub commands : ℕ → State → Position → Directive → List ℕ → Step
 commands left s place Use piece = uses left s (word_span place piece) (drop 1 piece)
 commands left s place word piece =
-    if is_in_text place then directs s (word_span place piece) word (tail_of (drop 1 piece))
+    if may_stand place word then directs s (word_span place piece) word (tail_of (drop 1 piece))
     else stops (refused.Directive (word_span place piece))
 
 -- what a piece does in a part that is taken

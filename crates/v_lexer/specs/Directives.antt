@@ -2,7 +2,7 @@
 use Rattle.std.specs.Prelude.{ℕ, Bool, true, false, not, ◌&&◌, ◌+◌, List, [], ◌∷◌, take, drop, if◌then◌else◌, ◌==◌, bytes_eq, codes, Option, Some, None}
 use Rattle.std.specs.List.{list_all, prefix_len}
 use Rattle.v_lexer.specs.declared.directives.Directive.{Directive}
-use Rattle.v_lexer.specs.declared.directives.Directive.TheVariants.{Define, Undef, Ifdef, Ifndef, Elsif, Else, Endif, ToLineEnd, Alone, Use}
+use Rattle.v_lexer.specs.declared.directives.Directive.TheVariants.{Define, Undef, Ifdef, Ifndef, Elsif, Else, Endif, Line, ToLineEnd, Alone, Use}
 use Rattle.v_syntax.specs.Bytes.{is_white, is_letter, is_name_byte, not_newline}
 use Rattle.v_lexer.specs.Words.{is_among}
 use Rattle.v_syntax.specs.Literals.{skip_white}
@@ -17,6 +17,7 @@ directive_of word =
     else if bytes_eq word (codes "elsif") then Elsif
     else if bytes_eq word (codes "else") then Else
     else if bytes_eq word (codes "endif") then Endif
+    else if bytes_eq word (codes "line") then Line
     else if is_among word (codes "timescale" ∷ codes "default_nettype" ∷ []) then ToLineEnd
     else if is_among word (codes "celldefine" ∷ codes "endcelldefine" ∷ codes "resetall" ∷ []) then Alone
     else Use
@@ -50,6 +51,7 @@ is_nothing (byte ∷ rest) = false
 unfoldable pub is_tail : Bool → Directive → List ℕ → Bool
 is_tail skipping Define tail = if skipping then is_nothing tail else is_line false tail
 is_tail skipping ToLineEnd tail = if skipping then is_nothing tail else list_all not_newline tail
+is_tail skipping Line tail = if skipping then is_nothing tail else list_all not_newline tail
 is_tail skipping Undef tail = is_named tail
 is_tail skipping Ifdef tail = is_named tail
 is_tail skipping Ifndef tail = is_named tail

@@ -2,6 +2,7 @@ pub mod Terminals
 pub mod Words
 pub mod Symbols
 pub mod Directives
+pub mod LineDirectives
 pub mod Pieces
 pub mod Lexeme
 pub mod Text

@@ -6,7 +6,7 @@ use Rattle.v_lexer.specs.declared.types.refusal.LexErr.{LexErr}
 use Rattle.v_lexer.specs.declared.types.refusal.LexErr.TheVariants.{BadByte, OpenComment, BadNumber, UnknownValue, WideNumber, Directive, OpenIf, MacroDepth, TooLong, NoMemory}
 use Rattle.v_lexer.specs.declared.pieces.Piece.{Piece}
 use Rattle.v_lexer.specs.declared.pieces.Piece.TheVariants as piece
-use Rattle.v_lexer.specs.declared.directives.Directive.TheVariants.{Define, Undef, Ifdef, Ifndef, Elsif, Else, Endif, ToLineEnd, Alone, Use}
+use Rattle.v_lexer.specs.declared.directives.Directive.TheVariants.{Define, Undef, Ifdef, Ifndef, Elsif, Else, Endif, Line, ToLineEnd, Alone, Use}
 use Rattle.v_lexer.specs.declared.position.Position.{Position}
 use Rattle.v_lexer.specs.declared.position.Position.TheVariants.{Text, Macro}
 use Rattle.v_lexer.specs.declared.state.State.{State}
@@ -49,12 +49,12 @@ ReadsTo left old place text (Err fault) new = UnlessNoMemory fault (Reads left o
 
 -- a place with so many bytes behind it stands in a text of at most 16,777,216 bytes
 abbrev pub IsWithin : Position → ℕ → Type 0
-IsWithin (Text from line) size = (from + size ≤ 16777216) × (line ≤ from + 1)
+IsWithin (Text from line fresh) size = (from + size ≤ 16777216) × (line ≤ from + 1)
 IsWithin (Macro span line) size = Unit {0}
 
 -- a span of so many bytes can be written down
 abbrev pub HasSpan : Position → ℕ → Type 0
-HasSpan (Text from line) size = from + size < 4294967296
+HasSpan (Text from line fresh) size = from + size < 4294967296
 HasSpan (Macro span line) size = Unit {0}
 
 -- the use of a macro
@@ -75,6 +75,7 @@ is_use (piece.Directive Ifndef) = false
 is_use (piece.Directive Elsif) = false
 is_use (piece.Directive Else) = false
 is_use (piece.Directive Endif) = false
+is_use (piece.Directive Line) = false
 is_use (piece.Directive ToLineEnd) = false
 is_use (piece.Directive Alone) = false
 

@@ -21,16 +21,29 @@ if_all test kind rest = when (test rest) kind
 unfoldable pub run_of : (ℕ → Bool) → Piece → List ℕ → Option Piece
 run_of test kind rest = when (list_all test rest) kind
 
--- behind the two bytes that open a block comment: the first slash behind a star closes it; `star` says that one stands before these bytes
-unfoldable pub block_rest : Bool → List ℕ → Option Piece
-block_rest star [] = Some OpenComment
-block_rest star (byte ∷ rest) = if star && byte == 47 then when (is_nothing rest) Blank else block_rest (byte == 42) rest
+-- inside a block comment or an attribute: the first byte of this sort behind a star closes it; `star` says that one stands before these
+-- bytes
+unfoldable pub block_rest : ℕ → Bool → List ℕ → Option Piece
+block_rest close star [] = Some OpenComment
+block_rest close star (byte ∷ rest) = if star && byte == close then when (is_nothing rest) Blank else block_rest close (byte == 42) rest
 
 -- behind a slash: a comment to the line's end, a block comment, or nothing
 unfoldable pub slash_rest : List ℕ → Option Piece
 slash_rest [] = Some Symbol
 slash_rest (byte ∷ rest) =
-    if byte == 47 then run_of not_newline Blank rest else if byte == 42 then block_rest false rest else None
+    if byte == 47 then run_of not_newline Blank rest else if byte == 42 then block_rest 47 false rest else None
+
+-- behind the two bytes that open an attribute (3.8): up to a star and a closing parenthesis; where nothing but white space stands before
+-- the first parenthesis, there is none
+unfoldable pub attribute_rest : List ℕ → Option Piece
+attribute_rest [] = None
+attribute_rest (byte ∷ rest) =
+    if is_white byte then attribute_rest rest else if byte == 41 then None else block_rest 41 (byte == 42) rest
+
+-- behind an opening parenthesis: an attribute, or nothing
+unfoldable pub paren_rest : List ℕ → Option Piece
+paren_rest [] = Some Symbol
+paren_rest (byte ∷ rest) = if byte == 42 then attribute_rest rest else None
 
 -- behind a backtick: a word, and as much as its directive takes
 unfoldable pub directive_rest : Bool → List ℕ → Option Piece
@@ -52,6 +65,7 @@ taken_rest first =
     else if first == 39 then if_all is_based Number
     else if first == 96 then directive_rest false
     else if first == 47 then slash_rest
+    else if first == 40 then paren_rest
     else if is_mark first then symbol_rest first
     else if_all is_nothing Stray
 

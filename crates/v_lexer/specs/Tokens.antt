@@ -1,7 +1,8 @@
 -- The tokens of a text (IEEE 1364-2005, clauses 3 and 19): the text is cut into pieces, none of which can be made longer,
 -- a use of a macro stands for the tokens of the macro's text, and the first piece that has no place is the fault.
-use Rattle.std.specs.Prelude.{◌≡◌, ℕ, suc, ◌<◌, ◌≤◌, List, [], ◌++◌, length, Some, Result, Ok, Err}
+use Rattle.std.specs.Prelude.{◌≡◌, ℕ, suc, ◌<◌, ◌≤◌, true, List, [], ◌∷◌, ◌++◌, length, drop, nat_eq, if◌then◌else◌, Some, Result, Ok, Err}
 use Rattle.std.specs.FinMap as map
+use Rattle.std.specs.List.{starts_with}
 use Rattle.v_lexer.specs.declared.types.refusal.LexErr.{LexErr}
 use Rattle.v_lexer.specs.declared.types.refusal.LexErr.TheVariants.{TooLong, OpenIf}
 use Rattle.v_lexer.specs.declared.pieces.Piece.{Piece}
@@ -45,9 +46,17 @@ pub data Reads : ℕ → State → Position → List ℕ → Result State LexErr
 abbrev pub start : State
 start = record { macros = map.empty; conditionals = []; tokens = []; macro_bytes_left = 268435456 }
 
--- a text is read from its first byte, in line 1, and 64 levels of macros may open
+-- the byte-order mark of a text in UTF-8
+abbrev pub mark : List ℕ
+mark = 239 ∷ 187 ∷ 191 ∷ []
+
+-- how many bytes of a text are passed over before its first piece: those of a byte-order mark, where it begins with one
+abbrev pub mark_size : List ℕ → ℕ
+mark_size text = if starts_with nat_eq text mark then 3 else 0
+
+-- a text is read from its first byte, or behind its byte-order mark, in line 1, and 64 levels of macros may open
 abbrev pub ReadsText : List ℕ → Result State LexErr → Type 0
-ReadsText text outcome = Reads 64 start (Text 0 1) text outcome
+ReadsText text outcome = Reads 64 start (Text (mark_size text) 1 true) (drop (mark_size text) text) outcome
 
 -- a text's tokens, or its fault: too many bytes, the first piece that has no place, or a conditional open at the end
 pub data HasOutcome (text : List ℕ) : Result (List Lexeme) LexErr → Type 0 where

@@ -1,6 +1,6 @@
 //! Classes of bytes (IEEE 1364-2005, 3.2, 3.5.1 and 3.7).
 ghost use Rattle.std.specs.Prelude.{◌≡◌, [], ◌∷◌, MatchOption, ◌≤◌, length, drop};
-ghost use Rattle.std.specs.List.{prefix_len};
+ghost use Rattle.std.specs.List.{list_all, prefix_len};
 ghost use Rattle.v_syntax.specs.Bytes as class;
 ghost use Rattle.v_lexer.specs.Directives.{word_size};
 ghost use Rattle.v_lexer.specs.Pieces.{is_plain};
@@ -45,6 +45,13 @@ pub fn is_mark(byte: u8) -> bool
     ensures { result ≡ class.is_mark byte }
 {
     matches!(byte, b'!' | b'#' | b'%'..=b'&' | b'('..=b'/' | b':'..=b'@' | b'[' | b']' | b'^' | b'{'..=b'~')
+}
+
+/// Whether all bytes are white space.
+pub fn is_all_white(bytes: &[u8]) -> bool
+    ensures { result ≡ list_all class.is_white bytes.now }
+{
+    bytes.iter().all(|byte| is_white(*byte))
 }
 
 /// The first byte and the others.

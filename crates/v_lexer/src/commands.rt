@@ -11,6 +11,7 @@ use crate::bytes::{behind, identifier_run};
 use crate::conditionals::{Arm, Conditional, is_nested, next_arm};
 use crate::definitions::{definition_of, joined};
 use crate::directives::Directive;
+use crate::line_directives::is_line_tail;
 use crate::literals::skip_white;
 use crate::pieces::Piece;
 use crate::position::Position;
@@ -166,6 +167,18 @@ impl State {
         }
     }
 
+    /// Reads and ignores a `line` directive.
+    #[tactic(auto, using(crate::proofs::CommandRows::command_rows))]
+    fn lines(&mut self, span: Span, tail: &[u8]) -> Result<(), LexErr>
+        ensures { Gives (act.lines self.old span tail.now) result self.new }
+    {
+        if is_line_tail(tail) {
+            Ok(())
+        } else {
+            Err(LexErr::Directive(span))
+        }
+    }
+
     /// Carries out a directive in a part that is taken.
     fn directs(
         &mut self,
@@ -186,6 +199,7 @@ impl State {
             Directive::Elsif => self.goes_on(span, is_some_name(name), is_defined, false),
             Directive::Else => self.goes_on(span, true, true, true),
             Directive::Endif => self.closes(span),
+            Directive::Line => self.lines(span, tail),
             Directive::ToLineEnd | Directive::Alone | Directive::Use => Ok(()),
         }
     }
@@ -203,13 +217,14 @@ impl State {
             Directive::Endif => self.closes(span),
             Directive::Define
             | Directive::Undef
+            | Directive::Line
             | Directive::ToLineEnd
             | Directive::Alone
             | Directive::Use => Ok(()),
         }
     }
 
-    /// Carries out a directive that is no use of a macro; in a macro's text there is none.
+    /// Carries out a directive that is no use of a macro and may stand where it stands.
     #[tactic(auto, using(crate::proofs::CommandRows::command_rows))]
     pub fn commands(
         &mut self,
@@ -224,7 +239,7 @@ impl State {
         ensures { (left : ℕ) → Gives (act.commands left self.old place word piece.now) result self.new }
     {
         let span = word_span(place, piece);
-        if place.is_in_text() {
+        if place.may_have(word) {
             self.directs(alloc, span, word, tail_of(piece))
         } else {
             Err(LexErr::Directive(span))

@@ -21,6 +21,8 @@ pub enum Directive {
     Elsif,
     Else,
     Endif,
+    /// `line`, which stands alone on its line.
+    Line,
     /// One that is skipped to the line's end.
     ToLineEnd,
     /// One that is skipped alone.
@@ -48,6 +50,8 @@ fn directive_of(word: &[u8]) -> Directive
         Directive::Else
     } else if word == "endif".as_bytes() {
         Directive::Endif
+    } else if word == "line".as_bytes() {
+        Directive::Line
     } else if is_among(word, &["timescale", "default_nettype"]) {
         Directive::ToLineEnd
     } else if is_among(word, &["celldefine", "endcelldefine", "resetall"]) {
@@ -125,6 +129,7 @@ fn tail_length(rest: &[u8], word: Directive, skipping: bool) -> usize
 {
     match word {
         Directive::Define => { if skipping { 0 } else { line_length(rest) } }
+        Directive::Line => { if skipping { 0 } else { line_run(rest) } }
         Directive::ToLineEnd => { if skipping { 0 } else { line_run(rest) } }
         Directive::Undef | Directive::Ifdef | Directive::Ifndef | Directive::Elsif => named_length(
             rest,

@@ -7,6 +7,7 @@ mod comments;
 mod conditionals;
 mod definitions;
 mod directives;
+mod line_directives;
 mod literals;
 mod macros;
 mod numbers;

@@ -6,7 +6,7 @@ ghost use Rattle.v_lexer.specs.Longest.{HasFront};
 use crate::bytes::{
     is_decimal, is_letter, is_mark, is_white, name_run, plain_run, white_run, word_run,
 };
-use crate::comments::slash_piece;
+use crate::comments::{paren_piece, slash_piece};
 use crate::directives::{Directive, directive_piece};
 use crate::numbers::{based_length, number_length};
 use crate::symbols::symbol_length;
@@ -14,9 +14,9 @@ use crate::symbols::symbol_length;
 /// What a piece of a text is.
 #[derive(Clone, Copy)]
 pub enum Piece {
-    /// White space, a comment, or text of a part that isn't taken.
+    /// White space, a comment, an attribute, or text of a part that isn't taken.
     Blank,
-    /// A block comment that isn't closed.
+    /// A block comment or an attribute that isn't closed.
     OpenComment,
     /// A simple identifier or a reserved word.
     Name,
@@ -54,6 +54,8 @@ fn taken_piece(first: u8, rest: &[u8]) -> (Piece, usize)
         directive_piece(rest, false)
     } else if first == b'/' {
         slash_piece(rest)
+    } else if first == b'(' {
+        paren_piece(rest)
     } else if is_mark(first) {
         (Piece::Symbol, symbol_length(first, rest))
     } else {

@@ -1,15 +1,18 @@
 //! Places in the text.
 ghost use Rattle.std.specs.Prelude.{◌≡◌, ◌≤◌, count_by, length, nat_eq};
+ghost use Rattle.std.specs.List.{list_any};
 ghost use Rattle.v_lexer.specs.Acts as place;
 ghost use Rattle.v_lexer.specs.Outcomes.{HasSpan, IsWithin};
 
+use crate::bytes::is_all_white;
+use crate::directives::Directive;
 use loc_base::Span;
 
 /// Where a piece begins.
 #[derive(Clone, Copy)]
 pub enum Position {
-    /// In the text itself: the offset from 0, and the line from 1.
-    Text { from: u32, line: u32 },
+    /// In the text itself: the offset from 0, the line from 1, and whether only white space stands before it on its line.
+    Text { from: u32, line: u32, fresh: bool },
     /// In the text of a macro: the span and the line of the macro's use in the text.
     Macro { span: Span, line: u32 },
 }
@@ -21,6 +24,26 @@ fn newlines(piece: &[u8]) -> usize
     piece.iter().filter(|byte| **byte == b'\n').count()
 }
 
+fn has_newline(piece: &[u8]) -> bool
+    ensures { result ≡ list_any (λ byte. nat_eq byte 10) piece.now }
+{
+    piece.iter().any(|byte| *byte == b'\n')
+}
+
+/// Whether only white space stands on a line behind a piece, by whether only white space stood there before it.
+fn stays_fresh(fresh: bool, piece: &[u8]) -> bool
+    ensures { result ≡ place.stays_fresh fresh piece.now }
+{
+    is_all_white(piece) && (fresh || has_newline(piece))
+}
+
+/// Whether a directive stands alone on its line.
+fn is_line(word: Directive) -> bool
+    ensures { result ≡ place.is_line word }
+{
+    matches!(word, Directive::Line)
+}
+
 impl Position {
     /// The span of so many bytes from here on.
     pub fn span(self, size: usize) -> Span
@@ -28,7 +51,11 @@ impl Position {
         ensures { result ≡ place.span_of self size }
     {
         match self {
-            Position::Text { from, line: _ } => Span {
+            Position::Text {
+                from,
+                line: _,
+                fresh: _,
+            } => Span {
                 from,
                 to: from + size as u32,
             },
@@ -40,7 +67,11 @@ impl Position {
         ensures { result ≡ place.line_of self }
     {
         match self {
-            Position::Text { from: _, line } => line,
+            Position::Text {
+                from: _,
+                line,
+                fresh: _,
+            } => line,
             Position::Macro { span: _, line } => line,
         }
     }
@@ -51,9 +82,10 @@ impl Position {
         ensures { result ≡ place.past self piece.now }
     {
         match self {
-            Position::Text { from, line } => Position::Text {
+            Position::Text { from, line, fresh } => Position::Text {
                 from: from + piece.len() as u32,
                 line: line + newlines(piece) as u32,
+                fresh: stays_fresh(fresh, piece),
             },
             Position::Macro { span, line } => Position::Macro { span, line },
         }
@@ -70,12 +102,16 @@ impl Position {
         }
     }
 
-    /// Whether the place is in the text itself.
-    pub fn is_in_text(self) -> bool
-        ensures { result ≡ place.is_in_text self }
+    /// Whether a directive may stand here.
+    pub fn may_have(self, word: Directive) -> bool
+        ensures { result ≡ place.may_stand self word }
     {
         match self {
-            Position::Text { from: _, line: _ } => true,
+            Position::Text {
+                from: _,
+                line: _,
+                fresh,
+            } => fresh || !is_line(word),
             Position::Macro { span: _, line: _ } => false,
         }
     }

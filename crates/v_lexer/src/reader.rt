@@ -7,7 +7,7 @@ ghost use Rattle.v_lexer.specs.Lexeme.{Lexeme};
 ghost use Rattle.v_lexer.specs.Outcomes.{is_use as piece_is_use};
 ghost use Rattle.v_lexer.specs.Outcomes.{IsWithin, ReadsTo, Turns, UnlessNoMemory};
 ghost use Rattle.v_lexer.specs.Pieces.{kind_in};
-ghost use Rattle.v_lexer.specs.Tokens.{HasFault, HasOutcome, HasTokens};
+ghost use Rattle.v_lexer.specs.Tokens.{HasFault, HasOutcome, HasTokens, mark_size};
 
 use crate::bytes::{behind, first_of};
 use crate::commands::word_span;
@@ -21,6 +21,18 @@ use std::alloc::Global;
 
 /// How many levels of macros may open in one another.
 const DEEPEST: u32 = 64;
+
+/// The byte-order mark of a text in UTF-8.
+const MARK: [u8; 3] = [0xEF, 0xBB, 0xBF];
+
+/// How many bytes of a text are passed over before its first piece.
+fn mark_size(text: &[u8]) -> usize
+    ensures size { result ≡ mark_size text.now }
+    ensures within { result ≤ length text.now }
+    ensures small { result ≤ 3 }
+{
+    if text.starts_with(&MARK) { 3 } else { 0 }
+}
 
 /// Whether a piece is the use of a macro.
 fn is_use(kind: Piece) -> bool
@@ -118,7 +130,13 @@ pub fn tokens(alloc: Global, text: &[u8]) -> Result<Tokens, LexErr>
         return Err(LexErr::TooLong(nowhere()));
     }
     let mut state = State::new(alloc);
-    state.read(alloc, text, Position::Text { from: 0, line: 1 }, DEEPEST)?;
+    let size = mark_size(text);
+    let begin = Position::Text {
+        from: size as u32,
+        line: 1,
+        fresh: true,
+    };
+    state.read(alloc, behind(text, size), begin, DEEPEST)?;
     match state.conditionals.outermost() {
         Some(first) => Err(LexErr::OpenIf(first.opener)),
         None => Ok(state.tokens),
