@@ -11,7 +11,7 @@ pub enum LexErr {
     #[error("a byte that begins no token, or a system name that isn't known")]
     BadByte(Span),
     /// A block comment that is never closed: its first two bytes.
-    #[error("a block comment that is never closed")]
+    #[error("a block comment or an attribute that is never closed")]
     OpenComment(Span),
     /// A number without its base or its digits, or with a digit that the base hasn't: its first byte.
     #[error("a number without its base or its digits, or with a digit that its base doesn't have")]
