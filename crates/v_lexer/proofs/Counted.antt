@@ -18,7 +18,7 @@ use Rattle.v_lexer.specs.Lexeme.{Lexeme}
 use Rattle.v_syntax.specs.Literals.{judge, skip_white}
 use Rattle.v_lexer.specs.Directives.{tail_of}
 use Rattle.v_lexer.specs.Conditionals.{is_skipping}
-use Rattle.v_lexer.specs.Acts.{Step, goes, stops, expands, adds, opens_if, goes_on, closes, defines, undefines, directs, skips, enters, uses, commands, takes, passes, does, number_refusal, span_of, word_span, may_stand}
+use Rattle.v_lexer.specs.Acts.{Step, goes, stops, expands, adds, followed, opens_if, goes_on, closes, defines, undefines, directs, skips, enters, uses, commands, takes, passes, does, number_refusal, span_of, word_span, may_stand}
 use Rattle.v_lexer.specs.LineDirectives.{is_line_tail}
 use Rattle.v_lexer.specs.Tokens.{Turn, Reads, at_end, at_fault, behind_piece, within_macro, behind_macro, HasOutcome, is_long, is_faulty, is_open, is_whole, HasTokens}
 
@@ -43,6 +43,11 @@ few-less false s token fault less few = tt
 few-adds : (s : State) (place : Position) (size : ℕ) (kind : TokenKind) (text : List ℕ) → IsFew s → StaysFew (adds s place size kind text)
 unfolding adds
 few-adds s place size kind text few = few-less (nat_lt (length s.tokens) 2000000) s _ _ refl few
+
+few-followed : (first : Step) (next : State → Step) → StaysFew first → ((t : State) → IsFew t → StaysFew (next t)) → StaysFew (followed first next)
+few-followed (goes t) next few behind = behind t few
+few-followed (stops fault) next few behind = tt
+few-followed (expands body t) next few behind = few
 
 few-judged : (judged : Result TokenKind NumberFault) (s : State) (place : Position) (text : List ℕ) → IsFew s
     → StaysFew (elim judged [ Ok kind ↦ adds s place (length text) kind text | Err fault ↦ stops (number_refusal fault (span_of place 1)) ])
@@ -130,6 +135,8 @@ few-takes left s place piece.Name text few = few-adds s place (length text) _ te
 few-takes left s place piece.Escaped text few = few-either _ (adds s place (length text) _ (drop 1 text)) (stops _) (few-adds s place (length text) _ (drop 1 text) few) tt
 few-takes left s place piece.System text few = few-either _ (adds s place (length text) _ text) (stops _) (few-adds s place (length text) _ text few) tt
 few-takes left s place piece.Symbol text few = few-adds s place (length text) _ text few
+few-takes left s place piece.RealDelay text few =
+    few-followed (adds s place 1 _ _) (λ t. adds t _ _ _ _) (few-adds s place 1 _ _ few) (λ t less. few-adds t _ _ _ _ less)
 few-takes left s place piece.Number text few = few-judged (judge text) s place text few
 few-takes left s place (piece.Directive word) text few = few-commands left s place word text few
 few-takes left s place piece.Stray text few = tt
@@ -141,6 +148,7 @@ few-passes s place piece.Name text few = few
 few-passes s place piece.Escaped text few = few
 few-passes s place piece.System text few = few
 few-passes s place piece.Symbol text few = few
+few-passes s place piece.RealDelay text few = few
 few-passes s place piece.Number text few = few
 few-passes s place (piece.Directive word) text few = few-skips s _ word _ few
 few-passes s place piece.Stray text few = few

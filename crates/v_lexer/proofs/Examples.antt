@@ -1,9 +1,11 @@
--- Worked examples of what is read and ignored: a byte-order mark, `line` directives and attributes.
+-- Worked examples of what is read and ignored: a byte-order mark, `line` directives, attributes and real delays.
 use Rattle.std.proofs.Common.{◌≡◌, true, false, List, [], ◌∷◌, refl, Some, None}
 use Rattle.std.specs.Prelude.{codes}
 use Rattle.v_syntax.specs.Bytes.{is_white, is_letter, is_decimal}
-use Rattle.v_lexer.specs.declared.pieces.Piece.TheVariants.{Blank, OpenComment, Symbol}
-use Rattle.v_lexer.specs.Pieces.{kind_in, taken_rest, paren_rest, attribute_rest, block_rest}
+use Rattle.v_lexer.specs.declared.pieces.Piece.TheVariants.{Blank, OpenComment, RealDelay}
+use Rattle.v_syntax.specs.Numbers.{is_decimal_or_underscore}
+use Rattle.v_lexer.specs.RealDelays.{is_exponent_mark, is_plus_or_minus, is_power, is_exponent, is_fraction_rest, is_fraction, is_real_rest}
+use Rattle.v_lexer.specs.Pieces.{kind_in, taken_rest, paren_rest, attribute_rest, block_rest, hash_rest}
 use Rattle.v_lexer.specs.LineDirectives.{is_line_tail}
 use Rattle.v_lexer.specs.Acts.{stays_fresh}
 use Rattle.v_lexer.specs.Tokens.{mark_size}
@@ -49,3 +51,16 @@ an_attribute_may_be_open = refl
 pub a_star_in_parentheses_is_no_attribute : kind_in false (codes "(* )") ≡ None
 unfolding taken_rest paren_rest attribute_rest block_rest is_white is_letter is_decimal
 a_star_in_parentheses_is_no_attribute = refl
+
+-- a real number is a delay directly behind a `#`
+pub a_real_delay_has_a_fraction : kind_in false (codes "#0.5") ≡ Some RealDelay
+unfolding taken_rest hash_rest is_real_rest is_fraction is_fraction_rest is_exponent_mark is_decimal_or_underscore is_white is_letter is_decimal
+a_real_delay_has_a_fraction = refl
+
+pub a_real_delay_has_an_exponent : kind_in false (codes "#1e-9") ≡ Some RealDelay
+unfolding taken_rest hash_rest is_real_rest is_exponent is_power is_exponent_mark is_plus_or_minus is_decimal_or_underscore is_white is_letter is_decimal
+a_real_delay_has_an_exponent = refl
+
+pub a_real_number_behind_a_space_is_none : kind_in false (codes "# 0.5") ≡ None
+unfolding taken_rest hash_rest is_white is_letter is_decimal
+a_real_number_behind_a_space_is_none = refl

@@ -14,3 +14,5 @@ pub mod Unique
 pub mod Counted
 pub mod SpellingLaws
 pub mod Examples
+pub mod RealRows
+pub mod DelayRows

@@ -8,7 +8,7 @@ use Rattle.v_lexer.specs.declared.pieces.Piece.TheVariants.{Blank, Name, Escaped
 use Rattle.v_syntax.specs.Bytes.{is_white, not_white, is_letter, is_decimal, is_name_byte, is_mark}
 use Rattle.v_syntax.specs.Numbers.{is_number_rest, is_based}
 use Rattle.v_lexer.specs.Directives.{is_nothing}
-use Rattle.v_lexer.specs.Pieces.{if_all, run_of, directive_rest, slash_rest, paren_rest, symbol_rest, taken_rest, skipped_rest, kind_in, is_plain}
+use Rattle.v_lexer.specs.Pieces.{if_all, run_of, directive_rest, slash_rest, paren_rest, hash_rest, symbol_rest, taken_rest, skipped_rest, kind_in, is_plain}
 use Rattle.v_lexer.specs.Longest.{HasFront}
 use Rattle.v_lexer.proofs.Fronts.{run_front, goes_on}
 use Rattle.v_lexer.proofs.DirectiveRows.{nothing_front}
@@ -70,29 +70,36 @@ unfolding taken_rest is_white is_letter is_decimal
 taken_paren first rest kind size is front =
     subst (λ b. HasFront (taken_rest b) rest kind size) (sym is) (taken_as 40 rest kind size paren_rest refl front)
 
-pub taken_mark : (first : ℕ) (rest : List ℕ) (size : ℕ) → is_white first ≡ false → is_letter first ≡ false → first ≢ 92 → first ≢ 36 → is_decimal first ≡ false → first ≢ 39 → first ≢ 96 → first ≢ 47 → first ≢ 40 → is_mark first ≡ true → HasFront (symbol_rest first) rest Symbol size → HasFront (taken_rest first) rest Symbol size
+pub taken_hash : (first : ℕ) (rest : List ℕ) (kind : Piece) (size : ℕ) → first ≡ 35 → HasFront hash_rest rest kind size → HasFront (taken_rest first) rest kind size
+unfolding taken_rest is_white is_letter is_decimal
+taken_hash first rest kind size is front =
+    subst (λ b. HasFront (taken_rest b) rest kind size) (sym is) (taken_as 35 rest kind size hash_rest refl front)
+
+pub taken_mark : (first : ℕ) (rest : List ℕ) (size : ℕ) → is_white first ≡ false → is_letter first ≡ false → first ≢ 92 → first ≢ 36 → is_decimal first ≡ false → first ≢ 39 → first ≢ 96 → first ≢ 47 → first ≢ 40 → first ≢ 35 → is_mark first ≡ true → HasFront (symbol_rest first) rest Symbol size → HasFront (taken_rest first) rest Symbol size
 unfolding taken_rest
-taken_mark first rest size no_white no_letter no_backslash no_dollar no_digit no_quote no_backtick no_slash no_paren is_so front =
+taken_mark first rest size no_white no_letter no_backslash no_dollar no_digit no_quote no_backtick no_slash no_paren no_hash is_so front =
     let eq_backslash : nat_eq first 92 ≡ false = ne_eqb first 92 no_backslash in
     let eq_dollar : nat_eq first 36 ≡ false = ne_eqb first 36 no_dollar in
     let eq_quote : nat_eq first 39 ≡ false = ne_eqb first 39 no_quote in
     let eq_backtick : nat_eq first 96 ≡ false = ne_eqb first 96 no_backtick in
     let eq_slash : nat_eq first 47 ≡ false = ne_eqb first 47 no_slash in
     let eq_paren : nat_eq first 40 ≡ false = ne_eqb first 40 no_paren in
-    taken_as first rest Symbol size (symbol_rest first) (rw (no_white, no_letter, eq_backslash, eq_dollar, no_digit, eq_quote, eq_backtick, eq_slash, eq_paren, is_so) refl) front
+    let eq_hash : nat_eq first 35 ≡ false = ne_eqb first 35 no_hash in
+    taken_as first rest Symbol size (symbol_rest first) (rw (no_white, no_letter, eq_backslash, eq_dollar, no_digit, eq_quote, eq_backtick, eq_slash, eq_paren, eq_hash, is_so) refl) front
 
-pub taken_stray : (first : ℕ) (rest : List ℕ) → is_white first ≡ false → is_letter first ≡ false → first ≢ 92 → first ≢ 36 → is_decimal first ≡ false → first ≢ 39 → first ≢ 96 → first ≢ 47 → first ≢ 40 → is_mark first ≡ false → HasFront (taken_rest first) rest Stray 0
+pub taken_stray : (first : ℕ) (rest : List ℕ) → is_white first ≡ false → is_letter first ≡ false → first ≢ 92 → first ≢ 36 → is_decimal first ≡ false → first ≢ 39 → first ≢ 96 → first ≢ 47 → first ≢ 40 → first ≢ 35 → is_mark first ≡ false → HasFront (taken_rest first) rest Stray 0
 unfolding taken_rest
-taken_stray first rest no_white no_letter no_backslash no_dollar no_digit no_quote no_backtick no_slash no_paren no_mark =
+taken_stray first rest no_white no_letter no_backslash no_dollar no_digit no_quote no_backtick no_slash no_paren no_hash no_mark =
     let eq_backslash : nat_eq first 92 ≡ false = ne_eqb first 92 no_backslash in
     let eq_dollar : nat_eq first 36 ≡ false = ne_eqb first 36 no_dollar in
     let eq_quote : nat_eq first 39 ≡ false = ne_eqb first 39 no_quote in
     let eq_backtick : nat_eq first 96 ≡ false = ne_eqb first 96 no_backtick in
     let eq_slash : nat_eq first 47 ≡ false = ne_eqb first 47 no_slash in
     let eq_paren : nat_eq first 40 ≡ false = ne_eqb first 40 no_paren in
-    taken_as first rest Stray 0 (if_all is_nothing Stray) (rw (no_white, no_letter, eq_backslash, eq_dollar, no_digit, eq_quote, eq_backtick, eq_slash, eq_paren, no_mark) refl) (nothing_front Stray rest)
+    let eq_hash : nat_eq first 35 ≡ false = ne_eqb first 35 no_hash in
+    taken_as first rest Stray 0 (if_all is_nothing Stray) (rw (no_white, no_letter, eq_backslash, eq_dollar, no_digit, eq_quote, eq_backtick, eq_slash, eq_paren, eq_hash, no_mark) refl) (nothing_front Stray rest)
 
-pub ruleset taken_rows = (taken_white, taken_letter, taken_backslash, taken_dollar, taken_digit, taken_quote, taken_backtick, taken_slash, taken_paren, taken_mark, taken_stray)
+pub ruleset taken_rows = (taken_white, taken_letter, taken_backslash, taken_dollar, taken_digit, taken_quote, taken_backtick, taken_slash, taken_paren, taken_hash, taken_mark, taken_stray)
 
 pub skipped_backtick : (first : ℕ) (rest : List ℕ) (kind : Piece) (size : ℕ) → first ≡ 96 → HasFront (directive_rest true) rest kind size
     → HasFront (skipped_rest first) rest kind size

@@ -6,7 +6,7 @@ use Rattle.std.proofs.lemmas.Bool.{and_parts, and_from, eqb-true}
 use Rattle.v_syntax.specs.declared.token_kind.TokenKind.{TokenKind}
 use Rattle.v_syntax.specs.declared.token_kind.TokenKind.TheVariants as token
 use Rattle.v_lexer.specs.declared.pieces.Piece.{Piece}
-use Rattle.v_lexer.specs.declared.pieces.Piece.TheVariants.{Blank, OpenComment, Name, Escaped, System, Symbol, Number, Directive, Stray}
+use Rattle.v_lexer.specs.declared.pieces.Piece.TheVariants.{Blank, OpenComment, Name, Escaped, System, Symbol, RealDelay, Number, Directive, Stray}
 use Rattle.v_lexer.specs.declared.position.Position.{Position}
 use Rattle.v_lexer.specs.declared.position.Position.TheVariants.{Text, Macro}
 use Rattle.v_syntax.specs.Bytes.{is_white, is_letter, is_decimal, is_name_byte, is_visible, is_mark, not_newline}
@@ -15,7 +15,8 @@ use Rattle.v_lexer.specs.Symbols.{is_symbol}
 use Rattle.v_syntax.specs.Numbers.{is_number_rest, is_based, is_number}
 use Rattle.v_syntax.specs.Literals.{judge, IsNumber, IsWildNumber}
 use Rattle.v_lexer.specs.Directives.{is_nothing}
-use Rattle.v_lexer.specs.Pieces.{when, if_all, run_of, block_rest, slash_rest, attribute_rest, paren_rest, directive_rest, symbol_rest, taken_rest, kind_in}
+use Rattle.v_lexer.specs.Pieces.{when, if_all, run_of, block_rest, slash_rest, attribute_rest, paren_rest, hash_rest, directive_rest, symbol_rest, taken_rest, kind_in}
+use Rattle.v_lexer.specs.RealDelays.{is_real_rest}
 use Rattle.v_lexer.specs.Text.{IsTokenText}
 use Rattle.v_lexer.specs.Acts.{is_escaped_name}
 use Rattle.v_lexer.specs.Outcomes.{IsWithin, HasSpan, IsNumberKind}
@@ -43,6 +44,7 @@ TextOf Blank bytes = Unit {0}
 TextOf OpenComment bytes = Unit {0}
 TextOf Escaped bytes = Unit {0}
 TextOf System bytes = Unit {0}
+TextOf RealDelay bytes = Unit {0}
 TextOf Number bytes = is_number bytes ≡ true
 TextOf (Directive word) bytes = Unit {0}
 TextOf Stray bytes = Unit {0}
@@ -102,6 +104,11 @@ paren_fits (byte ∷ rest) = by_star (nat_eq byte 42)
     by_star true = attribute_fits rest (40 ∷ byte ∷ rest)
     by_star false = tt
 
+hash_fits : (rest : List ℕ) → Fitting (35 ∷ rest) (hash_rest rest)
+unfolding hash_rest Fitting TextOf is_mark
+hash_fits [] = refl
+hash_fits (byte ∷ rest) = when_fits (is_decimal byte && is_real_rest rest) RealDelay (35 ∷ byte ∷ rest) (λ h. tt)
+
 name_fits : (first : ℕ) (rest : List ℕ) → is_letter first ≡ true → list_all is_name_byte rest ≡ true → TextOf Name (first ∷ rest)
 unfolding TextOf
 name_fits first rest letter others =
@@ -126,8 +133,9 @@ taken_fits first rest =
     cond_fits (nat_eq first 96) _ _ rest bytes (λ h. when_fits _ (Directive _) bytes (λ k. tt)) (λ h7.
     cond_fits (nat_eq first 47) _ _ rest bytes (λ h. subst (λ b. Fitting (b ∷ rest) (slash_rest rest)) (sym (eqb-true first 47 h)) (slash_fits rest)) (λ h8.
     cond_fits (nat_eq first 40) _ _ rest bytes (λ h. subst (λ b. Fitting (b ∷ rest) (paren_rest rest)) (sym (eqb-true first 40 h)) (paren_fits rest)) (λ h9.
-    cond_fits (is_mark first) _ _ rest bytes (λ h. when_fits _ Symbol bytes (λ k. k)) (λ h10.
-    when_fits _ Stray bytes (λ k. tt)))))))))))
+    cond_fits (nat_eq first 35) _ _ rest bytes (λ h. subst (λ b. Fitting (b ∷ rest) (hash_rest rest)) (sym (eqb-true first 35 h)) (hash_fits rest)) (λ h10.
+    cond_fits (is_mark first) _ _ rest bytes (λ h. when_fits _ Symbol bytes (λ k. k)) (λ h11.
+    when_fits _ Stray bytes (λ k. tt))))))))))))
 
 piece_fits : (bytes : List ℕ) (kind : Piece) → kind_in false bytes ≡ Some kind → TextOf kind bytes
 unfolding Fitting

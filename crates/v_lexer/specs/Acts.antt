@@ -1,11 +1,11 @@
 -- What a piece of a text does: it gives a token, carries out a directive, stands for a macro's text, or has no place
 -- (IEEE 1364-2005, clauses 3 and 19). Spans, lines and limits are this project's own.
-use Rattle.std.specs.Prelude.{ℕ, Bool, true, false, not, ◌+◌, ◌-◌, ◌&&◌, ◌||◌, List, [], ◌∷◌, ◌++◌, length, drop, count_by, if◌then◌else◌, ◌==◌, nat_lt, Some, None, Ok, Err}
+use Rattle.std.specs.Prelude.{ℕ, Bool, true, false, not, ◌+◌, ◌-◌, ◌&&◌, ◌||◌, List, [], ◌∷◌, ◌++◌, length, drop, count_by, if◌then◌else◌, ◌==◌, nat_lt, codes, Some, None, Ok, Err}
 use Rattle.std.specs.List.{list_all, list_any}
 use Rattle.std.specs.FinMap as map
 use Rattle.loc_base.specs.declared.span.Span.{Span}
 use Rattle.v_syntax.specs.declared.token_kind.TokenKind.{TokenKind}
-use Rattle.v_syntax.specs.declared.token_kind.TokenKind.TheVariants.{Name, Word, System, Symbol}
+use Rattle.v_syntax.specs.declared.token_kind.TokenKind.TheVariants.{Name, Word, System, Symbol, Number}
 use Rattle.v_lexer.specs.declared.types.refusal.LexErr.{LexErr}
 use Rattle.v_lexer.specs.declared.types.refusal.LexErr.TheVariants as refused
 use Rattle.v_syntax.specs.declared.literal.NumberFault.{NumberFault}
@@ -106,6 +106,17 @@ adds_system s place piece = if is_system piece then adds s place (length piece) 
 -- a symbol
 abbrev pub adds_symbol : State → Position → List ℕ → Step
 adds_symbol s place piece = adds s place (length piece) Symbol piece
+
+-- a step, and another one behind it
+abbrev pub followed : Step → (State → Step) → Step
+followed (goes t) next = next t
+followed (stops fault) next = stops fault
+followed (expands body t) next = expands body t
+
+-- a `#` and a real number directly behind it, which is ignored as every delay is: it stands as the number 0
+abbrev pub adds_real_delay : State → Position → List ℕ → Step
+adds_real_delay s place piece =
+    followed (adds s place 1 Symbol (codes "#")) (λ t. adds t (past place (codes "#")) (length piece - 1) Number (codes "0"))
 
 -- the refusal for a fault of a number
 abbrev pub number_refusal : NumberFault → Span → LexErr
@@ -227,6 +238,7 @@ takes left s place piece.Name text = adds_name s place text
 takes left s place piece.Escaped text = adds_escaped s place text
 takes left s place piece.System text = adds_system s place text
 takes left s place piece.Symbol text = adds_symbol s place text
+takes left s place piece.RealDelay text = adds_real_delay s place text
 takes left s place piece.Number text = adds_number s place text
 takes left s place (piece.Directive word) text = commands left s place word text
 takes left s place piece.Stray text = stops (refused.BadByte (span_of place 1))
@@ -239,6 +251,7 @@ passes s place piece.Name text = goes s
 passes s place piece.Escaped text = goes s
 passes s place piece.System text = goes s
 passes s place piece.Symbol text = goes s
+passes s place piece.RealDelay text = goes s
 passes s place piece.Number text = goes s
 passes s place (piece.Directive word) text = skips s (word_span place text) word (tail_of (drop 1 text))
 passes s place piece.Stray text = goes s

@@ -3,6 +3,7 @@ pub mod Words
 pub mod Symbols
 pub mod Directives
 pub mod LineDirectives
+pub mod RealDelays
 pub mod Pieces
 pub mod Lexeme
 pub mod Text

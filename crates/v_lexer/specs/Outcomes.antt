@@ -65,6 +65,7 @@ is_use piece.Name = false
 is_use piece.Escaped = false
 is_use piece.System = false
 is_use piece.Symbol = false
+is_use piece.RealDelay = false
 is_use piece.Number = false
 is_use piece.Stray = false
 is_use (piece.Directive Use) = true

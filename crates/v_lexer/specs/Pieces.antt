@@ -3,9 +3,10 @@
 use Rattle.std.specs.Prelude.{◌≡◌, ◌≢◌, ℕ, Bool, false, true, ◌&&◌, not, List, [], ◌∷◌, ◌++◌, if◌then◌else◌, ◌==◌, Option, Some, None}
 use Rattle.std.specs.List.{list_all}
 use Rattle.v_lexer.specs.declared.pieces.Piece.{Piece}
-use Rattle.v_lexer.specs.declared.pieces.Piece.TheVariants.{Blank, OpenComment, Name, Escaped, System, Symbol, Number, Directive, Stray}
+use Rattle.v_lexer.specs.declared.pieces.Piece.TheVariants.{Blank, OpenComment, Name, Escaped, System, Symbol, RealDelay, Number, Directive, Stray}
 use Rattle.v_syntax.specs.Bytes.{is_white, not_white, not_newline, is_letter, is_decimal, is_name_byte, is_mark}
 use Rattle.v_lexer.specs.Symbols.{is_symbol}
+use Rattle.v_lexer.specs.RealDelays.{is_real_rest}
 use Rattle.v_syntax.specs.Numbers.{is_number_rest, is_based}
 use Rattle.v_lexer.specs.Directives.{directive_of, is_tail, word_of, tail_of, is_nothing}
 
@@ -54,6 +55,11 @@ directive_rest skipping rest =
 unfoldable pub symbol_rest : ℕ → List ℕ → Option Piece
 symbol_rest first rest = when (is_symbol (first ∷ rest)) Symbol
 
+-- behind a `#`: a real number (3.5.2), or nothing
+unfoldable pub hash_rest : List ℕ → Option Piece
+hash_rest [] = Some Symbol
+hash_rest (byte ∷ rest) = when (is_decimal byte && is_real_rest rest) RealDelay
+
 -- what a piece is that begins with this byte, by the bytes behind it
 unfoldable pub taken_rest : ℕ → List ℕ → Option Piece
 taken_rest first =
@@ -66,6 +72,7 @@ taken_rest first =
     else if first == 96 then directive_rest false
     else if first == 47 then slash_rest
     else if first == 40 then paren_rest
+    else if first == 35 then hash_rest
     else if is_mark first then symbol_rest first
     else if_all is_nothing Stray
 

@@ -255,7 +255,8 @@ impl State {
         match kind {
             Piece::Directive(word) => self.skips(word_span(place, piece), word, tail_of(piece)),
             Piece::Blank | Piece::OpenComment | Piece::Name | Piece::Escaped => Ok(()),
-            Piece::System | Piece::Symbol | Piece::Number | Piece::Stray => Ok(()),
+            Piece::System | Piece::Symbol | Piece::RealDelay => Ok(()),
+            Piece::Number | Piece::Stray => Ok(()),
         }
     }
 
@@ -280,6 +281,7 @@ impl State {
             Piece::Escaped => self.adds_escaped(alloc, place, piece),
             Piece::System => self.adds_system(alloc, place, piece),
             Piece::Symbol => self.adds_symbol(alloc, place, piece),
+            Piece::RealDelay => self.adds_real_delay(alloc, place, piece),
             Piece::Number => self.adds_number(alloc, place, piece),
             Piece::Directive(word) => self.commands(alloc, place, word, piece),
             Piece::Stray => Err(LexErr::BadByte(first_span(place, piece))),

@@ -14,6 +14,7 @@ mod numbers;
 mod pieces;
 mod position;
 mod reader;
+mod real_delays;
 mod state;
 mod symbols;
 mod terminals;

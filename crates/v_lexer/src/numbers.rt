@@ -74,7 +74,7 @@ fn digit_run(bytes: &[u8]) -> usize
         .count()
 }
 
-fn decimal_run(bytes: &[u8]) -> usize
+pub fn decimal_run(bytes: &[u8]) -> usize
     ensures counts { result ≡ prefix_len shape.is_decimal_or_underscore bytes.now }
     ensures within { result ≤ length bytes.now }
 {

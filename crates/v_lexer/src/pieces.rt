@@ -9,6 +9,7 @@ use crate::bytes::{
 use crate::comments::{paren_piece, slash_piece};
 use crate::directives::{Directive, directive_piece};
 use crate::numbers::{based_length, number_length};
+use crate::real_delays::hash_piece;
 use crate::symbols::symbol_length;
 
 /// What a piece of a text is.
@@ -25,6 +26,8 @@ pub enum Piece {
     /// A dollar sign and the bytes of a name.
     System,
     Symbol,
+    /// A `#` with a real number directly behind it.
+    RealDelay,
     /// A number, or the front of one.
     Number,
     /// A backtick and the word behind it, with as much as the directive takes.
@@ -56,6 +59,8 @@ fn taken_piece(first: u8, rest: &[u8]) -> (Piece, usize)
         slash_piece(rest)
     } else if first == b'(' {
         paren_piece(rest)
+    } else if first == b'#' {
+        hash_piece(rest)
     } else if is_mark(first) {
         (Piece::Symbol, symbol_length(first, rest))
     } else {

@@ -41,7 +41,8 @@ fn is_use(kind: Piece) -> bool
     match kind {
         Piece::Directive(word) => matches!(word, Directive::Use),
         Piece::Blank | Piece::OpenComment | Piece::Name | Piece::Escaped => false,
-        Piece::System | Piece::Symbol | Piece::Number | Piece::Stray => false,
+        Piece::System | Piece::Symbol | Piece::RealDelay => false,
+        Piece::Number | Piece::Stray => false,
     }
 }
 

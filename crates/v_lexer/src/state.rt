@@ -187,6 +187,29 @@ impl State {
         self.adds(alloc, place, piece.len(), TokenKind::Symbol, piece)
     }
 
+    /// Adds a `#` and, for the real number directly behind it, the number 0.
+    #[tactic(auto, using(crate::proofs::DelayRows::real_delay_rows))]
+    pub fn adds_real_delay(
+        &mut self,
+        alloc: Global,
+        place: Position,
+        piece: &[u8],
+    ) -> Result<(), LexErr>
+        requires bytes { 1 ≤ length piece.now }
+        requires within { IsWithin place (length piece.now) }
+        ensures { Gives (act.adds_real_delay self.old place piece.now) result self.new }
+    {
+        let hash = "#".as_bytes();
+        self.adds(alloc, place, 1, TokenKind::Symbol, hash)?;
+        self.adds(
+            alloc,
+            place.past(hash),
+            piece.len() - 1,
+            TokenKind::Number,
+            "0".as_bytes(),
+        )
+    }
+
     /// Adds a number.
     #[tactic(auto, using(crate::proofs::TextRows::text_rows))]
     pub fn adds_number(
