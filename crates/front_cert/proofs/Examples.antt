@@ -3,7 +3,7 @@
 use Rattle.std.proofs.Common.{◌≡◌, true, false, [], ◌∷◌, Some, None, refl}
 use Rattle.clause_base.specs.Literal.{negative, positive}
 use Rattle.front_cert.specs.Reaches.{is_alone, shows_absent}
-use Rattle.front_cert.specs.Shows.{bound_of, last_of}
+use Rattle.card_counter.specs.Shows.{bound_of, last_of}
 
 the_bound_below_one_member : bound_of 3 1 0 ≡ Some (positive 7)
 the_bound_below_one_member = refl

@@ -14,7 +14,7 @@ use Rattle.clause_base.specs.Acceptance.{IsAccepted, IsAcceptedAs, IsAcceptedAt,
 use Rattle.clause_base.specs.Resolution.{IsResult}
 use Rattle.clause_base.proofs.Accepted.{each_step-push}
 use Rattle.front_cert.specs.Certificates.{Certified, IsCertificate, IsDerivedAfter, IsFinished}
-use Rattle.front_cert.specs.Shows.{ShowsSize, ShowsWithout}
+use Rattle.card_counter.specs.Shows.{ShowsSize, ShowsWithout}
 
 -- the clauses of a chain's numbers are the same among more clauses
 same-clauses : (clauses more : List (List Lit)) (chain : List ℕ) → All (λ number. (1 ≤ number) × (number ≤ length clauses)) chain

@@ -17,7 +17,7 @@ use Rattle.design_core.specs.Listing.{IsEntry, IsFront}
 use Rattle.design_core.specs.Works.{Groups, IsSet, IsWithin, Works}
 use Rattle.front_cert.specs.Fronts.{Claimed, IsChosen, IsShown, block}
 use Rattle.front_cert.specs.Left.{IsLogged, IsNotBefore, Logged}
-use Rattle.front_cert.specs.Shows.{last_of}
+use Rattle.card_counter.specs.Shows.{last_of}
 use Rattle.front_cert.proofs.Ascending.{Differs, Rises, before-cases, before-fewer, before-trans, differs, fewer-or-same, rises-set}
 use Rattle.front_cert.proofs.Choosing.{AllTrue, block-selectors, met-or-true, selected-count, true-within}
 use Rattle.front_cert.proofs.Left.{none-before}

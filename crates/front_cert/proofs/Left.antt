@@ -18,7 +18,7 @@ use Rattle.card_counter.specs.InForm.{Follows, NamesNoCounter, literals_from}
 use Rattle.card_counter.specs.Means.{true_count}
 use Rattle.card_counter.proofs.InForms.{follows}
 use Rattle.front_cert.specs.Left.{IsLogged, IsNotBefore, Logged, NoneBefore}
-use Rattle.front_cert.specs.Shows.{ShowsSize, ShowsWithout, bound_of}
+use Rattle.card_counter.specs.Shows.{ShowsSize, ShowsWithout, bound_of}
 
 -- two assignments that agree on a clause's variables satisfy it alike
 same-clause : (a b : ℕ → Bool) (clause : List Lit) → All (λ l. b l.var ≡ a l.var) clause → is_satisfied b clause ≡ is_satisfied a clause

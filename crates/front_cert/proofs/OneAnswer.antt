@@ -2,7 +2,7 @@
 use Rattle.std.proofs.Common.{◌≡◌, ◌⊎◌, inl, inr, ℕ, zero, suc, ◌<◌, ◌≤◌, List, Option, Some, None, refl, ap, arith}
 use Rattle.std.proofs.lemmas.Bool.{cases_lt}
 use Rattle.clause_base.specs.declared.log.Step.{Step}
-use Rattle.front_cert.specs.Shows.{Shows}
+use Rattle.card_counter.specs.Shows.{Shows}
 use Rattle.front_cert.specs.Unshown.{IsLeastUnshown, IsUnshown, SaysMissing}
 
 module _ (n k : ℕ) (members : List ℕ) (log : List Step) where

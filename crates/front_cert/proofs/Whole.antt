@@ -13,7 +13,7 @@ use Rattle.clause_base.specs.Counted.{IsPassedOver}
 use Rattle.clause_base.specs.Steps.{no_step, step_at}
 use Rattle.front_cert.specs.declared.seen.Seen.{Seen}
 use Rattle.front_cert.specs.Reaches.{AllShown, IsFirstUnseen, IsSeen, SaysUnseen, SomeBetween, greatest, is_alone, is_in, is_shown, shows_absent}
-use Rattle.front_cert.specs.Shows.{Shows, ShowsAlone, ShowsSize, ShowsWithout, bound_of}
+use Rattle.card_counter.specs.Shows.{Shows, ShowsAlone, ShowsSize, ShowsWithout, bound_of}
 use Rattle.front_cert.specs.Unshown.{IsUnshown, SaysMissing}
 use Rattle.front_cert.proofs.Tests.{absent-means, alone-means, is-member, means-absent, means-alone, member-is}
 

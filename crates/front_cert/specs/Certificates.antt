@@ -5,7 +5,7 @@ use Rattle.clause_base.specs.declared.log.Step.{Step}
 use Rattle.clause_base.specs.declared.log.StepKind.TheVariants.{Derived}
 use Rattle.clause_base.specs.Acceptance.{IsAccepted, IsAcceptedChain, clauses_of}
 use Rattle.clause_base.specs.Counted.{IsPassedOver}
-use Rattle.front_cert.specs.Shows.{Shows, ShowsSize, ShowsWithout}
+use Rattle.card_counter.specs.Shows.{Shows, ShowsSize, ShowsWithout}
 
 -- the step is derived, and its chain gives its clause from the form and the log
 pub record IsDerivedAfter (form : List (List Lit)) (log : List Step) (step : Step) : Type 0 where

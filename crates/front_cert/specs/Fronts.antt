@@ -11,7 +11,7 @@ use Rattle.clause_base.specs.Acceptance.{Follows}
 use Rattle.clause_base.specs.Literal.{negative}
 use Rattle.clause_base.specs.Satisfaction.{Satisfies}
 use Rattle.card_counter.specs.InForm.{HasCounter}
-use Rattle.front_cert.specs.Shows.{Shows, last_of}
+use Rattle.card_counter.specs.Shows.{Shows, last_of}
 
 -- of the variables from 1 to n the assignment makes the set's members true, and no other
 abbrev pub Selects : (ℕ → Bool) → ℕ → List ℕ → Type 0

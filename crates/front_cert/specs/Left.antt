@@ -7,7 +7,7 @@ use Rattle.clause_base.specs.Counted.{IsPassedOver}
 use Rattle.clause_base.specs.Satisfaction.{Satisfies}
 use Rattle.card_counter.specs.InForm.{HasCounter, NamesNoCounter, literals_from}
 use Rattle.card_counter.specs.Means.{true_count}
-use Rattle.front_cert.specs.Shows.{Shows}
+use Rattle.card_counter.specs.Shows.{Shows}
 
 -- a form with its counter, blocks that name none of the counters, a log that follows from both, and the members of a set
 pub record Logged : Type 0 where

@@ -1,4 +1,3 @@
-pub mod Shows
 pub mod Unshown
 pub mod Reaches
 pub mod Left

@@ -5,7 +5,7 @@ use Rattle.clause_base.specs.declared.log.Step.{Step}
 use Rattle.clause_base.specs.Counted.{IsPassedOver}
 use Rattle.card_counter.specs.Places.{starts}
 use Rattle.front_cert.specs.declared.front.Front.{Front}
-use Rattle.front_cert.specs.Shows.{Shows, ShowsSize, ShowsWithout}
+use Rattle.card_counter.specs.Shows.{Shows, ShowsSize, ShowsWithout}
 
 -- x is the least suspect that is passed over and isn't shown absent
 pub record IsLeastUnshown (n k : ℕ) (members : List ℕ) (log : List Step) (x : ℕ) : Type 0 where

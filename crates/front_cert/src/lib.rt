@@ -1,6 +1,7 @@
 //! Whether a log shows that a list of sets lacks none before its last one.
 //!
-//! What a log has to show is defined in `specs/Shows.antt`, in terms of the clauses of its steps alone. `shows` says whether it does.
+//! What a log has to show is defined in `specs/Shows.antt` of `card_counter`, in terms of the clauses of its steps alone. `shows` says
+//! whether it does.
 #![tactic(auto)]
 
 mod front;

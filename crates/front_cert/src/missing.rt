@@ -1,7 +1,7 @@
 //! What a log doesn't show of a front.
 
 ghost use Rattle.std.specs.Prelude.{◌≡◌, ◌≤◌, ◌<◌, ◌^◌, ◌-◌, length, IfOk};
-ghost use Rattle.front_cert.specs.Shows.{bound_of};
+ghost use Rattle.card_counter.specs.Shows.{bound_of};
 ghost use Rattle.front_cert.specs.Unshown.{MayBeShown, SaysMissing};
 ghost use Rattle.front_cert.specs.Reaches.{SaysUnseen};
 
