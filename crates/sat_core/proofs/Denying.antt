@@ -98,16 +98,16 @@ opposites_of-same marks es i l k e n =
     ∙ (ap (λ xs. filter (λ (x : Entry). marked marks x.lit.var) (take i es) ++ xs) none ∙ append-nil (filter (λ (x : Entry). marked marks x.lit.var) (take i es))))
 
 -- a literal that was collected is the opposite of a marked entry
-record IsCollected (marks : List Bool) (es : List Entry) (l : Lit) : Type 0 where
-  place : ℕ
-  within : place < length es
-  is_marked : (d : Entry) → marked marks (get_or es place d).lit.var ≡ true
-  is : (d : Entry) → opposite (get_or es place d).lit ≡ l
+pub record IsCollected (marks : List Bool) (es : List Entry) (l : Lit) : Type 0 where
+  pub place : ℕ
+  pub within : place < length es
+  pub is_marked : (d : Entry) → marked marks (get_or es place d).lit.var ≡ true
+  pub is : (d : Entry) → opposite (get_or es place d).lit ≡ l
 
 collected_later : (marks : List Bool) (e : Entry) (es : List Entry) (l : Lit) → IsCollected marks es l → IsCollected marks (e ∷ es) l
 collected_later marks e es l c = record { place = suc c.place; within = omega (arith, c.within); is_marked = c.is_marked; is = c.is }
 
-collected : (marks : List Bool) (es : List Entry) (l : Lit) → has (opposites_of marks es) l ≡ true → IsCollected marks es l
+pub collected : (marks : List Bool) (es : List Entry) (l : Lit) → has (opposites_of marks es) l ≡ true → IsCollected marks es l
 collected marks [] l h = absurd (false≢true h)
 collected marks (e ∷ es) l h = at (marked marks e.lit.var) refl (λ p. collected marks es l p)
   where
@@ -131,12 +131,12 @@ collects marks (e ∷ es) (suc i) d k y = at (marked marks e.lit.var) refl (coll
     at true q r = rw q (or_right (same_lit (opposite e.lit) (opposite (get_or es i d).lit)) (has (opposites_of marks es) (opposite (get_or es i d).lit)) r)
     at false q r = rw q r
 
-same_bool : (a b : Bool) → (a ≡ true → b ≡ true) → (b ≡ true → a ≡ true) → a ≡ b
+pub same_bool : (a b : Bool) → (a ≡ true → b ≡ true) → (b ≡ true → a ≡ true) → a ≡ b
 same_bool true b f g = sym (f refl)
 same_bool false b f g = sym (false_from_ne_true b (λ y. false≢true (g y)))
 
 -- the collected literals are those of the marked set
-collected_set : (t : TrailState) (marks : List Bool) (l : Lit) → IsTrail t → has (opposites_of marks t.entries) l ≡ set_of marks (values_of t.entries) l
+pub collected_set : (t : TrailState) (marks : List Bool) (l : Lit) → IsTrail t → has (opposites_of marks t.entries) l ≡ set_of marks (values_of t.entries) l
 collected_set t marks l h = same_bool (has (opposites_of marks t.entries) l) (set_of marks (values_of t.entries) l) there back
   where
     there : has (opposites_of marks t.entries) l ≡ true → set_of marks (values_of t.entries) l ≡ true
@@ -220,6 +220,7 @@ Denies-from t head literals marks after chain next h s r e =
       );
       distinct = ap (λ es. has_distinct_variables (head ++ opposites_of after es)) (sym (take_all (length t.entries) t.entries (omega arith))) ∙ distinct_to t head after (length t.entries) h s.distinct past (omega arith);
       within = λ i d k. inside (get_or whole i d) (has_at whole i d k);
+      itself = λ l p. has-append head (opposites_of after t.entries) l ∙ or_left (has head l) (has (opposites_of after t.entries) l) p;
       denied = λ l p. ⊎_elim (λ q. inl q) (λ q. inr (denied (collected after t.entries l q))) (split l p);
       before = λ x p. rests x (past x p);
     })

@@ -1,11 +1,12 @@
 -- Why a preferred variable is false in the model on which the trail stands.
 use Rattle.std.proofs.Common.{◌≡◌, ℕ, ◌<◌, ◌≤◌, Bool, true, false, not, cond, eqb, List, [], ◌∷◌, length, get_or, Option, Some, None, Result, Ok, Err, refl, sym, ap, ◌∙◌, subst, arith, ⊎_elim}
-use Rattle.std.specs.Prelude.{is_some, is_none, IsSome, Contains}
+use Rattle.std.specs.Prelude.{All, is_some, is_none, IsSome, Contains}
+use Rattle.std.specs.List.{AllZip}
 use Rattle.std.specs.Result.{IfOk}
 use Rattle.std.specs.Option.{option_map, option_and_then}
 use Rattle.std.proofs.lemmas.Bool.{false≢true, both_ways, eqb-true, or_left}
 use Rattle.std.proofs.lemmas.List.{take_all, get_or_default}
-use Rattle.std.proofs.lemmas.List.Elements.{All-get_or}
+use Rattle.std.proofs.lemmas.List.Elements.{All-get_or, All-head, All-tail}
 use Rattle.loc_base.proofs.ShelfBools.{or-false}
 use Rattle.loc_base.specs.declared.memory.NoMemory.{NoMemory}
 use Rattle.clause_base.specs.declared.literal.Lit.{Lit}
@@ -26,6 +27,7 @@ use Rattle.sat_core.specs.Choices.{no_literal, AreChosen}
 use Rattle.sat_core.specs.Derivation.{Denies, IsDeniedBefore, RestsBefore}
 use Rattle.sat_core.specs.Explaining.{IsDecidedBefore, assumed, preferred_before, assumptions, MayExplain, MayStand, itself, of_assumption, of_earlier, Explains}
 use Rattle.sat_core.specs.Searching.{form_of, state_of, seen_of, IsReady, Stands, StandsTold}
+use Rattle.sat_core.specs.Tracing.{IsDerivedFor, IsForcedFalse}
 use Rattle.sat_core.proofs.Tracking.{entry_at}
 use Rattle.sat_core.proofs.Resolving.{no_entry, true_at, level_at}
 use Rattle.sat_core.proofs.Greatest.{decided_before}
@@ -103,14 +105,8 @@ preferred_reason t assume preferred chosen i h c k f free = subst IsSome (sym e.
     at None q = absurd (not_decided (decided_before t assume preferred chosen i e.place h c k e.within f e.level e.place no_entry (omega arith) (ap is_decision e.is ∙ ap is_none q)))
     at (Some n) q = refl
 
--- what the step of a variable begins with
-pub record HasReason (t : TrailState) (v : ℕ) : Type 0 where
-  pub variable : IsVariable t.vars v
-  pub is_false : values_of t.entries v ≡ Some false
-  pub reason : IsSome (reason_in t.entries v)
-
 -- where a variable may be explained, it is false on the trail for a reason
-pub explained_reason : (e : Engine) (log : List Step) (told : Option (List Lit)) (var : ℕ) → IsReady e log → StandsTold e told → MayExplain (seen_of e log told) var → HasReason e.trail var
+pub explained_reason : (e : Engine) (log : List Step) (told : Option (List Lit)) (var : ℕ) → IsReady e log → StandsTold e told → MayExplain (seen_of e log told) var → IsForcedFalse e.trail var
 explained_reason e log told var r s m = at m.preferred
   where
     now : IsTold e log told
@@ -119,8 +115,8 @@ explained_reason e log told var r s m = at m.preferred
     free : has_variable now.assume var ≡ false
     free = ap (λ (x : SolverState). has_variable (assumptions x.told) var) (sym now.seen) ∙ m.free
 
-    at : Contains e.preferred.items var → HasReason e.trail var
-    at (i, k, is) = subst (HasReason e.trail) same record {
+    at : Contains e.preferred.items var → IsForcedFalse e.trail var
+    at (i, k, is) = subst (IsForcedFalse e.trail) same record {
       variable = variable;
       is_false = f;
       reason = preferred_reason e.trail now.assume e.preferred.items e.chosen.items i r.fit.trail now.stands.chosen k f (ap (has_variable now.assume) same ∙ free);
@@ -188,6 +184,7 @@ explains_from e log told var step r s m kind d = subst (λ x. Explains x var ste
   kind = kind;
   accepted = accepted_as step.kind (form_of e) (blocks_of log) log step kind (subst (λ cs. IsAcceptedChain cs step.chain step.clause) clauses d.accepted);
   within = d.within;
+  itself = d.itself (negative var) (or_left (same_lit (negative var) (negative var)) false (same_lit_itself (negative var)));
   literals = λ i k is l p. subst (λ v. MayStand (record (state_of e log) { told = Some now.assume }) v i l) is
       (literal_stands e log now.assume i step.clause step.chain r now.stands k (ap (assignment_of e.model.items) is ∙ m.is_false)
       (subst (λ v. Denies e.trail (negative v ∷ []) step.clause step.chain) (sym is) d) l p);
@@ -208,3 +205,22 @@ explained e log told s var (Err x) q r h m k d = k
 pub denies_step : (t : TrailState) (head literals : List Lit) (chain : List ℕ) (r : Result Step NoMemory) → Denies t head literals chain → IfOk r (λ step. step.clause ≡ literals) → IfOk r (λ step. step.chain ≡ chain) → IfOk r (λ step. Denies t head step.clause step.chain)
 denies_step t head literals chain (Ok step) d k l = subst (λ c. Denies t head c step.chain) (sym k) (subst (Denies t head literals) (sym l) d)
 denies_step t head literals chain (Err x) d k l = k
+
+-- where the variables of a list may be explained, each is false on the trail for a reason
+pub explained_reasons : (e : Engine) (log : List Step) (told : Option (List Lit)) (s : SolverState) (vars : List ℕ) → seen_of e log told ≡ s → IsReady e log → StandsTold e told → All (MayExplain s) vars → All (IsForcedFalse e.trail) vars
+explained_reasons e log told s vars q r h all i d l = explained_reason e log told (get_or vars i d) r h (subst (λ x. MayExplain x (get_or vars i d)) (sym q) (all i d l))
+
+-- the steps of a list explain its variables
+explains_each : (e : Engine) (log : List Step) (told : Option (List Lit)) (vars : List ℕ) (steps : List Step) → IsReady e log → StandsTold e told → All (MayExplain (seen_of e log told)) vars → AllZip (IsDerivedFor e.trail) vars steps → AllZip (Explains (seen_of e log told)) vars steps
+explains_each e log told [] [] r h all z = z
+explains_each e log told [] (step ∷ steps) r h all z = absurd z
+explains_each e log told (var ∷ vars) [] r h all z = absurd z
+explains_each e log told (var ∷ vars) (step ∷ steps) r h all z = (
+  explains_from e log told var step r h (All-head (MayExplain (seen_of e log told)) var vars all) z.0.kind z.0.denies,
+  explains_each e log told vars steps r h (All-tail (MayExplain (seen_of e log told)) var vars all) z.1,
+)
+
+-- the same of the answer of a call that sees the solver so
+pub explained_all : (e : Engine) (log : List Step) (told : Option (List Lit)) (s : SolverState) (vars : List ℕ) (r : Result (List Step) NoMemory) → seen_of e log told ≡ s → IsReady e log → StandsTold e told → All (MayExplain s) vars → IfOk r (AllZip (IsDerivedFor e.trail) vars) → IfOk r (AllZip (Explains s) vars)
+explained_all e log told s vars (Ok steps) q r h all z = subst (λ x. AllZip (Explains x) vars steps) q (explains_each e log told vars steps r h (subst (λ x. All (MayExplain x) vars) (sym q) all) z)
+explained_all e log told s vars (Err x) q r h all z = z

@@ -24,3 +24,4 @@ pub mod SolverLemmas
 pub mod FreshBound
 pub mod Importing
 mod Explaining
+pub mod TracingBack

@@ -1,33 +1,41 @@
 -- Tracing a true literal back, the last literal that waits first.
 use Rattle.std.proofs.Common.{◌≡◌, ℕ, ◌+◌, ◌-◌, ◌<◌, ◌≤◌, Bool, true, false, not, cond, ◌&&◌, ◌||◌, max, eqb, List, [], ◌∷◌, ◌++◌, map, length, get_or, set, take, Option, Some, None, refl, sym, ap, ◌∙◌, subst, arith, ◌⊎◌, inl, inr, ⊎_elim}
-use Rattle.std.specs.Prelude.{is_none, All, count_by}
-use Rattle.std.specs.Option.{option_and_then}
+use Rattle.std.specs.Prelude.{is_none, IsSome, All, count_by, slice_get}
+use Rattle.std.specs.BinaryHeap.{IsUpperBound}
+use Rattle.std.specs.List.{AllZip}
+use Rattle.std.specs.Option.{option_and_then, option_map}
+use Rattle.std.specs.Ordering.{nat_cmp}
 use Rattle.std.specs.List.Sorted.{IsPermutation}
 use Rattle.std.proofs.lemmas.Bool.{false≢true, both_ways, cases_Bool, cases_eq, cases_lt, eqb-true, eq-eqb, ne_eqb, and_parts, and_from, or_left, or_right, false_from_ne_true, not_from_false, not-true}
-use Rattle.std.proofs.lemmas.List.{length-set, get_or-set_same, get_or-set_other, get_or_default}
+use Rattle.std.proofs.lemmas.List.{length-set, get_or-set_same, get_or-set_other, get_or_default, take_more}
 use Rattle.std.proofs.lemmas.List.Elements.{All-cons, All-head, All-nil, All-push, All-tail}
-use Rattle.std.proofs.lemmas.List.Sorted.{All-permutation, sum_by-IsPermutation}
+use Rattle.std.proofs.lemmas.List.Sorted.{All-permutation, le_from_greatest, sum_by-IsPermutation}
 use Rattle.std.proofs.lemmas.List.Sums.{get_or-le-sum_by, sum_by-cons}
 use Rattle.loc_base.proofs.ShelfBools.{and-false, and-true, or-comm, or-false, count-false, count-true}
 use Rattle.clause_base.specs.declared.literal.Lit.{Lit}
-use Rattle.clause_base.specs.Literal.{positive, opposite, same_lit, has, has_variable, has_distinct_variables, IsWithin}
+use Rattle.clause_base.specs.Literal.{positive, negative, opposite, same_lit, has, has_variable, has_distinct_variables, IsWithin}
+use Rattle.clause_base.specs.declared.log.Step.{Step}
+use Rattle.clause_base.specs.declared.log.StepKind.TheVariants.{Derived}
 use Rattle.clause_base.specs.Resolution.{IsResult}
 use Rattle.clause_base.specs.Acceptance.{numbered}
 use Rattle.clause_base.proofs.Sets.{has-push, has_variable-push, has_either, same_lit_itself}
 use Rattle.trail_core.specs.declared.entry.Entry.{Entry}
-use Rattle.trail_core.specs.Values.{IsVariable, IsFalseIn}
-use Rattle.trail_core.specs.TrailState.{TrailState, IsTrail, values_of, reason_in, is_decision}
+use Rattle.trail_core.specs.Values.{IsVariable, IsFalseIn, IsTrueIn}
+use Rattle.trail_core.specs.TrailState.{TrailState, IsTrail, entry_of, values_of, reason_in, is_decision}
 use Rattle.trail_core.proofs.Looks.{has_at, variable_of}
-use Rattle.sat_core.specs.Derivation.{is_false, marked, set_of, opposites_of, AreOf, Denies, IsPast, Refutes, RestsBefore, Starts}
-use Rattle.sat_core.specs.Tracing.{AreDue, Gathers, HasPlaces, waits}
+use Rattle.trail_core.proofs.Truth.{mapped}
+use Rattle.sat_core.specs.Derivation.{is_false, marked, set_of, opposites_of, AreFalse, AreOf, Denies, IsPast, Refutes, RefutesAt, RestsBefore, Starts}
+use Rattle.sat_core.specs.Searching.{DerivesStep}
+use Rattle.sat_core.specs.Tracing.{AreDue, Gathers, HasPlaces, IsDerivedFor, waits}
 use Rattle.sat_core.proofs.Sets.{Gives-same}
 use Rattle.sat_core.proofs.Marks.{marked-set_same, marked-set_other}
-use Rattle.sat_core.proofs.Tracking.{distinct_push, entries_differ, false_same, no_zero, same_lit_other, set_other}
-use Rattle.sat_core.proofs.Resolving.{among, entry_of_place, no_entry}
+use Rattle.sat_core.proofs.Tracking.{distinct_push, entries_differ, entry_at, false_same, no_zero, same_lit_other, set_other}
+use Rattle.sat_core.proofs.Resolving.{among, entry_of_place, forced_at, no_entry, place_lit, reason_at}
+use Rattle.sat_core.proofs.Refuting.{Refutes-step}
 use Rattle.sat_core.proofs.Denying.{collected, collected_set, Denies-from}
 
 -- one more than the greatest of the numbers, 0 where there is none
-pub top : List ℕ → ℕ
+abbrev pub top : List ℕ → ℕ
 top [] = 0
 top (x ∷ xs) = max (x + 1) (top xs)
 
@@ -121,30 +129,30 @@ due_waits t marks place due d a = ⊎_elim (λ y. y) (λ n. absurd (no n)) (case
         omega (arith, none, here, sum_by-cons (λ q. cond (eqb q place) 1 0) place due)
 
 -- the mark of an entry's variable is set anew
-module _ (t : TrailState) (marks : List Bool) (place : ℕ) (l : Lit) (h : IsTrail t) (size : length marks ≡ t.vars) (k : place < length t.entries) (e : (get_or t.entries place no_entry).lit ≡ l) where
-  lit_at : (d : Entry) → (get_or t.entries place d).lit ≡ l
-  lit_at d = ap (λ (x : Entry). x.lit) (get_or_default t.entries place d no_entry k) ∙ e
+module _ (t : TrailState) (marks : List Bool) (place v : ℕ) (h : IsTrail t) (size : length marks ≡ t.vars) (k : place < length t.entries) (e : (get_or t.entries place no_entry).lit.var ≡ v) where
+  var_at : (d : Entry) → (get_or t.entries place d).lit.var ≡ v
+  var_at d = ap (λ (x : Entry). x.lit.var) (get_or_default t.entries place d no_entry k) ∙ e
 
-  inside : IsVariable (length marks) l.var
-  inside = subst (λ v. IsVariable v l.var) (sym size) (subst (λ (x : Lit). IsVariable t.vars x.var) e (h.justified place no_entry k).variable)
+  inside : IsVariable (length marks) v
+  inside = subst (λ n. IsVariable n v) (sym size) (subst (IsVariable t.vars) e (h.justified place no_entry k).variable)
 
-  elsewhere_same : (b : Bool) (i : ℕ) (d : Entry) → i < length t.entries → (i ≡ place → ⊥) → waits (set marks (l.var - 1) b) (get_or t.entries i d) ≡ waits marks (get_or t.entries i d)
+  elsewhere_same : (b : Bool) (i : ℕ) (d : Entry) → i < length t.entries → (i ≡ place → ⊥) → waits (set marks (v - 1) b) (get_or t.entries i d) ≡ waits marks (get_or t.entries i d)
   elsewhere_same b i d m n =
       ap (λ c. c && not (is_decision (get_or t.entries i d)))
-      (marked-set_other marks l.var (get_or t.entries i d).lit.var b inside.above (h.justified i d m).variable.above
-      (λ q. entries_differ t i place d d h m k n (q ∙ sym (ap (λ (x : Lit). x.var) (lit_at d)))))
+      (marked-set_other marks v (get_or t.entries i d).lit.var b inside.above (h.justified i d m).variable.above
+      (λ q. entries_differ t i place d d h m k n (q ∙ sym (var_at d))))
 
-  waits_here : (b : Bool) (d : Entry) → waits (set marks (l.var - 1) b) (get_or t.entries place d) ≡ (b && not (is_decision (get_or t.entries place d)))
+  waits_here : (b : Bool) (d : Entry) → waits (set marks (v - 1) b) (get_or t.entries place d) ≡ (b && not (is_decision (get_or t.entries place d)))
   waits_here b d =
       ap (λ c. c && not (is_decision (get_or t.entries place d)))
-      (ap (λ (x : Lit). marked (set marks (l.var - 1) b) x.var) (lit_at d) ∙ marked-set_same marks l.var b inside)
+      (ap (marked (set marks (v - 1) b)) (var_at d) ∙ marked-set_same marks v b inside)
 
   -- an entry that waited waits no longer
-  pub AreDue-unmarked : (due : List ℕ) → AreDue t marks (place ∷ due) → AreDue t (set marks (l.var - 1) false) due
+  pub AreDue-unmarked : (due : List ℕ) → AreDue t marks (place ∷ due) → AreDue t (set marks (v - 1) false) due
   AreDue-unmarked due a = record {
     within = All-tail (λ i. i < length t.entries) place due a.within;
     once = λ i d m. elim (cases_eq i place) [
-      | inl q ↦ subst (λ j. count_by (λ x. eqb x j) due ≡ cond (waits (set marks (l.var - 1) false) (get_or t.entries j d)) 1 0) (sym q) (here d)
+      | inl q ↦ subst (λ j. count_by (λ x. eqb x j) due ≡ cond (waits (set marks (v - 1) false) (get_or t.entries j d)) 1 0) (sym q) (here d)
       | inr n ↦
           let split = sum_by-cons (λ x. cond (eqb x i) 1 0) place due in
           let other : cond (eqb place i) 1 0 ≡ 0 = count-false (eqb place i) (ne_eqb place i (λ z. n (sym z))) in
@@ -153,7 +161,7 @@ module _ (t : TrailState) (marks : List Bool) (place : ℕ) (l : Lit) (h : IsTra
     ];
   }
     where
-      here : (d : Entry) → count_by (λ x. eqb x place) due ≡ cond (waits (set marks (l.var - 1) false) (get_or t.entries place d)) 1 0
+      here : (d : Entry) → count_by (λ x. eqb x place) due ≡ cond (waits (set marks (v - 1) false) (get_or t.entries place d)) 1 0
       here d =
           let one : count_by (λ x. eqb x place) (place ∷ due) ≡ 1 = a.once place d k ∙ ap (λ b. cond b 1 0) (due_waits t marks place due d a) in
           let first : cond (eqb place place) 1 0 ≡ 1 = count-true (eqb place place) (eq-eqb place place refl) in
@@ -162,11 +170,11 @@ module _ (t : TrailState) (marks : List Bool) (place : ℕ) (l : Lit) (h : IsTra
           none ∙ sym (ap (λ b. cond b 1 0) (waits_here false d))
 
   -- an entry is marked that has a reason
-  pub AreDue-marked : (due : List ℕ) → AreDue t marks due → marked marks l.var ≡ false → is_decision (get_or t.entries place no_entry) ≡ false → AreDue t (set marks (l.var - 1) true) (place ∷ due)
+  pub AreDue-marked : (due : List ℕ) → AreDue t marks due → marked marks v ≡ false → is_decision (get_or t.entries place no_entry) ≡ false → AreDue t (set marks (v - 1) true) (place ∷ due)
   AreDue-marked due a u r = record {
     within = All-cons (λ i. i < length t.entries) place due k a.within;
     once = λ i d m. elim (cases_eq i place) [
-      | inl q ↦ subst (λ j. count_by (λ x. eqb x j) (place ∷ due) ≡ cond (waits (set marks (l.var - 1) true) (get_or t.entries j d)) 1 0) (sym q) (here d)
+      | inl q ↦ subst (λ j. count_by (λ x. eqb x j) (place ∷ due) ≡ cond (waits (set marks (v - 1) true) (get_or t.entries j d)) 1 0) (sym q) (here d)
       | inr n ↦
           let split = sum_by-cons (λ x. cond (eqb x i) 1 0) place due in
           let other : cond (eqb place i) 1 0 ≡ 0 = count-false (eqb place i) (ne_eqb place i (λ z. n (sym z))) in
@@ -175,9 +183,9 @@ module _ (t : TrailState) (marks : List Bool) (place : ℕ) (l : Lit) (h : IsTra
     ];
   }
     where
-      here : (d : Entry) → count_by (λ x. eqb x place) (place ∷ due) ≡ cond (waits (set marks (l.var - 1) true) (get_or t.entries place d)) 1 0
+      here : (d : Entry) → count_by (λ x. eqb x place) (place ∷ due) ≡ cond (waits (set marks (v - 1) true) (get_or t.entries place d)) 1 0
       here d =
-          let unmarked : waits marks (get_or t.entries place d) ≡ false = ap (λ (x : Lit). marked marks x.var && not (is_decision (get_or t.entries place d))) (lit_at d) ∙ ap (λ b. b && not (is_decision (get_or t.entries place d))) u in
+          let unmarked : waits marks (get_or t.entries place d) ≡ false = ap (λ w. marked marks w && not (is_decision (get_or t.entries place d))) (var_at d) ∙ ap (λ b. b && not (is_decision (get_or t.entries place d))) u in
           let none : count_by (λ x. eqb x place) due ≡ 0 = a.once place d k ∙ ap (λ b. cond b 1 0) unmarked in
           let first : cond (eqb place place) 1 0 ≡ 1 = count-true (eqb place place) (eq-eqb place place refl) in
           let split = sum_by-cons (λ x. cond (eqb x place) 1 0) place due in
@@ -186,20 +194,20 @@ module _ (t : TrailState) (marks : List Bool) (place : ℕ) (l : Lit) (h : IsTra
           one ∙ sym (ap (λ b. cond b 1 0) (waits_here true d ∙ not_from_false (is_decision (get_or t.entries place d)) reasoned))
 
   -- a decision is marked
-  pub AreDue-decision : (due : List ℕ) → AreDue t marks due → is_decision (get_or t.entries place no_entry) ≡ true → AreDue t (set marks (l.var - 1) true) due
+  pub AreDue-decision : (due : List ℕ) → AreDue t marks due → is_decision (get_or t.entries place no_entry) ≡ true → AreDue t (set marks (v - 1) true) due
   AreDue-decision due a r = record {
     within = a.within;
     once = λ i d m. elim (cases_eq i place) [
-      | inl q ↦ subst (λ j. count_by (λ x. eqb x j) due ≡ cond (waits (set marks (l.var - 1) true) (get_or t.entries j d)) 1 0) (sym q) (here d)
+      | inl q ↦ subst (λ j. count_by (λ x. eqb x j) due ≡ cond (waits (set marks (v - 1) true) (get_or t.entries j d)) 1 0) (sym q) (here d)
       | inr n ↦ a.once i d m ∙ ap (λ b. cond b 1 0) (sym (elsewhere_same true i d m n))
     ];
   }
     where
-      here : (d : Entry) → count_by (λ x. eqb x place) due ≡ cond (waits (set marks (l.var - 1) true) (get_or t.entries place d)) 1 0
+      here : (d : Entry) → count_by (λ x. eqb x place) due ≡ cond (waits (set marks (v - 1) true) (get_or t.entries place d)) 1 0
       here d =
           let decided : not (is_decision (get_or t.entries place d)) ≡ false = ap not (ap is_decision (get_or_default t.entries place d no_entry k) ∙ r) in
           let before : waits marks (get_or t.entries place d) ≡ false = ap (λ b. marked marks (get_or t.entries place d).lit.var && b) decided ∙ and-false (marked marks (get_or t.entries place d).lit.var) in
-          let after : waits (set marks (l.var - 1) true) (get_or t.entries place d) ≡ false = waits_here true d ∙ decided in
+          let after : waits (set marks (v - 1) true) (get_or t.entries place d) ≡ false = waits_here true d ∙ decided in
           a.once place d k ∙ (ap (λ b. cond b 1 0) before ∙ sym (ap (λ b. cond b 1 0) after))
 
 -- ---- the literals without a reason
@@ -346,3 +354,106 @@ Denies-traced t marks after chain next gathered whole l h s r g e =
         (λ y. ap (λ b. set_of after (values_of t.entries) m && b) (left m y) ∙ and-true (set_of after (values_of t.entries) m))
         (λ n. ap (λ b. b && decided t m.var) n ∙ sym n)
         (cases_Bool (set_of after (values_of t.entries) m)) ∙ sym (collected_set t after m h))
+
+-- ---- the literal of a place that waits
+pub record IsWaiting (t : TrailState) (marks : List Bool) (place : ℕ) (l : Lit) : Type 0 where
+  pub within : place < length t.entries
+  pub lit : (get_or t.entries place no_entry).lit ≡ l
+  pub variable : IsVariable t.vars l.var
+  pub is_marked : marked marks l.var ≡ true
+  pub reasoned : is_decision (get_or t.entries place no_entry) ≡ false
+
+pub waiting : (t : TrailState) (marks : List Bool) (place : ℕ) (due : List ℕ) (l : Lit) (r : Option Lit) → IsTrail t → AreDue t marks (place ∷ due) → r ≡ option_map (λ (e : Entry). e.lit) (slice_get t.entries place) → r ≡ Some l → IsWaiting t marks place l
+waiting t marks place due l r h a p q =
+    let k : place < length t.entries = All-head (λ i. i < length t.entries) place due a.within in
+    let e : (get_or t.entries place no_entry).lit ≡ l = place_lit t.entries place l r k p q in
+    let parts = and_parts (marked marks (get_or t.entries place no_entry).lit.var) (not (is_decision (get_or t.entries place no_entry))) (due_waits t marks place due no_entry a) in
+    record {
+      within = k;
+      lit = e;
+      variable = subst (λ (x : Lit). IsVariable t.vars x.var) e (h.justified place no_entry k).variable;
+      is_marked = subst (λ (x : Lit). marked marks x.var ≡ true) e parts.0;
+      reasoned = not-true (is_decision (get_or t.entries place no_entry)) parts.1;
+    }
+
+some_from : (o : Option ℕ) → is_none o ≡ false → IsSome o
+some_from None n = absurd (false≢true (sym n))
+some_from (Some x) n = refl
+
+pub waiting_reason : (t : TrailState) (marks : List Bool) (place : ℕ) (l : Lit) (r : Option ℕ) → IsTrail t → IsWaiting t marks place l → r ≡ reason_in t.entries l.var → IsSome r
+waiting_reason t marks place l r h w p = subst IsSome (sym (reason_at t place l r h w.within w.lit p)) (some_from (get_or t.entries place no_entry).reason w.reasoned)
+
+-- ---- one place more
+pub refuted_next : (t : TrailState) (old marks after : List Bool) (before chain next : List ℕ) (place : ℕ) (due rest : List ℕ) → IsTrail t → length old ≡ t.vars → AreDue t marks due → IsPermutation due (place ∷ rest) → IsUpperBound nat_cmp place due → Refutes t old marks before chain (length t.entries) → RefutesAt t marks after chain next place → Refutes t old after before next place
+refuted_next t old marks after before chain next place due rest h size a p greatest r step =
+    Refutes-step t old marks after before chain next place h size
+    (All-head (λ i. i < length t.entries) place rest (All-permutation (λ i. i < length t.entries) due (place ∷ rest) p a.within))
+    (Refutes-at t old marks before chain (length t.entries) (place + 1) r
+    (due_decides t marks due (place + 1) a (λ i d l. omega (arith, le_from_greatest place due greatest i d l))))
+    step
+
+-- at the end, and at no place
+pub Refutes-all : (t : TrailState) (old new : List Bool) (before after : List ℕ) (p : ℕ) → Refutes t old new before after p → Refutes t old new before after (length t.entries)
+Refutes-all t old new before after p r = Refutes-at t old new before after p (length t.entries) r (λ i d low k. absurd (omega (arith, low, k)))
+
+pub Refutes-done : (t : TrailState) (old new : List Bool) (before after due : List ℕ) (p : ℕ) → Refutes t old new before after p → AreDue t new due → due ≡ [] → Refutes t old new before after 0
+Refutes-done t old new before after due p r a e =
+    Refutes-at t old new before after p 0 r (due_decides t new [] 0 (subst (AreDue t new) e a) (All-nil (λ q. q < 0)))
+
+pub top_less : (t : TrailState) (old after : List Bool) (before next : List ℕ) (place : ℕ) (due rest later : List ℕ) → IsPermutation due (place ∷ rest) → Refutes t old after before next place → AreDue t after later → top later < top due
+top_less t old after before next place due rest later p r a =
+    omega (
+      arith,
+      top-low later place (due_low t after later place a r.above),
+      All-head (λ q. q < top due) place rest (All-permutation (λ q. q < top due) due (place ∷ rest) p (top-high due)),
+    )
+
+-- ---- the reason of a true literal
+pub reason_false : (t : TrailState) (l : Lit) (n : ℕ) → IsTrail t → IsTrueIn (values_of t.entries) l → reason_in t.entries l.var ≡ Some n → AreFalse (values_of t.entries) (numbered t.clauses n) l.var
+reason_false t l n h v r m p o =
+    let w = mapped (λ (x : Entry). not x.lit.negated) (entry_of t.entries l.var) (not l.negated) v in
+    let a = entry_at t l.var w.value w.is in
+    let reason : (get_or t.entries a.place no_entry).reason ≡ Some n = ap (λ (x : Entry). x.reason) (a.is no_entry) ∙ (sym (ap (option_and_then (λ (x : Entry). x.reason)) w.is) ∙ r) in
+    let same : (get_or t.entries a.place no_entry).lit.var ≡ l.var = ap (λ (x : Entry). x.lit.var) (a.is no_entry) ∙ a.variable in
+    (forced_at t a.place no_entry n h a.within reason).1.others m p (λ z. o (z ∙ same))
+
+-- ---- a step for each variable
+pub AllZip-push : {A B : Type 0} (R : A → B → Type 0) (xs : List A) (ys : List B) (x : A) (y : B) → AllZip R xs ys → R x y → AllZip R (xs ++ x ∷ []) (ys ++ y ∷ [])
+AllZip-push R [] [] x y z r = (r, tt)
+AllZip-push R [] (b ∷ ys) x y z r = absurd z
+AllZip-push R (a ∷ xs) [] x y z r = absurd z
+AllZip-push R (a ∷ xs) (b ∷ ys) x y z r = (z.0, AllZip-push R xs ys x y z.1 r)
+
+pub derived_more : (t : TrailState) (vars : List ℕ) (i d v : ℕ) (before after : List Step) → i < length vars → get_or vars i d ≡ v → AllZip (IsDerivedFor t) (take i vars) before → DerivesStep t (negative v ∷ []) before after → AllZip (IsDerivedFor t) (take (i + 1) vars) after
+derived_more t vars i d v before after l e z s =
+    subst (λ xs. AllZip (IsDerivedFor t) xs after) (sym (take_more vars i d l ∙ ap (λ x. take i vars ++ x ∷ []) e))
+    (subst (AllZip (IsDerivedFor t) (take i vars ++ v ∷ [])) (sym s.step)
+    (AllZip-push (IsDerivedFor t) (take i vars) before v (record { kind = Derived; clause = s.literals; chain = s.chain }) z (record { kind = refl; denies = s.denies })))
+
+-- ---- the entry of a false literal
+pub record IsEntryFor (t : TrailState) (v : ℕ) : Type 0 where
+  pub place : ℕ
+  pub within : place < length t.entries
+  pub variable : (get_or t.entries place no_entry).lit.var ≡ v
+  pub reason : reason_in t.entries v ≡ (get_or t.entries place no_entry).reason
+
+pub entry_for : (t : TrailState) (l : Lit) → IsFalseIn (values_of t.entries) l → IsEntryFor t l.var
+entry_for t l f =
+    let m = mapped (λ (x : Entry). not x.lit.negated) (entry_of t.entries l.var) l.negated f in
+    let a = entry_at t l.var m.value m.is in
+    record {
+      place = a.place;
+      within = a.within;
+      variable = ap (λ (x : Entry). x.lit.var) (a.is no_entry) ∙ a.variable;
+      reason = ap (option_and_then (λ (x : Entry). x.reason)) m.is ∙ ap (λ (x : Entry). x.reason) (sym (a.is no_entry));
+    }
+
+-- the place that the row has for it
+pub place_for : (t : TrailState) (places : List ℕ) (v : ℕ) (e : IsEntryFor t v) (r : ℕ) → HasPlaces t places → IsVariable t.vars v → r ≡ get_or places (v - 1) r → r ≡ e.place
+place_for t places v e r h k q =
+    q ∙ (get_or_default places (v - 1) r 0 (omega (arith, h.size, k.above, k.within))
+    ∙ (ap (λ w. get_or places (w - 1) 0) (sym e.variable) ∙ h.each e.place no_entry e.within))
+
+-- a mark that was read
+pub marked_read : (marks : List Bool) (v : ℕ) (r b : Bool) → IsVariable (length marks) v → r ≡ get_or marks (v - 1) r → r ≡ b → marked marks v ≡ b
+marked_read marks v r b k e q = get_or_default marks (v - 1) false r (omega (arith, k.above, k.within)) ∙ (sym e ∙ q)

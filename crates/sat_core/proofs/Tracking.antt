@@ -84,7 +84,7 @@ distinct_push (y ∷ ys) x h n =
     and_from (not (has_variable (ys ++ x ∷ []) y.var)) (has_distinct_variables (ys ++ x ∷ [])) (not_from_false (has_variable (ys ++ x ∷ []) y.var) none) (distinct_push ys x parts.1 apart.1)
 
 -- the set with the literal more, at a literal of another variable
-set_other : (marks : List Bool) (values : Values) (l m : Lit) (vars : ℕ) → IsVariable vars l.var → (m.var ≡ l.var → ⊥) → (values 0 ≡ None) → set_of (set marks (l.var - 1) true) values m ≡ set_of marks values m
+pub set_other : (marks : List Bool) (values : Values) (l m : Lit) (vars : ℕ) → IsVariable vars l.var → (m.var ≡ l.var → ⊥) → (values 0 ≡ None) → set_of (set marks (l.var - 1) true) values m ≡ set_of marks values m
 set_other marks values l m vars k n z = at (cases_lt 0 m.var)
   where
     at : ((0 < m.var) ⊎ (m.var ≤ 0)) → set_of (set marks (l.var - 1) true) values m ≡ set_of marks values m

@@ -191,10 +191,11 @@ pub record RestsBefore (t : TrailState) (head literals : List Lit) (v : ℕ) : T
   pub variable : (d : Entry) → (slice_index_or t.entries place d).lit.var ≡ v
   pub denied : (l : Lit) → has literals l ≡ true → (has head l ≡ true) ⊎ IsDeniedBefore t place l
 
--- the chain gives the clause, whose literals but for the head's are opposites of decisions
+-- the chain gives the clause, which has the head's literals, and the others are opposites of decisions
 pub record Denies (t : TrailState) (head literals : List Lit) (chain : List ℕ) : Type 0 where
   pub accepted : IsAcceptedChain t.clauses chain literals
   pub distinct : has_distinct_variables literals ≡ true
   pub within : IsWithin t.vars literals
+  pub itself : (l : Lit) → has head l ≡ true → has literals l ≡ true
   pub denied : (l : Lit) → has literals l ≡ true → (has head l ≡ true) ⊎ IsDenied t l
   pub before : (x : Lit) → has head x ≡ true → RestsBefore t head literals x.var

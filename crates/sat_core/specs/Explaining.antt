@@ -37,5 +37,6 @@ pub record Explains (s : SolverState) (var : ℕ) (step : Step) : Type 0 where
   pub kind : step.kind ≡ Derived
   pub accepted : IsAcceptedStep s.form (blocks_of s.log) s.log step
   pub within : IsWithin s.vars step.clause
+  pub itself : has step.clause (negative var) ≡ true
   pub literals : (place : ℕ) → place < length s.preferred → slice_index_or s.preferred place 0 ≡ var
       → (l : Lit) → has step.clause l ≡ true → MayStand s var place l

@@ -7,4 +7,5 @@ pub mod Choices
 pub mod Searching
 pub mod Calls
 pub mod Explaining
+pub mod Tracing
 pub mod Bound

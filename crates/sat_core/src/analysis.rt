@@ -450,7 +450,7 @@ pub(crate) fn mark_others(marked: &mut Vec<bool>, literals: &[Lit], skip: u32)
 }
 
 /// Takes the marks of the literals' variables away.
-fn unmark(marked: &mut Vec<bool>, literals: &[Lit])
+pub(crate) fn unmark(marked: &mut Vec<bool>, literals: &[Lit])
     requires { IsWithin (length marked.old.items) literals.now }
     ensures { Unmarks marked.old.items marked.new.items literals.now }
 {

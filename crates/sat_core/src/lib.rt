@@ -12,6 +12,7 @@ mod order;
 mod ranking;
 mod restarts;
 mod solver;
+mod tracing;
 mod verdict;
 
 pub use budget::Budget;

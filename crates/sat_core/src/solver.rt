@@ -1,4 +1,5 @@
 ghost use Rattle.std.specs.Prelude.{◌≡◌, ◌+◌, ◌^◌, ◌<◌, ◌≤◌, false, length, IsTrue, IfOk, OnOk, OnErr, All, [], ◌∷◌, Ok};
+ghost use Rattle.std.specs.List.{AllZip};
 ghost use Rattle.clause_base.specs.Literal.{IsWithin, AreWithin, has_distinct_variables};
 ghost use Rattle.trail_core.specs.TrailState.{IsTrail};
 ghost use Rattle.sat_core.specs.Outcome.{told_by};
@@ -9,6 +10,7 @@ use crate::engine::Engine;
 use crate::explain::explain;
 use crate::ranking::Ranking;
 use crate::restarts::Restarts;
+use crate::tracing::explain_all;
 use crate::verdict::Verdict;
 use clause_base::{Clause, Form, Lit, Log, Step, StepKind};
 use loc_base::{Items, NoMemory};
@@ -101,7 +103,7 @@ impl Solver {
     }
 
     /// Appends the step at a place of a log. Unchanged after `NoMemory`.
-    fn take_over(&mut self, log: &Log, place: usize) -> Result<(), NoMemory>
+    pub fn take_over(&mut self, log: &Log, place: usize) -> Result<(), NoMemory>
         requires place { place < length log.now }
         requires accepted { is_block (step_at log.now place) ≡ false → IsAcceptedStep self.old.form (blocks_of self.old.log) self.old.log (step_at log.now place) }
         requires within { IsWithin self.old.vars (step_at log.now place).clause }
@@ -144,6 +146,16 @@ impl Solver {
         let alloc = *self.engine.preferred.allocator();
         let denied = Lit { var, negated: true };
         explain(alloc, &self.engine.trail, denied)
+    }
+
+    /// Why each of these preferred variables is false in the last model: a step for each, as `explain` gives one. The trail is gone over once
+    /// for all of them.
+    pub fn explain_all(&self, vars: &[u32]) -> Result<Log, NoMemory>
+        requires may { All (MayExplain self.now) vars.now }
+        ensures explains { IfOk result (AllZip (Explains self.now) vars.now) }
+    {
+        let alloc = *self.engine.preferred.allocator();
+        explain_all(alloc, &self.engine.trail, vars)
     }
 
     /// The values of the variables from 1 on: all are false in a new solver, and after `Model` they are the model's. No

@@ -1,7 +1,7 @@
 //! Why many literals are true on a trail, each by a clause of it and opposites of decisions. The trail is gone over once. Each literal is then
 //! traced back by the places of what it rests on, the last first.
 
-ghost use Rattle.std.specs.Prelude.{◌≡◌, ◌∷◌, ◌++◌, [], ◌<◌, true, false, length, slice_set, IfOk, OnOk, IsSome, All};
+ghost use Rattle.std.specs.Prelude.{◌≡◌, ◌∷◌, ◌++◌, [], ◌<◌, ◌-◌, true, false, length, slice_set, IfOk, OnOk, IsSome, All};
 ghost use Rattle.std.specs.List.{AllZip};
 ghost use Rattle.std.specs.BinaryHeap.{IsHeap, heap_items};
 ghost use Rattle.std.specs.Ordering.{nat_cmp};
@@ -154,7 +154,8 @@ impl Tracing {
         ensures chain { OnOk result (self.new.chain.items ≡ self.old.chain.items ++ number ∷ []) }
     {
         self.chain.push(number)?;
-        for l in trail.clause(number) {
+        let clause = trail.clause(number);
+        for l in clause {
             if l.var != skip && !self.marked[l.var as usize - 1] {
                 self.mark(trail, *l)?;
             }
@@ -174,11 +175,11 @@ impl Tracing {
         ensures chain { self.new.chain ≡ self.old.chain }
     {
         self.met.push(l)?;
+        self.marked[l.var as usize - 1] = true;
         match trail.reason(l.var) {
             Some(_) => self.due.push(self.places[l.var as usize - 1])?,
             None => self.literals.push(l)?,
         }
-        self.marked[l.var as usize - 1] = true;
         Ok(())
     }
 
