@@ -18,6 +18,8 @@ import re
 import subprocess
 import sys
 import tempfile
+from dataclasses import dataclass
+from typing import Optional
 
 NO_CYCLE, TOO_MANY = b"input T4 1\n", b"limit Z3\n"
 FOLLOWED = b"bBrRsS"
@@ -44,8 +46,17 @@ def stamps(text):
     return [*found, len(text)]
 
 
+@dataclass
+class Simulation:
+    """What `sim` prints of a dump's text: its lines, how many cycles there are, and where there is a miss its cycle and the output there."""
+    lines: bytes
+    cycles: int
+    miss: Optional[int] = None
+    output: Optional[str] = None
+
+
 def simulated(asked, text):
-    """What `sim` prints of a dump's text: the number of its cycles, and the cycle of the first miss where there is one."""
+    """What `sim` says of a dump's text; of a text without a cycle, or with more than `sim` reads, the number alone."""
     with tempfile.TemporaryDirectory(prefix="cut-dump-") as room:
         with open(f"{room}/dump.vcd", "wb") as file:
             file.write(text)
@@ -53,26 +64,42 @@ def simulated(asked, text):
         words += ["--clock", asked.clock] if asked.clock else []
         ran = subprocess.run(words, stdin=subprocess.DEVNULL, stdout=subprocess.PIPE)
     if ran.stdout == NO_CYCLE:
-        return 0, None
+        return Simulation(b"", 0)
     if ran.stdout == TOO_MANY:
-        return MOST_CYCLES + 1, None
+        return Simulation(b"", MOST_CYCLES + 1)
     if ran.returncode:
         raise Refused(ran.stdout, ran.returncode)
-    miss = re.search(rb"^trace 1 miss (\d+) ", ran.stdout, re.M)
-    return len(re.findall(rb"^1 \d+ ", ran.stdout, re.M)), int(miss[1]) if miss else None
+    cycles, miss = len(re.findall(rb"^1 \d+ ", ran.stdout, re.M)), re.search(rb"^trace 1 miss (\d+) (.*)$", ran.stdout, re.M)
+    return Simulation(ran.stdout, cycles, int(miss[1]), miss[2].decode(errors="replace")) if miss else Simulation(ran.stdout, cycles)
 
 
-def shortest(asked, text, cycles):
-    """The shortest front of a dump, ended before a stamp, that has so many cycles. More stamps never have fewer cycles."""
+def shortest(asked, text, cycles, number):
+    """The shortest front of a dump of that number of cycles, ended before a stamp, that has so many. More stamps never have fewer cycles: where a
+    clock is regular the place is found in two or three runs, and after four the rest is halved each time."""
     ends = stamps(text)
-    low, high = 0, len(ends) - 1
-    while low < high:
-        middle = (low + high) // 2
-        if simulated(asked, text[: ends[middle]])[0] >= cycles:
-            high = middle
+    low, high, fewer, more = -1, len(ends) - 1, 0, number
+    for turn in range(len(ends)):
+        if high - low <= 1:
+            break
+        guess = low + (high - low) * (cycles - fewer) // max(more - fewer, 1) if turn < 4 else (low + high) // 2
+        middle = min(max(guess, low + 1), high - 1)
+        there = simulated(asked, text[: ends[middle]]).cycles
+        if there >= cycles:
+            high, more = middle, there
         else:
-            low = middle + 1
-    return text[: ends[low]]
+            low, fewer = middle, there
+    return text[: ends[high]]
+
+
+def read(asked):
+    """The text of a dump, at most its first 100,000 cycles, and what `sim` says of it."""
+    with open(asked.dump, "rb") as file:
+        text = file.read()
+    said = simulated(asked, text)
+    if said.cycles > MOST_CYCLES:
+        text = shortest(asked, text, MOST_CYCLES, said.cycles)
+        said = simulated(asked, text)
+    return text, said
 
 
 def parsed():
@@ -89,19 +116,14 @@ def parsed():
 
 def cut(asked):
     """The short dump and what is said of it; no dump where there is nothing to cut at."""
-    with open(asked.dump, "rb") as file:
-        text = file.read()
-    number, miss = simulated(asked, text)
-    if number > MOST_CYCLES:
-        text, number = shortest(asked, text, MOST_CYCLES), MOST_CYCLES
-        miss = simulated(asked, text)[1]
-    if asked.cycles is None and miss is None:
-        return None, f"no output is wrong in {number} cycles"
-    wanted = min(miss + 1 + asked.after_miss, number) if asked.cycles is None else asked.cycles
-    if wanted > number:
-        return None, f"it has {number} cycles, and not {wanted}"
-    said = "" if miss is None else f"; the first wrong output is in cycle {miss}"
-    return shortest(asked, text, wanted), f"{wanted} of {number} cycles{said}"
+    text, said = read(asked)
+    if asked.cycles is None and said.miss is None:
+        return None, f"no output is wrong in {said.cycles} cycles"
+    wanted = min(said.miss + 1 + asked.after_miss, said.cycles) if asked.cycles is None else asked.cycles
+    if wanted > said.cycles:
+        return None, f"it has {said.cycles} cycles, and not {wanted}"
+    first = "" if said.miss is None else f"; the first wrong output is in cycle {said.miss}"
+    return shortest(asked, text, wanted, said.cycles), f"{wanted} of {said.cycles} cycles{first}"
 
 
 def main():

@@ -1,0 +1,228 @@
+#!/usr/bin/env python3
+"""Sorts the failing tests of a regression by their bugs: which tests belong together, how many bugs there are at least, where each may be.
+
+    tools/triage.py case DESIGN TOP DUMP OUT [--clock NAME] [--program FILE] [OPTION OF find]..
+    tools/triage.py bins OUT CASE..
+    tools/triage.py ask OUT BINS N|least [--program FILE]
+    tools/triage.py page BINS [ASKED..] [--html OUT] [--json OUT]
+
+`case` looks at one test: `sim` says where its first output is wrong, the dump is cut there, and `find --size 1` lists the single suspects that explain
+it; then the same of a failure that is made up. OUT has what was found, also where the test passes, or is refused. `bins` puts the tests into bins by
+these lists; a CASE may be a folder, which stands for its files that end in `.case`. `ask` asks for all tests of bin N together, or for the least number
+of places that have to be wrong; it leaves a folder. `page` prints what is known, and writes it as a page or as JSON.
+
+Options that aren't named here are handed through to `find`, as they are given. Each file, and the folder, is there whole or not at all, and what stands
+is not made again: the same command goes on after a break.
+
+The status is 0; 1 where a run of the program was ended by a signal (the same command tries again), and of `bins` where no test fails; 2 where the
+arguments are wrong, or a file can't be read or is of another run, which standard error says.
+"""
+
+import argparse
+import dataclasses
+import os
+import re
+import sys
+
+sys.path.insert(0, os.path.dirname(os.path.abspath(__file__)))
+import asked_bin  # noqa: E402
+import bins_of_tests  # noqa: E402
+import triage_page  # noqa: E402
+import triage_text  # noqa: E402
+from case_of_test import case_of  # noqa: E402
+from report import design_lines  # noqa: E402
+from whole_files import Problem, digest, json_text, load, read_json, write_whole  # noqa: E402
+
+REFUSED = {
+    "--size": "a test is known by its single suspects",
+    "--log": "the runs of a test leave none: `ask` does",
+    "--report": "the runs of a test leave none: `ask` does",
+    "--waves": "the runs of a test leave none: `ask` does",
+}
+
+
+def say(words, *of):
+    print("triage.py: " + words % of, file=sys.stderr)
+
+
+# ---- case
+
+def question_of(asked):
+    """What a case is of."""
+    return {"design": asked.design, "design_digest": digest(load(asked.design)), "top": asked.top, "clock": asked.clock, "options": asked.options,
+            "dump": asked.dump, "dump_digest": digest(load(asked.dump))}
+
+
+def is_there(out, question):
+    """Whether the case is made already; a Problem where what stands is of another run."""
+    if not os.path.exists(out):
+        return False
+    stands = read_json(out, bins_of_tests.CASE)
+    other = next((name for name in question if stands.get(name) != question[name]), None)
+    if other:
+        raise Problem("%s: is of another run: its %s differs; take another folder, or remove it" % (out, other.replace("_", "'s ")))
+    return stands["answer"] != "killed"
+
+
+def make_case(asked):
+    """Leaves the case of a test."""
+    try:
+        question = question_of(asked)
+    except Problem as problem:
+        if not os.path.exists(asked.design):
+            raise
+        question = dict(question_of(argparse.Namespace(**{**vars(asked), "dump": os.devnull})), dump=asked.dump)
+        unread = {"answer": "refused", "line": str(problem), "cycle": None, "end": None, "names": [], "units": [], "suspects": {}}
+        write_whole(asked.out, json_text({"form": bins_of_tests.CASE, **question, **unread}))
+        return 0
+    if is_there(asked.out, question):
+        return 0
+    case = case_of(asked)
+    write_whole(asked.out, json_text({"form": bins_of_tests.CASE, **question, **dataclasses.asdict(case)}))
+    if case.answer == "killed":
+        say("%s: %s", asked.dump, case.line)
+    return 1 if case.answer == "killed" else 0
+
+
+# ---- bins
+
+def case_paths(names):
+    """The files of cases: of a folder those that end in `.case`."""
+    found = []
+    for name in names:
+        found += [os.path.join(name, it) for it in sorted(os.listdir(name)) if it.endswith(".case")] if os.path.isdir(name) else [name]
+    return list(dict.fromkeys(found))
+
+
+def make_bins(asked):
+    """Leaves the bins of a regression, and prints how many tests there are of each kind."""
+    bins = bins_of_tests.bins_file(case_paths(asked.cases))
+    print(bins_of_tests.counts_text(bins["counts"]) + ": " + triage_text.many(len(bins["bins"]), "bin"))
+    if not bins["counts"]["fails"] + bins["counts"]["unfinished"]:
+        say("no test fails%s: there is nothing to put into bins", triage_text.why_none(bins))
+        return 1
+    write_whole(asked.out, json_text(bins))
+    return 0
+
+
+# ---- ask
+
+def asked_of_bins(asked, bins):
+    """The words of a run for these bins."""
+    question = bins["question"]
+    if digest(load(question["design"])) != question["design_digest"]:
+        raise Problem("%s: was changed since the cases were made" % question["design"])
+    return argparse.Namespace(program=asked.program, **{name: question[name] for name in ("design", "top", "clock", "options")})
+
+
+def make_answer(asked):
+    """Leaves the folder of an answer."""
+    bins = read_json(asked.bins, bins_of_tests.BINS)
+    if asked.what != "least" and not 1 <= int(asked.what) <= len(bins["bins"]) or not bins["bins"]:
+        raise Problem("there is no bin %s: %s has %d" % (asked.what, asked.bins, len(bins["bins"])))
+    if os.path.exists(asked.out):
+        answer = read_json(os.path.join(asked.out, "answer.json"), asked_bin.ASKED)
+        if str(answer["bin"]) == asked.what and asked_bin.is_of(answer, bins):
+            return 0
+    asked_bin.asked_folder(asked_of_bins(asked, bins), bins, asked.what, asked.out)
+    return 0
+
+
+# ---- page
+
+def answers_in(paths, bins):
+    """The answers in these folders by what they are of, each with its folder; those of other tests are left out, and said."""
+    found = {}
+    for path in paths:
+        answer = read_json(os.path.join(path, "answer.json"), asked_bin.ASKED)
+        if asked_bin.is_of(answer, bins):
+            found[answer["bin"]] = dict(answer, folder=path)
+        else:
+            say("%s is of other tests than these bins, and is left out", path)
+    return found
+
+
+def lines_of_design(question):
+    """The lines of the design's text, where it is the one that was searched."""
+    try:
+        if digest(load(question["design"])) == question["design_digest"]:
+            return design_lines(question["design"])
+    except Problem:
+        pass
+    say("%s isn't the text that was searched: its lines are left out", question["design"])
+    return []
+
+
+def make_page(asked):
+    """Prints what is known, and writes it in the forms that are wanted."""
+    bins = read_json(asked.bins, bins_of_tests.BINS)
+    answers, lines = answers_in(asked.asked, bins), lines_of_design(bins["question"])
+    known = triage_text.known_of(bins, answers, lines)
+    print(triage_text.text_of(known), end="")
+    if asked.json:
+        write_whole(asked.json, json_text(known))
+    if asked.html:
+        write_whole(asked.html, triage_page.page_of(known, os.path.dirname(asked.html)))
+    return 0
+
+
+# ---- words
+
+def what_of(text):
+    if text != "least" and not re.fullmatch("[1-9][0-9]{0,5}", text):
+        raise argparse.ArgumentTypeError("%r is no number of a bin, and not `least`" % text)
+    return text
+
+
+def parser_of():
+    parser = argparse.ArgumentParser(description=__doc__, formatter_class=argparse.RawDescriptionHelpFormatter, allow_abbrev=False)
+    step = parser.add_subparsers(dest="step", required=True, metavar="STEP")
+    case = step.add_parser("case", allow_abbrev=False)
+    for name in ("design", "top", "dump", "out"):
+        case.add_argument(name, metavar=name.upper())
+    case.add_argument("--clock", default=""), case.set_defaults(make=make_case)
+    bins = step.add_parser("bins", allow_abbrev=False)
+    bins.add_argument("out", metavar="OUT"), bins.add_argument("cases", metavar="CASE", nargs="+"), bins.set_defaults(make=make_bins)
+    ask = step.add_parser("ask", allow_abbrev=False)
+    ask.add_argument("out", metavar="OUT"), ask.add_argument("bins", metavar="BINS"), ask.add_argument("what", metavar="N|least", type=what_of)
+    ask.set_defaults(make=make_answer)
+    page = step.add_parser("page", allow_abbrev=False)
+    page.add_argument("bins", metavar="BINS"), page.add_argument("asked", metavar="ASKED", nargs="*")
+    page.add_argument("--html", metavar="OUT"), page.add_argument("--json", metavar="OUT"), page.set_defaults(make=make_page)
+    for it in (case, ask):
+        it.add_argument("--program", default="localise")
+    return parser
+
+
+def asked_of(words):
+    """The words as they are given; what `case` doesn't know itself is for `find`."""
+    parser = parser_of()
+    asked, asked_further = parser.parse_known_args(words)
+    if asked_further and asked.step != "case":
+        parser.error("not known: %s" % " ".join(asked_further))
+    for word in asked_further:
+        if word.partition("=")[0] in REFUSED:
+            parser.error("%s: %s" % (word.partition("=")[0], REFUSED[word.partition("=")[0]]))
+    asked.options = asked_further
+    return asked
+
+
+def main(words):
+    asked = asked_of(words)
+    try:
+        status = asked.make(asked)
+        sys.stdout.flush()
+        return status
+    except Problem as problem:
+        say("%s", problem)
+        return 2
+    except BrokenPipeError:
+        # (who reads the lines wants no more of them)
+        os.dup2(os.open(os.devnull, os.O_WRONLY), sys.stdout.fileno())
+        return 0
+
+
+if __name__ == "__main__":
+    sys.stdout.reconfigure(errors="surrogateescape")
+    sys.stderr.reconfigure(errors="backslashreplace")
+    sys.exit(main(sys.argv[1:]))
