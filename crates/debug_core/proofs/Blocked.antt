@@ -9,7 +9,7 @@ use Rattle.loc_base.proofs.ShelfLists.{All-member, Contains-cons, Contains-empty
 use Rattle.clause_base.specs.Satisfaction.{Satisfies, SatisfiesClause, is_satisfied}
 use Rattle.design_core.specs.Works.{IsWithin}
 use Rattle.set_enum.specs.Sets.{IsSetOf, block_of, selected}
-use Rattle.debug_core.proofs.Selected.{selected-has, selected-true}
+use Rattle.set_enum.proofs.Selecting.{selected-has, selected-true}
 
 neither : (b c : Bool) → (b || c) ≡ false → (b ≡ false) × (c ≡ false)
 neither true c fails = cc

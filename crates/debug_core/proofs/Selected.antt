@@ -8,59 +8,12 @@ use Rattle.std.proofs.lemmas.List.Elements.{All-contains_itself, All-cons, All-n
 use Rattle.std.proofs.lemmas.List.Kept.{IsStrictlyIncreasing-filter}
 use Rattle.std.proofs.lemmas.List.Sums.{count_by-le-length, length-filter, sum_by-cons}
 use Rattle.loc_base.proofs.ShelfBools.{equal-true}
-use Rattle.loc_base.proofs.ShelfLists.{All-member, Contains-cons, Contains-first, Contains-later, list_any-found, list_any-member}
+use Rattle.loc_base.proofs.ShelfLists.{All-member, list_any-found, list_any-member}
 use Rattle.design_core.specs.Works.{IsWithin}
 use Rattle.suspect_map.proofs.SuspectLaws.{numbers-equal}
 use Rattle.form_laws.specs.Models.{Selects, is_member}
-use Rattle.set_enum.specs.Sets.{IsSetOf, numbers_from, selected}
-use Rattle.set_enum.proofs.Selecting.{numbers-at, numbers-length, selected-IsSetOf}
-
--- a member that passes is among those that pass
-filter-has : (p : ℕ → Bool) (xs : List ℕ) (x : ℕ) → Contains xs x → p x ≡ true → Contains (filter p xs) x
-filter-has p [] x member passes = member
-filter-has p (y ∷ xs) x member passes = at (Contains-cons y xs x member) (p y) refl (λ later. filter-has p xs x later passes)
-  where
-    at : (y ≡ x) ⊎ Contains xs x → (b : Bool) → p y ≡ b → (Contains xs x → Contains (filter p xs) x)
-        → Contains (cond b (y ∷ filter p xs) (filter p xs)) x
-    at (inl same) true is rest = subst (Contains (y ∷ filter p xs)) same (Contains-first y (filter p xs))
-    at (inl same) false is rest = let wrong : true ≡ false = sym passes ∙ (ap p (sym same) ∙ is) in cc
-    at (inr later) true is rest = Contains-later y (filter p xs) x (rest later)
-    at (inr later) false is rest = rest later
-
--- those that pass do
-filter-passes : (p : ℕ → Bool) (xs : List ℕ) → All (λ x. p x ≡ true) (filter p xs)
-filter-passes p [] = All-nil (λ x. p x ≡ true)
-filter-passes p (y ∷ xs) = at (p y) refl (filter-passes p xs)
-  where
-    at : (b : Bool) → p y ≡ b → All (λ x. p x ≡ true) (filter p xs) → All (λ x. p x ≡ true) (cond b (y ∷ filter p xs) (filter p xs))
-    at true is rest = All-cons (λ x. p x ≡ true) y (filter p xs) is rest
-    at false is rest = rest
-
--- and are members
-filter-member : (p : ℕ → Bool) (xs : List ℕ) (x : ℕ) → Contains (filter p xs) x → Contains xs x
-filter-member p [] x member = member
-filter-member p (y ∷ xs) x member = at (p y) member (filter-member p xs x)
-  where
-    at : (b : Bool) → Contains (cond b (y ∷ filter p xs) (filter p xs)) x → (Contains (filter p xs) x → Contains xs x) → Contains (y ∷ xs) x
-    at true here rest = among (Contains-cons y (filter p xs) x here)
-      where
-        among : (y ≡ x) ⊎ Contains (filter p xs) x → Contains (y ∷ xs) x
-        among (inl same) = subst (Contains (y ∷ xs)) same (Contains-first y xs)
-        among (inr later) = Contains-later y xs x (rest later)
-    at false here rest = Contains-later y xs x (rest here)
-
-numbers-has : (first count v : ℕ) → first ≤ v → v < first + count → Contains (numbers_from first count) v
-numbers-has first count v low high =
-    let back : first + (v - first) ≡ v = omega (arith, low) in
-    let within : v - first < count = omega (arith, low, high) in
-    (v - first, omega (arith, within, numbers-length first count), numbers-at first count (v - first) v within ∙ back)
-
--- what an assignment selects are the variables that it makes true
-pub selected-has : (n : ℕ) (a : ℕ → Bool) (v : ℕ) → 1 ≤ v → v ≤ n → a v ≡ true → Contains (selected n a) v
-selected-has n a v low high is = filter-has a (numbers_from 1 n) v (numbers-has 1 n v low (omega (arith, high))) is
-
-pub selected-true : (n : ℕ) (a : ℕ → Bool) (v : ℕ) → Contains (selected n a) v → a v ≡ true
-selected-true n a v member = All-member (λ x. a x ≡ true) (selected n a) v (filter-passes a (numbers_from 1 n)) member
+use Rattle.set_enum.specs.Sets.{IsSetOf, selected}
+use Rattle.set_enum.proofs.Selecting.{filter-has, filter-passes, selected-has, selected-true, selected-IsSetOf}
 
 -- membership by its test
 pub member-is : (set : List ℕ) (v : ℕ) → Contains set v → is_member set v ≡ true

@@ -1,9 +1,10 @@
 -- What each call leaves of an enumerator's parts.
-use Rattle.std.proofs.Common.{◌≡◌, ℕ, zero, suc, ◌+◌, ◌-◌, ◌^◌, ◌<◌, ◌≤◌, inr, Bool, true, false, List, [], ◌∷◌, ◌++◌, length, map, take}
-use Rattle.std.proofs.Common.{drop, Result, Ok, Err, refl, sym, ◌∙◌, ap, subst, arith}
-use Rattle.std.specs.Prelude.{All, filter, IsSome, OnOk, OnErr}
+use Rattle.std.proofs.Common.{◌≡◌, ℕ, zero, suc, ◌+◌, ◌-◌, ◌^◌, ◌<◌, ◌≤◌, inr, Bool, true, false, cond, List, [], ◌∷◌, ◌++◌, length, map, take}
+use Rattle.std.proofs.Common.{drop, Option, Some, None, Result, Ok, Err, refl, sym, ◌∙◌, ap, subst, arith}
+use Rattle.std.specs.Prelude.{All, filter, is_some, IsSome, OnOk, OnErr}
 use Rattle.std.proofs.lemmas.List.{take_all, take_at, take-append-drop, map-append}
 use Rattle.std.proofs.lemmas.List.Elements.{All-nil, All-take, All-push, All-append, All-map, filter-append}
+use Rattle.loc_base.proofs.ShelfOptions.{Some-same}
 use Rattle.loc_base.specs.declared.memory.NoMemory.{NoMemory}
 use Rattle.clause_base.specs.declared.literal.Lit.{Lit}
 use Rattle.clause_base.specs.declared.log.Step.{Step}
@@ -16,17 +17,17 @@ use Rattle.card_counter.specs.InForm.{HasCounter}
 use Rattle.sat_core.specs.SolverState.{SolverState, IsSolver, IsGreatestModel, blocks_of, assignment_of}
 use Rattle.sat_core.specs.declared.verdict.Verdict.{Verdict}
 use Rattle.sat_core.specs.declared.verdict.Verdict.TheVariants as verdict
-use Rattle.sat_core.specs.Outcome.{Searches, LearnedBeforeLast, IsRefuted, Says, closings_of}
+use Rattle.sat_core.specs.Outcome.{Searches, LearnedBeforeLast, IsRefuted, Says, closings_of, told_by}
 use Rattle.sat_core.specs.Calls.{Begins, TookOver, with_block, with_steps}
 use Rattle.set_enum.specs.Sets.{selected, IsSetOf, IsBlock, block_of, numbers_from}
-use Rattle.set_enum.specs.EnumState.{AreChainless, EnumState, HasNoChain, MayBeImported}
+use Rattle.set_enum.specs.EnumState.{AreChainless, EnumState, HasNoChain, MayBeImported, MayBeTakenOver}
 use Rattle.set_enum.specs.Outcome.{Adds, GivesSet}
-use Rattle.set_enum.specs.Standing.{IsStanding, assumed, next_size, state_of, waiting}
+use Rattle.set_enum.specs.Standing.{IsStanding, IsToldAt, assumed, next_size, state_of, waiting}
 use Rattle.set_enum.proofs.Selecting.{selected-IsSetOf, numbers-within}
 use Rattle.set_enum.proofs.Bounding.{one-counter, ends_a_size, next-size}
 use Rattle.set_enum.proofs.Searching.{Serves, closes, found, model_exact, model_few}
 use Rattle.set_enum.proofs.Keeping.{AreClosed, stands, serves, are_closed, open_while_found, closed_more, serves_after, closed_after}
-use Rattle.set_enum.proofs.Keeping.{closed_by, adds_search}
+use Rattle.set_enum.proofs.Keeping.{closed_by, adds_search, told_none, told_of_none}
 
 -- the number of selectors and one more fit
 pub selectors_fit : (n k vars : ℕ) → n + starts k (n + 1) ≤ vars → vars < 2 ^ 32 → n + 1 < 2 ^ 32
@@ -57,14 +58,25 @@ stands_new n k vars form s counter few solver b =
       shown = λ j at. absurd (omega (arith, at));
     }
     (λ f. omega arith)
+    (told_of_none n k 0 s)
 
 -- after a search, at the same size
 pub stands_after : (n k size : ℕ) (before later : Bool) (old new : SolverState) (budget left derived : ℕ) → IsStanding n k size before old
-    → size ≤ k → Searches old new budget left derived → IsSolver new
+    → size ≤ k → Searches old new budget left derived → IsSolver new → IsToldAt n k size later new
     → IsStanding n k size later new
-stands_after n k size before later old new budget left derived h open_size r solver =
+stands_after n k size before later old new budget left derived h open_size r solver told =
     stands n k size later new (serves_after n k old new budget left derived (serves n k size before old h) r solver) h.holds.few
-    (closed_after n k size old new budget left derived (are_closed n k size before old h) open_size r) (λ t. open_size)
+    (closed_after n k size old new budget left derived (are_closed n k size before old h) open_size r) (λ t. open_size) told
+
+-- after a model: it was found under what was assumed, and selects as many as the size
+pub told_after : (n k size : ℕ) (before : Bool) (old new : SolverState) (budget left derived : ℕ) → IsStanding n k size before old
+    → size ≤ k → Searches old new budget left derived → IsSolver new → IsGreatestModel new (assumed n k size)
+    → new.told ≡ Some (assumed n k size) → IsToldAt n k size true new
+told_after n k size before old new budget left derived h open_size r solver m is waits assume told =
+    let s : Serves n k new = serves_after n k old new budget left derived (serves n k size before old h) r solver in
+    let c : AreClosed n k size new.form new.log = closed_after n k size old new budget left derived (are_closed n k size before old h)
+    open_size r in
+    (Some-same (sym told ∙ is), model_exact n k new s size open_size c.closed m)
 
 -- a search that closes a size
 module _ (n k size : ℕ) (before : Bool) (old new : SolverState) (budget left number : ℕ) (h : IsStanding n k size before old)
@@ -84,7 +96,8 @@ module _ (n k size : ℕ) (before : Bool) (old new : SolverState) (budget left n
       (closed_by n k size new after_serves open_size refuted.some
       (subst (λ m. (step_at new.log (m - 1)).kind ≡ Derived) refuted.last refuted.derived)
       (closes n k new after_serves number size refuted))
-      (λ (f : false ≡ true). cc))
+      (λ (f : false ≡ true). cc)
+      (told_of_none n k (next_size k size (step_at new.log (length new.log - 1)).clause) new))
 
   pub size_grows : (later : ℕ) → later ≡ next_size k size (step_at new.log (length new.log - 1)).clause → size + 1 ≤ later
   size_grows later e = omega (
@@ -105,8 +118,9 @@ module _ (n k size : ℕ) (before : Bool) (old new : SolverState) (budget left n
 -- a search that finds a set
 pub gives_set : (n k size : ℕ) (before : Bool) (old new : SolverState) (budget left derived : ℕ) → IsStanding n k size before old
     → size ≤ k → Searches old new budget left derived → IsSolver new
-    → IsGreatestModel new (assumed n k size) → GivesSet (state_of n k size true new) (selected n (assignment_of new.model))
-gives_set n k size before old new budget left derived h open_size r solver m =
+    → IsGreatestModel new (assumed n k size) → new.told ≡ Some (assumed n k size)
+    → GivesSet (state_of n k size true new) (selected n (assignment_of new.model))
+gives_set n k size before old new budget left derived h open_size r solver m told =
     let s : Serves n k new = serves_after n k old new budget left derived (serves n k size before old h) r solver in
     let c : AreClosed n k size new.form new.log = closed_after n k size old new budget left derived (are_closed n k size before old h)
     open_size r in
@@ -114,6 +128,7 @@ gives_set n k size before old new budget left derived h open_size r solver m =
       first = found n k new s size open_size c.closed m;
       size = model_exact n k new s size open_size c.closed m;
       last = refl;
+      told = ap is_some told;
       satisfies = m.satisfies;
       selects = refl;
     }
@@ -146,9 +161,9 @@ block_within n k vars set fits h =
 
 -- with other steps, over the same form
 with_more : (n k size : ℕ) (before later : Bool) (old : SolverState) (steps : List Step) → IsStanding n k size before old → size ≤ k
-    → IsSolver (with_steps old steps) → All (IsBlock n) (blocks_of steps) → AreChainless steps
+    → IsSolver (with_steps old steps) → All (IsBlock n) (blocks_of steps) → AreChainless steps → IsToldAt n k size later (with_steps old steps)
     → IsStanding n k size later (with_steps old steps)
-with_more n k size before later old steps h open_size solver blocks chainless =
+with_more n k size before later old steps h open_size solver blocks chainless told =
     stands n k size later (with_steps old steps)
     record {
       counter = h.holds.counter;
@@ -159,7 +174,7 @@ with_more n k size before later old steps h open_size solver blocks chainless =
       chainless = All-append (λ (x : Step). HasNoChain x.kind x) old.log steps h.holds.chainless chainless;
     }
     h.holds.few (closed_more n k size old.form old.log steps (blocks_of steps) (are_closed n k size before old h) open_size
-    (blocks_append old.log steps)) (λ t. open_size)
+    (blocks_append old.log steps)) (λ t. open_size) told
 
 -- once the last set is blocked
 pub stands_blocked : (n k size : ℕ) (before : Bool) (old new : SolverState) (block : List Lit) → IsStanding n k size before old
@@ -177,7 +192,12 @@ stands_blocked n k size before old new block h waits solver is e =
     (with_more n k size before false old steps h open_size (subst IsSolver e solver)
     (All-push (IsBlock n) [] block (All-nil (IsBlock n)) one)
     (All-push (λ (x : Step). HasNoChain x.kind x) [] (record { kind = Block; clause = block; chain = [] })
-    (All-nil (λ (x : Step). HasNoChain x.kind x)) refl))
+    (All-nil (λ (x : Step). HasNoChain x.kind x)) refl) (told_of_none n k size (with_steps old steps)))
+
+-- what was told stays told where no step was added
+told_with : (n k size : ℕ) (found : Bool) (old : SolverState) (steps : List Step) → IsToldAt n k size found old → IsToldAt n k size found (with_steps old steps)
+told_with n k size found old [] told = told
+told_with n k size found old (step ∷ steps) told = told_none n k size found (with_steps old (step ∷ steps)) refl
 
 import_front : (n k size : ℕ) (before : Bool) (old new : SolverState) (steps : List Step) (count : ℕ) → IsStanding n k size before old
     → MayBeImported (state_of n k size before old) steps → IsSolver new
@@ -192,7 +212,7 @@ import_front n k size before old new steps count h may solver e =
     (subst (All (IsBlock n)) parts may.blocks)) in
     subst (IsStanding n k size before) (sym e)
     (with_more n k size before before old (take count steps) h may.open_size (subst IsSolver e solver) front
-    (All-take (λ (x : Step). HasNoChain x.kind x) count steps may.chainless))
+    (All-take (λ (x : Step). HasNoChain x.kind x) count steps may.chainless) (told_with n k size before old (take count steps) h.told))
 
 -- once steps are imported, all or some
 pub stands_imported : {T : Type 0} (n k size : ℕ) (before : Bool) (old new : SolverState) (steps : List Step) (result : Result T NoMemory)
@@ -211,7 +231,7 @@ open_of a b e h = subst (λ s. s.size ≤ s.k) (sym e) h
 -- where no set waits any more
 pub stands_unwaited : (n k size : ℕ) (before : Bool) (s : SolverState) → IsStanding n k size before s → IsStanding n k size false s
 stands_unwaited n k size before s h = stands n k size false s (serves n k size before s h) h.holds.few (are_closed n k size before s h)
-    (λ (f : false ≡ true). cc)
+    (λ (f : false ≡ true). cc) (told_of_none n k size s)
 
 -- what a verdict says, under what is assumed
 pub model_says : (s : SolverState) (a b : List Lit) (left : ℕ) (v : Verdict) → a ≡ b → v ≡ verdict.Model → Says s a left v
@@ -225,3 +245,23 @@ closed_says s a b left step v same is h = subst (λ ls. Says s ls left (verdict.
 pub closed_searches : (old new : SolverState) (budget left step : ℕ) (v : Verdict) → v ≡ verdict.Closed step
     → Searches old new budget left (closings_of v) → Searches old new budget left 1
 closed_searches old new budget left step v is h = subst (λ x. Searches old new budget left (closings_of x)) is h
+
+-- what a model tells
+pub model_told : (assume a : List Lit) (told : Option (List Lit)) (r : Result Verdict NoMemory) (v : Verdict) → told ≡ told_by a r → a ≡ assume
+    → r ≡ Ok v → v ≡ verdict.Model → told ≡ Some assume
+model_told assume a told r v e same is model = e ∙ (ap (told_by a) (is ∙ ap Ok model) ∙ ap Some same)
+
+-- once a step is taken over
+one_block : (n : ℕ) (step : Step) (b : Bool) → (b ≡ true → IsBlock n step.clause) → All (IsBlock n) (map (λ (x : Step). x.clause) (cond b (step ∷ []) []))
+one_block n step true one = All-push (IsBlock n) [] step.clause (All-nil (IsBlock n)) (one refl)
+one_block n step false one = All-nil (IsBlock n)
+
+pub stands_taken : {T : Type 0} (n k size : ℕ) (before : Bool) (old new : SolverState) (step : Step) (result : Result T NoMemory)
+    → IsStanding n k size before old → MayBeTakenOver (state_of n k size before old) step
+    → IsSolver new → OnOk result (new ≡ with_steps old (step ∷ [])) → OnErr result (new ≡ old) → IsStanding n k size before new
+stands_taken n k size before old new step (Ok x) h may solver ok err =
+    subst (IsStanding n k size before) (sym ok)
+    (with_more n k size before before old (step ∷ []) h may.open_size (subst IsSolver ok solver) (one_block n step (is_block step) may.block)
+    (All-push (λ (x : Step). HasNoChain x.kind x) [] step (All-nil (λ (x : Step). HasNoChain x.kind x)) may.chainless)
+    (told_with n k size before old (step ∷ []) h.told))
+stands_taken n k size before old new step (Err x) h may solver ok err = subst (IsStanding n k size before) (sym err) h

@@ -1,6 +1,6 @@
 -- What each call leaves of an enumerator.
 use Rattle.std.proofs.Common.{◌≡◌, ℕ, zero, suc, ◌+◌, ◌-◌, ◌<◌, ◌≤◌, ◌⊎◌, inl, inr, Bool, true, false, cond, List, [], ◌∷◌, ◌++◌, length}
-use Rattle.std.proofs.Common.{take, Option, Some, refl, sym, ◌∙◌, ap, subst, append_assoc, arith}
+use Rattle.std.proofs.Common.{take, Option, Some, None, refl, sym, ◌∙◌, ap, subst, append_assoc, arith}
 use Rattle.std.specs.Prelude.{All, count_by, IsSomeAnd}
 use Rattle.std.proofs.lemmas.Bool.{cases_lt}
 use Rattle.loc_base.proofs.ShelfBools.{count-true}
@@ -25,7 +25,7 @@ use Rattle.set_enum.specs.Sets.{selected, IsSetOf, IsBlock, NoneBelow}
 use Rattle.set_enum.specs.Bounds.{bound_at, bound_of, bounds_of}
 use Rattle.set_enum.specs.EnumState.{AreChainless, HasNoChain, ShowsBound}
 use Rattle.set_enum.specs.Outcome.{Adds}
-use Rattle.set_enum.specs.Standing.{IsStanding, state_of, waiting, next_size}
+use Rattle.set_enum.specs.Standing.{IsStanding, IsToldAt, state_of, waiting, next_size}
 use Rattle.set_enum.proofs.Selecting.{selected-IsSetOf}
 use Rattle.set_enum.proofs.Bounding.{EndsAt, bound-some, next-size}
 use Rattle.set_enum.proofs.Searching.{Serves, none_left}
@@ -43,8 +43,8 @@ waits n k size true model set h e = (subst (IsSetOf n) (Some-same e) (selected-I
 waits n k size false model set h e = cc
 
 pub stands : (n k size : ℕ) (found : Bool) (s : SolverState) → Serves n k s → k ≤ 8 → AreClosed n k size s.form s.log
-    → (found ≡ true → size ≤ k) → IsStanding n k size found s
-stands n k size found s h few c w = record {
+    → (found ≡ true → size ≤ k) → IsToldAt n k size found s → IsStanding n k size found s
+stands n k size found s h few c w told = record {
   holds = record {
     counter = h.counter;
     small = h.solver.small;
@@ -62,7 +62,16 @@ stands n k size found s h few c w = record {
   };
   solver = h.solver;
   preferred = h.preferred;
+  told = told;
 }
+
+-- nothing is told while no set waits
+pub told_of_none : (n k size : ℕ) (s : SolverState) → IsToldAt n k size false s
+told_of_none n k size s waits = cc
+
+-- nor where nothing is told by the solver
+pub told_none : (n k size : ℕ) (found : Bool) (s : SolverState) → s.told ≡ None → IsToldAt n k size found s
+told_none n k size found s none waits assume is = let wrong : None ≡ Some assume = sym none ∙ is in cc
 
 pub serves : (n k size : ℕ) (found : Bool) (s : SolverState) → IsStanding n k size found s → Serves n k s
 serves n k size found s h = record {

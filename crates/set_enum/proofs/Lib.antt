@@ -4,3 +4,4 @@ pub mod Searching
 pub mod Keeping
 pub mod Adding
 pub mod Advancing
+pub mod Certifying

@@ -1,13 +1,14 @@
 -- Sets that assignments select, and the order of sets.
 use Rattle.std.proofs.Common.{◌≡◌, ℕ, zero, suc, ◌+◌, ◌-◌, ◌<◌, ◌≤◌, inl, inr, Bool, true, false, cond, List, [], ◌∷◌, ◌++◌, length}
-use Rattle.std.proofs.Common.{get_or, refl, ◌∙◌, ap, ap₂, arith, eqb}
-use Rattle.std.specs.Prelude.{filter, count_by, All}
+use Rattle.std.proofs.Common.{get_or, ◌⊎◌, refl, sym, ◌∙◌, ap, ap₂, subst, arith, eqb}
+use Rattle.std.specs.Prelude.{filter, count_by, All, Contains}
 use Rattle.std.specs.List.Sorted.{IsStrictlyIncreasing}
 use Rattle.std.proofs.lemmas.Bool.{cases_eq, ne_eqb, le-ltb, and_left, and_right, false≢true}
 use Rattle.std.proofs.lemmas.List.{length-append, length_push, append-nil, map_push}
-use Rattle.std.proofs.lemmas.List.Elements.{All-head, All-tail, All-filter, filter-append}
+use Rattle.std.proofs.lemmas.List.Elements.{All-cons, All-head, All-nil, All-tail, All-filter, filter-append}
 use Rattle.std.proofs.lemmas.List.Kept.{IsStrictlyIncreasing-filter}
 use Rattle.std.proofs.lemmas.List.Sums.{length-filter, count_by-le-length, sum_by-cons}
+use Rattle.loc_base.proofs.ShelfLists.{All-member, Contains-cons, Contains-first, Contains-later}
 use Rattle.clause_base.specs.Literal.{positive, negative, has_variable, has_distinct_variables}
 use Rattle.clause_base.specs.Satisfaction.{value_of}
 use Rattle.card_counter.specs.InForm.{literals_from}
@@ -107,8 +108,42 @@ selected-front n m a l = grows (n - m) m (omega (arith, l))
           (cond (a (i + 1)) ((i + 1) ∷ []) []),
     )
 
+-- a member that passes is among those that pass
+pub filter-has : (p : ℕ → Bool) (xs : List ℕ) (x : ℕ) → Contains xs x → p x ≡ true → Contains (filter p xs) x
+filter-has p [] x member passes = member
+filter-has p (y ∷ xs) x member passes = at (Contains-cons y xs x member) (p y) refl (λ later. filter-has p xs x later passes)
+  where
+    at : (y ≡ x) ⊎ Contains xs x → (b : Bool) → p y ≡ b → (Contains xs x → Contains (filter p xs) x)
+        → Contains (cond b (y ∷ filter p xs) (filter p xs)) x
+    at (inl same) true is rest = subst (Contains (y ∷ filter p xs)) same (Contains-first y (filter p xs))
+    at (inl same) false is rest = let wrong : true ≡ false = sym passes ∙ (ap p (sym same) ∙ is) in cc
+    at (inr later) true is rest = Contains-later y (filter p xs) x (rest later)
+    at (inr later) false is rest = rest later
+
+-- those that pass do
+pub filter-passes : (p : ℕ → Bool) (xs : List ℕ) → All (λ x. p x ≡ true) (filter p xs)
+filter-passes p [] = All-nil (λ x. p x ≡ true)
+filter-passes p (y ∷ xs) = at (p y) refl (filter-passes p xs)
+  where
+    at : (b : Bool) → p y ≡ b → All (λ x. p x ≡ true) (filter p xs) → All (λ x. p x ≡ true) (cond b (y ∷ filter p xs) (filter p xs))
+    at true is rest = All-cons (λ x. p x ≡ true) y (filter p xs) is rest
+    at false is rest = rest
+
+pub numbers-has : (first count v : ℕ) → first ≤ v → v < first + count → Contains (numbers_from first count) v
+numbers-has first count v low high =
+    let back : first + (v - first) ≡ v = omega (arith, low) in
+    let within : v - first < count = omega (arith, low, high) in
+    (v - first, omega (arith, within, numbers-length first count), numbers-at first count (v - first) v within ∙ back)
+
+-- what an assignment selects are the variables that it makes true
+pub selected-has : (n : ℕ) (a : ℕ → Bool) (v : ℕ) → 1 ≤ v → v ≤ n → a v ≡ true → Contains (selected n a) v
+selected-has n a v low high is = filter-has a (numbers_from 1 n) v (numbers-has 1 n v low (omega (arith, high))) is
+
+pub selected-true : (n : ℕ) (a : ℕ → Bool) (v : ℕ) → Contains (selected n a) v → a v ≡ true
+selected-true n a v member = All-member (λ x. a x ≡ true) (selected n a) v (filter-passes a (numbers_from 1 n)) member
+
 -- the values of a model
-model-at : (model : List Bool) (i : ℕ) → assignment_of model (i + 1) ≡ get_or model i false
+pub model-at : (model : List Bool) (i : ℕ) → assignment_of model (i + 1) ≡ get_or model i false
 model-at model i = let e : i + 1 - 1 ≡ i = omega arith in ap (λ j. get_or model j false) e
 
 pub selected-yes : (model : List Bool) (i : ℕ) → get_or model i false ≡ true

@@ -1,13 +1,13 @@
 -- What contracts see of an enumerator, and what holds of each.
-use Rattle.std.specs.Prelude.{◌≡◌, ℕ, ◌+◌, ◌^◌, ◌<◌, ◌≤◌, ◌⊎◌, Bool, false, List, [], ◌∷◌, ◌++◌, length, map, take, replicate, Option}
+use Rattle.std.specs.Prelude.{◌≡◌, ℕ, ◌+◌, ◌^◌, ◌<◌, ◌≤◌, ◌⊎◌, Bool, true, false, List, [], ◌∷◌, ◌++◌, length, map, take, replicate, Option}
 use Rattle.std.specs.Prelude.{Some, None, IsSomeAnd, All, Contains}
 use Rattle.std.specs.Option.{unwrap_or}
 use Rattle.clause_base.specs.declared.literal.Lit.{Lit}
 use Rattle.clause_base.specs.declared.log.Step.{Step}
 use Rattle.clause_base.specs.declared.log.StepKind.{StepKind}
 use Rattle.clause_base.specs.declared.log.StepKind.TheVariants.{Block, Learned, Derived}
-use Rattle.clause_base.specs.Literal.{AllDistinct, AreWithin}
-use Rattle.clause_base.specs.Acceptance.{clauses_of, IsAccepted}
+use Rattle.clause_base.specs.Literal.{AllDistinct, AreWithin, IsWithin}
+use Rattle.clause_base.specs.Acceptance.{clauses_of, is_block, IsAccepted, IsAcceptedStep}
 use Rattle.clause_base.specs.Progress.{IsClosing}
 use Rattle.card_counter.specs.InForm.{HasCounter}
 use Rattle.sat_core.specs.SolverState.{blocks_of}
@@ -26,6 +26,8 @@ pub record EnumState : Type 0 where
   pub log : List Step
   pub last : Option (List ℕ)
   pub model : List Bool
+  -- that set was the last answer, and no step was added since
+  pub told : Bool
 
 -- the clauses whose sets are listed: the form and the blocks
 abbrev pub listed_over : EnumState → List (List Lit)
@@ -72,7 +74,7 @@ pub record IsEnum (s : EnumState) : Type 0 where
 
 -- the enumerator of a form, before any search
 abbrev pub begun : ℕ → List (List Lit) → ℕ → ℕ → EnumState
-begun vars form n k = record { vars = vars; form = form; n = n; k = k; size = 0; log = []; last = None; model = replicate vars false }
+begun vars form n k = record { vars = vars; form = form; n = n; k = k; size = 0; log = []; last = None; model = replicate vars false; told = false }
 
 -- with the last set blocked: one step more, its block
 abbrev pub blocked : EnumState → EnumState
@@ -85,7 +87,13 @@ blocked s = record {
   log = s.log ++ record { kind = Block; clause = block_of (unwrap_or s.last []); chain = [] } ∷ [];
   last = None;
   model = s.model;
+  told = false;
 }
+
+-- what stays told where steps are added
+abbrev pub told_behind : List Step → Bool → Bool
+told_behind [] told = told
+told_behind (step ∷ steps) told = false
 
 -- with these steps more
 abbrev pub with_imported : EnumState → List Step → EnumState
@@ -98,6 +106,7 @@ with_imported s steps = record {
   log = s.log ++ steps;
   last = s.last;
   model = s.model;
+  told = told_behind steps s.told;
 }
 
 -- the steps may be imported: sizes are still open, the steps are accepted behind those that are there, with their blocks and over
@@ -108,6 +117,15 @@ pub record MayBeImported (s : EnumState) (steps : List Step) : Type 0 where
   pub within : AreWithin s.vars (map (λ step. step.clause) steps)
   pub blocks : All (IsBlock s.n) (blocks_of steps)
   pub chainless : AreChainless steps
+
+-- the step may be taken over: sizes are still open, a block is that of a set of selectors, without a chain, another step is accepted behind
+-- those that are there, and its clause is over the form's variables
+pub record MayBeTakenOver (s : EnumState) (step : Step) : Type 0 where
+  pub open_size : s.size ≤ s.k
+  pub block : is_block step ≡ true → IsBlock s.n step.clause
+  pub chainless : HasNoChain step.kind step
+  pub accepted : is_block step ≡ false → IsAcceptedStep s.form (blocks_of s.log) s.log step
+  pub within : IsWithin s.vars step.clause
 
 -- some of the steps were imported, from the first on
 pub record ImportedSome (old new : EnumState) (steps : List Step) : Type 0 where

@@ -3,3 +3,4 @@ pub mod Bounds
 pub mod EnumState
 pub mod Outcome
 pub mod Standing
+pub mod Certificate

@@ -1,5 +1,5 @@
 -- What a call of `next` answers, and what it adds to the log.
-use Rattle.std.specs.Prelude.{◌≡◌, ℕ, ◌+◌, ◌<◌, ◌≤◌, ◌⊎◌, List, length, Result, Ok, Some, None}
+use Rattle.std.specs.Prelude.{◌≡◌, ℕ, ◌+◌, ◌<◌, ◌≤◌, ◌⊎◌, true, List, length, Result, Ok, Some, None}
 use Rattle.loc_base.specs.declared.memory.NoMemory.{NoMemory}
 use Rattle.clause_base.specs.declared.log.StepKind.TheVariants.{Derived}
 use Rattle.clause_base.specs.Steps.{step_at}
@@ -35,6 +35,7 @@ pub record GivesSet (s : EnumState) (set : List ℕ) : Type 0 where
   pub first : IsFirst s.n s.k (listed_over s) set
   pub size : length set ≡ s.size
   pub last : s.last ≡ Some set
+  pub told : s.told ≡ true
   pub satisfies : Satisfies (assignment_of s.model) (clauses_of s.form s.log)
   pub selects : selected s.n (assignment_of s.model) ≡ set
 

@@ -1,5 +1,5 @@
 -- The parts of an enumerator.
-use Rattle.std.specs.Prelude.{◌≡◌, ℕ, ◌+◌, ◌<◌, Bool, if◌then◌else◌, List, [], ◌∷◌, Option, Some, None, nat_lt}
+use Rattle.std.specs.Prelude.{◌≡◌, ℕ, ◌+◌, ◌<◌, Bool, true, ◌&&◌, is_some, length, if◌then◌else◌, List, [], ◌∷◌, Option, Some, None, nat_lt}
 use Rattle.clause_base.specs.declared.literal.Lit.{Lit}
 use Rattle.clause_base.specs.Literal.{opposite}
 use Rattle.sat_core.specs.SolverState.{SolverState, IsSolver, assignment_of}
@@ -24,17 +24,25 @@ state_of n k size found s = record {
   log = s.log;
   last = waiting n found s.model;
   model = s.model;
+  told = found && is_some s.told;
 }
+
+-- what is assumed at size j: not the bound at j, or nothing where there are no more than j selectors
+abbrev pub assumed : ℕ → ℕ → ℕ → List Lit
+assumed n k j = if nat_lt j n then opposite (bound_at n k j) ∷ [] else []
+
+-- what the solver tells of a set that waits: it was found under what is assumed at the present size, and has so many members
+abbrev pub IsToldAt : ℕ → ℕ → ℕ → Bool → SolverState → Type 0
+IsToldAt n k size found s =
+    found ≡ true → (assume : List Lit) → s.told ≡ Some assume
+    → (assume ≡ assumed n k size) × (length (selected n (assignment_of s.model)) ≡ size)
 
 -- what holds of the parts of each enumerator: the solver prefers the selectors true, in ascending order
 pub record IsStanding (n k size : ℕ) (found : Bool) (s : SolverState) : Type 0 where
   pub holds : IsEnum (state_of n k size found s)
   pub solver : IsSolver s
   pub preferred : s.preferred ≡ numbers_from 1 n
-
--- what is assumed at size j: not the bound at j, or nothing where there are no more than j selectors
-abbrev pub assumed : ℕ → ℕ → ℕ → List Lit
-assumed n k j = if nat_lt j n then opposite (bound_at n k j) ∷ [] else []
+  pub told : IsToldAt n k size found s
 
 -- the size that is searched after a size that a derived clause closes: all are closed where it is empty
 abbrev pub next_size : ℕ → ℕ → List Lit → ℕ

@@ -2,10 +2,11 @@
 //! So the sets of one size come by their members, each in its turn once the sets before it are blocked. A size is closed by a derived
 //! step whose clause is its bound alone, or empty, which closes all sizes.
 
-ghost use Rattle.std.specs.Prelude.{◌≡◌, ◌+◌, ◌^◌, ◌<◌, ◌≤◌, length, IfOk, OnOk, OnErr, IsSome};
+ghost use Rattle.std.specs.Prelude.{◌≡◌, ◌+◌, ◌^◌, ◌<◌, ◌≤◌, length, IfOk, OnOk, OnErr, IsSome, true, [], ◌∷◌};
+ghost use Rattle.std.specs.Option.{unwrap_or};
 
 use crate::search::{assumption, size_after, solve_under};
-use crate::selections::{block_of, members_of, numbers_to};
+use crate::selections::{block_of, members_of, numbers_to, passed_over};
 use clause_base::{Form, Log};
 use loc_base::{Items, NoMemory};
 use sat_core::{Budget, Solver, Verdict};
@@ -67,8 +68,10 @@ impl Model for Enumerator {
 
 impl Enumerator {
     ghost use Rattle.clause_base.specs.Literal.{AreWithin};
+    ghost use Rattle.clause_base.specs.Steps.{step_at};
     ghost use Rattle.card_counter.specs.InForm.{HasCounter};
-    ghost use Rattle.set_enum.specs.EnumState.{IsEnum, MayBeImported, ImportedSome, begun, blocked, with_imported};
+    ghost use Rattle.set_enum.specs.Certificate.{IsCertificate};
+    ghost use Rattle.set_enum.specs.EnumState.{IsEnum, MayBeImported, MayBeTakenOver, ImportedSome, begun, blocked, with_imported};
     ghost use Rattle.set_enum.specs.Outcome.{Adds, Gives, IsOpen, StaysClosed};
     ghost use Rattle.set_enum.specs.Standing.{Advances};
 
@@ -134,6 +137,27 @@ impl Enumerator {
         ensures holds { IsEnum self.new }
     {
         self.solver.import(log)
+    }
+
+    /// Appends the step at a place of a log. Unchanged after `NoMemory`.
+    pub fn take_over(&mut self, log: &Log, place: usize) -> Result<(), NoMemory>
+        requires place { place < length log.now }
+        requires may { MayBeTakenOver self.old (step_at log.now place) }
+        ensures ok { OnOk result (self.new ≡ with_imported self.old (step_at log.now place ∷ [])) }
+        ensures err { OnErr result (self.new ≡ self.old) }
+        ensures holds { IsEnum self.new }
+    {
+        self.solver.take_over(log, place)
+    }
+
+    /// The steps by which the log shows that no set is missing before the last one: one for each selector that the set passes over. They
+    /// aren't appended.
+    pub fn certificate(&self) -> Result<Log, NoMemory>
+        requires { self.now.told ≡ true }
+        ensures { IfOk result (IsCertificate self.now (unwrap_or self.now.last [])) }
+    {
+        let passed = passed_over(self.alloc, self.solver.model(), self.n)?;
+        self.solver.explain_all(&passed)
     }
 
     /// The values of the variables from 1 on: all are false at first, and after a set they are those of a model of form and log

@@ -5,7 +5,7 @@ ghost use Rattle.card_counter.specs.Places.{starts};
 ghost use Rattle.clause_base.specs.Literal.{IsWithin};
 ghost use Rattle.clause_base.specs.Steps.{step_at};
 ghost use Rattle.sat_core.specs.SolverState.{IsSolver};
-ghost use Rattle.sat_core.specs.Outcome.{Searches, LearnedBeforeLast, Says, closings};
+ghost use Rattle.sat_core.specs.Outcome.{Searches, LearnedBeforeLast, Says, closings, told_by};
 ghost use Rattle.set_enum.specs.Standing.{assumed, next_size};
 
 use card_counter::bound;
@@ -38,6 +38,7 @@ pub(crate) fn solve_under(
     ensures solver { IsSolver solver.new }
     ensures says { IfOk result (Says solver.new (option_to_list assumption) budget.new) }
     ensures learned { LearnedBeforeLast solver.old.log solver.new.log }
+    ensures told { solver.new.told ≡ told_by (option_to_list assumption) result }
 {
     match assumption {
         Some(literal) => solver.solve(&[literal], budget),

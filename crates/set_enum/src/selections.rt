@@ -2,6 +2,7 @@
 
 ghost use Rattle.std.specs.Prelude.{◌≡◌, ◌≤◌, [], length, vec_capacity, IfOk};
 ghost use Rattle.sat_core.specs.SolverState.{assignment_of};
+ghost use Rattle.set_enum.specs.Certificate.{ArePassedOver, IsLastSelected};
 ghost use Rattle.set_enum.specs.Sets.{block_of, numbers_from, selected};
 
 use clause_base::{Clause, Lit};
@@ -33,6 +34,35 @@ pub(crate) fn members_of(mut room: Vec<u32>, model: &[bool], n: u32) -> Items<u3
         }
     }
     Items::from_vec(room)
+}
+
+/// The selectors from 1 to `n` that a model passes over: it makes them false, and a greater one true.
+pub(crate) fn passed_over(alloc: Global, model: &[bool], n: u32) -> Result<Vec<u32>, NoMemory>
+    requires { n ≤ length model.now }
+    ensures { IfOk result (λ passed. ArePassedOver (selected n (assignment_of model.now)) passed.items) }
+{
+    let last = last_selected(model, n);
+    let mut passed = Vec::new(alloc);
+    for before in 0..last {
+        if !model[before as usize] {
+            passed.push(before + 1)?;
+        }
+    }
+    Ok(passed)
+}
+
+/// The greatest selector from 1 to `n` that a model makes true, 0 where there is none.
+fn last_selected(model: &[bool], n: u32) -> u32
+    requires { n ≤ length model.now }
+    ensures { IsLastSelected n (assignment_of model.now) result }
+{
+    let mut last = 0;
+    for before in 0..n {
+        if model[before as usize] {
+            last = before + 1;
+        }
+    }
+    last
 }
 
 /// The clause that the selectors that a model makes true aren't all true.

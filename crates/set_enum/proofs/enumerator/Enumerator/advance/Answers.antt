@@ -7,7 +7,8 @@ use Rattle.set_enum.specs.Sets.{selected}
 use Rattle.set_enum.specs.Outcome.{Adds, GivesSet}
 use Rattle.set_enum.specs.Standing.{assumed, next_size, state_of}
 use Rattle.set_enum.proofs.Advancing.{selectors_fit, stands_after, stands_unwaited, stands_closed, adds_closed, gives_set, few_members}
-use Rattle.set_enum.proofs.Advancing.{open_of, model_says, closed_says, closed_searches}
+use Rattle.set_enum.proofs.Advancing.{open_of, model_says, model_told, told_after, closed_says, closed_searches}
+use Rattle.set_enum.proofs.Keeping.{told_of_none}
 use Rattle.set_enum.proofs.enumerator.Enumerator.advance.Goals as goal
 
 pub assumption-assumption-requires-clause-small : goal.assumption-assumption-requires-clause-small
@@ -21,7 +22,7 @@ invariant_of-self c = stands_unwaited _ _ _ _ _ c.self.invariant
 pub invariant_of-self-in_err-solve_under : goal.invariant_of-self-in_err-solve_under
 invariant_of-self-in_err-solve_under c =
     stands_after _ _ _ _ false _ _ _ _ _ c.self.invariant (open_of _ _ c.self.view_is c.requires.open_size) c.solve_under.ensures.searches
-    c.solve_under.ensures.solver
+    c.solve_under.ensures.solver (told_of_none c.self.inside.n c.self.inside.k c.self.inside.size c.solve_under.new.solver)
 
 pub returns-in_err-solve_under-clause-holds : goal.returns-in_err-solve_under-clause-holds
 returns-in_err-solve_under-clause-holds c = (invariant_of-self-in_err-solve_under c).holds
@@ -45,8 +46,18 @@ members_of-members-requires-clause-enough c =
 
 pub invariant_of-self-in-Model : goal.invariant_of-self-in-Model
 invariant_of-self-in-Model c =
+    let greatest =
+    model_says c.solve_under.new.solver (option_to_list c.assumption-assumption.result)
+    (assumed c.self.inside.n c.self.inside.k c.self.inside.size) c.solve_under.new.budget c.in_ok-solve_under.field-0
+    c.assumption-assumption.ensures c.in-Model.is c.in_ok-solve_under.ensures.says in
+    let told =
+    model_told (assumed c.self.inside.n c.self.inside.k c.self.inside.size) (option_to_list c.assumption-assumption.result)
+    c.solve_under.new.solver.told c.solve_under.result c.in_ok-solve_under.field-0 c.solve_under.ensures.told c.assumption-assumption.ensures
+    c.in_ok-solve_under.was c.in-Model.is in
     stands_after _ _ _ _ true _ _ _ _ _ c.self.invariant (open_of _ _ c.self.view_is c.requires.open_size) c.solve_under.ensures.searches
     c.solve_under.ensures.solver
+    (told_after _ _ _ _ _ _ _ _ _ c.self.invariant (open_of _ _ c.self.view_is c.requires.open_size) c.solve_under.ensures.searches
+    c.solve_under.ensures.solver greatest.1 told)
 
 refuted : (c : goal.After-drop-room-in-Closed-1)
     → (0 < c.solve_under.new.budget) × IsRefuted c.solve_under.new.solver.log c.in-Closed.step
@@ -75,7 +86,7 @@ invariant_of-self-in-Closed-1 c =
 pub invariant_of-self-in-Spent-1 : goal.invariant_of-self-in-Spent-1
 invariant_of-self-in-Spent-1 c =
     stands_after _ _ _ _ false _ _ _ _ _ c.self.invariant (open_of _ _ c.self.view_is c.requires.open_size) c.solve_under.ensures.searches
-    c.solve_under.ensures.solver
+    c.solve_under.ensures.solver (told_of_none c.self.inside.n c.self.inside.k c.self.inside.size c.solve_under.new.solver)
 
 pub returns-in-Model-clause-holds : goal.returns-in-Model-clause-holds
 returns-in-Model-clause-holds c = (invariant_of-self-in-Model c).holds
@@ -88,11 +99,14 @@ returns-in-Spent-clause-holds c = (invariant_of-self-in-Spent-1 c).holds
 
 pub returns-in-Model-clause-gives : goal.returns-in-Model-clause-gives
 returns-in-Model-clause-gives c =
-    let greatest : (0 < c.solve_under.new.budget) × IsGreatestModel c.solve_under.new.solver
-    (assumed c.self.inside.n c.self.inside.k c.self.inside.size) =
+    let greatest =
     model_says c.solve_under.new.solver (option_to_list c.assumption-assumption.result)
     (assumed c.self.inside.n c.self.inside.k c.self.inside.size) c.solve_under.new.budget c.in_ok-solve_under.field-0
-    c.assumption-assumption.ensures c.in-Model.is c.in_ok-solve_under.ensures.says in (
+    c.assumption-assumption.ensures c.in-Model.is c.in_ok-solve_under.ensures.says in
+    let told =
+    model_told (assumed c.self.inside.n c.self.inside.k c.self.inside.size) (option_to_list c.assumption-assumption.result)
+    c.solve_under.new.solver.told c.solve_under.result c.in_ok-solve_under.field-0 c.solve_under.ensures.told c.assumption-assumption.ensures
+    c.in_ok-solve_under.was c.in-Model.is in (
       ap (λ s. s.size) c.self.view_is,
       (
         greatest.0,
@@ -101,7 +115,7 @@ returns-in-Model-clause-gives c =
             (gives_set c.self.inside.n c.self.inside.k c.self.inside.size c.self.inside.found c.self.inside.solver
             c.solve_under.new.solver c.args.budget.now c.solve_under.new.budget _
             c.self.invariant (open_of _ _ c.self.view_is c.requires.open_size) c.solve_under.ensures.searches c.solve_under.ensures.solver
-            greatest.1),
+            greatest.1 told),
       ),
     )
 
