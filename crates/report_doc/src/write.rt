@@ -92,7 +92,8 @@ fn put_digest(out: &mut Writer, digest: &Digest) -> Result<(), NoMemory>
 }
 
 fn put_names(out: &mut Writer, names: &[Name]) -> Result<(), NoMemory>
-    ensures { OnOk result (Adds out.old out.new (list_tokens text_tokens names.now)) }
+    ensures adds { OnOk result (Adds out.old out.new (list_tokens text_tokens names.now)) }
+    ensures names { OnOk result (All IsName names.now) }
 {
     out.begin_array()?;
     for name in names {
@@ -195,7 +196,8 @@ fn put_sets(out: &mut Writer, sets: &[ReportSet]) -> Result<(), NoMemory>
 }
 
 fn put_suspect(out: &mut Writer, suspect: &ReportSuspect) -> Result<(), NoMemory>
-    ensures { OnOk result (Adds out.old out.new (suspect_tokens suspect.now)) }
+    ensures adds { OnOk result (Adds out.old out.new (suspect_tokens suspect.now)) }
+    ensures suspect { OnOk result (IsSuspect suspect.now) }
 {
     out.begin_object()?;
     out.key("kind")?;
@@ -209,7 +211,8 @@ fn put_suspect(out: &mut Writer, suspect: &ReportSuspect) -> Result<(), NoMemory
 }
 
 fn put_suspects(out: &mut Writer, suspects: &[ReportSuspect]) -> Result<(), NoMemory>
-    ensures { OnOk result (Adds out.old out.new (list_tokens suspect_tokens suspects.now)) }
+    ensures adds { OnOk result (Adds out.old out.new (list_tokens suspect_tokens suspects.now)) }
+    ensures suspects { OnOk result (All IsSuspect suspects.now) }
 {
     out.begin_array()?;
     for suspect in suspects {
@@ -235,6 +238,7 @@ fn put_ending(out: &mut Writer, r: &Report) -> Result<(), NoMemory>
 fn put_inputs(out: &mut Writer, r: &Report) -> Result<(), NoMemory>
     ensures adds { OnOk result (Adds out.old out.new (inputs_tokens r.now)) }
     ensures inputs { OnOk result (IsDigest r.now.inputs) }
+    ensures kinds { OnOk result (All IsName r.now.kinds) }
 {
     out.key("inputs")?;
     put_digest(out, &r.inputs)?;
@@ -280,6 +284,7 @@ fn put_top(out: &mut Writer, r: &Report) -> Result<(), NoMemory>
 /// The members from the suspects on, and the end.
 fn put_end(out: &mut Writer, r: &Report) -> Result<(), NoMemory>
     ensures adds { OnOk result (Adds out.old out.new (end_tokens r.now)) }
+    ensures suspects { OnOk result (All IsSuspect r.now.suspects) }
     ensures top { OnOk result (IsName r.now.top) }
 {
     out.key("suspects")?;
@@ -288,39 +293,14 @@ fn put_end(out: &mut Writer, r: &Report) -> Result<(), NoMemory>
     Ok(())
 }
 
-/// What the types say of names: nothing is done.
-fn see_names(names: &[Name])
-    ensures { All IsName names.now }
-{
-    for name in names {
-        let _bytes = name.as_bytes();
-    }
-}
-
-/// What the types say of a suspect: nothing is done.
-fn see_suspect(suspect: &ReportSuspect)
-    ensures { IsSuspect suspect.now }
-{
-    let _kind = suspect.kind.as_bytes();
-    let _label = suspect.label.as_bytes();
-    let _line = suspect.line;
-}
-
-/// What the types say of suspects: nothing is done.
-fn see_suspects(suspects: &[ReportSuspect])
-    ensures { All IsSuspect suspects.now }
-{
-    for suspect in suspects {
-        see_suspect(suspect);
-    }
-}
-
 fn put_members(out: &mut Writer, r: &Report) -> Result<(), NoMemory>
     requires { CanBeWritten r.now }
     ensures adds { OnOk result (Adds out.old out.new (report_tokens r.now)) }
     ensures clock { OnOk result (IfSome r.now.clock IsName) }
     ensures inputs { OnOk result (IsDigest r.now.inputs) }
+    ensures kinds { OnOk result (All IsName r.now.kinds) }
     ensures members { OnOk result (All (λ set. All IsWord set.members) r.now.sets) }
+    ensures suspects { OnOk result (All IsSuspect r.now.suspects) }
     ensures top { OnOk result (IsName r.now.top) }
 {
     out.begin_object()?;
@@ -339,8 +319,6 @@ fn json_of(alloc: Global, r: &Report) -> Result<Vec<u8>, NoMemory>
 {
     let mut out = Writer::new(Vec::new(alloc));
     put_members(&mut out, r)?;
-    see_names(r.kinds.as_slice());
-    see_suspects(r.suspects.as_slice());
     Ok(out.into_inner())
 }
 
