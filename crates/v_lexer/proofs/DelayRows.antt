@@ -1,9 +1,9 @@
 -- The two tokens of a real delay, and their places.
-use Rattle.std.proofs.Common.{rules, ◌≡◌, ℕ, ◌-◌, ◌≤◌, true, false, List, ◌∷◌, refl, sym, ap, subst, arith, Some, Result, Ok}
+use Rattle.std.proofs.Common.{rules, ◌≡◌, ℕ, ◌-◌, ◌≤◌, true, false, refl, sym, ap, subst, arith, Some, Result, Ok}
 use Rattle.std.specs.Prelude.{codes}
 use Rattle.v_syntax.specs.declared.token_kind.TokenKind.TheVariants as token
 use Rattle.v_syntax.specs.Bytes.{is_white, is_letter, is_decimal, is_mark}
-use Rattle.v_syntax.specs.Numbers.{is_number_rest, is_hexadecimal, is_wild, is_unknown}
+use Rattle.v_syntax.specs.Numbers.{is_number_rest, is_hexadecimal, is_wild}
 use Rattle.v_syntax.specs.Literals.{judge, digit_value}
 use Rattle.v_lexer.specs.declared.types.refusal.LexErr.{LexErr}
 use Rattle.v_lexer.specs.declared.pieces.Piece.TheVariants.{Number}

@@ -1,5 +1,5 @@
 -- Worked examples of what is read and ignored: a byte-order mark, `line` directives, attributes and real delays.
-use Rattle.std.proofs.Common.{◌≡◌, true, false, List, [], ◌∷◌, refl, Some, None}
+use Rattle.std.proofs.Common.{◌≡◌, true, false, ◌∷◌, refl, Some, None}
 use Rattle.std.specs.Prelude.{codes}
 use Rattle.v_syntax.specs.Bytes.{is_white, is_letter, is_decimal}
 use Rattle.v_lexer.specs.declared.pieces.Piece.TheVariants.{Blank, OpenComment, RealDelay}

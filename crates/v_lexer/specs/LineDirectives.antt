@@ -1,6 +1,6 @@
 -- What stands behind the word of a `line` directive (IEEE 1364-2005, 19.7): a number, a file's name in double quotes and a
 -- level, each behind white space.
-use Rattle.std.specs.Prelude.{ℕ, Bool, true, false, not, ◌&&◌, List, [], ◌∷◌, drop, ◌==◌, nat_le}
+use Rattle.std.specs.Prelude.{ℕ, Bool, false, not, ◌&&◌, List, [], ◌∷◌, drop, ◌==◌, nat_le}
 use Rattle.std.specs.List.{list_all, prefix_len}
 use Rattle.v_syntax.specs.Bytes.{is_white, is_decimal}
 use Rattle.v_syntax.specs.Literals.{skip_white}
