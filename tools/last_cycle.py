@@ -8,8 +8,8 @@ import re
 
 from cut_dump import stamps
 
-SECTION = re.compile(rb"\$(\S+)\s(?:(.*?)\s)?\$end(?=\s|$)", re.S)
-HEADER = re.compile(rb"\$enddefinitions\s(?:.*?\s)?\$end(?=\s|$)", re.S)
+SECTION = re.compile(rb"\$(\S+)\s(?:(.*?)\s)??\$end(?=\s|$)", re.S)
+HEADER = re.compile(rb"\$enddefinitions\s(?:.*?\s)??\$end(?=\s|$)", re.S)
 
 
 class NotThere(Exception):

@@ -132,16 +132,18 @@ def header_html(known):
         shown(known["top"]), counts_text(known["counts"]), rows)
 
 
+MEANINGS = (
+    '<p class="note">%s follows from lists of <code>localise find</code> that are whole: this is proved, and <code>localise check</code> tells it from the logs. '
+    "A count of places says how many right sides have to change, if nothing but right sides is wrong; a bug may be in more than one. %s is a guess from the "
+    "lists: which tests belong together, which bins are one family, the order of suspects, the number of bugs.</p>\n") % (badge("certified"), badge("likely"))
+
+
 def known_html(known, folder):
     """How many places and bugs there are, and what the two words mean."""
     least = known["certified"]
     link = " (%s)" % link_to(least["folder"] + "/", folder, "report, log and dumps") if least else ""
     likely = range_text(known["likely"]["least"], known["likely"]["most"], "bug")
-    return (
-        said("certified", shown(certified_text(known)) + link + ".") + (said("likely", likely + ".") if known["bins"] else "") +
-        '<p class="note">%s follows from lists of <code>localise find</code> that are whole: this is proved, and <code>localise check</code> tells it from '
-        'the logs. A count of places says how many right sides have to change, if nothing but right sides is wrong; a bug may be in more than one. %s is a guess '
-        "from the lists: which tests belong together, which bins are one family, the order of suspects, the number of bugs.</p>\n") % (badge("certified"), badge("likely"))
+    return said("certified", shown(certified_text(known)) + link + ".") + (said("likely", likely + ".") if known["bins"] else "") + MEANINGS
 
 
 def page_of(known, folder):

@@ -1,0 +1,420 @@
+#!/usr/bin/env python3
+"""Tests of tools/triage.py: `python3 tools/test_triage.py`. Most need no program: functions here stand for `sim` and `find`. With the built program
+(crates/localise/out/localise, or the one that the variable LOCALISE names) the pages of bench/regressions are made again, and have to be the same."""
+
+import argparse
+import contextlib
+import html.parser
+import importlib.util
+import io
+import json
+import os
+import random
+import re
+import sys
+import tempfile
+import unittest
+import unittest.mock
+
+HERE = os.path.dirname(os.path.abspath(__file__))
+TOP = os.path.dirname(HERE)
+sys.path.insert(0, HERE)
+import binning  # noqa: E402
+import case_of_test  # noqa: E402
+import cut_dump  # noqa: E402
+import last_cycle  # noqa: E402
+import triage  # noqa: E402
+import whole_files  # noqa: E402
+
+PROGRAM = os.environ.get("LOCALISE", os.path.join(TOP, "crates", "localise", "out", "localise"))
+HEAD = "$comment %s $end\n$scope module m $end\n$var wire 1 c clk $end\n$var wire 2 y y [1:0] $end\n$var wire 1 z z $end\n$upscope $end\n$enddefinitions $end\n"
+
+
+# ---- what stands for the program
+
+def samples(text):
+    """What a dump wants of `y` and `z` before each rising edge of `clk`; None for x."""
+    values, clock, found = {"y": "0", "z": "0"}, None, []
+    ends = cut_dump.stamps(text)
+    for start, end in zip(ends, ends[1:]):
+        words, before, rises = text[start:end].decode().split()[1:], dict(values), False
+        while words:
+            word = words.pop(0)
+            bits, code = (word[1:], words.pop(0)) if word[0] == "b" else (word[0], word[1:])
+            if code == "c":
+                rises, clock = clock == "0" and bits == "1", bits
+            else:
+                values[code] = bits
+        if rises:
+            found.append({name: None if "x" in it else int(it, 2) for name, it in before.items()})
+    return found
+
+
+def misses_of(text):
+    """Where outputs aren't 0, as the design has them: the cycle and its outputs."""
+    return next(((cycle, [name for name in "yz" if row[name]]) for cycle, row in enumerate(samples(text)) if row["y"] or row["z"]), None)
+
+
+def says_of(text):
+    """What a dump says in its comment of how the program is to answer."""
+    return json.loads(re.match(rb"\$comment (.*?) \$end", text)[1])
+
+
+def fake_sim(asked, text):
+    says = says_of(text)
+    if says.get("refused"):
+        raise cut_dump.Refused(says["refused"].encode() + b"\n", says.get("status", 3))
+    rows, miss = samples(text), misses_of(text)
+    lines = "".join("1 %d y=0 z=0\n" % number for number in range(len(rows))).encode()
+    return cut_dump.Simulation(lines, len(rows), miss[0], miss[1][0]) if miss else cut_dump.Simulation(lines, len(rows))
+
+
+class FakeFind:
+    """Lists what a dump says of the outputs that are wrong in its last cycle; all that is wrong at once is explained by what explains each."""
+
+    def __init__(self):
+        self.calls = []
+
+    def run(self, asked, room, dumps, size, *further):
+        texts = [whole_files.load(os.path.join(room, it)) for it in dumps]
+        self.calls.append((len(dumps), size))
+        found = set.intersection(*map(self.explain, texts))
+        for text in texts:
+            ending = says_of(text).get("ending")
+            if ending == "killed":
+                raise case_of_test.Killed("find was ended by signal 9")
+            if ending and not ending.startswith("front"):
+                raise case_of_test.NoAnswer(ending)
+        self.leave(room, sorted(found), dict(zip(further, further[1:])).get("--waves"))
+        last = says_of(texts[0]).get("ending", "complete %d" % len(found)) if size == "1" else "front 1 sets"
+        return last, "".join("set {%d}\n  %d stmt %d m\n" % (it, it, it + 1) for it in sorted(found))
+
+    def leave(self, room, found, waves):
+        """Writes a report of these suspects, a log, and waves where they are wanted."""
+        suspects = [{"kind": "stmt", "label": "m", "line": number + 1} for number in range(1, 9)]
+        report = {"clock": "clk", "ending": "complete", "inputs": "0" * 64, "kinds": ["stmt"], "size": 1, "suspects": suspects, "top": "m", "version": 1,
+                  "sets": [{"members": [it], "values": [[["0"]]]} for it in found]}
+        names = ["wave-%d-1.vcd" % number for number in range(1, len(found) + 1)] if waves else []
+        for name, text in [("report.json", json.dumps(report)), ("log", "")] + [(it, "") for it in names]:
+            with open(os.path.join(room, name), "w") as file:
+                file.write(text)
+
+    def explain(self, text):
+        says, (cycle, outputs) = says_of(text), misses_of(text)
+        lists = [says.get(name, []) for name in outputs] if cycle == says["at"] else [says.get("made", [])]
+        return set.intersection(*map(set, lists))
+
+
+def dump_of(says, wrong="y", at=3, cycles=5):
+    """A dump that wants 1 of some outputs in a cycle, and says how the program is to answer."""
+    stamps = []
+    for cycle in range(cycles):
+        values = ["b%s y" % ("1" if cycle == at and "y" in wrong else "0"), "%dz" % (cycle == at and "z" in wrong)]
+        stamps.append("#%d\n0c\n%s\n#%d\n1c\n" % (10 * cycle, "\n".join(values), 10 * cycle + 5))
+    return HEAD % json.dumps({"at": at, **says}) + "".join(stamps)
+
+
+class Room(unittest.TestCase):
+    """A folder with a design, and the steps run in it."""
+
+    def setUp(self):
+        room = tempfile.TemporaryDirectory(prefix="triage of a night ")
+        self.addCleanup(room.cleanup)
+        self.room, self.find = room.name, FakeFind()
+        for name, it in (("cut_dump.simulated", fake_sim), ("case_of_test.run_find", self.find.run), ("asked_bin.run_find", self.find.run)):
+            patch = unittest.mock.patch(name, it)
+            patch.start()
+            self.addCleanup(patch.stop)
+        here = os.getcwd()
+        os.chdir(self.room)
+        self.addCleanup(os.chdir, here)
+        self.write("m.v", "".join("line %d\n" % number for number in range(1, 9)))
+
+    def write(self, name, text):
+        with open(name, "w") as file:
+            file.write(text)
+
+    def step(self, *words):
+        """A step's status, what it prints, and what it says of errors."""
+        said, errors = io.StringIO(), io.StringIO()
+        with contextlib.redirect_stdout(said), contextlib.redirect_stderr(errors):
+            status = triage.main(list(words))
+        return status, said.getvalue(), errors.getvalue()
+
+    def case(self, name, says, *further, **of):
+        """Makes the case of a dump, and gives it with the step's answer."""
+        self.write(name + ".vcd", dump_of(says, **of))
+        answer = self.step("case", "m.v", "m", name + ".vcd", name + ".case", "--clock", "clk", *further)
+        with open(name + ".case") as file:
+            return json.load(file), answer
+
+    def known(self, *asked):
+        """What the page has to say as JSON."""
+        self.assertEqual(self.step("page", "bins.json", *asked, "--json", "page.json", "--html", "page.html")[0], 0)
+        with open("page.json") as file:
+            return json.load(file)
+
+
+# ---- a test
+
+class Cases(Room):
+    def test_a_failure_is_cut_at_its_first_miss_and_has_a_made_up_one(self):
+        case, answer = self.case("t", {"y": [2, 4], "made": [4]})
+        self.assertEqual(answer, (0, "", ""))
+        self.assertEqual((case["answer"], case["cycle"], case["names"]), ("fails", 3, ["y", "z", "clk"]))
+        text = whole_files.load("t.vcd")
+        self.assertEqual(len(samples(text[: case["end"]])), 4)
+        (unit,) = case["units"]
+        self.assertEqual((unit["outputs"], unit["opened"], unit["suspects"], unit["made_up"]["suspects"]), (["y"], [], [2, 4], [4]))
+        self.assertLess(unit["made_up"]["cycle"], 3)
+        self.assertEqual(self.find.calls, [(1, "1"), (1, "1")])
+
+    def test_nothing_can_be_made_up_before_the_first_cycle(self):
+        self.assertIsNone(self.case("t", {"y": [2]}, at=0)[0]["units"][0]["made_up"])
+
+    def test_outputs_that_no_one_suspect_explains_are_asked_for_one_by_one(self):
+        case, _ = self.case("t", {"y": [2, 4], "z": [5]}, wrong="yz")
+        self.assertEqual([(it["outputs"], it["opened"], it["suspects"]) for it in case["units"]], [(["y"], ["z"], [2, 4]), (["z"], ["y"], [5])])
+
+    def test_outputs_that_one_suspect_explains_are_one_unit(self):
+        case, _ = self.case("t", {"y": [2, 4], "z": [4]}, wrong="yz")
+        self.assertEqual([(it["outputs"], it["suspects"]) for it in case["units"]], [(["y", "z"], [4])])
+
+    def test_passing_refused_unfinished_and_killed(self):
+        for name, says, wanted in (("passes", {"at": 9}, ("passes", "")), ("dump", {"refused": "input T2 1 7"}, ("refused", "input T2 1 7")),
+                                   ("limit", {"y": [1], "ending": "limit Z5"}, ("refused", "limit Z5")),
+                                   ("front", {"y": [1], "ending": "front 1 budget"}, ("unfinished", "front 1 budget"))):
+            case, answer = self.case(name, says, wrong="" if name == "passes" else "y")
+            self.assertEqual(((case["answer"], case["line"]), answer[0]), (wanted, 0))
+        case, answer = self.case("killed", {"y": [1], "ending": "killed"})
+        self.assertEqual((case["answer"], answer[0]), ("killed", 1))
+
+    def test_wrong_words_leave_nothing(self):
+        self.write("t.vcd", dump_of({"refused": "usage words", "status": 2}))
+        status, _, errors = self.step("case", "m.v", "m", "t.vcd", "t.case", "--clock", "clk", "--no-such-option")
+        self.assertEqual((status, errors), (2, "triage.py: sim refuses its arguments: usage words\n"))
+        self.assertFalse(os.path.exists("t.case"))
+        with self.assertRaises(SystemExit), contextlib.redirect_stderr(io.StringIO()):
+            triage.main(["case", "m.v", "m", "t.vcd", "t.case", "--size=2"])
+
+    def test_options_of_find_are_handed_through_as_they_are_given(self):
+        case, _ = self.case("t", {"y": [2]}, "--suspects", "block", "--x-inputs=free", "--scope", "u.v")
+        self.assertEqual(case["options"], ["--suspects", "block", "--x-inputs=free", "--scope", "u.v"])
+
+    def test_a_dump_that_is_not_there_is_refused(self):
+        self.assertEqual(self.step("case", "m.v", "m", "none.vcd", "none.case")[0], 0)
+        self.assertEqual(whole_files.read_json("none.case", "localise-case 1")["line"], "none.vcd: can't be read: No such file or directory")
+
+    def test_a_second_start_runs_nothing_but_what_was_killed(self):
+        self.case("t", {"y": [2]}), self.case("k", {"y": [2], "ending": "killed"})
+        self.find.calls.clear()
+        self.case("t", {"y": [2]})
+        self.assertEqual(self.find.calls, [])
+        self.case("k", {"y": [2], "ending": "killed"})
+        self.assertEqual(len(self.find.calls), 1)
+
+    def test_a_case_of_another_run_is_not_written_over(self):
+        self.case("t", {"y": [2]})
+        before = whole_files.load("t.case")
+        self.write("t.vcd", dump_of({"y": [3]}))
+        status, _, errors = self.step("case", "m.v", "m", "t.vcd", "t.case", "--clock", "clk")
+        self.assertEqual((status, whole_files.load("t.case")), (2, before))
+        self.assertIn("t.case: is of another run: its dump's digest differs", errors)
+
+
+# ---- a regression
+
+class Regressions(Room):
+    def regression(self):
+        """Two bugs, at y and z, and of each other kind of test one."""
+        for number in range(3):
+            self.case("a %d" % number, {"y": [2, 4], "made": [4]}), self.case("b %d" % number, {"z": [6, 7], "made": [7]}, wrong="z")
+        self.case("c", {"at": 9}, wrong=""), self.case("d", {"refused": "input T2 1 7"})
+        self.case("e", {"y": [2], "ending": "front 1 budget"}), self.case("f", {"y": []})
+        self.write("g.case", "{")
+        return self.step("bins", "bins.json", ".")
+
+    def test_bins_and_all_others(self):
+        status, said, _ = self.regression()
+        self.assertEqual((status, said), (0, "8 dumps fail (1 not finished), 1 passes, 1 refused, 1 without an answer: 2 bins\n"))
+        known = self.known()
+        self.assertEqual([[row["number"] for row in it["suspects"]] for it in known["bins"]], [[2, 4], [6, 7]])
+        self.assertEqual([(row["hits"], row["of"]) for row in known["bins"][0]["suspects"]], [(0, 3), (3, 3)])
+        self.assertEqual(known["bins"][0]["suspects"][0]["text"], "line 3")
+        self.assertEqual((known["unfinished"][0]["bins"], known["passing"], known["unexplained"][0]["dump"]), ([1], ["c.vcd"], "f.vcd"))
+        self.assertEqual(known["likely"], {"least": 2, "most": 2})
+
+    def test_asked_bins_and_the_least_number_of_places(self):
+        self.regression()
+        for what in ("1", "2", "least"):
+            self.assertEqual(self.step("ask", "bin " + what, "bins.json", what)[0], 0)
+        self.find.calls.clear()
+        self.assertEqual(self.step("ask", "bin 1", "bins.json", "1")[0], 0)
+        self.assertEqual(self.find.calls, [])
+        known = self.known("bin 1", "bin 2", "bin least")
+        self.assertEqual((known["certified"]["least"], known["certified"]["line"]), (2, "complete 0"))
+        self.assertEqual([it["joint"]["line"] for it in known["bins"]], ["complete 2", "complete 2"])
+
+    def test_an_answer_of_other_tests_is_left_out(self):
+        self.regression()
+        self.step("ask", "one", "bins.json", "1")
+        self.case("a 3", {"y": [2, 4]})
+        self.step("bins", "bins.json", ".")
+        _, said, errors = self.step("page", "bins.json", "one")
+        self.assertIn("one is of other tests than these bins", errors)
+        self.assertIn("bin 1 (family 1): 4 dumps", said)
+
+    def test_where_no_test_fails(self):
+        self.case("c", {"at": 9}, wrong="")
+        self.assertEqual(self.step("bins", "bins.json", "."), (1, "0 dumps fail, 1 passes, 0 refused: 0 bins\n",
+                                                              "triage.py: no test fails: there is nothing to put into bins\n"))
+        os.remove("c.case")
+        self.case("d", {"refused": "limit Z1"})
+        status, _, errors = self.step("bins", "bins.json", ".")
+        self.assertEqual((status, errors), (1, "triage.py: no test fails, but one has no answer, as d.vcd: limit Z1: there is nothing to put into bins\n"))
+        self.assertFalse(os.path.exists("bins.json"))
+
+    def test_two_runs_in_one_folder(self):
+        self.case("a", {"y": [2]})
+        self.write("m.v", "another\n")
+        self.case("b", {"y": [2]})
+        status, _, errors = self.step("bins", "bins.json", ".")
+        self.assertEqual((status, errors), (2, "triage.py: ./a.case and ./b.case are of two runs: their design's digest differs\n"))
+
+    def test_many_tests(self):
+        """Two thousand tests, of four bugs with noise."""
+        chance = random.Random(1)
+        for number in range(2000):
+            bug = number % 4
+            listed = [10 * bug + 1] + [10 * bug + it for it in (2, 3, 4) if chance.random() < 0.5]
+            unit = {"outputs": ["y%d" % bug], "opened": [], "suspects": listed, "ending": "complete 1", "made_up": None}
+            case = {"form": "localise-case 1", "design": "m.v", "design_digest": "", "top": "m", "clock": "", "options": [], "dump": "%d.vcd" % number,
+                    "dump_digest": "", "answer": "fails", "line": "", "cycle": 3, "end": 0, "names": ["y"], "units": [unit],
+                    "suspects": {str(it): {"kind": "stmt", "line": 1, "label": "m"} for it in listed}}
+            self.write("%d.case" % number, json.dumps(case))
+        self.assertEqual(self.step("bins", "bins.json", ".")[:2], (0, "2000 dumps fail, 0 pass, 0 refused: 4 bins\n"))
+
+
+# ---- bins
+
+class Bins(unittest.TestCase):
+    def members(self, lists):
+        return sorted(sorted(it.units) for it in binning.bins_of(lists))
+
+    def test_what_a_bin_is_worth(self):
+        """One list with one suspect of two: 1/2 each. Two equal ones: 3/8 each, and the second sits down by the first with weight 1."""
+        self.assertAlmostEqual(binning.worth(1, {5: 1}, 2), 2 * -0.6931471805599453)
+        self.assertAlmostEqual(binning.worth(2, {5: 2}, 2), 2 * -0.9808292530117262)
+
+    def test_lists_without_a_common_suspect_are_never_joined(self):
+        self.assertEqual(self.members([[1, 2], [3, 4], [1, 2], [3, 4]]), [[0, 2], [1, 3]])
+        self.assertEqual(self.members([[1], [2], [3]]), [[0], [1], [2]])
+
+    def test_lists_that_differ_a_little_are_joined(self):
+        self.assertEqual(self.members([[1, 2, 3]] * 3 + [[1, 2]] * 3 + [[7, 8, 9]] * 3), [[0, 1, 2, 3, 4, 5], [6, 7, 8]])
+
+    def test_a_bin_keeps_a_suspect_that_all_lists_have(self):
+        chance = random.Random(7)
+        for _ in range(30):
+            lists = [sorted(chance.sample(range(9), chance.randrange(1, 5))) for _ in range(20)]
+            for it in binning.bins_of(lists):
+                self.assertEqual(it.shared, frozenset.intersection(*(frozenset(lists[place]) for place in it.units)))
+                self.assertTrue(it.shared)
+
+    def test_the_order_of_tests_does_nothing(self):
+        chance = random.Random(5)
+        for _ in range(20):
+            lists = [sorted(chance.sample(range(8), chance.randrange(1, 4))) for _ in range(15)]
+            order = chance.sample(range(15), 15)
+            shuffled = binning.bins_of([lists[it] for it in order])
+            self.assertEqual(self.members(lists), sorted(sorted(order[place] for place in it.units) for it in shuffled))
+
+    def test_suspects_that_explain_anything_come_last(self):
+        made_up = binning.tallied([("y", [2]), ("y", [2, 9]), ("z", [5])])
+        self.assertEqual(binning.ranked({2, 5, 9}, {"y"}, made_up), [(5, 0, 2), (9, 1, 2), (2, 2, 2)])
+        self.assertEqual(binning.ranked({5, 2}, {"q"}, made_up), [(2, 0, 0), (5, 0, 0)])
+
+    def test_families(self):
+        """Bins are of one family where they share a suspect that made-up failures rule in rarely, and not by one that explains anything."""
+        bins = [binning.Bin(key, [key], {}, frozenset(shared)) for key, shared in enumerate([{1, 2}, {2, 3}, {3, 4}])]
+        made_up = binning.tallied([("y", [3])] * 5)
+        self.assertEqual(binning.families_of(bins, [{"y"}] * 3, made_up), [1, 1, 2])
+        self.assertEqual(binning.families_of(bins, [{"y"}] * 3, {}), [1, 2, 3])
+
+
+# ---- the last cycle
+
+class LastCycles(unittest.TestCase):
+    TEXT = b"$scope module t $end\n$var wire 1 a y $end\n$upscope $end\n$scope module m $end\n$var wire 1 ! clk $end\n$var reg 4 b y [3:0] $end\n" \
+        b"$var wire 4 b q $end\n$upscope $end\n$enddefinitions $end\n#0\n0!\nb11 b\n#5\n1!\n#10\n0!\n#15\n1!\n"
+
+    def test_the_change_stands_before_the_last_stamp_of_a_clock_and_else_at_the_end(self):
+        text = self.TEXT.replace(b"$var wire 4 b q $end\n", b"")
+        self.assertTrue(last_cycle.with_last(text, {"y": 5}, ["y", "clk"], True).endswith(b"#10\n0!\nb0101 b\n#15\n1!\n"))
+        self.assertTrue(last_cycle.with_last(text, {"y": None}, ["y"], False).endswith(b"\nbx a\n"))
+
+    def test_a_code_that_is_of_two_ports_is_told_apart(self):
+        text = last_cycle.with_last(self.TEXT, {"y": 5}, ["y", "clk"], True)
+        self.assertIn(b"$var reg 4 own0 y [3:0] $end\n$var wire 4 b q $end", text)
+        self.assertIn(b"#0\n0!\nb11 b\nb11 own0\n", text)
+        self.assertTrue(text.endswith(b"0!\nb0101 own0\n#15\n1!\n"))
+
+    def test_where_no_scope_has_the_ports(self):
+        with self.assertRaises(last_cycle.NotThere):
+            last_cycle.with_last(self.TEXT, {"y": 5}, ["y", "none"], True)
+
+
+# ---- the page
+
+class Balanced(html.parser.HTMLParser):
+    """Collects the tags that are open, and the links."""
+
+    def __init__(self, text):
+        super().__init__()
+        self.opened, self.links = [], []
+        self.feed(text)
+
+    def handle_starttag(self, tag, attributes):
+        self.links += [value for name, value in attributes if name == "href"]
+        if tag not in ("meta", "br"):
+            self.opened.append(tag)
+
+    def handle_endtag(self, tag):
+        if self.opened.pop() != tag:
+            raise AssertionError("%s ends out of order" % tag)
+
+
+class Pages(Regressions):
+    def test_the_page_is_well_formed_and_its_links_are_there(self):
+        self.regression()
+        self.step("ask", "bin <1>", "bins.json", "1")
+        self.known("bin <1>")
+        with open("page.html") as file:
+            page = Balanced(file.read())
+        self.assertEqual(page.opened, [])
+        self.assertIn("bin%20%3C1%3E/waves/suspect-2.vcd", page.links)
+
+    def test_certified_and_likely_are_told_apart_by_word_and_class(self):
+        self.regression()
+        self.step("ask", "least", "bins.json", "least")
+        self.known("least")
+        with open("page.html") as file:
+            text = file.read()
+        self.assertRegex(text, r'<div class="said certified"><span class="what certified">certified</span>at least 2 places \(stmt\)')
+        self.assertRegex(text, r'<div class="said likely"><span class="what likely">likely</span>2 bugs')
+
+
+@unittest.skipUnless(os.path.exists(PROGRAM), "the program isn't built")
+class WithTheProgram(unittest.TestCase):
+    def test_the_pages_of_five_regressions_are_the_same_whole(self):
+        spec = importlib.util.spec_from_file_location("bench_triage", os.path.join(TOP, "bench", "triage.py"))
+        bench = importlib.util.module_from_spec(spec)
+        spec.loader.exec_module(bench)
+        asked = argparse.Namespace(program=os.path.abspath(PROGRAM), jobs=4)
+        for name in bench.PLANTED:
+            with contextlib.redirect_stdout(io.StringIO()) as said:
+                self.assertTrue(bench.same_pages(asked, name), said.getvalue())
+
+
+if __name__ == "__main__":
+    unittest.main()
