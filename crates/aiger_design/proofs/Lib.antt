@@ -1,0 +1,9 @@
+pub mod Ranges
+pub mod Words
+pub mod Lists
+pub mod Once
+pub mod Fits
+pub mod Sections
+pub mod FileNumbers
+pub mod FileLaws
+pub mod Examples

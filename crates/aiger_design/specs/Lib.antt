@@ -1,0 +1,9 @@
+pub mod Numbering
+pub mod Signals
+pub mod Values
+pub mod Drivers
+pub mod File
+pub mod Stands
+pub mod Reads
+pub mod Means
+pub mod Laws
