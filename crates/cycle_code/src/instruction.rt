@@ -5,7 +5,7 @@ use design_core::{BinaryOp, UnaryOp};
 ///
 /// The commonest operators have instructions of their own, from `Add` to `Unlike`, which run without a look at an operator. They
 /// take no signs: at the widths that these operators have, signs change nothing.
-#[derive(Clone, Copy, Debug)]
+#[derive(Clone, Copy)]
 pub enum Instruction {
     Jump {
         next: u32,

@@ -50,13 +50,15 @@ pub computed-word-requires-clause-fits : goal.computed-word-requires-clause-fits
 computed-word-requires-clause-fits c =
     let p : Program = program_of c.args.code.now in
     let read : Bor Typed = c.index.result.now in
-    let t = tree-read p c.args.code.now.trees.items c.args.tree (width_in p.widths c.args.to) read c.requires.fits refl c.index.ensures in
+    let t = tree-read p c.args.code.now.trees.items c.args.tree (width_in p.widths c.args.to) read c.requires.fits refl
+    c.index.ensures in
     and_from (typed_fits (signals_of p) read.now) (read.now.width == read.now.width) t.1 (eq-eqb read.now.width read.now.width refl)
 
 pub write-requires-clause-width : goal.write-requires-clause-width
 write-requires-clause-width c =
     let p : Program = program_of c.args.code.now in
-    let t = tree-read p c.args.code.now.trees.items c.args.tree (width_in p.widths c.args.to) c.index.result.now c.requires.fits refl c.index.ensures in
+    let t = tree-read p c.args.code.now.trees.items c.args.tree (width_in p.widths c.args.to) c.index.result.now
+    c.requires.fits refl c.index.ensures in
     c.computed-word.ensures.width ∙ t.2 ∙ ap (λ ws. width_in ws c.args.to) (sym c.requires.widths)
 
 pub returns-clause-value : goal.returns-clause-value
@@ -64,7 +66,8 @@ returns-clause-value c =
     let p : Program = program_of c.args.code.now in
     let V : Valuation = valuation_of c.args.cells.now in
     let to = c.args.to in
-    let t = tree-read p c.args.code.now.trees.items c.args.tree (width_in p.widths to) c.index.result.now c.requires.fits refl c.index.ensures in
+    let t = tree-read p c.args.code.now.trees.items c.args.tree (width_in p.widths to) c.index.result.now c.requires.fits refl
+    c.index.ensures in
     c.write.ensures.value
     ∙ ap (λ ws. with_held ws to (value_of c.computed-word.result) V) c.requires.widths
     ∙ ap (λ n. with_held_in p to n V) c.computed-word.ensures.value
