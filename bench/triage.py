@@ -50,20 +50,23 @@ CLOCK = ["--clock", "clk"]
 # the designs of bench/regressions: what the right text has, and what stands there
 PLANTED = {
     "spi_master": [
-        ("slow ? 2'd1 : 2'd0;", "slow ? 2'd2 : 2'd0;"), ("taken <= {taken[6:0], miso};", "taken <= {taken[6:0], mosi};"),
-        ("finished <= left == 1;", "finished <= left == 2;"), ("shift <= {shift[6:0], 1'b0};", "shift <= {shift[6:0], shift[7]};")],
+        ("wait_for <= period;\n                    high <= 0;", "wait_for <= 0;\n                    high <= 0;"),
+        ("taken <= {taken[6:0], miso};", "taken <= {taken[6:0], miso || left == 1};"),
+        ("finished <= left == 1;", "finished <= left == 1 && !slow;"), ("shift <= {shift[6:0], 1'b0};", "shift <= {shift[6:0], shift[7]};")],
     "pwm": [
-        ("assign second = counter < width_b;", "assign second = counter <= width_b;"), ("width_a <= next_a;", "width_a <= next_b;"),
+        ("default: scale <= value[1:0];", "default: scale <= value[2:1];"), ("width_a <= next_a;", "width_a <= next_b;"),
         ("pending <= ends || (pending && !clear);", "pending <= (ends || pending) && !clear;")],
-    "queue": [("total <= total + out;", "total <= total + in;"), ("|| (push && full) ||", "|| (push && almost) ||")],
+    "queue": [("head <= tail;", "head <= tail + 1;"), ("lost <= push && full;", "lost <= push && almost;")],
     "crossing": [
-        ("time_of_next = 3;", "time_of_next = 2;"), ("(wanted && state != STOP);", "(wanted && state != READY);"),
-        ("if (car && green)", "if (car && !red)")],
+        ("time_of_next = 3;", "time_of_next = 2;"), ("(wanted && state != STOP);", "(wanted && state != READY);"), ("cars != 3", "cars != 2")],
     "unit": [
         ("+ {4'b0, subtracts};", "+ 5'd0;"), ("value = {1'b0, accumulator[3:1]};", "value = {accumulator[3], accumulator[3:1]};"),
-        ("odd <= ^value;", "odd <= ^accumulator;"), ("carried <= accumulator[3];", "carried <= accumulator[2];")],
+        ("carried <= accumulator[3];", "carried <= accumulator[2];")],
 }
-RECORDED = {"spi_master": (8, 48), "pwm": (8, 40), "queue": (8, 32), "crossing": (8, 48), "unit": (8, 32)}
+# the cycles of a test, and the tests: such that each bug is the first to show in some, and one of `unit` passes
+RECORDED = {
+    "spi_master": (60, [1, 2, 3, 4, 5, 7, 17, 20, 35, 43]), "pwm": (40, [1, 2, 3, 4, 5, 6, 9, 17]), "queue": (40, [1, 2, 3, 4, 5, 6]),
+    "crossing": (60, [1, 2, 3, 4, 6, 8, 9, 25]), "unit": (40, [1, 2, 3, 5, 7, 9, 14, 17])}
 
 # what a right side becomes
 CHANGES = [(r" \+ ", " - "), (r" - ", " + "), (" && ", " || "), (r" \|\| ", " && "), (" == ", " != "), (" < ", " <= "), (" & ", " | "), (r" \| ", " & "),
@@ -171,21 +174,21 @@ def bugs_of(name):
 
 # ---- tests
 
-def record(text, name, tests, cycles, room):
-    """Writes dumps of random tests of a right text into a folder."""
+def record(text, name, seeds, cycles, room):
+    """Writes dumps of random tests of a right text into a folder, one for each seed."""
     made = os.path.join(room, "right.v")
     with open(made, "w") as file:
         file.write(text)
     with open(os.path.join(room, "test.v"), "w") as file:
         file.write(test_text(name, cycles, made))
     subprocess.run(["iverilog", "-g2005", "-o", "run", "test.v", "right.v"], cwd=room, check=True)
-    for number in range(1, tests + 1):
+    for number in seeds:
         subprocess.run(["vvp", "-n", "run", "+dump", "+seed=%d" % number], cwd=room, check=True, stdout=subprocess.DEVNULL)
         with open(os.path.join(room, "dump.vcd")) as dump, open(os.path.join(room, "t%02d.vcd" % number), "w") as file:
             file.write(re.sub(r"\$(date|version)\s.*?\$end\n", "", dump.read(), flags=re.S))
     for rest in ("dump.vcd", "run", "test.v", "right.v"):
         os.remove(os.path.join(room, rest))
-    return ["t%02d.vcd" % number for number in range(1, tests + 1)]
+    return ["t%02d.vcd" % number for number in seeds]
 
 
 def step(program, room, *words):
@@ -248,7 +251,7 @@ def by_output(units):
 def measured(asked, name, text, bugs, room):
     """What is measured of one design with these bugs."""
     wrong = with_bugs(text, bugs)
-    dumps = record(text, name, asked.tests, asked.cycles, room)
+    dumps = record(text, name, range(1, asked.tests + 1), asked.cycles, room)
     with open(os.path.join(room, name + ".v"), "w") as file:
         file.write(wrong)
     begun = time.perf_counter()
@@ -353,7 +356,8 @@ def record_pages(asked, name):
     tests = os.path.join(folder, "tests")
     shutil.rmtree(tests, ignore_errors=True)
     os.makedirs(tests)
-    record(right_text(name), name, *RECORDED[name], tests)
+    cycles, seeds = RECORDED[name]
+    record(right_text(name), name, seeds, cycles, tests)
     with tempfile.TemporaryDirectory() as room:
         for it in page_of(asked.program, name, asked.jobs, room):
             shutil.copy(os.path.join(room, it), folder)

@@ -48,8 +48,14 @@ def bin_entry(it, units, made_up):
     """A bin as it stands in the file, but for its number and its family."""
     of = sorted((units[place] for place in it.units), key=lambda unit: (unit["dump"], unit["outputs"]))
     outputs = sorted({name for unit in of for name in unit["outputs"]})
-    ranked = [{"number": number, "hits": hits, "of": number_of} for number, hits, number_of in binning.ranked(it.shared, outputs, made_up)]
-    return {"tests": tests_of(of), "outputs": outputs, "first_outputs": first_outputs(of), "look_at": to_look_at(of)["dump"], "suspects": ranked, "units": of}
+    mostly = {number for number, count in it.counts.items() if 2 * count >= len(of)} - it.shared
+    return {"tests": tests_of(of), "outputs": outputs, "first_outputs": first_outputs(of), "look_at": to_look_at(of)["dump"], "units": of,
+            "suspects": rows_of(it.shared, it, outputs, made_up), "mostly": rows_of(mostly, it, outputs, made_up)}
+
+
+def rows_of(suspects, it, outputs, made_up):
+    """Suspects of a bin, the likeliest first: how many lists have each, and how many of the failures that were made up at its outputs it explains."""
+    return [{"number": number, "lists": it.counts[number], "hits": hits, "of": of} for number, hits, of in binning.ranked(suspects, outputs, made_up)]
 
 
 def first_outputs(units):

@@ -201,9 +201,13 @@ class Cases(Room):
         case, _ = self.case("t", {"y": [2]}, "--suspects", "block", "--x-inputs=free", "--scope", "u.v")
         self.assertEqual(case["options"], ["--suspects", "block", "--x-inputs=free", "--scope", "u.v"])
 
-    def test_a_dump_that_is_not_there_is_refused(self):
-        self.assertEqual(self.step("case", "m.v", "m", "none.vcd", "none.case")[0], 0)
-        self.assertEqual(whole_files.read_json("none.case", "localise-case 1")["line"], "none.vcd: can't be read: No such file or directory")
+    def test_a_dump_that_is_not_there_is_tried_again(self):
+        os.mkdir("cases")
+        self.assertEqual(self.step("case", "m.v", "m", "late.vcd", "cases", "--clock", "clk")[0], 1)
+        self.assertEqual(whole_files.read_json("cases/late.case", "localise-case 1")["line"], "late.vcd: can't be read: No such file or directory")
+        self.write("late.vcd", dump_of({"y": [2]}))
+        self.assertEqual(self.step("case", "m.v", "m", "late.vcd", "cases", "--clock", "clk")[0], 0)
+        self.assertEqual(whole_files.read_json("cases/late.case", "localise-case 1")["answer"], "fails")
 
     def test_a_second_start_runs_nothing_but_what_was_killed(self):
         self.case("t", {"y": [2]}), self.case("k", {"y": [2], "ending": "killed"})

@@ -7,15 +7,16 @@
     tools/triage.py page BINS [ASKED..] [--html OUT] [--json OUT]
 
 `case` looks at one test: `sim` says where its first output is wrong, the dump is cut there, and `find --size 1` lists the single suspects that explain
-it; then the same of a failure that is made up. OUT has what was found, also where the test passes, or is refused. `bins` puts the tests into bins by
-these lists; a CASE may be a folder, which stands for its files that end in `.case`. `ask` asks for all tests of bin N together, or for the least number
-of places that have to be wrong; it leaves a folder. `page` prints what is known, and writes it as a page or as JSON.
+it; then the same of a failure that is made up. OUT has what was found, also where the test passes, or is refused; where OUT is a folder, NAME.case in
+it for a dump NAME.vcd. `bins` puts the tests into bins by these lists; a CASE may be a folder, which stands for its files that end in `.case`. `ask`
+asks for all tests of bin N together, or for the least number of places that have to be wrong; it leaves a folder. `page` prints what is known, and
+writes it as a page or as JSON.
 
 Options that aren't named here are handed through to `find`, as they are given. Each file, and the folder, is there whole or not at all, and what stands
 is not made again: the same command goes on after a break.
 
-The status is 0; 1 where a run of the program was ended by a signal (the same command tries again), and of `bins` where no test fails; 2 where the
-arguments are wrong, or a file can't be read or is of another run, which standard error says.
+The status is 0; 1 where a run of the program was ended by a signal, or the dump can't be read (the same command tries again), and of `bins` where no
+test fails; 2 where the arguments are wrong, or another file can't be read or is of another run, which standard error says.
 """
 
 import argparse
@@ -29,7 +30,7 @@ import asked_bin  # noqa: E402
 import bins_of_tests  # noqa: E402
 import triage_page  # noqa: E402
 import triage_text  # noqa: E402
-from case_of_test import case_of  # noqa: E402
+from case_of_test import Case, case_of  # noqa: E402
 from report import design_lines  # noqa: E402
 from whole_files import Problem, digest, json_text, load, read_json, write_whole  # noqa: E402
 
@@ -47,10 +48,10 @@ def say(words, *of):
 
 # ---- case
 
-def question_of(asked):
+def question_of(asked, text):
     """What a case is of."""
     return {"design": asked.design, "design_digest": digest(load(asked.design)), "top": asked.top, "clock": asked.clock, "options": asked.options,
-            "dump": asked.dump, "dump_digest": digest(load(asked.dump))}
+            "dump": asked.dump, "dump_digest": digest(text)}
 
 
 def is_there(out, question):
@@ -58,26 +59,31 @@ def is_there(out, question):
     if not os.path.exists(out):
         return False
     stands = read_json(out, bins_of_tests.CASE)
+    if stands["answer"] == "killed":
+        return False
     other = next((name for name in question if stands.get(name) != question[name]), None)
     if other:
         raise Problem("%s: is of another run: its %s differs; take another folder, or remove it" % (out, other.replace("_", "'s ")))
-    return stands["answer"] != "killed"
+    return True
+
+
+def out_of(asked):
+    """The file of the case: in a folder it is named for the dump."""
+    name = os.path.splitext(os.path.basename(asked.dump))[0] + ".case"
+    return os.path.join(asked.out, name) if os.path.isdir(asked.out) else asked.out
 
 
 def make_case(asked):
-    """Leaves the case of a test."""
+    """Leaves the case of a test. A dump that can't be read may be there later, so it is tried again as what was killed is."""
+    asked.out, case = out_of(asked), None
     try:
-        question = question_of(asked)
+        text = load(asked.dump)
     except Problem as problem:
-        if not os.path.exists(asked.design):
-            raise
-        question = dict(question_of(argparse.Namespace(**{**vars(asked), "dump": os.devnull})), dump=asked.dump)
-        unread = {"answer": "refused", "line": str(problem), "cycle": None, "end": None, "names": [], "units": [], "suspects": {}}
-        write_whole(asked.out, json_text({"form": bins_of_tests.CASE, **question, **unread}))
-        return 0
+        text, case = b"", Case("killed", str(problem))
+    question = question_of(asked, text)
     if is_there(asked.out, question):
         return 0
-    case = case_of(asked)
+    case = case or case_of(asked)
     write_whole(asked.out, json_text({"form": bins_of_tests.CASE, **question, **dataclasses.asdict(case)}))
     if case.answer == "killed":
         say("%s: %s", asked.dump, case.line)

@@ -20,7 +20,7 @@ main.triage { display: block; padding: 0 1.2rem 1.5rem; }
 table.bins { width: 100%; } table.bins td, table.bins th { text-align: left; white-space: normal; vertical-align: top; padding: .4rem .6rem; }
 table.bins td, table.bins tbody th { font-family: inherit; font-size: .9375rem; } table.bins .n { white-space: nowrap; }
 ol.ranked { list-style: none; margin: .2rem 0 0; padding: 0; } ol.ranked li { padding: .12rem 0 .12rem .5rem; border-left: 3px solid var(--ink); }
-ol.ranked code { overflow-wrap: anywhere; } ol.ranked .note { white-space: nowrap; } td ul { margin: 0; padding-left: 1rem; }
+ol.ranked.mostly li { border-left: 3px dashed var(--faint); } ol.ranked code { overflow-wrap: anywhere; } ol.ranked .note { white-space: nowrap; } td ul { margin: 0; padding-left: 1rem; }
 .tests code { white-space: nowrap; }
 @media print { details > * { display: block; } }
 """
@@ -41,10 +41,16 @@ def link_to(path, folder, text):
 
 # ---- a bin
 
-def suspect_html(row):
+def suspect_html(row, before=""):
     code = " <code>%s</code>" % shown(row["text"]) if row["text"] else ""
-    return '<li><b>%d</b> %s, line %d, %s%s <span class="note">%s</span></li>\n' % (
-        row["number"], shown(row["kind"]), row["line"], shown(row["label"]), code, hits_text(row))
+    return '<li><b>%d</b> %s, line %d, %s%s <span class="note">%s%s</span></li>\n' % (
+        row["number"], shown(row["kind"]), row["line"], shown(row["label"]), code, before, hits_text(row))
+
+
+def mostly_html(it):
+    """Suspects that most lists of the bin have, and not all: a hint, where two bugs meet in one of its tests."""
+    rows = "".join(suspect_html(row, "in %d of %d lists; " % (row["lists"], len(it["dumps"]))) for row in it["mostly"][:FOLDED])
+    return '<ol class="ranked mostly">\n%s</ol>\n' % rows if rows else ""
 
 
 def suspects_html(rows):
@@ -75,7 +81,7 @@ def row_html(it, folder):
     first = ", ".join("<code>%s</code>" % shown(name) for name in it["first_outputs"])
     return ('<tr id="bin%d"><th scope="row" class="n">%d</th><td class="n">%d</td><td class="n">%s%s</td><td>%s</td>\n<td>%s</td>\n'
             "<td><code>%s</code></td>\n<td>%s</td></tr>\n") % (
-        it["number"], it["number"], it["family"], format(it["tests"], ",d"), tests_html(it), first, suspects_html(it["suspects"]),
+        it["number"], it["number"], it["family"], format(it["tests"], ",d"), tests_html(it), first, suspects_html(it["suspects"]) + mostly_html(it),
         shown(it["look_at"]), joint_html(it, folder))
 
 

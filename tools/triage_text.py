@@ -28,7 +28,7 @@ def why_none(bins):
 def suspect_entry(row, bins, lines):
     what = bins["suspects"][str(row["number"])]
     text = lines[what["line"] - 1].strip() if 1 <= what["line"] <= len(lines) else ""
-    return dict(what, text=text, number=row["number"], hits=row["hits"], of=row["of"])
+    return {**what, **row, "text": text}
 
 
 def bin_entry(it, bins, answers, lines):
@@ -36,7 +36,7 @@ def bin_entry(it, bins, answers, lines):
     joint = answer and {name: answer[name] for name in ("folder", "line", "units")} | {"dumps": len(answer["dumps"])}
     tests = [{name: unit[name] for name in ("dump", "cycle", "outputs")} for unit in it["units"]]
     return {"number": it["number"], "family": it["family"], "tests": it["tests"], "first_outputs": it["first_outputs"], "look_at": it["look_at"],
-            "suspects": [suspect_entry(row, bins, lines) for row in it["suspects"]], "dumps": tests, "joint": joint}
+            **{name: [suspect_entry(row, bins, lines) for row in it[name]] for name in ("suspects", "mostly")}, "dumps": tests, "joint": joint}
 
 
 def least_of(answers):
@@ -69,8 +69,8 @@ def certified_text(known):
         return "how many places are wrong wasn't asked"
     if least["least"] == 1:
         return "at least 1 place (%s) is wrong%s" % (kinds, " (the search for more ended: %s)" % least["ended"] if least["ended"] else "")
-    return "at least %d places (%s) are wrong: no %d explain these dumps together: %s" % (
-        least["least"], kinds, least["least"] - 1, ", ".join(least["dumps"]))
+    fewer = "no single one explains" if least["least"] == 2 else "no %d explain" % (least["least"] - 1)
+    return "at least %d places (%s) are wrong: %s these dumps together: %s" % (least["least"], kinds, fewer, ", ".join(least["dumps"]))
 
 
 def hits_text(row):
@@ -80,20 +80,21 @@ def hits_text(row):
     return "and %d of %s" % (row["hits"], many(row["of"], "made-up failure"))
 
 
-def suspect_line(row):
+def suspect_line(row, before=""):
     code = ": " + row["text"] if row["text"] else ""
-    return "  %5d %s line %d %s%s   [%s]\n" % (row["number"], row["kind"], row["line"], row["label"], code, hits_text(row))
+    return "  %5d %s line %d %s%s   [%s%s]\n" % (row["number"], row["kind"], row["line"], row["label"], code, before, hits_text(row))
+
+
+def mostly_line(row, it):
+    return suspect_line(row, "in %d of %d lists; " % (row["lists"], len(it["dumps"])))
 
 
 def bin_text(it):
     head = "bin %d (family %d): %s, first wrong at %s; look at %s first\n" % (
         it["number"], it["family"], many(it["tests"], "dump"), ", ".join(it["first_outputs"]), it["look_at"])
     rest = len(it["suspects"]) - SHOWN
-    return head + "".join(suspect_line(row) for row in it["suspects"][:SHOWN]) + ("        and %s\n" % many(rest, "further suspect") if rest > 0 else "")
-
-
-def outputs_text(names):
-    return ", ".join(names)
+    further = "        and %s\n" % many(rest, "further suspect") if rest > 0 else ""
+    return head + "".join(map(suspect_line, it["suspects"][:SHOWN])) + further + "".join(mostly_line(row, it) for row in it["mostly"][:SHOWN])
 
 
 def others_text(head, lines):
@@ -116,7 +117,7 @@ def text_of(known):
     head += "likely:    %s\n" % range_text(known["likely"]["least"], known["likely"]["most"], "bug") if known["bins"] else ""
     parts = [bin_text(it) for it in known["bins"]]
     parts.append(others_text("no single %s explains:" % kinds, [
-        "%s, cycle %d, %s" % (it["dump"], it["cycle"], outputs_text(it["outputs"])) for it in known["unexplained"]]))
+        "%s, cycle %d, %s" % (it["dump"], it["cycle"], ", ".join(it["outputs"])) for it in known["unexplained"]]))
     parts.append(others_text("not finished:", [could_be_text(it) for it in known["unfinished"]]))
     parts.append(others_text("refused:", ["%s: %s" % (it["dump"], it["line"]) for it in known["refused"]]))
     parts.append(others_text("without an answer:", ["%s: %s" % (it["dump"], it["line"]) for it in known["killed"]]))
