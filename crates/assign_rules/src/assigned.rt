@@ -188,46 +188,46 @@ pub(crate) struct Ways {
 
 /// What blocks assign in that way, of so many homes.
 fn blocks_of(
+    alloc: Global,
     design: &Design,
     homes: Homes<'_>,
     way: bool,
-    alloc: Global,
 ) -> Result<BitSet, NoMemory>
     ensures { IfOk result (Has homes.entry.count (λ h. blocks_set (by_way way homes.entry.list.now h) design.now)) }
 {
-    let mut set = BitSet::new(homes.count, alloc)?;
+    let mut set = BitSet::new(alloc, homes.count)?;
     add_drivers(&mut set, homes.list, way, &design.drivers)?;
     add_blocks(&mut set, homes.list, way, &design.clocked)?;
     Ok(set)
 }
 
 /// What combinational blocks assign by `<=`.
-fn comb_arrows_of(design: &Design, homes: Homes<'_>, alloc: Global) -> Result<BitSet, NoMemory>
+fn comb_arrows_of(alloc: Global, design: &Design, homes: Homes<'_>) -> Result<BitSet, NoMemory>
     ensures { IfOk result (Has homes.entry.count (λ h. list_any (driver_sets (by_way true homes.entry.list.now h)) design.now.drivers.items)) }
 {
-    let mut set = BitSet::new(homes.count, alloc)?;
+    let mut set = BitSet::new(alloc, homes.count)?;
     add_drivers(&mut set, homes.list, true, &design.drivers)?;
     Ok(set)
 }
 
 /// What is driven from outside of blocks.
-fn connected_of(design: &Design, homes: Homes<'_>, alloc: Global) -> Result<BitSet, NoMemory>
+fn connected_of(alloc: Global, design: &Design, homes: Homes<'_>) -> Result<BitSet, NoMemory>
     ensures { IfOk result (Has homes.entry.count (λ h. list_any (connects homes.entry.list.now h) design.now.drivers.items)) }
 {
-    let mut set = BitSet::new(homes.count, alloc)?;
+    let mut set = BitSet::new(alloc, homes.count)?;
     add_connections(&mut set, homes.list, &design.drivers)?;
     Ok(set)
 }
 
 /// In which ways the signals of a design are assigned.
-fn ways_of(design: &Design, homes: Homes<'_>, alloc: Global) -> Result<Ways, NoMemory>
+fn ways_of(alloc: Global, design: &Design, homes: Homes<'_>) -> Result<Ways, NoMemory>
     ensures { IfOk result (AreWays design.now homes.entry.list.now homes.entry.count) }
 {
     Ok(Ways {
-        equals: blocks_of(design, homes, false, alloc)?,
-        arrows: blocks_of(design, homes, true, alloc)?,
-        comb_arrows: comb_arrows_of(design, homes, alloc)?,
-        connected: connected_of(design, homes, alloc)?,
+        equals: blocks_of(alloc, design, homes, false)?,
+        arrows: blocks_of(alloc, design, homes, true)?,
+        comb_arrows: comb_arrows_of(alloc, design, homes)?,
+        connected: connected_of(alloc, design, homes)?,
     })
 }
 
@@ -282,14 +282,14 @@ fn is_mixed(ways: &Ways, variable: bool, home: usize) -> bool
 /// variable; or in a block though it is none. `None` where there is none. `homes` has for each signal the first word of its array,
 /// and the signal itself where it is no word of one: an array is one signal here.
 pub fn first_misassigned(
+    alloc: Global,
     design: &Design,
     homes: &[u32],
-    alloc: Global,
 ) -> Result<Option<usize>, NoMemory>
     ensures { IfOk result (IsFirst (λ h. is_misassigned design.now homes.now h ≡ true)) }
 {
     let all = Homes::of(homes, design.signals.len());
-    let ways = ways_of(design, all, alloc)?;
+    let ways = ways_of(alloc, design, all)?;
     for home in 0..all.count {
         if is_mixed(&ways, is_variable(&design.signals, home), home) {
             return Ok(Some(home));

@@ -53,17 +53,17 @@ fn add_used(
 
 /// The homes that some clocked block assigns by `=` and that are used outside it.
 fn racing_of(
+    alloc: Global,
     design: &Design,
     homes: Homes<'_>,
     table: &[Users],
-    alloc: Global,
 ) -> Result<BitSet, NoMemory>
     requires { length table.now ≡ homes.count }
     ensures long { IfOk result (λ racing. length racing ≡ homes.entry.count) }
     ensures racing { IfOk result (AreRacing design.now homes.entry.list.now table.now (length design.now.clocked.items)) }
 {
-    let mut racing = BitSet::new(homes.count, alloc)?;
-    let mut own = BitSet::new(homes.count, alloc)?;
+    let mut racing = BitSet::new(alloc, homes.count)?;
+    let mut own = BitSet::new(alloc, homes.count)?;
     for (number, block) in design.clocked.iter().enumerate() {
         own.clear();
         add_clocked(&mut own, homes.list, false, block)?;
@@ -90,12 +90,12 @@ fn first_home(set: &BitSet) -> Option<usize>
 /// The first signal that a clocked block assigns by `=` and of which a bit is read outside that block, or is one of an output of the
 /// top. `None` where there is none. `homes` has for each signal the first word of its array, and the signal itself where it is no word
 /// of one: an array is one signal here.
-pub fn first_race(design: &Design, homes: &[u32], alloc: Global) -> Result<Option<usize>, NoMemory>
+pub fn first_race(alloc: Global, design: &Design, homes: &[u32]) -> Result<Option<usize>, NoMemory>
     requires { CanRun design.now }
     ensures { IfOk result (IsFirst (IsRace design.now homes.now)) }
 {
     let all = Homes::of(homes, design.signals.len());
-    let table = users_of(design, all, alloc)?;
-    let racing = racing_of(design, all, &table, alloc)?;
+    let table = users_of(alloc, design, all)?;
+    let racing = racing_of(alloc, design, all, &table)?;
     Ok(first_home(&racing))
 }

@@ -86,12 +86,12 @@ fn note(table: &mut Vec<Users>, more: Users, homes: &[u32], own: &BitSet)
 }
 
 /// The bits that drivers read, and those of outputs.
-fn outside(design: &Design, none: &[u128], alloc: Global) -> Result<BitSet, NoMemory>
+fn outside(alloc: Global, design: &Design, none: &[u128]) -> Result<BitSet, NoMemory>
     requires long { length none.now ≡ length design.now.signals.items }
     requires none { (s : ℕ) → slice_index none.now s ≡ 0 }
     ensures { IfOk result (IsOutside design.now) }
 {
-    let mut own = BitSet::new(none.len(), alloc)?;
+    let mut own = BitSet::new(alloc, none.len())?;
     add_outputs(&mut own, design)?;
     add_drivers_reads(&mut own, none, design)?;
     Ok(own)
@@ -115,9 +115,9 @@ fn look_in(
 
 /// Who uses each signal of a design.
 pub(crate) fn users_of(
+    alloc: Global,
     design: &Design,
     homes: Homes<'_>,
-    alloc: Global,
 ) -> Result<Vec<Users>, NoMemory>
     requires { (s : ℕ) → home_of homes.list.now s < homes.count }
     ensures long { IfOk result (λ table. length table.items ≡ homes.entry.count) }
@@ -125,7 +125,7 @@ pub(crate) fn users_of(
 {
     let none = vec![in alloc; 0; design.signals.len()]?;
     let mut table = vec![in alloc; Users::Nobody; homes.count]?;
-    let mut own = outside(design, &none, alloc)?;
+    let mut own = outside(alloc, design, &none)?;
     note(&mut table, Users::Several, homes.list, &own);
     for (number, block) in design.clocked.iter().enumerate() {
         look_in(&mut own, &none, &design.signals, block)?;

@@ -22,7 +22,7 @@ impl Looked {
         ensures set { IfOk result (λ looked. length looked.set ≡ signals) }
         ensures none { IfOk result (λ looked. length looked.none.items ≡ signals) }
     {
-        let set = BitSet::new(signals, alloc)?;
+        let set = BitSet::new(alloc, signals)?;
         let none = vec![in alloc; 0; signals]?;
         Ok(Looked { set, none })
     }

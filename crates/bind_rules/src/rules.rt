@@ -17,11 +17,11 @@ use v_binding::BindErr;
 use v_rules::{first_driven_twice, first_latch, first_undriven, is_too_large};
 
 /// What a clocked block assigns by `=` is used elsewhere.
-fn races(design: &Design, beside: Beside<'_>, alloc: Global) -> Result<Option<BindErr>, NoMemory>
+fn races(alloc: Global, design: &Design, beside: Beside<'_>) -> Result<Option<BindErr>, NoMemory>
     requires { CanRun design.now }
     ensures { IfOk result (Races design.now (beside_of beside.entry)) }
 {
-    match first_race(design, beside.homes, alloc)? {
+    match first_race(alloc, design, beside.homes)? {
         Some(signal) => Ok(Some(BindErr::RaceRead(span_at(beside.spans, signal)))),
         None => Ok(None),
     }
@@ -57,14 +57,14 @@ struct Mixed {
 
 /// The first such signal.
 fn first_mixed(
+    alloc: Global,
     design: &Design,
     beside: Beside<'_>,
-    alloc: Global,
 ) -> Result<Option<Mixed>, NoMemory>
     ensures first { IfOk result (λ found. IsFirst (λ s. is_mixed design.now (beside_of beside.entry) s ≡ true) (option_map (λ m. m.signal) found)) }
     ensures span { IfOk result (λ found. IfSome found (λ m. m.span ≡ mixed_span design.now (beside_of beside.entry) m.signal)) }
 {
-    let misassigned = first_misassigned(design, beside.homes, alloc)?;
+    let misassigned = first_misassigned(alloc, design, beside.homes)?;
     match lower_of(misassigned, first_set(design, beside)) {
         Some(signal) => Ok(Some(Mixed {
             signal,
@@ -75,57 +75,57 @@ fn first_mixed(
 }
 
 /// A signal is assigned in two ways, or in one that it can't be.
-fn assigns(design: &Design, beside: Beside<'_>, alloc: Global) -> Result<Option<BindErr>, NoMemory>
+fn assigns(alloc: Global, design: &Design, beside: Beside<'_>) -> Result<Option<BindErr>, NoMemory>
     requires { CanRun design.now }
     ensures { IfOk result (Assigns design.now (beside_of beside.entry)) }
 {
-    match first_mixed(design, beside, alloc)? {
+    match first_mixed(alloc, design, beside)? {
         Some(mixed) => Ok(Some(BindErr::MixedAssign(mixed.span))),
-        None => races(design, beside, alloc),
+        None => races(alloc, design, beside),
     }
 }
 
 /// The clock.
-fn clocks(design: &Design, beside: Beside<'_>, alloc: Global) -> Result<Option<BindErr>, NoMemory>
+fn clocks(alloc: Global, design: &Design, beside: Beside<'_>) -> Result<Option<BindErr>, NoMemory>
     requires { CanRun design.now }
     ensures { IfOk result (Clocks design.now (beside_of beside.entry)) }
 {
     match beside.clock_fault {
         Some(span) => Ok(Some(BindErr::Clock(span))),
-        None => assigns(design, beside, alloc),
+        None => assigns(alloc, design, beside),
     }
 }
 
 /// A combinational block holds a bit.
-fn latches(design: &Design, beside: Beside<'_>, alloc: Global) -> Result<Option<BindErr>, NoMemory>
+fn latches(alloc: Global, design: &Design, beside: Beside<'_>) -> Result<Option<BindErr>, NoMemory>
     requires { CanRun design.now }
     ensures { IfOk result (Latches design.now (beside_of beside.entry)) }
 {
-    match first_latch(design, alloc)? {
+    match first_latch(alloc, design)? {
         Some(number) => Ok(Some(BindErr::Latch(driver_span(design, number)))),
-        None => clocks(design, beside, alloc),
+        None => clocks(alloc, design, beside),
     }
 }
 
 /// A bit of a net that is used has no driver.
-fn undriven(design: &Design, beside: Beside<'_>, alloc: Global) -> Result<Option<BindErr>, NoMemory>
+fn undriven(alloc: Global, design: &Design, beside: Beside<'_>) -> Result<Option<BindErr>, NoMemory>
     requires { CanRun design.now }
     ensures { IfOk result (Undriven design.now (beside_of beside.entry)) }
 {
-    match first_undriven(design, alloc)? {
+    match first_undriven(alloc, design)? {
         Some(signal) => Ok(Some(BindErr::Undriven(span_at(beside.spans, signal)))),
-        None => latches(design, beside, alloc),
+        None => latches(alloc, design, beside),
     }
 }
 
 /// A bit has two drivers.
-fn driven(design: &Design, beside: Beside<'_>, alloc: Global) -> Result<Option<BindErr>, NoMemory>
+fn driven(alloc: Global, design: &Design, beside: Beside<'_>) -> Result<Option<BindErr>, NoMemory>
     requires { CanRun design.now }
     ensures { IfOk result (Driven design.now (beside_of beside.entry)) }
 {
-    match first_driven_twice(design, alloc)? {
+    match first_driven_twice(alloc, design)? {
         Some(signal) => Ok(Some(BindErr::MultiDriver(span_at(beside.spans, signal)))),
-        None => undriven(design, beside, alloc),
+        None => undriven(alloc, design, beside),
     }
 }
 
@@ -133,9 +133,9 @@ fn driven(design: &Design, beside: Beside<'_>, alloc: Global) -> Result<Option<B
 /// none for an input; no used bit without a driver; no combinational block that holds a value; the clock; each signal assigned in one
 /// way; no race. `None` where it breaks none.
 pub fn first_broken(
+    alloc: Global,
     design: &Design,
     beside: Beside<'_>,
-    alloc: Global,
 ) -> Result<Option<BindErr>, NoMemory>
     requires { CanRun design.now }
     ensures { IfOk result (IsFirstBroken design.now (beside_of beside.entry)) }
@@ -143,6 +143,6 @@ pub fn first_broken(
     if is_too_large(design) {
         Ok(Some(BindErr::Places))
     } else {
-        driven(design, beside, alloc)
+        driven(alloc, design, beside)
     }
 }

@@ -39,14 +39,14 @@ impl Model for DriverBits {
 }
 
 /// A walk that has read nothing.
-fn idle(signals: usize, alloc: Global) -> Result<Walk, NoMemory>
+fn idle(alloc: Global, signals: usize) -> Result<Walk, NoMemory>
     ensures idle { IfOk result IsIdle }
     ensures none { IfOk result (λ walk. walk.reads ≡ replicate signals 0) }
 {
     Ok(Walk {
-        reads: BitSet::new(signals, alloc)?,
+        reads: BitSet::new(alloc, signals)?,
         sure: vec![in alloc; 0; signals]?,
-        empty: BitSet::new(signals, alloc)?,
+        empty: BitSet::new(alloc, signals)?,
         alloc,
     })
 }
@@ -85,10 +85,10 @@ fn assign_driver(walk: &mut Walk, design: &Design, driver: &Driver) -> Result<()
 
 impl DriverBits {
     /// No bit of any of so many signals.
-    pub fn new(signals: usize, alloc: Global) -> Result<DriverBits, NoMemory>
+    pub fn new(alloc: Global, signals: usize) -> Result<DriverBits, NoMemory>
         ensures { IfOk result (λ bits. bits ≡ replicate signals 0) }
     {
-        let walk = idle(signals, alloc)?;
+        let walk = idle(alloc, signals)?;
         Ok(DriverBits { walk })
     }
 

@@ -173,10 +173,10 @@ fn takes_all(seen: &mut [bool], signals: &[Signal], subject: &Typed, items: &[Ca
 /// Whether a case takes an item whatever the value of its subject is: for each value of at most 8 bits some item has a constant
 /// label that is equal to it.
 pub(crate) fn is_full(
+    alloc: Global,
     signals: &[Signal],
     subject: &Typed,
     items: &[CaseItem],
-    alloc: Global,
 ) -> Result<bool, NoMemory>
     requires subject { IsTrue (typed_fits signals.now subject.now) }
     requires fits { IsTrue (list_all (labels_fit signals.now subject.now.width) items.now) }

@@ -55,9 +55,9 @@ fn part_bits(signals: &[Signal], part: &Part) -> SignalBits
 
 /// The bits that a left side surely assigns.
 pub(crate) fn parts_bits(
+    alloc: Global,
     signals: &[Signal],
     parts: &[Part],
-    alloc: Global,
 ) -> Result<Vec<SignalBits>, NoMemory>
     ensures { IfOk result (λ list. Lists (length signals.now) list.items (λ s b. list_any (part_assigns signals.now s b) parts.now)) }
 {
@@ -90,7 +90,7 @@ fn met_one(set: &BitSet, entry: SignalBits) -> SignalBits
 }
 
 /// Of some bits those that a set has.
-fn met(set: &BitSet, some: &[SignalBits], alloc: Global) -> Result<Vec<SignalBits>, NoMemory>
+fn met(alloc: Global, set: &BitSet, some: &[SignalBits]) -> Result<Vec<SignalBits>, NoMemory>
     ensures { IfOk result (λ list. Lists (length set.now) list.items (λ s b. has set.now s b && lists some.now s b)) }
 {
     let mut list = Vec::new(alloc);
@@ -112,10 +112,10 @@ pub(crate) fn add_listed(set: &mut BitSet, some: &[SignalBits]) -> Result<(), No
 
 /// The bits that two lists have. The set is empty before, and again after.
 pub(crate) fn common(
+    alloc: Global,
     empty: &mut BitSet,
     one: &[SignalBits],
     other: &[SignalBits],
-    alloc: Global,
 ) -> Result<Vec<SignalBits>, NoMemory>
     requires { (s : ℕ) → slice_index empty.old s ≡ 0 }
     ensures long { IfOk result (λ list. length empty.new ≡ length empty.old) }
@@ -123,7 +123,7 @@ pub(crate) fn common(
     ensures common { IfOk result (λ list. Lists (length empty.old) list.items (λ s b. lists one.now s b && lists other.now s b)) }
 {
     add_listed(empty, one)?;
-    let list = met(empty, other, alloc)?;
+    let list = met(alloc, empty, other)?;
     empty.clear();
     Ok(list)
 }

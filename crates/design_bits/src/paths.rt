@@ -49,13 +49,13 @@ pub(crate) fn list_statement(
             ..
         } => {
             let last = list_statement(walk, design, other)?;
-            let full = is_full(&design.signals, subject, items, walk.alloc)?;
+            let full = is_full(walk.alloc, &design.signals, subject, items)?;
             let start = before_items(last, other, full);
             let shared = list_items(walk, design, items, start)?;
             Ok(shared.list)
         }
         Stmt::Set { target, .. } => {
-            let list = parts_bits(&design.signals, &target.parts, walk.alloc)?;
+            let list = parts_bits(walk.alloc, &design.signals, &target.parts)?;
             Ok(list)
         }
     }

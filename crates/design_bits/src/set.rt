@@ -34,7 +34,7 @@ impl Model for BitSet {
 
 impl BitSet {
     /// No bit of any of so many signals.
-    pub fn new(signals: usize, alloc: Global) -> Result<BitSet, NoMemory>
+    pub fn new(alloc: Global, signals: usize) -> Result<BitSet, NoMemory>
         ensures { IfOk result (λ set. set ≡ replicate signals 0) }
     {
         let masks = vec![in alloc; 0; signals]?;

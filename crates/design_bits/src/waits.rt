@@ -103,7 +103,7 @@ pub(crate) fn meet(
     ensures empty { IfOk result (λ list. (s : ℕ) → slice_index walk.new.empty s ≡ 0) }
     ensures listed { IfOk result (λ list. Lists (length walk.old.empty) list.items (λ s b. lists one.now s b && lists other.now s b)) }
 {
-    common(&mut walk.empty, one, other, walk.alloc)
+    common(walk.alloc, &mut walk.empty, one, other)
 }
 
 /// Takes out again the bits that the statements of a block surely assigned.
@@ -116,7 +116,7 @@ fn leave(walk: &mut Walk, before: &[SignalBits])
 }
 
 /// Nothing where an assignment is nonblocking, else its bits.
-fn at_once(list: Vec<SignalBits>, later: bool, alloc: Global) -> Vec<SignalBits>
+fn at_once(alloc: Global, list: Vec<SignalBits>, later: bool) -> Vec<SignalBits>
     ensures { (s b : ℕ) → lists result.items s b ≡ (not later && lists list.items s b) }
 {
     if later { Vec::new(alloc) } else { list }
@@ -185,7 +185,7 @@ pub(crate) fn read_statement(
         } => {
             read(walk, design, subject)?;
             let last = read_statement(walk, design, other)?;
-            let full = is_full(&design.signals, subject, items, walk.alloc)?;
+            let full = is_full(walk.alloc, &design.signals, subject, items)?;
             let start = before_items(last, other, full);
             let shared = read_items(walk, design, items, start)?;
             Ok(shared.list)
@@ -197,8 +197,8 @@ pub(crate) fn read_statement(
             ..
         } => {
             read_assignment(walk, design, &target.parts, value)?;
-            let list = parts_bits(&design.signals, &target.parts, walk.alloc)?;
-            Ok(at_once(list, *later, walk.alloc))
+            let list = parts_bits(walk.alloc, &design.signals, &target.parts)?;
+            Ok(at_once(walk.alloc, list, *later))
         }
     }
 }

@@ -36,10 +36,10 @@ fn place_of(path: &[u32], number: u32) -> usize
 
 /// Numbers that depend on each other in a circle, where each one that was not taken depends on one that was not.
 pub(crate) fn circle_from(
+    alloc: Global,
     needs: &Rows<u32>,
     taken: &[bool],
     from: u32,
-    alloc: Global,
 ) -> Result<Vec<u32>, NoMemory>
     requires within { AreWithin needs.now }
     requires long { length taken.now ≡ length needs.now }

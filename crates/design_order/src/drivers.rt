@@ -13,14 +13,14 @@ use std::alloc::Global;
 
 /// The order in which the drivers of a design are carried out: again and again the least one all of whose dependencies were taken.
 /// `Circle` where drivers depend on each other in a circle, and then such a circle.
-pub fn order(design: &Design, alloc: Global) -> Result<Order, OrderErr>
+pub fn order(alloc: Global, design: &Design) -> Result<Order, OrderErr>
     requires fits { CanRun design.now }
     requires few { length design.now.drivers.items < 2 ^ 32 }
     ensures ordered { IfOk result (IsTheOrder design.now) }
     ensures refused { IfErr result (IsRefusal design.now) }
 {
-    let needs = needs_of(design, alloc)?;
-    match least_order(&needs, alloc) {
+    let needs = needs_of(alloc, design)?;
+    match least_order(alloc, &needs) {
         Ok(order) => Ok(Items::from_vec(order)),
         Err(error) => Err(error),
     }

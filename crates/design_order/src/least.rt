@@ -64,7 +64,7 @@ fn release(
 }
 
 /// What holds before any number is taken.
-fn begin(needs: &Rows<u32>, alloc: Global) -> Result<State, NoMemory>
+fn begin(alloc: Global, needs: &Rows<u32>) -> Result<State, NoMemory>
     requires { length needs.now < 2 ^ 32 }
     ensures { IfOk result (IsRunning needs.now) }
 {
@@ -117,7 +117,7 @@ fn first_untaken(taken: &[bool]) -> Option<u32>
 }
 
 /// The order where all were taken, else a circle.
-fn finish(needs: &Rows<u32>, state: State, alloc: Global) -> Result<Vec<u32>, OrderErr>
+fn finish(alloc: Global, needs: &Rows<u32>, state: State) -> Result<Vec<u32>, OrderErr>
     requires within { AreWithin needs.now }
     requires few { length needs.now < 2 ^ 32 }
     requires running { IsRunning needs.now state }
@@ -134,7 +134,7 @@ fn finish(needs: &Rows<u32>, state: State, alloc: Global) -> Result<Vec<u32>, Or
     match first_untaken(&taken) {
         None => Ok(order),
         Some(from) => {
-            let drivers = circle_from(needs, &taken, from, alloc)?;
+            let drivers = circle_from(alloc, needs, &taken, from)?;
             Err(OrderErr::Circle { drivers })
         }
     }
@@ -142,14 +142,14 @@ fn finish(needs: &Rows<u32>, state: State, alloc: Global) -> Result<Vec<u32>, Or
 
 /// The least order of all numbers, or numbers that need each other in a circle. `needs` has a row for each number, with those
 /// that it needs.
-pub fn least_order(needs: &Rows<u32>, alloc: Global) -> Result<Vec<u32>, OrderErr>
+pub fn least_order(alloc: Global, needs: &Rows<u32>) -> Result<Vec<u32>, OrderErr>
     requires within { AreWithin needs.now }
     requires few { length needs.now < 2 ^ 32 }
     ensures ordered { IfOk result (λ order. IsLeastOrderOf (Listed needs.now) (length needs.now) order.items) }
     ensures refused { IfErr result (IsRefused (Listed needs.now) (length needs.now)) }
 {
-    let users = users_of(needs, alloc)?;
-    let mut state = begin(needs, alloc)?;
+    let users = users_of(alloc, needs)?;
+    let mut state = begin(alloc, needs)?;
     'taking: while take_next(needs, &users, &mut state)? {}
-    finish(needs, state, alloc)
+    finish(alloc, needs, state)
 }

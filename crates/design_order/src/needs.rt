@@ -24,9 +24,9 @@ fn add_drivers(row: &mut Vec<u32>, sources: &[DrivenBits], mask: u128) -> Result
 
 /// The drivers that drive a bit that is read.
 fn row_of(
+    alloc: Global,
     sources: &[Items<DrivenBits>],
     reads: &BitSet,
-    alloc: Global,
 ) -> Result<Vec<u32>, NoMemory>
     requires { length sources.now ≡ length reads.now }
     ensures { IfOk result (λ row. IsRow sources.now reads.now row.items) }
@@ -39,17 +39,17 @@ fn row_of(
 }
 
 /// For each driver those that it depends on.
-pub(crate) fn needs_of(design: &Design, alloc: Global) -> Result<Rows<u32>, NoMemory>
+pub(crate) fn needs_of(alloc: Global, design: &Design) -> Result<Rows<u32>, NoMemory>
     requires fits { CanRun design.now }
     requires few { length design.now.drivers.items < 2 ^ 32 }
     ensures { IfOk result (AreNeeds design.now (length design.now.drivers.items)) }
 {
-    let sources = sources_of(design, alloc)?;
-    let mut reads = DriverBits::new(design.signals.len(), alloc)?;
+    let sources = sources_of(alloc, design)?;
+    let mut reads = DriverBits::new(alloc, design.signals.len())?;
     let mut rows = Rows::new(alloc);
     for driver in &design.drivers {
         reads = reads.waits_of(design, driver)?;
-        let row = row_of(&sources, reads.bits(), alloc)?;
+        let row = row_of(alloc, &sources, reads.bits())?;
         rows.push(&row)?;
     }
     Ok(rows)

@@ -31,7 +31,7 @@ fn add_source(
 }
 
 /// Rows for so many signals, without an entry.
-fn empty_rows(signals: usize, alloc: Global) -> Result<Vec<Items<DrivenBits>>, NoMemory>
+fn empty_rows(alloc: Global, signals: usize) -> Result<Vec<Items<DrivenBits>>, NoMemory>
     ensures long { IfOk result (λ rows. length rows.items ≡ signals) }
     ensures none { IfOk result (λ rows. (s : ℕ) → row_at rows.items s ≡ []) }
 {
@@ -43,12 +43,12 @@ fn empty_rows(signals: usize, alloc: Global) -> Result<Vec<Items<DrivenBits>>, N
 }
 
 /// For each signal the drivers of its bits.
-pub(crate) fn sources_of(design: &Design, alloc: Global) -> Result<Vec<Items<DrivenBits>>, NoMemory>
+pub(crate) fn sources_of(alloc: Global, design: &Design) -> Result<Vec<Items<DrivenBits>>, NoMemory>
     requires { length design.now.drivers.items < 2 ^ 32 }
     ensures { IfOk result (λ sources. AreSources design.now.signals.items design.now.drivers.items sources.items) }
 {
-    let mut sources = empty_rows(design.signals.len(), alloc)?;
-    let mut own = BitSet::new(design.signals.len(), alloc)?;
+    let mut sources = empty_rows(alloc, design.signals.len())?;
+    let mut own = BitSet::new(alloc, design.signals.len())?;
     for (number, driver) in design.drivers.iter().enumerate() {
         own.clear();
         add_driver(&mut own, &design.signals, driver)?;

@@ -17,7 +17,7 @@ fn add_user(users: &mut Vec<Items<u32>>, user: u32, needed: &[u32]) -> Result<()
 }
 
 /// The rows the other way: for each number those that need it, as often as they do.
-pub(crate) fn users_of(needs: &Rows<u32>, alloc: Global) -> Result<Vec<Items<u32>>, NoMemory>
+pub(crate) fn users_of(alloc: Global, needs: &Rows<u32>) -> Result<Vec<Items<u32>>, NoMemory>
     requires within { AreWithin needs.now }
     requires few { length needs.now < 2 ^ 32 }
     ensures { IfOk result (λ users. AreUsers needs.now users.items) }

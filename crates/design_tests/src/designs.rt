@@ -24,7 +24,7 @@ fn is_ordered(alloc: Global, design: &Design, row: &Row) -> Result<bool, Fail> {
     if !can_run(design) || design.drivers.len() > 1_000_000 {
         return Err(Fail::new("the design does not fit"));
     }
-    match order(design, alloc) {
+    match order(alloc, design) {
         Ok(order) => Ok(is_order && order.as_slice() == wanted),
         Err(OrderErr::Circle { drivers }) => Ok(!is_order && drivers.as_slice() == wanted),
         Err(OrderErr::NoMemory) => Err(Fail::new("no memory")),

@@ -12,8 +12,8 @@ fn found(alloc: Global, design: &Design) -> Result<(Option<usize>, Option<usize>
     if !can_run(design) {
         return Err(Fail::new("the design does not fit"));
     }
-    let twice = first_driven_twice(design, alloc)?;
-    let undriven = first_undriven(design, alloc)?;
+    let twice = first_driven_twice(alloc, design)?;
+    let undriven = first_undriven(alloc, design)?;
     Ok((twice, undriven))
 }
 

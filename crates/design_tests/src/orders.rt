@@ -31,7 +31,7 @@ fn answer(alloc: Global, rows: &Rows<u32>) -> Result<(bool, Vec<u32>), Fail> {
     if rows.len() > 1_000_000 || !are_within(rows) {
         return Err(Fail::new("no rows of numbers"));
     }
-    match least_order(rows, alloc) {
+    match least_order(alloc, rows) {
         Ok(order) => Ok((true, order)),
         Err(OrderErr::Circle { drivers }) => Ok((false, drivers)),
         Err(OrderErr::NoMemory) => Err(Fail::new("no memory")),

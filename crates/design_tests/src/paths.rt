@@ -19,7 +19,7 @@ fn held(alloc: Global, design: &Design) -> Result<Option<usize>, Fail> {
     if !can_run(design) {
         return Err(Fail::new("the design does not fit"));
     }
-    Ok(first_latch(design, alloc)?)
+    Ok(first_latch(alloc, design)?)
 }
 
 #[test]
@@ -66,7 +66,7 @@ fn mixed(alloc: Global, design: &Design) -> Result<Option<usize>, Fail> {
     if !can_run(design) || design.signals.len() != 2 {
         return Err(Fail::new("the design does not fit"));
     }
-    Ok(first_misassigned(design, &[0, 1], alloc)?)
+    Ok(first_misassigned(alloc, design, &[0, 1])?)
 }
 
 #[test]

@@ -12,7 +12,7 @@ fn racing(alloc: Global, design: &Design) -> Result<Option<usize>, Fail> {
     if !can_run(design) || design.signals.len() != 4 {
         return Err(Fail::new("the design does not fit"));
     }
-    Ok(first_race(design, &[0, 1, 2, 2], alloc)?)
+    Ok(first_race(alloc, design, &[0, 1, 2, 2])?)
 }
 
 /// An input, a net, and an array of two words, of which a clocked block assigns one.

@@ -35,7 +35,7 @@ pub fn design(
     if is_too_large(&listed.design) {
         return Err(BindErr::Places);
     }
-    match first_broken(&listed.design, listed.beside(), alloc)? {
+    match first_broken(alloc, &listed.design, listed.beside())? {
         Some(fault) => Err(fault),
         None => Ok(listed.design),
     }

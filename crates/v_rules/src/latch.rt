@@ -36,12 +36,12 @@ fn has_more(own: &BitSet, sure: &BitSet) -> bool
 
 /// The first driver that is a combinational block which drives a bit that some path through it does not assign; `None` where there is
 /// none. A `case` has a path with no item unless it has a default, or takes an item for each value of at most 8 bits.
-pub fn first_latch(design: &Design, alloc: Global) -> Result<Option<usize>, NoMemory>
+pub fn first_latch(alloc: Global, design: &Design) -> Result<Option<usize>, NoMemory>
     requires { CanRun design.now }
     ensures { IfOk result (IsFirst (IsLatch design.now)) }
 {
-    let mut own = BitSet::new(design.signals.len(), alloc)?;
-    let mut sure = DriverBits::new(design.signals.len(), alloc)?;
+    let mut own = BitSet::new(alloc, design.signals.len())?;
+    let mut sure = DriverBits::new(alloc, design.signals.len())?;
     for (number, driver) in design.drivers.iter().enumerate() {
         own.clear();
         add_comb(&mut own, &design.signals, driver)?;

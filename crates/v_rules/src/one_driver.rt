@@ -25,7 +25,7 @@ fn input_mask(kind: SignalKind) -> u128
 }
 
 /// All bits of the inputs.
-fn input_masks(signals: &[Signal], alloc: Global) -> Result<Vec<u128>, NoMemory>
+fn input_masks(alloc: Global, signals: &[Signal]) -> Result<Vec<u128>, NoMemory>
     ensures { IfOk result (λ masks. AreInputs signals.now masks.items) }
 {
     let mut masks = Vec::new(alloc);
@@ -63,12 +63,12 @@ fn count(once: &mut Vec<u128>, twice: &mut Vec<u128>, own: &BitSet)
 }
 
 /// The bits that are driven too often: twice, or once where they are of an input.
-fn driven_too_often(design: &Design, alloc: Global) -> Result<Vec<u128>, NoMemory>
+fn driven_too_often(alloc: Global, design: &Design) -> Result<Vec<u128>, NoMemory>
     ensures { IfOk result (λ twice. AreTooOften design.now twice.items) }
 {
-    let mut once = input_masks(&design.signals, alloc)?;
+    let mut once = input_masks(alloc, &design.signals)?;
     let mut twice = vec![in alloc; 0; design.signals.len()]?;
-    let mut own = BitSet::new(design.signals.len(), alloc)?;
+    let mut own = BitSet::new(alloc, design.signals.len())?;
     for driver in &design.drivers {
         own.clear();
         add_driver(&mut own, &design.signals, driver)?;
@@ -84,10 +84,10 @@ fn driven_too_often(design: &Design, alloc: Global) -> Result<Vec<u128>, NoMemor
 
 /// The first signal with a bit that has two drivers, or one where the signal is an input of the top; `None` where there is none.
 /// Drivers are continuous assignments, outputs of gates, port connections, combinational blocks and clocked blocks.
-pub fn first_driven_twice(design: &Design, alloc: Global) -> Result<Option<usize>, NoMemory>
+pub fn first_driven_twice(alloc: Global, design: &Design) -> Result<Option<usize>, NoMemory>
     requires { CanRun design.now }
     ensures { IfOk result (IsFirst (IsDrivenTwice design.now)) }
 {
-    let twice = driven_too_often(design, alloc)?;
+    let twice = driven_too_often(alloc, design)?;
     Ok(first_set(&twice))
 }

@@ -52,11 +52,11 @@ fn join_blocks(table: &mut Vec<u128>, own: &mut BitSet, design: &Design) -> Resu
 }
 
 /// All bits that some entry drives.
-fn driven_bits(design: &Design, alloc: Global) -> Result<Vec<u128>, NoMemory>
+fn driven_bits(alloc: Global, design: &Design) -> Result<Vec<u128>, NoMemory>
     ensures { IfOk result (λ masks. AreDriven design.now masks.items) }
 {
     let mut table = vec![in alloc; 0; design.signals.len()]?;
-    let mut own = BitSet::new(design.signals.len(), alloc)?;
+    let mut own = BitSet::new(alloc, design.signals.len())?;
     join_drivers(&mut table, &mut own, design)?;
     join_blocks(&mut table, &mut own, design)?;
     Ok(table)
@@ -99,11 +99,11 @@ fn add_blocks_reads(used: &mut BitSet, driven: &[u128], design: &Design) -> Resu
 }
 
 /// The bits of outputs, and those that are read and not driven.
-fn used_bits(design: &Design, driven: &[u128], alloc: Global) -> Result<BitSet, NoMemory>
+fn used_bits(alloc: Global, design: &Design, driven: &[u128]) -> Result<BitSet, NoMemory>
     requires { length driven.now ≡ length design.now.signals.items }
     ensures { IfOk result (AreUsed design.now driven.now) }
 {
-    let mut used = BitSet::new(design.signals.len(), alloc)?;
+    let mut used = BitSet::new(alloc, design.signals.len())?;
     add_outputs(&mut used, design)?;
     add_drivers_reads(&mut used, driven, design)?;
     add_blocks_reads(&mut used, driven, design)?;
@@ -137,11 +137,11 @@ fn first_lacking(signals: &[Signal], used: &BitSet, driven: &[u128]) -> Option<u
 }
 
 /// The first net with a bit that is read anywhere, or is one of an output of the top, and has no driver; `None` where there is none.
-pub fn first_undriven(design: &Design, alloc: Global) -> Result<Option<usize>, NoMemory>
+pub fn first_undriven(alloc: Global, design: &Design) -> Result<Option<usize>, NoMemory>
     requires { CanRun design.now }
     ensures { IfOk result (IsFirst (IsUndriven design.now)) }
 {
-    let driven = driven_bits(design, alloc)?;
-    let used = used_bits(design, &driven, alloc)?;
+    let driven = driven_bits(alloc, design)?;
+    let used = used_bits(alloc, design, &driven)?;
     Ok(first_lacking(&design.signals, &used, &driven))
 }

@@ -37,7 +37,7 @@ impl Assigned {
         ensures from { IfOk result (λ assigned. assigned.both.current.now ≡ from.now) }
     {
         Ok(Assigned {
-            drives: BitSet::new(from.len(), alloc)?,
+            drives: BitSet::new(alloc, from.len())?,
             later: vec![in alloc; false; from.len()]?,
             both: Pair::new(alloc, from)?,
         })

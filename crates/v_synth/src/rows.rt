@@ -19,7 +19,7 @@ use std::alloc::Global;
 fn driven(alloc: Global, design: &Design) -> Result<BitSet, NoMemory>
     ensures { IfOk result (λ set. Adds (replicate (length design.now.signals.items) 0) set (is_driven design.now)) }
 {
-    let mut set = BitSet::new(design.signals.len(), alloc)?;
+    let mut set = BitSet::new(alloc, design.signals.len())?;
     for i in 0..design.drivers.len() {
         add_driver(&mut set, design.signals.as_slice(), &design.drivers[i])?;
     }

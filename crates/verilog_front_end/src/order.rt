@@ -21,7 +21,7 @@ pub(crate) fn ordered(alloc: Global, design: Design) -> Result<Ordered, DesignEr
     ensures err { (text top : List ℕ) (clock : Option (List ℕ)) → HasDesign text top clock design
         → IfErr result (Refuses (IsRefusal text top clock)) }
 {
-    match order(&design, alloc) {
+    match order(alloc, &design) {
         Ok(order) => Ok(Ordered { design, order }),
         Err(OrderErr::NoMemory) => Err(DesignErr::NoMemory),
         Err(OrderErr::Circle { drivers }) => {
