@@ -11,11 +11,3 @@ pub struct Front<'a> {
     pub k: u32,
     pub log: &'a Log,
 }
-
-/// So many workers, from 1 to 64, with the runtime that starts them and the gate that each passes.
-#[derive(Clone, Copy)]
-pub struct Workers<'a, R, G> {
-    pub runtime: &'a R,
-    pub gate: &'a G,
-    pub count: u32,
-}

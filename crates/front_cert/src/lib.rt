@@ -11,6 +11,6 @@ mod pieces;
 mod reach;
 mod seen;
 
-pub use front::{Front, Workers};
+pub use front::Front;
 pub use laws::{certificate_finishes, one_answer, shown_is_front, shown_is_not_before};
 pub use missing::shows;

@@ -5,12 +5,12 @@ ghost use Rattle.card_counter.specs.Shows.{bound_of};
 ghost use Rattle.front_cert.specs.Unshown.{MayBeShown, SaysMissing};
 ghost use Rattle.front_cert.specs.Reaches.{SaysUnseen};
 
-use crate::front::{Front, Workers};
+use crate::front::Front;
 use crate::pieces::see_all;
 use crate::reach::{Target, is_in};
 use crate::seen::Seen;
 use card_counter::bound;
-use loc_base::{Gate, NoMemory};
+use loc_base::{Gate, NoMemory, Workers};
 use std::alloc::Global;
 use std::thread::Threads;
 

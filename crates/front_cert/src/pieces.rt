@@ -3,11 +3,10 @@
 ghost use Rattle.std.specs.Prelude.{◌≡◌, ◌≤◌, ◌<◌, ◌^◌, ◌*◌, ◌+◌, length, min, slice_get, IfOk};
 ghost use Rattle.front_cert.specs.Reaches.{AreSeen, IsSeen};
 
-use crate::front::Workers;
 use crate::reach::Target;
 use crate::seen::{Piece, Seen, greatest, see};
 use clause_base::Log;
-use loc_base::{Gate, NoMemory};
+use loc_base::{Gate, NoMemory, Workers};
 use std::alloc::Global;
 use std::thread::{Threads, map_indices};
 
