@@ -6,7 +6,7 @@ use Rattle.std.proofs.lemmas.Bool.{cases_eq, eq-eqb}
 use Rattle.std.proofs.lemmas.List.Folds.{list_any-append}
 use Rattle.loc_base.proofs.ShelfBools.{or-false, or-true, or-assoc, equal-false}
 use Rattle.loc_base.proofs.ShelfLists.{take-at}
-use Rattle.v_rules.specs.Races.{others}
+use Rattle.design_rules.specs.Races.{others}
 
 -- one element more
 pub any-more : {X : Type 0} (test : X → Bool) (xs : List X) (i : ℕ) (x : X) → i < length xs → x ≡ get_or xs i x

@@ -14,11 +14,11 @@ use Rattle.design_core.specs.Mentions.{driver_mentions, block_mentions}
 use Rattle.design_bits.specs.Masks.{Adds, has}
 use Rattle.design_bits.proofs.Masks.{bit-zero}
 use Rattle.design_bits.proofs.DrivesWithin.{width-within}
-use Rattle.v_rules.specs.Assignments.{home_of, by_equals, clocked_sets}
-use Rattle.v_rules.specs.Entries.{is_mentioned, is_output_bit}
-use Rattle.v_rules.specs.First.{IsFirst}
-use Rattle.v_rules.specs.Races.{IsRace, others, is_used_outside}
-use Rattle.v_rules.proofs.FirstUndriven.{used-below}
+use Rattle.design_rules.specs.Assignments.{home_of, by_equals, clocked_sets}
+use Rattle.design_rules.specs.Entries.{is_mentioned, is_output_bit}
+use Rattle.design_rules.specs.First.{IsFirst}
+use Rattle.design_rules.specs.Races.{IsRace, others, is_used_outside}
+use Rattle.design_rules.proofs.FirstUndriven.{used-below}
 use Rattle.assign_rules.specs.declared.users.Users.{Users}
 use Rattle.assign_rules.specs.Racing.{Assigns, AreRacing}
 use Rattle.assign_rules.specs.UsedBy.{is_used_at, is_used_among, AreUsers}

@@ -14,11 +14,11 @@ use Rattle.design_bits.specs.Masks.{Adds, exceeds, has}
 use Rattle.design_bits.proofs.Added.{adds-both}
 use Rattle.design_bits.proofs.Masks.{bit-zero}
 use Rattle.design_bits.proofs.ShareLaws.{exceeds-found, exceeds-bit}
-use Rattle.v_rules.specs.Assignments.{home_of}
-use Rattle.v_rules.specs.Entries.{is_output_bit}
-use Rattle.v_rules.specs.Races.{others}
-use Rattle.v_rules.specs.Used.{output_has}
-use Rattle.v_rules.proofs.FirstUndriven.{outputs-same}
+use Rattle.design_rules.specs.Assignments.{home_of}
+use Rattle.design_rules.specs.Entries.{is_output_bit}
+use Rattle.design_rules.specs.Races.{others}
+use Rattle.design_rules.specs.Used.{output_has}
+use Rattle.design_rules.proofs.FirstUndriven.{outputs-same}
 use Rattle.assign_rules.specs.declared.users.Users.{Users}
 use Rattle.assign_rules.specs.declared.users.Users.TheVariants as users
 use Rattle.assign_rules.specs.UsedBy.{is_used_beside, is_used_at, HasHome, Notes, is_outside, IsOutside, is_used_among, IsUsed, AreUsers}

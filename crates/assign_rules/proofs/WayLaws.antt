@@ -20,8 +20,8 @@ use Rattle.design_bits.specs.Masks.{Adds, has, share_bit}
 use Rattle.design_bits.proofs.Added.{adds-both}
 use Rattle.design_bits.proofs.Masks.{bit-ones, bit-zero}
 use Rattle.design_bits.proofs.ShareLaws.{share-found, share-bit}
-use Rattle.v_rules.specs.Assignments.{home_of, part_of, by_equals, by_arrow, by_either, driver_sets, clocked_sets, blocks_set, connects, is_misassigned}
-use Rattle.v_rules.specs.Entries.{is_variable}
+use Rattle.design_rules.specs.Assignments.{home_of, part_of, by_equals, by_arrow, by_either, driver_sets, clocked_sets, blocks_set, connects, is_misassigned}
+use Rattle.design_rules.specs.Entries.{is_variable}
 use Rattle.assign_rules.specs.declared.assigned.Ways.{Ways}
 use Rattle.assign_rules.specs.Ways.{AreWays, Has, by_way, is_home, is_mixed}
 

@@ -2,7 +2,7 @@
 use Rattle.std.specs.Prelude.{ℕ, ◌≡◌, ◌<◌, true, List, length, slice_get, Some}
 use Rattle.design_core.specs.declared.driver.Clocked.{Clocked}
 use Rattle.design_core.specs.declared.design.Design.{Design}
-use Rattle.v_rules.specs.Assignments.{by_equals, clocked_sets}
+use Rattle.design_rules.specs.Assignments.{by_equals, clocked_sets}
 use Rattle.assign_rules.specs.declared.users.Users.{Users}
 use Rattle.assign_rules.specs.UsedBy.{is_used_at}
 use Rattle.assign_rules.specs.Ways.{is_home}

@@ -4,9 +4,9 @@ use Rattle.std.specs.List.{list_any}
 use Rattle.design_core.specs.declared.design.Design.{Design}
 use Rattle.design_core.specs.Mentions.{driver_mentions, block_mentions}
 use Rattle.design_bits.specs.Masks.{has}
-use Rattle.v_rules.specs.Assignments.{home_of}
-use Rattle.v_rules.specs.Entries.{is_output_bit}
-use Rattle.v_rules.specs.Races.{others}
+use Rattle.design_rules.specs.Assignments.{home_of}
+use Rattle.design_rules.specs.Entries.{is_output_bit}
+use Rattle.design_rules.specs.Races.{others}
 use Rattle.assign_rules.specs.declared.users.Users.{Users}
 use Rattle.assign_rules.specs.declared.users.Users.TheVariants as users
 

@@ -4,7 +4,7 @@ use Rattle.std.specs.List.{list_any}
 use Rattle.design_core.specs.declared.statement.Part.{Part}
 use Rattle.design_core.specs.declared.design.Design.{Design}
 use Rattle.design_bits.specs.Masks.{has}
-use Rattle.v_rules.specs.Assignments.{part_of, driver_sets, connects, blocks_set}
+use Rattle.design_rules.specs.Assignments.{part_of, driver_sets, connects, blocks_set}
 use Rattle.assign_rules.specs.declared.assigned.Ways.{Ways}
 
 -- whether an assignment is one of the signal by `<=`, or by `=`

@@ -4,9 +4,9 @@ ghost use Rattle.std.specs.List.{list_any};
 ghost use Rattle.design_core.specs.Drives.{some_set, is_reg};
 ghost use Rattle.design_bits.specs.Masks.{Adds};
 ghost use Rattle.design_bits.specs.Rows.{item_passes};
-ghost use Rattle.v_rules.specs.Assignments.{blocks_set, part_of, driver_sets, clocked_sets, connects, is_misassigned};
-ghost use Rattle.v_rules.specs.Entries.{is_variable};
-ghost use Rattle.v_rules.specs.First.{IsFirst};
+ghost use Rattle.design_rules.specs.Assignments.{blocks_set, part_of, driver_sets, clocked_sets, connects, is_misassigned};
+ghost use Rattle.design_rules.specs.Entries.{is_variable};
+ghost use Rattle.design_rules.specs.First.{IsFirst};
 ghost use Rattle.assign_rules.specs.Ways.{AreWays, Has, by_way, is_home, is_mixed};
 
 use crate::homes::{Homes, part_home};

@@ -1,6 +1,6 @@
 //! The homes of signals: the first word of a signal's array, and the signal itself where it is no word of one.
 ghost use Rattle.std.specs.Prelude.{◌≡◌, ◌==◌, ◌<◌, ◌≤◌, ℕ, All, length};
-ghost use Rattle.v_rules.specs.Assignments.{home_of, part_of};
+ghost use Rattle.design_rules.specs.Assignments.{home_of, part_of};
 
 use design_core::Part;
 

@@ -3,8 +3,8 @@ ghost use Rattle.std.specs.Prelude.{◌≡◌, ◌<◌, ◌&&◌, ℕ, true, fal
 ghost use Rattle.design_core.specs.Given.{CanRun};
 ghost use Rattle.design_core.specs.Valuation.{bit};
 ghost use Rattle.design_bits.specs.Masks.{Adds, has};
-ghost use Rattle.v_rules.specs.First.{IsFirst};
-ghost use Rattle.v_rules.specs.Races.{IsRace};
+ghost use Rattle.design_rules.specs.First.{IsFirst};
+ghost use Rattle.design_rules.specs.Races.{IsRace};
 ghost use Rattle.assign_rules.specs.UsedBy.{is_used_at};
 ghost use Rattle.assign_rules.specs.Racing.{AreRacing};
 ghost use Rattle.assign_rules.specs.Ways.{is_home};

@@ -1,16 +1,16 @@
 //! Which blocks use a signal (IEEE 1364-2005, 11.5).
 ghost use Rattle.std.specs.Prelude.{◌≡◌, ◌≢◌, ◌<◌, ◌||◌, ℕ, length, slice_index, slice_index_or, IfOk, OnOk};
 ghost use Rattle.design_core.specs.Mentions.{block_mentions};
-ghost use Rattle.v_rules.specs.Assignments.{home_of};
+ghost use Rattle.design_rules.specs.Assignments.{home_of};
 ghost use Rattle.assign_rules.specs.declared.users.Users.TheVariants as users;
 ghost use Rattle.assign_rules.specs.UsedBy.{is_used_beside, Notes, Reads, AreUsers, IsOutside};
 
 use crate::homes::{Homes, home_of};
 use design_bits::{BitSet, add_block_mentions, exceeds};
 use design_core::{Clocked, Design, Signal};
+use design_rules::{add_drivers_reads, add_outputs};
 use loc_base::NoMemory;
 use std::alloc::Global;
-use v_rules::{add_drivers_reads, add_outputs};
 
 /// Who uses a signal.
 #[derive(Clone, Copy)]

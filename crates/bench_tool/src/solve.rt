@@ -4,7 +4,7 @@ ghost use Rattle.std.specs.Prelude.{◌<◌, ◌^◌, length};
 ghost use Rattle.clause_base.specs.Literal.{AreWithin};
 
 use clause_base::Form;
-use cnf_solve::{
+use dimacs_solver::{
     Failure, Report, Request, check, failure_status, failure_text, read_form, report_on,
     report_text, request_of, solve, status_of,
 };

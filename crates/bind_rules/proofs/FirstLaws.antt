@@ -10,7 +10,7 @@ use Rattle.std.proofs.lemmas.List.Folds.{list_any-append}
 use Rattle.loc_base.proofs.ShelfBools.{or-false, or-true, and-false, equal-true, equal-false, not-true}
 use Rattle.loc_base.proofs.ShelfLists.{take-at}
 use Rattle.v_binding.specs.Starts.{Initial}
-use Rattle.v_rules.specs.First.{IsFirst}
+use Rattle.design_rules.specs.First.{IsFirst}
 use Rattle.bind_rules.specs.Lower.{lower_of, is_this}
 use Rattle.bind_rules.specs.Rules.{is_initial}
 

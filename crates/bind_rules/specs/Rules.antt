@@ -7,14 +7,14 @@ use Rattle.loc_base.specs.declared.span.Span.{Span}
 use Rattle.design_core.specs.declared.driver.Driver.{Driver}
 use Rattle.design_core.specs.declared.driver.Driver.TheVariants as driver
 use Rattle.design_core.specs.declared.design.Design.{Design}
-use Rattle.v_rules.specs.First.{IsFirst}
-use Rattle.v_rules.specs.Entries.{is_variable}
-use Rattle.v_rules.specs.Size.{is_too_large}
-use Rattle.v_rules.specs.OneDriver.{IsDrivenTwice}
-use Rattle.v_rules.specs.DrivenReads.{IsUndriven}
-use Rattle.v_rules.specs.Latches.{IsLatch}
-use Rattle.v_rules.specs.Assignments.{is_misassigned}
-use Rattle.v_rules.specs.Races.{IsRace}
+use Rattle.design_rules.specs.First.{IsFirst}
+use Rattle.design_rules.specs.Entries.{is_variable}
+use Rattle.design_rules.specs.Size.{is_too_large}
+use Rattle.design_rules.specs.OneDriver.{IsDrivenTwice}
+use Rattle.design_rules.specs.DrivenReads.{IsUndriven}
+use Rattle.design_rules.specs.Latches.{IsLatch}
+use Rattle.design_rules.specs.Assignments.{is_misassigned}
+use Rattle.design_rules.specs.Races.{IsRace}
 use Rattle.v_binding.specs.declared.error.BindErr.{BindErr}
 use Rattle.v_binding.specs.declared.error.BindErr.TheVariants as fault
 use Rattle.v_binding.specs.Starts.{Initial}

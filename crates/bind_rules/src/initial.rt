@@ -1,6 +1,6 @@
 //! Initial blocks, which assign variables alone (IEEE 1364-2005, 9.9.1).
 ghost use Rattle.std.specs.Prelude.{◌≡◌, Some, true, if◌then◌else◌};
-ghost use Rattle.v_rules.specs.First.{IsFirst};
+ghost use Rattle.design_rules.specs.First.{IsFirst};
 ghost use Rattle.bind_rules.specs.Lower.{lower_of};
 ghost use Rattle.bind_rules.specs.Rules.{is_set_first, initial_span};
 ghost use Rattle.bind_rules.specs.Views.{beside_of};

@@ -1,7 +1,7 @@
 //! The first rule that a bound design breaks, and where.
 ghost use Rattle.std.specs.Prelude.{◌≡◌, true, option_map, if◌then◌else◌, IfOk, IfSome};
 ghost use Rattle.design_core.specs.Given.{CanRun};
-ghost use Rattle.v_rules.specs.First.{IsFirst};
+ghost use Rattle.design_rules.specs.First.{IsFirst};
 ghost use Rattle.bind_rules.specs.Lower.{is_this};
 ghost use Rattle.bind_rules.specs.Rules.{span_at, initial_span, is_mixed, mixed_span, Races, Assigns, Clocks, Latches, Undriven, Driven, IsFirstBroken};
 ghost use Rattle.bind_rules.specs.Views.{beside_of};
@@ -11,10 +11,10 @@ use crate::initial::{first_set, initial_span, lower_of};
 use crate::spans::{driver_span, span_at};
 use assign_rules::{first_misassigned, first_race};
 use design_core::Design;
+use design_rules::{first_driven_twice, first_latch, first_undriven, is_too_large};
 use loc_base::{NoMemory, Span};
 use std::alloc::Global;
 use v_binding::BindErr;
-use v_rules::{first_driven_twice, first_latch, first_undriven, is_too_large};
 
 /// What a clocked block assigns by `=` is used elsewhere.
 fn races(alloc: Global, design: &Design, beside: Beside<'_>) -> Result<Option<BindErr>, NoMemory>

@@ -4,9 +4,9 @@ use Rattle.std.specs.Prelude.{IfErr, IfOk, IsErrAnd}
 use Rattle.io_ports.specs.Faults.{FaultCounts}
 use Rattle.command_contract.specs.Contract.{IsInputRefusal}
 use Rattle.command_contract.proofs.Statuses.{input-range}
-use Rattle.list_inputs.specs.declared.refusal.Refusal.{Refusal}
-use Rattle.list_inputs.specs.declared.refusal.Refusal.TheVariants.{Line, Memory}
-use Rattle.list_inputs.specs.Ends.{CountsOf, HasCause, HasStatus, IsMemory, IsSpared, RefusalCounts, Says}
+use Rattle.load_problem.specs.declared.refusal.Refusal.{Refusal}
+use Rattle.load_problem.specs.declared.refusal.Refusal.TheVariants.{Line, Memory}
+use Rattle.load_problem.specs.Ends.{CountsOf, HasCause, HasStatus, IsMemory, IsSpared, RefusalCounts, Says}
 
 -- a cause of one kind is one of another
 pub cause-of : (P Q : ℕ → List ℕ → Type 0) (r : Refusal) → ((s : ℕ) (l : List ℕ) → P s l → Q s l) → HasCause P r → HasCause Q r

@@ -6,10 +6,10 @@ use Rattle.command_contract.proofs.Statuses.{input-range, input-refusal}
 use Rattle.front_end.specs.Means.{Meaning, Refusing}
 use Rattle.debug_core.specs.Problems.{IsProblem}
 use Rattle.refusal_lines.specs.Refusals.{memory_line}
-use Rattle.list_inputs.specs.Ends.{PrintCounts, Prints}
-use Rattle.list_inputs.specs.Lines.{LineCut, LineStops}
-use Rattle.list_inputs.specs.Means.{Suspecting}
-use Rattle.list_inputs.proofs.Keeping.{EndsByLines}
+use Rattle.load_problem.specs.Ends.{PrintCounts, Prints}
+use Rattle.load_problem.specs.Lines.{LineCut, LineStops}
+use Rattle.load_problem.specs.Means.{Suspecting}
+use Rattle.load_problem.proofs.Keeping.{EndsByLines}
 use Rattle.list_verdict.specs.declared.verdict.Verdict.{Verdict}
 use Rattle.list_verdict.specs.declared.verdict.Verdict.TheVariants as verdict
 use Rattle.check_cmd.specs.declared.run.Answer.{Answer}

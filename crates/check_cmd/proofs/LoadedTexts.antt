@@ -6,12 +6,12 @@ use Rattle.std.proofs.lemmas.List.{length-append, length-map}
 use Rattle.io_ports.specs.Faults.{FaultCounts}
 use Rattle.command_contract.specs.Contract.{Texts, read_fault_line}
 use Rattle.command_contract.proofs.Statuses.{input-range}
-use Rattle.run_inputs.specs.declared.faults.LoadFault.{LoadFault}
-use Rattle.run_inputs.specs.declared.faults.LoadFault.TheVariants as fault
-use Rattle.run_inputs.specs.Causes.{LoadCause}
-use Rattle.run_inputs.specs.Means.{IsReadAnd, most_bytes}
-use Rattle.run_inputs.specs.Refusals.{load_line, load_status}
-use Rattle.run_inputs.specs.Texts.{LoadCounts}
+use Rattle.load_texts.specs.declared.faults.LoadFault.{LoadFault}
+use Rattle.load_texts.specs.declared.faults.LoadFault.TheVariants as fault
+use Rattle.load_texts.specs.Causes.{LoadCause}
+use Rattle.load_texts.specs.Means.{IsReadAnd, most_bytes}
+use Rattle.load_texts.specs.Refusals.{load_line, load_status}
+use Rattle.load_texts.specs.Texts.{LoadCounts}
 use Rattle.refusal_lines.specs.Refusals.{input_line, memory_line}
 use Rattle.report_doc.specs.declared.types.Report.{Report}
 use Rattle.report_doc.specs.declared.types.ReportErr.{ReportErr}
@@ -25,9 +25,9 @@ use Rattle.proof_check.specs.declared.types.LogErr.{LogErr}
 use Rattle.proof_check.specs.declared.types.LogErr.TheVariants as log
 use Rattle.proof_check.specs.Errors.{OnSyntax as OnBadLine}
 use Rattle.proof_check.specs.Text.{IsFirstBadLine, IsLogText, lines_of, step_line, text_of}
-use Rattle.list_inputs.specs.declared.refusal.Refusal.{Refusal}
-use Rattle.list_inputs.specs.declared.refusal.Refusal.TheVariants.{Line, Memory}
-use Rattle.list_inputs.specs.Ends.{HasCause, HasStatus, IsMemory, IsSpared, RefusalCounts, Says}
+use Rattle.load_problem.specs.declared.refusal.Refusal.{Refusal}
+use Rattle.load_problem.specs.declared.refusal.Refusal.TheVariants.{Line, Memory}
+use Rattle.load_problem.specs.Ends.{HasCause, HasStatus, IsMemory, IsSpared, RefusalCounts, Says}
 use Rattle.check_cmd.specs.Asked.{Asked}
 use Rattle.check_cmd.specs.Means.{IsLogOf}
 use Rattle.check_cmd.specs.Parts as parts

@@ -2,10 +2,10 @@
 use Rattle.std.proofs.Common.{ℕ, ◌≡◌, List, ap, refl, sym, subst, ◌∙◌}
 use Rattle.command_contract.specs.Contract.{Texts}
 use Rattle.front_end.specs.Means.{Meaning}
-use Rattle.list_inputs.specs.declared.inputs.Inputs.{Inputs}
-use Rattle.list_inputs.specs.Asked.{Asked as Wanted}
-use Rattle.list_inputs.specs.Ends.{problem_in}
-use Rattle.list_inputs.specs.Means.{Means, Suspecting}
+use Rattle.load_problem.specs.declared.inputs.Inputs.{Inputs}
+use Rattle.load_problem.specs.Asked.{Asked as Wanted}
+use Rattle.load_problem.specs.Ends.{problem_in}
+use Rattle.load_problem.specs.Means.{Means, Suspecting}
 use Rattle.clause_base.specs.declared.literal.Lit.{Lit}
 use Rattle.clause_base.specs.declared.log.Step.{Step}
 use Rattle.report_doc.specs.declared.types.ReportSet.{ReportSet}

@@ -11,11 +11,11 @@ use Rattle.report_doc.specs.declared.types.Report.{Report}
 use Rattle.debug_core.specs.declared.error.DebugErr.{DebugErr}
 use Rattle.debug_core.specs.declared.error.DebugErr.TheVariants.{Nodes, Vars, Literals, NoMemory}
 use Rattle.debug_core.specs.Problems.{IsRefused, Problem}
-use Rattle.list_inputs.specs.declared.refusal.Refusal.{Refusal}
-use Rattle.list_inputs.specs.declared.refusal.Refusal.TheVariants.{Line, Memory}
-use Rattle.list_inputs.specs.Ends.{HasCause, HasStatus, IsMemory, Says}
-use Rattle.list_inputs.specs.Means.{Means as MeansProblem, Suspecting}
-use Rattle.list_inputs.specs.Refusals.{Refused as InputsRefused, for_problem, problem_line, problem_status}
+use Rattle.load_problem.specs.declared.refusal.Refusal.{Refusal}
+use Rattle.load_problem.specs.declared.refusal.Refusal.TheVariants.{Line, Memory}
+use Rattle.load_problem.specs.Ends.{HasCause, HasStatus, IsMemory, Says}
+use Rattle.load_problem.specs.Means.{Means as MeansProblem, Suspecting}
+use Rattle.load_problem.specs.Refusals.{Refused as InputsRefused, for_problem, problem_line, problem_status}
 use Rattle.check_cmd.specs.declared.sessions.Digests.{Digests}
 use Rattle.check_cmd.specs.Asked.{Asked, wanted_by}
 use Rattle.check_cmd.specs.Means.{Asks, Given, Means, MeansReport, Posed, Poses, unknown_kind}

@@ -1,7 +1,7 @@
 -- What a check is asked of, as plain data.
 use Rattle.std.specs.Prelude.{ℕ, ◌≤◌, List, length, map, string_bytes}
 use Rattle.report_doc.specs.declared.types.Report.{Report}
-use Rattle.list_inputs.specs.Asked.{Asked as Wanted}
+use Rattle.load_problem.specs.Asked.{Asked as Wanted}
 use Rattle.check_cmd.specs.declared.request.Request.{Request}
 
 -- the names of the design's text, of the module that is the top, of the report, of the log, and of the traces' texts; how many

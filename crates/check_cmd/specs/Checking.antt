@@ -7,9 +7,9 @@ use Rattle.front_end.specs.Means.{Meaning, Refusing}
 use Rattle.report_doc.specs.declared.types.Report.{Report}
 use Rattle.proof_check.specs.declared.types.LogText.{LogText}
 use Rattle.debug_core.specs.Problems.{IsProblem}
-use Rattle.list_inputs.specs.Lines.{LineCut, LineStops}
-use Rattle.list_inputs.specs.Means.{IsDigestOf, Suspecting}
-use Rattle.list_inputs.specs.Refusals.{IsReady as IsReadyList}
+use Rattle.load_problem.specs.Lines.{LineCut, LineStops}
+use Rattle.load_problem.specs.Means.{IsDigestOf, Suspecting}
+use Rattle.load_problem.specs.Refusals.{IsReady as IsReadyList}
 use Rattle.list_verdict.specs.declared.verdict.Verdict.{Verdict}
 use Rattle.list_verdict.specs.declared.verdict.Verdict.TheVariants as verdict
 use Rattle.list_verdict.specs.Verdicts.{IsVerdict, IsWholeList}

@@ -5,13 +5,13 @@ use Rattle.clause_base.specs.declared.literal.Lit.{Lit}
 use Rattle.command_contract.specs.Contract.{Texts}
 use Rattle.suspect_map.specs.Choose.{unknown}
 use Rattle.front_end.specs.Means.{Meaning}
-use Rattle.run_inputs.specs.Means.{IsReadAnd}
+use Rattle.load_texts.specs.Means.{IsReadAnd}
 use Rattle.report_doc.specs.declared.types.Report.{Report}
 use Rattle.report_reading.specs.Reading.{IsReportOf}
 use Rattle.proof_check.specs.declared.types.LogText.{LogText}
 use Rattle.proof_check.specs.Text.{IsLogText, text_of}
 use Rattle.debug_core.specs.Problems.{IsFormFor, Problem}
-use Rattle.list_inputs.specs.Means.{IsDigestOf, Means as MeansProblem, Suspecting}
+use Rattle.load_problem.specs.Means.{IsDigestOf, Means as MeansProblem, Suspecting}
 use Rattle.list_verdict.specs.Claims.{Claim}
 use Rattle.check_cmd.specs.Asked.{Asked, wanted_by}
 

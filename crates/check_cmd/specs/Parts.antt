@@ -2,10 +2,10 @@
 use Rattle.std.specs.Prelude.{ℕ, ◌≡◌, ◌<◌, ◌≤◌, ◌+◌, ◌^◌, List, length, Option, Some, IsSomeAnd, codes}
 use Rattle.loc_base.specs.declared.digest.Digest.{Digest}
 use Rattle.refusal_lines.specs.Refusals.{input_line, memory_line}
-use Rattle.run_inputs.specs.declared.faults.LoadFault.{LoadFault}
-use Rattle.run_inputs.specs.Causes.{LoadCause}
-use Rattle.run_inputs.specs.Means.{most_bytes}
-use Rattle.run_inputs.specs.Refusals.{load_line, load_status}
+use Rattle.load_texts.specs.declared.faults.LoadFault.{LoadFault}
+use Rattle.load_texts.specs.Causes.{LoadCause}
+use Rattle.load_texts.specs.Means.{most_bytes}
+use Rattle.load_texts.specs.Refusals.{load_line, load_status}
 use Rattle.report_doc.specs.declared.types.Report.{Report}
 use Rattle.report_doc.specs.declared.types.ReportErr.{ReportErr}
 use Rattle.report_doc.specs.declared.types.ReportErr.TheVariants as fault
@@ -18,8 +18,8 @@ use Rattle.proof_check.specs.declared.types.LogErr.TheVariants.{LogSyntax}
 use Rattle.proof_check.specs.Text.{IsFirstBadLine}
 use Rattle.debug_core.specs.declared.error.DebugErr.{DebugErr}
 use Rattle.debug_core.specs.Problems.{IsFormFor, IsProblem, IsRefused, Problem}
-use Rattle.list_inputs.specs.Ends.{HaveNumbers, problem_in}
-use Rattle.list_inputs.specs.Refusals.{problem_line, problem_status}
+use Rattle.load_problem.specs.Ends.{HaveNumbers, problem_in}
+use Rattle.load_problem.specs.Refusals.{problem_line, problem_status}
 use Rattle.list_verdict.specs.declared.verdict.Verdict.{Verdict}
 use Rattle.list_verdict.specs.Verdicts.{IsVerdict, IsWholeListIf}
 use Rattle.check_cmd.specs.declared.evidence.Evidence.{Evidence}

@@ -1,5 +1,5 @@
 -- Why nothing is judged, in the order in which the causes are looked for: the report's text, its kinds of suspects, the design's text
--- and all that a list is asked of (`list_inputs`), the log's text, the digests. What is printed, and the status.
+-- and all that a list is asked of (`load_problem`), the log's text, the digests. What is printed, and the status.
 use Rattle.std.specs.Prelude.{ℕ, ◌≡◌, ◌≢◌, List, ◌++◌, Some, codes, decimal}
 use Rattle.hex.specs.Hex.{encode_lower}
 use Rattle.loc_base.specs.declared.digest.Digest.{Digest}
@@ -7,16 +7,16 @@ use Rattle.printed_text.specs.Numerals.{newline}
 use Rattle.command_contract.specs.Contract.{Texts}
 use Rattle.refusal_lines.specs.Refusals.{input_line}
 use Rattle.front_end.specs.Means.{Meaning, Refusing}
-use Rattle.run_inputs.specs.declared.faults.LoadFault.{LoadFault}
-use Rattle.run_inputs.specs.Causes.{LoadCause}
-use Rattle.run_inputs.specs.Means.{IsReadAnd}
-use Rattle.run_inputs.specs.Refusals.{load_line, load_status}
+use Rattle.load_texts.specs.declared.faults.LoadFault.{LoadFault}
+use Rattle.load_texts.specs.Causes.{LoadCause}
+use Rattle.load_texts.specs.Means.{IsReadAnd}
+use Rattle.load_texts.specs.Refusals.{load_line, load_status}
 use Rattle.report_doc.specs.declared.types.Report.{Report}
 use Rattle.report_doc.specs.Json.{IsJson}
 use Rattle.report_reading.specs.Reading.{IsReportOf}
 use Rattle.proof_check.specs.Text.{IsFirstBadLine}
-use Rattle.list_inputs.specs.Means.{Suspecting}
-use Rattle.list_inputs.specs.Refusals.{Refused as InputsRefused}
+use Rattle.load_problem.specs.Means.{Suspecting}
+use Rattle.load_problem.specs.Refusals.{Refused as InputsRefused}
 use Rattle.check_cmd.specs.Asked.{Asked, wanted_by}
 use Rattle.check_cmd.specs.Means.{Asks, Given, Means, MeansReport, Posed, Poses, unknown_kind}
 

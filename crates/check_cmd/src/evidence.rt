@@ -6,7 +6,7 @@ ghost use Rattle.report_doc.specs.Shape.{IsReport};
 ghost use Rattle.debug_core.specs.declared.error.DebugErr.{DebugErr as SomeErr};
 ghost use Rattle.debug_core.specs.declared.error.DebugErr.TheVariants.{NoMemory as WantOfMemory};
 ghost use Rattle.debug_core.specs.Problems.{IsFormFor, IsProblem, IsRefused};
-ghost use Rattle.list_inputs.specs.Ends.{CountsOf, HasCause, HasStatus, IsMemory, IsSpared, problem_in};
+ghost use Rattle.load_problem.specs.Ends.{CountsOf, HasCause, HasStatus, IsMemory, IsSpared, problem_in};
 ghost use Rattle.check_cmd.specs.Asked.{IsAsked, asked_of};
 ghost use Rattle.check_cmd.specs.Checking.{IsReady};
 ghost use Rattle.check_cmd.specs.Means.{AreOfInputs, Asks, Means, Poses};
@@ -22,7 +22,7 @@ use crate::tools::Tools;
 use debug_core::{FormPlan, plan_of};
 use front_end::FrontEnd;
 use io_ports::Shelf;
-use list_inputs::{Inputs, Refusal, read};
+use load_problem::{Inputs, Refusal, read};
 use loc_base::Gate;
 use proof_check::types::LogText;
 use report_doc::types::Report;
@@ -115,7 +115,7 @@ fn pose<F: FrontEnd, R: Threads + Sync, G: Gate + Sync, S: Shelf>(
         → IfErr result IsSpared }
 {
     let report = ask(alloc, tools, request, shelf)?;
-    let reading = list_inputs::Tools {
+    let reading = load_problem::Tools {
         front: tools.front,
         kinds: tools.kinds,
         runtime: tools.runtime,

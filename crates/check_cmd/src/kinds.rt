@@ -3,11 +3,11 @@ ghost use Rattle.std.specs.Prelude.{◌≡◌, ◌++◌, IfErr, IfOk, IsOk, None
 ghost use Rattle.std.specs.Cmp.Lexicographic.{pointwise};
 ghost use Rattle.std.specs.Option.{option_copied};
 ghost use Rattle.suspect_map.specs.Choose.{named, unknown};
-ghost use Rattle.list_inputs.specs.Ends.{HasCause};
+ghost use Rattle.load_problem.specs.Ends.{HasCause};
 ghost use Rattle.check_cmd.specs.Parts.{KindRefused};
 ghost use Rattle.check_cmd.specs.Refusals.{kind_line};
 
-use list_inputs::Refusal;
+use load_problem::Refusal;
 use loc_base::{Name, NoMemory};
 use printed_text::push_bytes;
 use report_doc::types::Report;

@@ -1,8 +1,8 @@
 //! The log of a text.
 ghost use Rattle.std.specs.Prelude.{◌≡◌, ◌+◌, ◌++◌, ◌<◌, ◌≤◌, ◌^◌, IfErr, IfOk, OnOk, length, true};
 ghost use Rattle.proof_check.specs.declared.types.LogText.{LogText as SomeLog};
-ghost use Rattle.run_inputs.specs.Means.{most_bytes};
-ghost use Rattle.list_inputs.specs.Ends.{CountsOf, HasCause, HasStatus, IsMemory, IsSpared, Says};
+ghost use Rattle.load_texts.specs.Means.{most_bytes};
+ghost use Rattle.load_problem.specs.Ends.{CountsOf, HasCause, HasStatus, IsMemory, IsSpared, Says};
 ghost use Rattle.check_cmd.specs.Asked.{asked_of};
 ghost use Rattle.check_cmd.specs.Means.{IsLogOf, MeansLog};
 ghost use Rattle.check_cmd.specs.Parts.{LogTextRefused, log_fault_line, log_fault_status};
@@ -11,7 +11,7 @@ ghost use Rattle.check_cmd.specs.Refusals.{LogRefused, bad_line};
 use crate::request::Request;
 use crate::texts::load;
 use io_ports::Shelf;
-use list_inputs::Refusal;
+use load_problem::Refusal;
 use loc_base::{Bytes, NoMemory};
 use printed_text::{push_bytes, push_number};
 use proof_check::read_log_parallel;

@@ -1,9 +1,9 @@
 //! What a check is asked of.
 ghost use Rattle.std.specs.Prelude.{◌≡◌};
-ghost use Rattle.list_inputs.specs.Asked.{asked_of as wanted_asked};
+ghost use Rattle.load_problem.specs.Asked.{asked_of as wanted_asked};
 ghost use Rattle.check_cmd.specs.Asked.{asked_of, wanted_by};
 
-use list_inputs::Wanted;
+use load_problem::Wanted;
 use loc_base::Name;
 use report_doc::types::Report;
 

@@ -1,12 +1,12 @@
 //! Whether a session, a report with a log, is of the inputs.
 ghost use Rattle.std.specs.Prelude.{◌≡◌, ◌++◌, IfErr, IfOk, IsOk, OnOk};
 ghost use Rattle.hex.specs.Hex.{encode_lower};
-ghost use Rattle.list_inputs.specs.Ends.{HasCause};
+ghost use Rattle.load_problem.specs.Ends.{HasCause};
 ghost use Rattle.check_cmd.specs.Parts.{AreSame, OtherRefused};
 ghost use Rattle.check_cmd.specs.Refusals.{other_line};
 
 use hex::encode_to_slice;
-use list_inputs::Refusal;
+use load_problem::Refusal;
 use loc_base::{Digest, NoMemory};
 use printed_text::push_bytes;
 use std::alloc::Global;

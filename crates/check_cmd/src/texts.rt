@@ -1,14 +1,14 @@
 //! A text beside those that a list is asked of: its load.
 ghost use Rattle.std.specs.Prelude.{◌≡◌, ◌≤◌, IfErr, IfOk, Some, length, true};
-ghost use Rattle.run_inputs.specs.Means.{most_bytes};
-ghost use Rattle.run_inputs.specs.Texts.{LoadCounts, Loads};
-ghost use Rattle.list_inputs.specs.Ends.{CountsOf, HasCause, HasStatus, IsSpared};
+ghost use Rattle.load_texts.specs.Means.{most_bytes};
+ghost use Rattle.load_texts.specs.Texts.{LoadCounts, Loads};
+ghost use Rattle.load_problem.specs.Ends.{CountsOf, HasCause, HasStatus, IsSpared};
 ghost use Rattle.check_cmd.specs.Parts.{IsShort, LoadRefused};
 
 use io_ports::{LoadErr, Shelf};
-use list_inputs::Refusal;
+use load_problem::Refusal;
+use load_texts::LoadFault;
 use loc_base::Bytes;
-use run_inputs::LoadFault;
 use std::alloc::Global;
 
 /// The most bytes that a text may have.

@@ -29,8 +29,8 @@ use Rattle.bit_circuit.specs.Meaning.{GivenNet, IsOf, MeanNodes, bits_of}
 use Rattle.bit_circuit.proofs.CircuitLaws.{next-mean, outputs-mean}
 use Rattle.bit_circuit.proofs.CircuitKept.{free-of}
 use Rattle.bit_circuit.proofs.ExpandSteps.{nothing-given, nothing as no_words}
-use Rattle.v_synth_parts.specs.Meaning.{word_of}
-use Rattle.v_synth_parts.proofs.Base.{bit-number}
+use Rattle.synth_parts.specs.Meaning.{word_of}
+use Rattle.synth_parts.proofs.Base.{bit-number}
 use Rattle.v_synth.specs.Matches.{MeansCycle, OneNet, value_in}
 use Rattle.v_synth.specs.Net.{net_of, states_of}
 use Rattle.v_synth.proofs.NetKeeps.{cycle-means}

@@ -22,7 +22,7 @@ use Rattle.word_net.specs.declared.node.WordNode.{WordNode}
 use Rattle.word_net.specs.Given.{number_at}
 use Rattle.word_net.specs.Values.{Source, net_values}
 use Rattle.bit_circuit.specs.Meaning.{AreOfWidth, IsOfWidth, bits_of}
-use Rattle.v_synth_parts.specs.Meaning.{word_of}
+use Rattle.synth_parts.specs.Meaning.{word_of}
 use Rattle.v_synth.specs.Net.{cycle_source, states_of}
 use Rattle.design_circuits.proofs.Sources.{input-is, values-same}
 use Rattle.design_circuits.specs.Reads.{AllReadDesign, IsSignalOf, ReadsDesign}

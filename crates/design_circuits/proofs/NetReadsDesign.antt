@@ -15,7 +15,7 @@ use Rattle.word_net.specs.declared.node.Operand.{Operand}
 use Rattle.word_net.specs.declared.node.Operation.{Operation}
 use Rattle.word_net.specs.declared.node.Operation.TheVariants.{Const, Input, State, Free, Unary, Binary, Choose, Join, Repeat, Resize, Slice, Pick, Is, Put, PutPick, Blend}
 use Rattle.word_net.specs.declared.node.WordNode.{WordNode}
-use Rattle.v_synth_parts.specs.Tally.{weight, tally}
+use Rattle.synth_parts.specs.Tally.{weight, tally}
 use Rattle.v_synth.specs.Net.{net_of, states_of}
 use Rattle.v_synth.proofs.NetReads.{of_place, is_listed_as, input-read, state-read, place-read, place-once}
 use Rattle.design_circuits.specs.Reads.{IsSignalOf, IsPlaceOf, ReadsDesign, AllReadDesign, HasEachPlace}

@@ -27,7 +27,7 @@ use Rattle.word_net.specs.declared.node.Operation.TheVariants.{Const, Input, Sta
 use Rattle.word_net.specs.declared.node.WordNode.{WordNode}
 use Rattle.word_net.specs.Given.{Given, number_at, source_of, HasWord, IsGiven, AreGiven}
 use Rattle.word_net.specs.Values.{Source, read, operation_value, word_value, values, net_values}
-use Rattle.v_synth_parts.specs.Meaning.{word_of}
+use Rattle.synth_parts.specs.Meaning.{word_of}
 use Rattle.v_synth.specs.Matches.{OneNet, IsNetOf, MeansCycle, value_in}
 use Rattle.v_synth.specs.Net.{states_of, cycle_source}
 use Rattle.v_synth.proofs.NetKeeps.{cycle-means}

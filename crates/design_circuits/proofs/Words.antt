@@ -19,8 +19,8 @@ use Rattle.design_core.proofs.NumberLaws.{number-below}
 use Rattle.word_net.specs.Given.{number_at}
 use Rattle.bit_circuit.specs.Meaning.{IsOf}
 use Rattle.bit_circuit.proofs.Bits.{bits_from, word-bits}
-use Rattle.v_synth_parts.specs.Meaning.{word_of}
-use Rattle.v_synth_parts.proofs.Base.{bit-number}
+use Rattle.synth_parts.specs.Meaning.{word_of}
+use Rattle.synth_parts.proofs.Base.{bit-number}
 use Rattle.v_synth.specs.Net.{states_of}
 use Rattle.unroller.specs.Cycles.{sampled}
 use Rattle.design_circuits.specs.Reading.{read_of}

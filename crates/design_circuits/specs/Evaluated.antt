@@ -6,7 +6,7 @@ use Rattle.design_core.specs.TraceFits.{samples_fit}
 use Rattle.design_core.specs.Words.{choice_of}
 use Rattle.word_net.specs.Given.{Given}
 use Rattle.word_net.specs.Nets.{Net}
-use Rattle.v_synth_parts.specs.Meaning.{word_of}
+use Rattle.synth_parts.specs.Meaning.{word_of}
 use Rattle.v_synth.specs.Matches.{OneNet}
 use Rattle.v_synth.specs.Net.{states_of}
 

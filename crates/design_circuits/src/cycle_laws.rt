@@ -9,7 +9,7 @@ ghost use Rattle.design_core.specs.Reads.{IsOrder};
 ghost use Rattle.design_core.specs.WellFormed.{IsWellFormed};
 ghost use Rattle.word_net.specs.Given.{AreGiven, number_at, source_of};
 ghost use Rattle.word_net.specs.Values.{net_values};
-ghost use Rattle.v_synth_parts.specs.Meaning.{word_of};
+ghost use Rattle.synth_parts.specs.Meaning.{word_of};
 ghost use Rattle.v_synth.specs.Matches.{IsNetOf};
 ghost use Rattle.v_synth.specs.Net.{states_of};
 ghost use Rattle.design_circuits.specs.Widths.{HasWidths};

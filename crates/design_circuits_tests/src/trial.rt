@@ -9,7 +9,7 @@ use cycle_sim::{Sim, can_simulate, replay};
 use design_core::{Design, Trace, Values};
 use design_fits::is_trace_of;
 use loc_base::Bits;
-use set_replays::are_values_for;
+use parallel_replay::are_values_for;
 use std::alloc::Global;
 use std::test::Fail;
 

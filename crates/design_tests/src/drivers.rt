@@ -3,9 +3,9 @@
 use crate::build::{add_assign, add_place, design_of, slice};
 use design_core::{Design, SignalKind};
 use design_fits::can_run;
+use design_rules::{first_driven_twice, first_undriven, is_too_large};
 use std::alloc::Global;
 use std::test::Fail;
-use v_rules::{first_driven_twice, first_undriven, is_too_large};
 
 /// The first signal with two drivers, and the first that is used without one.
 fn found(alloc: Global, design: &Design) -> Result<(Option<usize>, Option<usize>), Fail> {

@@ -1,4 +1,4 @@
-//! Tests of what is asked of a finished design: the order of its drivers (`design_order`), its rules (`v_rules`, `assign_rules`), and
+//! Tests of what is asked of a finished design: the order of its drivers (`design_order`), its rules (`design_rules`, `assign_rules`), and
 //! its suspects (`suspect_map`), with granularities of a caller's own.
 #![tactic(auto)]
 

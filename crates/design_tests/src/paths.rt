@@ -4,10 +4,10 @@ use crate::build::{add_assign, add_block, case_of, design_of, either, item, set,
 use assign_rules::first_misassigned;
 use design_core::{Design, SignalKind, Stmt};
 use design_fits::can_run;
+use design_rules::first_latch;
 use loc_base::Items;
 use std::alloc::Global;
 use std::test::Fail;
-use v_rules::first_latch;
 
 /// An input and a variable.
 fn variable(alloc: Global) -> Result<Design, Fail> {

@@ -14,8 +14,8 @@ use clause_base::Form;
 use cycle_sim::Miss;
 use design_core::SetWithValues;
 use loc_base::{Gate, NoMemory, Workers};
+use parallel_replay::replay_all;
 use proof_check::{BadStep, check_log_parallel, named};
-use set_replays::replay_all;
 use std::alloc::Global;
 use std::thread::Threads;
 

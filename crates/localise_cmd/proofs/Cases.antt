@@ -16,8 +16,8 @@ use Rattle.make_cmd.specs.Asked.{Asked as Making}
 use Rattle.make_cmd.specs.Making.{for_texts, in_memory_line, making}
 use Rattle.write_order.specs.Writes.{AreDone, print_piece}
 use Rattle.write_order.proofs.Carried.{done-then, print-done, print-stops, stops-then}
-use Rattle.find_sets.specs.Asked.{Asked as Finding}
-use Rattle.find_sets.specs.Finding.{finding}
+use Rattle.find_cmd.specs.Asked.{Asked as Finding}
+use Rattle.find_cmd.specs.Finding.{finding}
 use Rattle.sim_cmd.specs.Requests.{Asked as Simulating}
 use Rattle.sim_cmd.specs.Simulation.{simulation}
 use Rattle.localise_cmd.specs.Usage.{no_request}

@@ -12,7 +12,7 @@ use Rattle.command_words.specs.Find.{FindAsked, IsFindAsked, IsWavePrefix, other
 use Rattle.set_waves.specs.Names.{IsNoWave}
 use Rattle.command_words.specs.Make.{IsMakeAsked, MakeAsked}
 use Rattle.check_cmd.specs.Asked.{Asked as Checking, IsAsked as IsCheckable}
-use Rattle.find_sets.specs.Asked.{AreKnown, Asked as Finding, IsAsked}
+use Rattle.find_cmd.specs.Asked.{AreKnown, Asked as Finding, IsAsked}
 use Rattle.make_cmd.specs.Asked.{Asked as Making, IsAsked as IsMakeable, finding_of as list_of}
 use Rattle.localise_cmd.specs.Commands.{checking_of, finding_of, making_of}
 use Rattle.localise_cmd.proofs.KindNames.{kind-names}

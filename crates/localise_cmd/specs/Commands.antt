@@ -11,9 +11,9 @@ use Rattle.command_words.specs.Asked.{Asked, find, sim, check, make}
 use Rattle.command_words.specs.Words.{asked as asked_by}
 use Rattle.check_cmd.specs.Asked.{Asked as Checking}
 use Rattle.check_cmd.specs.Checking.{checking}
-use Rattle.find_sets.specs.Asked.{Asked as Finding}
-use Rattle.find_sets.specs.Finding.{finding}
-use Rattle.list_inputs.specs.Means.{Suspecting}
+use Rattle.find_cmd.specs.Asked.{Asked as Finding}
+use Rattle.find_cmd.specs.Finding.{finding}
+use Rattle.load_problem.specs.Means.{Suspecting}
 use Rattle.make_cmd.specs.Asked.{Asked as Making}
 use Rattle.make_cmd.specs.Making.{making}
 use Rattle.front_end.specs.Means.{Meaning, Refusing}

@@ -8,7 +8,7 @@ ghost use Rattle.command_words.specs.Requests.{asked_of};
 ghost use Rattle.command_words.specs.FindRequests.{find_asked_of, sim_asked_of};
 ghost use Rattle.command_words.specs.Words.{asked};
 ghost use Rattle.check_cmd.specs.Asked.{asked_of as asked_of_check};
-ghost use Rattle.find_sets.specs.Requests.{asked_of as asked_of_find};
+ghost use Rattle.find_cmd.specs.Requests.{asked_of as asked_of_find};
 ghost use Rattle.make_cmd.specs.Requests.{asked_of as asked_of_make};
 ghost use Rattle.sim_cmd.specs.Requests.{asked_of as asked_of_sim};
 ghost use Rattle.localise_cmd.specs.Commands.{checking_of, finding_of, making_of, simulating_of};
@@ -31,7 +31,7 @@ pub(crate) fn request_by(
     request(alloc, words, &known)
 }
 
-pub(crate) fn find_request(words: FindWords) -> find_sets::Request
+pub(crate) fn find_request(words: FindWords) -> find_cmd::Request
     ensures { asked_of_find result ≡ finding_of (find_asked_of words) }
 {
     let FindWords {
@@ -48,7 +48,7 @@ pub(crate) fn find_request(words: FindWords) -> find_sets::Request
         report,
         waves,
     } = words;
-    find_sets::Request {
+    find_cmd::Request {
         design,
         top,
         traces,

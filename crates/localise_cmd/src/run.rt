@@ -10,7 +10,7 @@ use crate::lines::{print_memory, print_usage};
 use crate::requests::{check_request, find_request, make_request, request_by, sim_request};
 use check_cmd::check;
 use command_words::{Request, WordsErr};
-use find_sets::find;
+use find_cmd::find;
 use io_ports::{Shelf, Sink};
 use loc_base::Gate;
 use make_cmd::make;
@@ -24,7 +24,7 @@ use verilog_front_end::Verilog;
 ///
 /// | words | what is done |
 /// |---|---|
-/// | `find DESIGN TOP TRACE.. [--clock NAME] [--size K] [--budget B] [--sets M] [--suspects A,B] [--workers N] [--log NAME] [--report NAME] [--waves PREFIX]` | lists each minimal set of suspects, with a log and a report, and with waves of each set where they are wanted (`find_sets`) |
+/// | `find DESIGN TOP TRACE.. [--clock NAME] [--size K] [--budget B] [--sets M] [--suspects A,B] [--workers N] [--log NAME] [--report NAME] [--waves PREFIX]` | lists each minimal set of suspects, with a log and a report, and with waves of each set where they are wanted (`find_cmd`) |
 /// | `sim DESIGN TOP TRACE.. [--clock NAME]` | simulates the traces (`sim_cmd`) |
 /// | `check DESIGN TOP REPORT LOG TRACE.. [--workers N]` | judges a list by its report and its log (`check_cmd`) |
 /// | `make NUMBER [--size K] [--budget B] [--sets M] [--suspects A,B] [--workers N] [--log NAME] [--report NAME] [--design NAME] [--trace NAME]` | writes an input that it makes, and lists its sets (`make_cmd`) |
@@ -61,7 +61,7 @@ pub fn run_words<R: Threads + Sync, S: Shelf, O: Sink, G: Gate + Sync>(
 {
     match request_by(alloc, words, kinds) {
         Ok(Request::Find(words)) => {
-            let tools = find_sets::Tools {
+            let tools = find_cmd::Tools {
                 front: &Verilog,
                 kinds,
                 runtime: rt,

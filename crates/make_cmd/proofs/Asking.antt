@@ -1,7 +1,7 @@
 -- What may be asked: the four names differ, and the list of the made texts may be asked too.
 use Rattle.std.proofs.Common.{ℕ, zero, suc, ◌≢◌, List, [], ◌∷◌, sym, arith}
 use Rattle.std.specs.Prelude.{All}
-use Rattle.find_sets.specs.Asked.{IsAsked as IsListAsked}
+use Rattle.find_cmd.specs.Asked.{IsAsked as IsListAsked}
 use Rattle.make_cmd.specs.Asked.{Asked, IsAsked, finding_of}
 
 all-two : (P : List ℕ → Type 0) (one other : List ℕ) → P one → P other → All P (one ∷ other ∷ [])

@@ -12,10 +12,10 @@ use Rattle.front_end.specs.Means.{Meaning, Refusing}
 use Rattle.write_order.specs.Writes.{AreDone, StopsIn, on_shelf, print_piece}
 use Rattle.write_order.proofs.Carried.{done-then, print-done, print-stops, stops-then}
 use Rattle.made_input.specs.Made.{design_text, made_line, trace_text}
-use Rattle.list_inputs.specs.Ends.{PrintCounts, Prints}
-use Rattle.list_inputs.specs.Means.{Suspecting}
-use Rattle.find_sets.specs.Asked.{Asked as Finding}
-use Rattle.find_sets.specs.Finding.{finding, outputs_of}
+use Rattle.load_problem.specs.Ends.{PrintCounts, Prints}
+use Rattle.load_problem.specs.Means.{Suspecting}
+use Rattle.find_cmd.specs.Asked.{Asked as Finding}
+use Rattle.find_cmd.specs.Finding.{finding, outputs_of}
 use Rattle.make_cmd.specs.Asked.{Asked, IsAsked, finding_of}
 use Rattle.make_cmd.specs.Making.{IsCut, IsListed, IsMade, IsMadeRefusal, IsStopped, made_texts, made_writes, made_written, making}
 use Rattle.make_cmd.specs.Making.{for_last_line, for_list, for_texts, in_last_line, in_list, in_memory_line, in_texts}

@@ -1,11 +1,11 @@
 -- What was read of the made texts: no count of faults rose, so that no text wasn't handed over.
 use Rattle.std.proofs.Common.{ℕ, ◌≡◌, ◌≢◌, ◌<◌, [], refl, arith, lit<, Result, Ok, Err}
 use Rattle.io_ports.specs.Faults.{FaultCounts, LoadRose, fault_counts}
-use Rattle.list_inputs.specs.declared.inputs.Inputs.{Inputs}
-use Rattle.list_inputs.specs.declared.refusal.Refusal.{Refusal}
-use Rattle.list_inputs.specs.declared.refusal.Refusal.TheVariants.{Line, Memory}
-use Rattle.list_inputs.specs.Ends.{CountsOf}
-use Rattle.find_sets.specs.Reading.{IsReadFault}
+use Rattle.load_problem.specs.declared.inputs.Inputs.{Inputs}
+use Rattle.load_problem.specs.declared.refusal.Refusal.{Refusal}
+use Rattle.load_problem.specs.declared.refusal.Refusal.TheVariants.{Line, Memory}
+use Rattle.load_problem.specs.Ends.{CountsOf}
+use Rattle.find_cmd.specs.Reading.{IsReadFault}
 
 -- a shelf on which no count can rise
 none-rose : LoadRose (fault_counts 0 0 []) (fault_counts 0 0 []) → ⊥

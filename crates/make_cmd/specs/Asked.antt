@@ -1,7 +1,7 @@
 -- What a made input is asked of, as plain data.
 use Rattle.std.specs.Prelude.{ℕ, ◌≢◌, ◌≤◌, List, [], ◌∷◌, All, AllPairs, Some, None, codes}
 use Rattle.report_reading.specs.Reading.{IsKindName}
-use Rattle.find_sets.specs.Asked.{Asked as Finding, IsUpTo}
+use Rattle.find_cmd.specs.Asked.{Asked as Finding, IsUpTo}
 
 -- the number of the input; the names of the design's text and of the trace's; what its list is asked: the names of the kinds of
 -- suspects, the most members of a set, the most steps that may be learned, the most sets, how many workers check the log, and the

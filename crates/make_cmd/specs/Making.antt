@@ -8,10 +8,10 @@ use Rattle.command_contract.specs.Contract.{Case, Run, Texts, WriteFailed}
 use Rattle.front_end.specs.Means.{Meaning, Refusing}
 use Rattle.write_order.specs.Writes.{AreDone, StopsIn, Write, begin_text, print_piece, put_piece, text_behind}
 use Rattle.made_input.specs.Made.{design_text, made_line, trace_text}
-use Rattle.list_inputs.specs.Means.{Suspecting}
-use Rattle.list_inputs.specs.Refusals.{IsReady, Refused}
-use Rattle.find_sets.specs.Asked.{wanted_of}
-use Rattle.find_sets.specs.Finding.{finding, outputs_of}
+use Rattle.load_problem.specs.Means.{Suspecting}
+use Rattle.load_problem.specs.Refusals.{IsReady, Refused}
+use Rattle.find_cmd.specs.Asked.{wanted_of}
+use Rattle.find_cmd.specs.Finding.{finding, outputs_of}
 use Rattle.make_cmd.specs.Asked.{Asked, finding_of}
 
 -- ---- the made texts

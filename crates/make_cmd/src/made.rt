@@ -1,6 +1,6 @@
 //! What is made before anything is written.
 ghost use Rattle.std.specs.Prelude.{◌≡◌, IfOk, List, ℕ, true};
-ghost use Rattle.find_sets.specs.Requests.{asked_of as list_asked};
+ghost use Rattle.find_cmd.specs.Requests.{asked_of as list_asked};
 ghost use Rattle.made_input.specs.Made.{made_line};
 ghost use Rattle.write_order.specs.Writes.{Leaves, WriteCause, on_shelf};
 ghost use Rattle.make_cmd.specs.Asked.{finding_of};
@@ -20,7 +20,7 @@ use write_order::{WriteErr, begin_text, put_piece};
 pub(crate) struct Made<'a> {
     pub texts: MadeShelf<'a>,
     pub line: Bytes,
-    pub list: find_sets::Request,
+    pub list: find_cmd::Request,
 }
 
 impl<'a> Made<'a> {

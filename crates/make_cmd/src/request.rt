@@ -1,7 +1,7 @@
 //! What a made input is asked of.
 ghost use Rattle.std.specs.Prelude.{◌≡◌, [], ◌∷◌, IfOk, map, string_bytes};
 ghost use Rattle.loc_base.specs.Name.{IsName};
-ghost use Rattle.find_sets.specs.Requests.{asked_of as list_asked};
+ghost use Rattle.find_cmd.specs.Requests.{asked_of as list_asked};
 ghost use Rattle.make_cmd.specs.Asked.{finding_of};
 ghost use Rattle.make_cmd.specs.Requests.{asked_of};
 
@@ -66,10 +66,10 @@ fn one_text(alloc: Global, name: &str) -> Result<Vec<String>, NoMemory>
 
 impl Request {
     /// What the list of the made design and trace is asked of.
-    pub(crate) fn list_request(&self, alloc: Global) -> Result<find_sets::Request, NoMemory>
+    pub(crate) fn list_request(&self, alloc: Global) -> Result<find_cmd::Request, NoMemory>
         ensures { IfOk result (λ request. list_asked request ≡ finding_of (asked_of self.now)) }
     {
-        Ok(find_sets::Request {
+        Ok(find_cmd::Request {
             design: String::from_str(alloc, self.design.as_str())?,
             top: name_of(alloc, b"made")?,
             traces: one_text(alloc, self.trace.as_str())?,

@@ -2,9 +2,9 @@
 ghost use Rattle.std.specs.Prelude.{◌≡◌, ◌≢◌, ◌&&◌, Bool, true};
 ghost use Rattle.suspect_map.specs.Choose.{joined};
 ghost use Rattle.command_contract.specs.Contract.{Keeps, counts_of, run_of};
-ghost use Rattle.find_sets.specs.Asked.{AreKnown, IsAsked as IsListAsked};
-ghost use Rattle.find_sets.specs.Finding.{finding};
-ghost use Rattle.find_sets.specs.Requests.{asked_of as list_asked};
+ghost use Rattle.find_cmd.specs.Asked.{AreKnown, IsAsked as IsListAsked};
+ghost use Rattle.find_cmd.specs.Finding.{finding};
+ghost use Rattle.find_cmd.specs.Requests.{asked_of as list_asked};
 ghost use Rattle.make_cmd.specs.Asked.{IsAsked, finding_of};
 ghost use Rattle.make_cmd.specs.Making.{making};
 ghost use Rattle.make_cmd.specs.Requests.{asked_of};
@@ -14,10 +14,10 @@ use crate::made::{Made, write_texts};
 use crate::made_shelf::MadeShelf;
 use crate::request::Request;
 use crate::tools::Tools;
-use find_sets::list_read;
+use find_cmd::list_read;
 use front_end::FrontEnd;
 use io_ports::{Shelf, Sink};
-use list_inputs::{print_line, read};
+use load_problem::{print_line, read};
 use loc_base::{Gate, NoMemory};
 use std::alloc::Global;
 use std::thread::Threads;
@@ -28,7 +28,7 @@ use write_order::WriteErr;
 fn list_texts<F: FrontEnd, R: Threads + Sync, G: Gate + Sync, S: Shelf, O: Sink>(
     alloc: Global,
     tools: &Tools<'_, F, R, G>,
-    list: &find_sets::Request,
+    list: &find_cmd::Request,
     texts: &mut MadeShelf<'_>,
     shelf: &mut S,
     out: &mut O,
@@ -44,14 +44,14 @@ fn list_texts<F: FrontEnd, R: Threads + Sync, G: Gate + Sync, S: Shelf, O: Sink>
         (counts_of (S.faults shelf.old) (S.faults shelf.new) (O.faults out.old) (O.faults out.new)))
         result }
 {
-    let reading = list_inputs::Tools {
+    let reading = load_problem::Tools {
         front: tools.front,
         kinds: tools.kinds,
         runtime: tools.runtime,
         gate: tools.gate,
     };
     let found = read(alloc, &reading, &list.wanted(), texts);
-    let listing = find_sets::Tools {
+    let listing = find_cmd::Tools {
         front: tools.front,
         kinds: tools.kinds,
         runtime: tools.runtime,

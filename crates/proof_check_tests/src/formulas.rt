@@ -1,7 +1,7 @@
 //! Formulas with known answers, and each refusal by its name.
 
 use clause_base::{Clauses, Form, Lit, Log, StepKind};
-use cnf_solve::{
+use dimacs_solver::{
     Checked, Failure, FormErr, Request, check, failure_status, failure_text, read_form, report_on,
     report_text, request_of, solve, status_of,
 };

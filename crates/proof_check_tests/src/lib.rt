@@ -1,4 +1,4 @@
-//! Tests of `proof_check`, beside a checker that searches through lists, and of `cnf_solve`.
+//! Tests of `proof_check`, beside a checker that searches through lists, and of `dimacs_solver`.
 #![tactic(auto)]
 
 #[cfg(test)]

@@ -1,11 +1,11 @@
 -- How a run ends where no count rises.
 use Rattle.std.proofs.Common.{ℕ, ◌≡◌, List, ap, refl, ◌∙◌, ◌⊎◌, inl, inr}
 use Rattle.command_contract.specs.Contract.{Counts, OneRose}
-use Rattle.run_inputs.specs.declared.faults.DesignFault.{DesignFault}
-use Rattle.run_inputs.specs.declared.faults.TraceFault.{TraceFault}
-use Rattle.run_inputs.specs.Refusals.{design_fault_status, trace_fault_status}
-use Rattle.run_inputs.specs.Loading.{DesignCounts, DesignSpared, TraceCounts, TraceSpared}
-use Rattle.run_inputs.proofs.Counting.{design-rose, trace-rose}
+use Rattle.load_texts.specs.declared.faults.DesignFault.{DesignFault}
+use Rattle.load_texts.specs.declared.faults.TraceFault.{TraceFault}
+use Rattle.load_texts.specs.Refusals.{design_fault_status, trace_fault_status}
+use Rattle.load_texts.specs.Loading.{DesignCounts, DesignSpared, TraceCounts, TraceSpared}
+use Rattle.load_texts.proofs.Counting.{design-rose, trace-rose}
 use Rattle.sim_cmd.specs.declared.outcome.Outcome.{Outcome}
 use Rattle.sim_cmd.specs.declared.outcome.Outcome.TheVariants.{Done, NoDesign, NoTrace, WriteFault, Memory}
 use Rattle.sim_cmd.specs.Ends.{SinkCounts, status_of}

@@ -12,17 +12,17 @@ use Rattle.refusal_lines.specs.Refusals.{memory_line}
 use Rattle.sim_lines.specs.Lines.{AreLines, Line, text_of}
 use Rattle.sim_lines.specs.Shows.{PrintsSome}
 use Rattle.sim_lines.proofs.SomeLines.{some-lines}
-use Rattle.run_inputs.specs.declared.faults.DesignFault.{DesignFault}
-use Rattle.run_inputs.specs.declared.faults.TraceFault.{TraceFault}
+use Rattle.load_texts.specs.declared.faults.DesignFault.{DesignFault}
+use Rattle.load_texts.specs.declared.faults.TraceFault.{TraceFault}
 use Rattle.sim_cmd.specs.declared.outcome.Outcome.{Outcome}
 use Rattle.sim_cmd.specs.declared.outcome.Outcome.TheVariants.{Done, NoDesign, NoTrace, WriteFault, Memory}
 use Rattle.sim_cmd.specs.Requests.{Asked}
 use Rattle.command_contract.specs.Contract.{Counts, NamesFault, Texts}
-use Rattle.run_inputs.specs.Means.{MeansDesign, MeanTraces}
+use Rattle.load_texts.specs.Means.{MeansDesign, MeanTraces}
 use Rattle.front_end.specs.Means.{IsReady, Meaning, Refusing}
-use Rattle.run_inputs.specs.Refusals.{design_fault_line, design_fault_status, trace_fault_line, trace_fault_status}
-use Rattle.run_inputs.specs.Loading.{StopsAt}
-use Rattle.run_inputs.specs.Causes.{DesignCause, TraceCause}
+use Rattle.load_texts.specs.Refusals.{design_fault_line, design_fault_status, trace_fault_line, trace_fault_status}
+use Rattle.load_texts.specs.Loading.{StopsAt}
+use Rattle.load_texts.specs.Causes.{DesignCause, TraceCause}
 use Rattle.sim_cmd.specs.Simulation.{Refused, for_design, for_trace, Simulated}
 use Rattle.sim_cmd.specs.Ends.{EndsShown, IsRefusal, Leaves, PutsLine, PutsMemory, SinkCounts}
 

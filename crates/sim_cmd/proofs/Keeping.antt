@@ -6,12 +6,12 @@ use Rattle.front_end.specs.Means.{Meaning, Refusing}
 use Rattle.sim_cmd.specs.declared.outcome.Outcome.{Outcome}
 use Rattle.sim_cmd.specs.declared.outcome.Outcome.TheVariants.{Done, NoDesign, NoTrace, WriteFault, Memory}
 use Rattle.sim_cmd.specs.Requests.{Asked}
-use Rattle.run_inputs.specs.Refusals.{design_fault_status, trace_fault_status}
+use Rattle.load_texts.specs.Refusals.{design_fault_status, trace_fault_status}
 use Rattle.sim_cmd.specs.Simulation.{IsCut, IsDone, IsReady, IsStopped, simulation}
 use Rattle.sim_cmd.specs.Ends.{Leaves, RunCounts, status_of}
-use Rattle.run_inputs.proofs.Statuses.{IsOne, design-one, not-done, not-stopped, trace-one}
+use Rattle.load_texts.proofs.Statuses.{IsOne, design-one, not-done, not-stopped, trace-one}
 use Rattle.sim_cmd.proofs.Statuses.{refused-memory}
-use Rattle.run_inputs.proofs.Counting.{design-rose, design-stays, trace-rose, trace-stays}
+use Rattle.load_texts.proofs.Counting.{design-rose, design-stays, trace-rose, trace-stays}
 
 module _ (M : Meaning) (R : Refusing) (asked : Asked) (run : Run) where
   abbrev Left : Outcome → Type 0

@@ -10,7 +10,7 @@ use Rattle.design_core.specs.declared.trace.Trace.{Trace}
 use Rattle.design_core.specs.TraceFits.{IsTraceOf}
 use Rattle.sim_lines.specs.CanShow.{CanShow}
 use Rattle.front_end.specs.Means.{IsReady}
-use Rattle.run_inputs.specs.Means.{IsReadOf}
+use Rattle.load_texts.specs.Means.{IsReadOf}
 
 pub can-show : (d : Design) (order : List ℕ) → IsReady d order → CanShow d order
 can-show d order ready = record {

@@ -3,8 +3,8 @@ use Rattle.std.proofs.Common.{ℕ, ◌+◌, ◌≡◌, List}
 use Rattle.command_contract.specs.Contract.{Texts}
 use Rattle.refusal_lines.specs.Refusals.{memory_line}
 use Rattle.front_end.specs.Means.{Meaning, Refusing}
-use Rattle.run_inputs.specs.Asked.{Asked}
-use Rattle.run_inputs.proofs.Statuses.{Ends, at-memory, design-ends, trace-ends}
+use Rattle.load_texts.specs.Asked.{Asked}
+use Rattle.load_texts.proofs.Statuses.{Ends, at-memory, design-ends, trace-ends}
 use Rattle.sim_cmd.specs.Simulation.{Refused, for_design, for_trace}
 
 refused-ends : (M : Meaning) (R : Refusing) (asked : Asked) (texts : Texts) (status : ℕ) (line : List ℕ)

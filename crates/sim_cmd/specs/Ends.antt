@@ -8,8 +8,8 @@ use Rattle.sim_cmd.specs.declared.outcome.Outcome.{Outcome}
 use Rattle.sim_cmd.specs.declared.outcome.Outcome.TheVariants.{Done, NoDesign, NoTrace, WriteFault, Memory}
 use Rattle.sim_cmd.specs.Requests.{Asked}
 use Rattle.front_end.specs.Means.{Meaning, Refusing}
-use Rattle.run_inputs.specs.Refusals.{design_fault_status, trace_fault_status}
-use Rattle.run_inputs.specs.Loading.{DesignCounts, TraceCounts}
+use Rattle.load_texts.specs.Refusals.{design_fault_status, trace_fault_status}
+use Rattle.load_texts.specs.Loading.{DesignCounts, TraceCounts}
 use Rattle.sim_cmd.specs.Simulation.{IsDue, MayStand, Refused, Simulated}
 use Rattle.command_contract.specs.Contract.{Counts, NamesFault, NoneRose, Texts}
 

@@ -1,6 +1,6 @@
 -- What a simulation is asked of: the names of texts, the module that is the top, and the clock.
 use Rattle.std.specs.Prelude.{map, string_bytes}
-use Rattle.run_inputs.specs.Asked.{Asked as Sources}
+use Rattle.load_texts.specs.Asked.{Asked as Sources}
 use Rattle.sim_cmd.specs.declared.request.Request.{Request}
 
 abbrev pub Asked : Type 0

@@ -8,12 +8,12 @@ use Rattle.design_core.specs.declared.trace.Trace.{Trace}
 use Rattle.refusal_lines.specs.Refusals.{memory_line}
 use Rattle.sim_lines.specs.Lines.{AreLines, Line, text_of}
 use Rattle.front_end.specs.Means.{Meaning, Refusing}
-use Rattle.run_inputs.specs.declared.faults.DesignFault.{DesignFault}
-use Rattle.run_inputs.specs.declared.faults.TraceFault.{TraceFault}
+use Rattle.load_texts.specs.declared.faults.DesignFault.{DesignFault}
+use Rattle.load_texts.specs.declared.faults.TraceFault.{TraceFault}
 use Rattle.sim_cmd.specs.Requests.{Asked}
-use Rattle.run_inputs.specs.Causes.{DesignCause, TraceRefused}
-use Rattle.run_inputs.specs.Means.{Means, MeansDesign, MeansTrace}
-use Rattle.run_inputs.specs.Refusals.{design_fault_line, design_fault_status, trace_fault_line, trace_fault_status}
+use Rattle.load_texts.specs.Causes.{DesignCause, TraceRefused}
+use Rattle.load_texts.specs.Means.{Means, MeansDesign, MeansTrace}
+use Rattle.load_texts.specs.Refusals.{design_fault_line, design_fault_status, trace_fault_line, trace_fault_status}
 
 -- ---- what is simulated
 pub record Simulated (M : Meaning) (asked : Asked) (texts : Texts) (lines : List Line) : Type 0 where

@@ -1,7 +1,7 @@
 ghost use Rattle.std.specs.Prelude.{◌≡◌};
 ghost use Rattle.sim_cmd.specs.Ends.{status_of};
 
-use run_inputs::{DesignFault, TraceFault};
+use load_texts::{DesignFault, TraceFault};
 
 /// How a run ends.
 #[derive(Clone, Copy, Debug)]

@@ -1,9 +1,9 @@
 ghost use Rattle.std.specs.Prelude.{◌≡◌, length};
-ghost use Rattle.run_inputs.specs.Asked.{asked_of as asked_by};
+ghost use Rattle.load_texts.specs.Asked.{asked_of as asked_by};
 ghost use Rattle.sim_cmd.specs.Requests.{asked_of};
 
+use load_texts::Sources;
 use loc_base::Name;
-use run_inputs::Sources;
 
 /// What a simulation is asked of.
 #[derive(Drop)]

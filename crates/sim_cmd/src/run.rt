@@ -5,7 +5,7 @@ ghost use Rattle.sim_lines.specs.CanShow.{AreShown};
 ghost use Rattle.sim_cmd.specs.declared.outcome.Outcome.TheVariants as outcome;
 ghost use Rattle.sim_cmd.specs.Requests.{asked_of};
 ghost use Rattle.front_end.specs.Means.{IsReady};
-ghost use Rattle.run_inputs.specs.Refusals.{design_fault_line, trace_fault_line};
+ghost use Rattle.load_texts.specs.Refusals.{design_fault_line, trace_fault_line};
 ghost use Rattle.command_contract.specs.Contract.{Keeps, OneRose, counts_of, run_of};
 ghost use Rattle.sim_cmd.specs.Simulation.{IsReady as IsInOrder, simulation};
 ghost use Rattle.sim_cmd.specs.Ends.{EndsShown, IsRefusal, Leaves, PutsLine, PutsMemory, RunCounts, SinkCounts};
@@ -16,10 +16,10 @@ use crate::request::Request;
 use design_core::Trace;
 use front_end::{FrontEnd, Ordered};
 use io_ports::{Shelf, Sink, SinkFault};
-use loc_base::NoMemory;
-use run_inputs::{
+use load_texts::{
     DesignFault, DesignRead, NoImprint, TraceFault, TraceName, TracesRead, load_design, load_traces,
 };
+use loc_base::NoMemory;
 use sim_lines::{Simulation, show_traces};
 use std::alloc::Global;
 

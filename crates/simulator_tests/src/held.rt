@@ -6,7 +6,7 @@ ghost use Rattle.cycle_sim.specs.Misses.{AreValuesFor};
 use cycle_sim::can_simulate;
 use design_core::{Design, Members, SetWithValues, Trace, Values};
 use loc_base::Gate;
-use set_replays::{are_values_for, replay_all};
+use parallel_replay::{are_values_for, replay_all};
 use small_networks::{OR_NOT, network, traces, word};
 use std::alloc::Global;
 use std::sync::atomic::{AtomicBool, Ordering};

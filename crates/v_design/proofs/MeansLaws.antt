@@ -13,9 +13,9 @@ use Rattle.v_binding.specs.declared.error.BindErr.{BindErr}
 use Rattle.v_binding.specs.declared.error.BindErr.TheVariants as fault
 use Rattle.v_binding.specs.Binding.{Binding, binding}
 use Rattle.v_binding.specs.Starts.{Initial}
-use Rattle.v_rules.specs.Size.{is_too_large}
-use Rattle.v_rules.specs.OneDriver.{IsDrivenTwice}
-use Rattle.v_rules.proofs.OneDriverLaws.{driven-once}
+use Rattle.design_rules.specs.Size.{is_too_large}
+use Rattle.design_rules.specs.OneDriver.{IsDrivenTwice}
+use Rattle.design_rules.proofs.OneDriverLaws.{driven-once}
 use Rattle.v_binding.specs.Standing.{InstancesStand}
 use Rattle.bind_laws.specs.OfText.{OfText}
 use Rattle.bind_laws.specs.Whole.{IsDesignOf}

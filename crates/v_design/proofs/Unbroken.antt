@@ -6,13 +6,13 @@ use Rattle.loc_base.specs.declared.span.Span.{Span}
 use Rattle.design_core.specs.declared.design.Design.{Design}
 use Rattle.v_binding.specs.declared.error.BindErr.{BindErr}
 use Rattle.v_binding.specs.declared.error.BindErr.TheVariants as fault
-use Rattle.v_rules.specs.Size.{is_too_large}
-use Rattle.v_rules.specs.OneDriver.{IsDrivenTwice}
-use Rattle.v_rules.specs.DrivenReads.{IsUndriven}
-use Rattle.v_rules.specs.Latches.{IsLatch}
-use Rattle.v_rules.specs.Assignments.{is_misassigned}
-use Rattle.v_rules.specs.Races.{IsRace}
-use Rattle.v_rules.specs.Sound.{IsSound}
+use Rattle.design_rules.specs.Size.{is_too_large}
+use Rattle.design_rules.specs.OneDriver.{IsDrivenTwice}
+use Rattle.design_rules.specs.DrivenReads.{IsUndriven}
+use Rattle.design_rules.specs.Latches.{IsLatch}
+use Rattle.design_rules.specs.Assignments.{is_misassigned}
+use Rattle.design_rules.specs.Races.{IsRace}
+use Rattle.design_rules.specs.Sound.{IsSound}
 use Rattle.bind_rules.specs.Beside.{Beside}
 use Rattle.bind_rules.specs.Rules.{First, AtSize, AtClock, Driven, Undriven, Latches, Clocks, Assigns, Races, is_set_first, is_mixed, IsFirstBroken}
 

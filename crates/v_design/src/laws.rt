@@ -2,7 +2,7 @@
 ghost use Rattle.std.specs.Prelude.{List, Option, map, ℕ};
 ghost use Rattle.design_core.specs.declared.design.Design.{Design};
 ghost use Rattle.v_hierarchy.specs.Instances.{Instance};
-ghost use Rattle.v_rules.specs.Sound.{IsSound};
+ghost use Rattle.design_rules.specs.Sound.{IsSound};
 ghost use Rattle.v_design.specs.Means.{IsMeant};
 
 /// A design that instances mean is no larger than it may be, no bit of it has two drivers, no used bit of a net is without one, no

@@ -11,11 +11,11 @@ ghost use Rattle.v_design.specs.Means.{IsMeant, IsRefused};
 use crate::listed::design_of;
 use bind_rules::first_broken;
 use design_core::Design;
+use design_rules::is_too_large;
 use loc_base::Name;
 use std::alloc::Global;
 use v_binding::BindErr;
 use v_hierarchy::Instances;
-use v_rules::is_too_large;
 
 /// The design that the instances of a text mean, with the clock of a name if one is given: well formed, and its bits driven once. Or
 /// why they mean none: the first refusal of binding, else the first rule that the bound design breaks.

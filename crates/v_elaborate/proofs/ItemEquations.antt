@@ -40,7 +40,7 @@ use Rattle.v_hierarchy.specs.Steps.{◌>>=◌, each}
 use Rattle.v_hierarchy.specs.Unrolled.{holds_at}
 use Rattle.v_hierarchy.specs.Items.{Place, Met, chosen, written, with_names, with_copy, ported, direction_of, net_of, parameter_of, instance_of, unit_of, item, items}
 use Rattle.v_hierarchy.proofs.ItemSteps as views
-use Rattle.v_declare.specs.Declarations.{with_bounds, ports_declared, nets_declared, parameters_declared}
+use Rattle.v_connections.specs.Declarations.{with_bounds, ports_declared, nets_declared, parameters_declared}
 use Rattle.v_elaborate.specs.Parts.{ports_met, nets_met, integers_met, genvars_met, parameters_met, always_met, making_met, instances_met, block_met, loop_met}
 
 grouped : {A B C : Type 0} (r : Result A ElabErr) (f : A → Result B ElabErr) (g : B → Result C ElabErr) → r >>= (λ a. f a >>= g) ≡ (r >>= f) >>= g

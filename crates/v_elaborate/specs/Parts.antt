@@ -18,7 +18,7 @@ use Rattle.v_hierarchy.specs.Paths.{below}
 use Rattle.v_hierarchy.specs.Steps.{◌>>=◌, each}
 use Rattle.v_hierarchy.specs.Unrolled.{unrolled, begun, stepped, turns, most_turns}
 use Rattle.v_hierarchy.specs.Items.{Child, Place, Met, frames, with_names, with_copy, written, always, named_as, module_named, instance_of, loop_genvar, turn_met, turn_of, block_of, body_of}
-use Rattle.v_declare.specs.Declarations.{ports_declared, nets_declared, parameters_declared}
+use Rattle.v_connections.specs.Declarations.{ports_declared, nets_declared, parameters_declared}
 
 -- ---- items without items inside
 abbrev pub ports_met : Place → Signal → Option PlainRange → List Identifier → Met → Result Met ElabErr

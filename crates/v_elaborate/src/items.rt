@@ -5,19 +5,19 @@ ghost use Rattle.v_syntax.specs.ItemTree.{item_of, items_of, block_of as plain_b
 ghost use Rattle.v_hierarchy.specs.Frames.{Refuses};
 ghost use Rattle.v_hierarchy.specs.Items.{within, begins, item as item_met, items as items_met, body_of};
 ghost use Rattle.v_hierarchy.specs.Paths.{below};
-ghost use Rattle.v_unroll.specs.Heads.{IsTurning};
-ghost use Rattle.v_declare.specs.Places.{place_of};
+ghost use Rattle.v_loops.specs.Heads.{IsTurning};
+ghost use Rattle.v_connections.specs.Places.{place_of};
 ghost use Rattle.v_elaborate.specs.Parts.{block_met, turn_met_at, turns_met, loop_met};
 ghost use Rattle.v_elaborate.specs.Met.{met_of, outer_at, frames_at, inside};
 
 use crate::met::Met;
 use loc_base::{Items, Name, Span};
 use std::mem;
-use v_declare::Place;
+use v_connections::Place;
 use v_hierarchy::{Block, Copied, ElabErr, Signal, below, block_part, turn_part};
+use v_loops::{MOST_TURNS, Turning, begun, loop_genvar, number_of, stepped};
 use v_sizes::Const;
 use v_syntax::{GenerateBlock, Item, LoopHead};
-use v_unroll::{MOST_TURNS, Turning, begun, loop_genvar, number_of, stepped};
 
 /// A generate loop: where it stands, and its head.
 #[derive(Clone, Copy)]

@@ -8,8 +8,8 @@ ghost use Rattle.v_elaborate.specs.Met.{met_of, outer_at};
 
 use loc_base::{Items, NoMemory};
 use v_hierarchy::{Copied, ElabErr};
+use v_loops::Position;
 use v_syntax::Item;
-use v_unroll::Position;
 
 /// What is met of a scope: its names, which stand innermost in the scopes of its position, and what its items made.
 #[derive(Drop)]

@@ -7,14 +7,14 @@ ghost use Rattle.v_hierarchy.specs.Items.{not_deeper, instance_of};
 ghost use Rattle.v_hierarchy.specs.Steps.{each};
 ghost use Rattle.v_hierarchy.specs.Views.{given_of, child_of};
 ghost use Rattle.v_scopes.specs.Units.{units_of};
-ghost use Rattle.v_declare.specs.Places.{place_of};
+ghost use Rattle.v_connections.specs.Places.{place_of};
 ghost use Rattle.v_elaborate.specs.Parts.{unit_named, making_met, child_made};
 ghost use Rattle.v_elaborate.specs.Met.{met_of, outer_at, frames_at};
 
 use crate::met::Met;
 use loc_base::{Items, Name, NoMemory, Span};
 use std::alloc::Global;
-use v_declare::{Place, connections_fit};
+use v_connections::{Place, connections_fit};
 use v_hierarchy::{Child, Copied, ElabErr, Given, below};
 use v_scopes::Units;
 use v_syntax::{Connections, Identifier, Instance, Module, Site};

@@ -6,12 +6,12 @@ ghost use Rattle.v_syntax.specs.StatementTree.{statement_of};
 ghost use Rattle.v_syntax.specs.ItemTree.{sensitivity_of, item_of, declarator_of, parameter_type_of};
 ghost use Rattle.v_hierarchy.specs.Frames.{Refuses};
 ghost use Rattle.v_hierarchy.specs.Names.{integer as integer_standing, genvar as genvar_standing};
-ghost use Rattle.v_declare.specs.Places.{place_of};
+ghost use Rattle.v_connections.specs.Places.{place_of};
 ghost use Rattle.v_elaborate.specs.Parts.{ports_met, nets_met, integers_met, genvars_met, parameters_met, always_met};
 ghost use Rattle.v_elaborate.specs.Met.{met_of, outer_at};
 
 use crate::met::Met;
-use v_declare::{Place, declare_names, declare_nets};
+use v_connections::{Place, declare_names, declare_nets};
 use v_hierarchy::{Copied, ElabErr, Signal, Standing};
 use v_syntax::{
     Declarator, Identifier, Item, NamedValue, ParameterKind, ParameterType, Range, Sensitivity,

@@ -6,7 +6,7 @@ ghost use Rattle.v_hierarchy.specs.Instances.{contents, instance, with_instance,
 ghost use Rattle.v_hierarchy.specs.Views.{given_of, child_of, instance_of};
 ghost use Rattle.v_scopes.specs.Around.{names_in, outer_of};
 ghost use Rattle.v_scopes.specs.Units.{units_of};
-ghost use Rattle.v_declare.specs.Headed.{header_of};
+ghost use Rattle.v_connections.specs.Headed.{header_of};
 ghost use Rattle.v_elaborate.specs.Met.{met_of};
 ghost use Rattle.v_elaborate.specs.Walking.{opened, found_of};
 
@@ -14,10 +14,10 @@ use crate::children::children_of;
 use crate::met::Met;
 use loc_base::{Items, NoMemory};
 use std::alloc::Global;
-use v_declare::{Header, Place};
+use v_connections::{Header, Place};
 use v_hierarchy::{Block, Child, ElabErr, Instance, Left};
+use v_loops::Position;
 use v_scopes::{Scopes, Units};
-use v_unroll::Position;
 
 /// The instance that what is met of its module makes.
 #[tactic(auto, using(crate::proofs::CopiedViews::copied_steps))]

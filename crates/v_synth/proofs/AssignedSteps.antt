@@ -15,7 +15,7 @@ use Rattle.design_bits.specs.Masks.{Adds}
 use Rattle.design_bits.proofs.Masks.{bit-zero}
 use Rattle.node_map.specs.Entries.{Tracked}
 use Rattle.node_map.specs.declared.pair.Pair.{Pair}
-use Rattle.v_synth_parts.proofs.Base.{signal-at, width-bounds}
+use Rattle.synth_parts.proofs.Base.{signal-at, width-bounds}
 use Rattle.v_synth.specs.Clocked.{register_mask, own_mask}
 use Rattle.v_synth.specs.Owned.{AreOwn, AreBlank, AreDriven, HasBegun}
 use Rattle.v_synth.specs.Rows.{IsRow, Marked}

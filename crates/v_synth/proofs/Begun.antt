@@ -21,11 +21,11 @@ use Rattle.word_net.specs.declared.node.WordNode.{WordNode}
 use Rattle.word_net.specs.Values.{Source}
 use Rattle.word_net.specs.Build.{Made, made, pushed, Means, Grown, Gives}
 use Rattle.word_net.proofs.Meaning.{keep, grown-then, grown-none, pushed-gives}
-use Rattle.v_synth_parts.specs.Expression.{unsigned}
+use Rattle.synth_parts.specs.Expression.{unsigned}
 use Rattle.v_synth.specs.Clocked.{register_mask, has_state, place_in, inputs_made, masked_made, state_made, first_made, signals_made, begun_made}
 use Rattle.v_synth.specs.Net.{states_from, states_of, cycle_source}
-use Rattle.v_synth_parts.specs.Meaning.{ShowsIn, word_of}
-use Rattle.v_synth_parts.proofs.Base.{signal-at, bit-number, gives-then, gives-is}
+use Rattle.synth_parts.specs.Meaning.{ShowsIn, word_of}
+use Rattle.synth_parts.proofs.Base.{signal-at, bit-number, gives-then, gives-is}
 
 -- ---- numbers of no bits
 

@@ -9,7 +9,7 @@ use Rattle.design_core.specs.declared.driver.Clocked.{Clocked}
 use Rattle.design_core.specs.declared.design.Design.{Design}
 use Rattle.design_core.specs.WellFormed.{clocked_fits}
 use Rattle.word_net.specs.declared.node.WordNode.{WordNode}
-use Rattle.v_synth_parts.specs.Store.{Nodes, nodes_made}
+use Rattle.synth_parts.specs.Store.{Nodes, nodes_made}
 use Rattle.v_synth.specs.Clocked.{reset_made, resets_made, body_made, bodies_made}
 use Rattle.v_synth.specs.Owned.{BlockFits}
 

@@ -28,14 +28,14 @@ use Rattle.word_net.specs.Build.{Made, made, pushed, Means, Grown, Gives}
 use Rattle.word_net.proofs.Meaning.{keep, grown-then, grown-none, pushed-gives}
 use Rattle.v_synth.specs.declared.clocked.Turn.{Turn}
 use Rattle.v_synth.specs.declared.clocked.Turn.TheVariants.{When, Unless, Always}
-use Rattle.v_synth_parts.specs.Expression.{unsigned}
-use Rattle.v_synth_parts.specs.Statement.{Maps, maps, statement_made}
+use Rattle.synth_parts.specs.Expression.{unsigned}
+use Rattle.synth_parts.specs.Statement.{Maps, maps, statement_made}
 use Rattle.v_synth.specs.Clocked.{own_mask, left_at, turned_made, own_made, owns_made, left_made, active_made, reset_made, resets_made, body_made, bodies_made}
-use Rattle.v_synth_parts.specs.Meaning.{Shows, ShowsIn, ShowsBoth, word_of}
-use Rattle.v_synth_parts.proofs.Base.{signal-at, bit-number, true-one_if, gives-then, gives-is, keep-shows}
-use Rattle.v_synth_parts.proofs.StoreLaws.{set-shows}
-use Rattle.v_synth_parts.proofs.MergeLaws.{shows-same}
-use Rattle.v_synth_parts.proofs.StatementLaws.{statement-law}
+use Rattle.synth_parts.specs.Meaning.{Shows, ShowsIn, ShowsBoth, word_of}
+use Rattle.synth_parts.proofs.Base.{signal-at, bit-number, true-one_if, gives-then, gives-is, keep-shows}
+use Rattle.synth_parts.proofs.StoreLaws.{set-shows}
+use Rattle.synth_parts.proofs.MergeLaws.{shows-same}
+use Rattle.synth_parts.proofs.StatementLaws.{statement-law}
 use Rattle.v_synth.proofs.Begun.{no-bits}
 
 -- ---- one signal of a block

@@ -11,7 +11,7 @@ use Rattle.design_core.specs.Drives.{is_listed}
 use Rattle.word_net.specs.declared.node.Operation.TheVariants as operation
 use Rattle.word_net.specs.declared.node.WordNode.{WordNode}
 use Rattle.word_net.specs.Build.{Made, made, pushed}
-use Rattle.v_synth_parts.specs.Store.{nodes_made}
+use Rattle.synth_parts.specs.Store.{nodes_made}
 use Rattle.v_synth.specs.Clocked.{register_mask, has_state, place_in, state_made, first_made, inputs_made, signals_made, begun_made}
 use Rattle.v_synth.specs.Net.{states_from, states_of}
 use Rattle.v_synth.specs.Rows.{place_from, ArePlaces}

@@ -26,7 +26,7 @@ use Rattle.word_net.specs.Build.{Means}
 use Rattle.word_net.specs.Nets.{Net, IsNet, is_source, source_bits}
 use Rattle.word_net.specs.Values.{Source, net_values}
 use Rattle.word_net.proofs.Meaning.{means-within}
-use Rattle.v_synth_parts.specs.Tally.{Weights, weight, tally}
+use Rattle.synth_parts.specs.Tally.{Weights, weight, tally}
 use Rattle.v_synth.specs.Net.{net_of, states_of, cycle_source}
 use Rattle.v_synth.specs.Matches.{IsNetOf, MeansCycle, OneNet}
 use Rattle.v_synth.proofs.NetTallies.{begun-most, net-tally}

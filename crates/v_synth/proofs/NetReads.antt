@@ -24,7 +24,7 @@ use Rattle.design_core.specs.WellFormed.{IsWellFormed, typed_fits, assignment_fi
 use Rattle.word_net.specs.declared.node.Operand.{Operand}
 use Rattle.word_net.specs.declared.node.Operation.TheVariants.{Input, State, Free}
 use Rattle.word_net.specs.declared.node.WordNode.{WordNode}
-use Rattle.v_synth_parts.specs.Tally.{Weights, weight, tally, placed_in, placed_in_all, placed_in_items, placed_in_driver, placed_in_clocked, placed_in_design}
+use Rattle.synth_parts.specs.Tally.{Weights, weight, tally, placed_in, placed_in_all, placed_in_items, placed_in_driver, placed_in_clocked, placed_in_design}
 use Rattle.v_synth.specs.Net.{net_of, states_of}
 use Rattle.v_synth.proofs.Blocks.{reset-parts, block-parts}
 use Rattle.v_synth.proofs.NetTallies.{begun-light, net-tally}

@@ -21,10 +21,10 @@ use Rattle.design_core.specs.WellFormed.{IsWellFormed, is_signal, is_width, span
 use Rattle.design_core.proofs.NumberLaws.{number-same, number-below}
 use Rattle.word_net.specs.declared.node.WordNode.{WordNode}
 use Rattle.word_net.specs.Build.{Made, made}
-use Rattle.v_synth_parts.specs.Store.{Nodes, nodes_made}
-use Rattle.v_synth_parts.specs.Arms.{DriversFit}
-use Rattle.v_synth_parts.specs.Driver.{drivers_made}
-use Rattle.v_synth_parts.proofs.Base.{signal-at, width-bounds}
+use Rattle.synth_parts.specs.Store.{Nodes, nodes_made}
+use Rattle.synth_parts.specs.Arms.{DriversFit}
+use Rattle.synth_parts.specs.Driver.{drivers_made}
+use Rattle.synth_parts.proofs.Base.{signal-at, width-bounds}
 use Rattle.v_synth.specs.Clocked.{register_mask, masked_made, begun_made, resets_made, bodies_made}
 use Rattle.v_synth.specs.Net.{net_of, nexts_made, states_of}
 use Rattle.v_synth.specs.Matches.{IsNetOf}

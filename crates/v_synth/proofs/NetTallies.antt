@@ -25,13 +25,13 @@ use Rattle.design_core.proofs.Lists.{All-later, AllPairs-first, AllPairs-later}
 use Rattle.word_net.specs.declared.node.Operation.TheVariants as operation
 use Rattle.word_net.specs.declared.node.WordNode.{WordNode}
 use Rattle.word_net.specs.Build.{Made, made, pushed}
-use Rattle.v_synth_parts.specs.Expression.{unsigned}
-use Rattle.v_synth_parts.specs.Store.{Nodes}
-use Rattle.v_synth_parts.specs.Statement.{Maps, maps, statement_made}
-use Rattle.v_synth_parts.specs.Driver.{driver_at_made, drivers_made}
-use Rattle.v_synth_parts.specs.Tally.{Weights, tally, placed_in, placed_in_driver, placed_in_clocked, placed_in_design}
-use Rattle.v_synth_parts.proofs.Base.{signal-at, width-bounds}
-use Rattle.v_synth_parts.proofs.Tallies.{tally-pushed, light, statement-tally, driver-tally}
+use Rattle.synth_parts.specs.Expression.{unsigned}
+use Rattle.synth_parts.specs.Store.{Nodes}
+use Rattle.synth_parts.specs.Statement.{Maps, maps, statement_made}
+use Rattle.synth_parts.specs.Driver.{driver_at_made, drivers_made}
+use Rattle.synth_parts.specs.Tally.{Weights, tally, placed_in, placed_in_driver, placed_in_clocked, placed_in_design}
+use Rattle.synth_parts.proofs.Base.{signal-at, width-bounds}
+use Rattle.synth_parts.proofs.Tallies.{tally-pushed, light, statement-tally, driver-tally}
 use Rattle.v_synth.specs.declared.clocked.Turn.{Turn}
 use Rattle.v_synth.specs.declared.clocked.Turn.TheVariants.{When, Unless, Always}
 use Rattle.v_synth.specs.Clocked.{has_state, place_in, inputs_made, masked_made, state_made, first_made, signals_made, begun_made, own_mask, left_at, turned_made, own_made, owns_made, left_made, active_made, reset_made, resets_made, body_made, bodies_made}

@@ -11,20 +11,20 @@ use Rattle.design_core.specs.Valuation.{width_at}
 use Rattle.word_net.specs.declared.node.Operation.TheVariants as operation
 use Rattle.word_net.specs.declared.node.WordNode.{WordNode}
 use Rattle.word_net.specs.Build.{Made, made, pushed}
-use Rattle.v_synth_parts.specs.Expression.{unsigned}
-use Rattle.v_synth_parts.specs.Store.{Nodes, nodes_made}
-use Rattle.v_synth_parts.specs.Statement.{Maps, maps}
+use Rattle.synth_parts.specs.Expression.{unsigned}
+use Rattle.synth_parts.specs.Store.{Nodes, nodes_made}
+use Rattle.synth_parts.specs.Statement.{Maps, maps}
 use Rattle.v_synth.specs.declared.clocked.Turn.{Turn}
 use Rattle.v_synth.specs.declared.clocked.Turn.TheVariants.{When, Unless, Always}
 use Rattle.v_synth.specs.Clocked.{own_mask, left_at, turned_made, own_made, owns_made}
 use Rattle.std.proofs.lemmas.Bool.{eqb-true}
 use Rattle.v_synth.specs.Owned.{AreDriven, AreOwn, BlockFits}
-use Rattle.v_synth_parts.specs.Arms.{StatementFits}
+use Rattle.synth_parts.specs.Arms.{StatementFits}
 use Rattle.v_synth.proofs.Blocks.{wide-there, reset-parts, block-parts}
 use Rattle.design_core.specs.declared.driver.Reset.{Reset}
 use Rattle.design_core.specs.declared.statement.Stmt.{Stmt}
 use Rattle.std.specs.Prelude.{Some, None}
-use Rattle.v_synth_parts.specs.Statement.{statement_made}
+use Rattle.synth_parts.specs.Statement.{statement_made}
 use Rattle.v_synth.specs.Clocked.{active_made, left_made, reset_made, body_made}
 
 -- ---- the node that is left

@@ -22,7 +22,7 @@ use Rattle.design_core.proofs.NumberLaws.{number-same, number-bit, number-below}
 use Rattle.design_bits.specs.Masks.{Adds}
 use Rattle.design_bits.proofs.Masks.{bit-and, bit-not, bit-ones, bit-zero}
 use Rattle.design_bits.proofs.Added.{adds-none, adds-more, adds-all}
-use Rattle.v_synth_parts.proofs.Base.{bit-number, signal-at, width-bounds}
+use Rattle.synth_parts.proofs.Base.{bit-number, signal-at, width-bounds}
 use Rattle.v_synth.specs.Clocked.{register_mask}
 use Rattle.v_synth.specs.Rows.{IsRow}
 

@@ -28,14 +28,14 @@ use Rattle.word_net.specs.Values.{Source, values}
 use Rattle.word_net.specs.Fits.{AllFit}
 use Rattle.word_net.specs.Build.{Made, Means, Grown}
 use Rattle.word_net.proofs.Meaning.{keep, grown-then, grown-none}
-use Rattle.v_synth_parts.specs.Store.{Nodes}
-use Rattle.v_synth_parts.specs.Driver.{drivers_made}
+use Rattle.synth_parts.specs.Store.{Nodes}
+use Rattle.synth_parts.specs.Driver.{drivers_made}
 use Rattle.v_synth.specs.Clocked.{has_state, begun_made, masked_made, resets_made, bodies_made}
 use Rattle.v_synth.specs.Net.{states_from, states_of, nexts_made, net_of, cycle_source}
-use Rattle.v_synth_parts.specs.Meaning.{Shows, word_of}
+use Rattle.synth_parts.specs.Meaning.{Shows, word_of}
 use Rattle.v_synth.specs.Matches.{OneNet, Matches}
-use Rattle.v_synth_parts.proofs.Base.{signal-at, keep-shows}
-use Rattle.v_synth_parts.proofs.Drivers.{AreQuiet, drivers-law}
+use Rattle.synth_parts.proofs.Base.{signal-at, keep-shows}
+use Rattle.synth_parts.proofs.Drivers.{AreQuiet, drivers-law}
 use Rattle.v_synth.proofs.Begun.{masked-law, begun-law}
 use Rattle.v_synth.proofs.Blocks.{resets-law, bodies-law}
 

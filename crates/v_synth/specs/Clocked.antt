@@ -10,9 +10,9 @@ use Rattle.design_core.specs.Drives.{is_register_bit, is_listed, block_drives, b
 use Rattle.word_net.specs.declared.node.Operation.TheVariants as operation
 use Rattle.word_net.specs.declared.node.WordNode.{WordNode}
 use Rattle.word_net.specs.Build.{Made, made, pushed}
-use Rattle.v_synth_parts.specs.Expression.{unsigned}
-use Rattle.v_synth_parts.specs.Store.{Nodes, nodes_made}
-use Rattle.v_synth_parts.specs.Statement.{Maps, maps, statement_made}
+use Rattle.synth_parts.specs.Expression.{unsigned}
+use Rattle.synth_parts.specs.Store.{Nodes, nodes_made}
+use Rattle.synth_parts.specs.Statement.{Maps, maps, statement_made}
 use Rattle.v_synth.specs.declared.clocked.Turn.{Turn}
 use Rattle.v_synth.specs.declared.clocked.Turn.TheVariants.{When, Unless, Always}
 

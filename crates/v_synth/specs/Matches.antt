@@ -7,7 +7,7 @@ use Rattle.design_core.specs.Valuation.{Valuation, width_at}
 use Rattle.design_core.specs.After.{Choice}
 use Rattle.word_net.specs.Nets.{Net}
 use Rattle.word_net.specs.Values.{net_values}
-use Rattle.v_synth_parts.specs.Meaning.{word_of}
+use Rattle.synth_parts.specs.Meaning.{word_of}
 use Rattle.v_synth.specs.Net.{net_of, states_of, cycle_source}
 
 -- an order of a design's drivers, what a cycle begins with, its values and its next states

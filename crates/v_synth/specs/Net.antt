@@ -9,8 +9,8 @@ use Rattle.design_core.specs.Cycle.{sampled}
 use Rattle.design_core.specs.Run.{start_state}
 use Rattle.word_net.specs.declared.node.WordNode.{WordNode}
 use Rattle.word_net.specs.Values.{Source}
-use Rattle.v_synth_parts.specs.Store.{Nodes, nodes_made}
-use Rattle.v_synth_parts.specs.Driver.{drivers_made}
+use Rattle.synth_parts.specs.Store.{Nodes, nodes_made}
+use Rattle.synth_parts.specs.Driver.{drivers_made}
 use Rattle.v_synth.specs.Clocked.{has_state, begun_made, masked_made, resets_made, bodies_made}
 
 -- the signals that have a state, from one on among so many

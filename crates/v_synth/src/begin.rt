@@ -3,7 +3,7 @@ ghost use Rattle.std.specs.Prelude.{◌≡◌, ◌==◌, ◌^◌, ◌<◌, [], �
 ghost use Rattle.std.specs.List.{All};
 ghost use Rattle.design_core.specs.Valuation.{width_at};
 ghost use Rattle.word_net.specs.Build.{made};
-ghost use Rattle.v_synth_parts.specs.Store.{nodes_made};
+ghost use Rattle.synth_parts.specs.Store.{nodes_made};
 ghost use Rattle.v_synth.specs.Clocked.{begun_made, first_made, inputs_made, masked_made, register_mask, state_made};
 ghost use Rattle.v_synth.specs.Net.{states_of};
 ghost use Rattle.v_synth.specs.Rows.{ArePlaces, IsRow, place_from};
@@ -12,7 +12,7 @@ use crate::rows::Blocks;
 use design_core::{Design, Signal};
 use loc_base::{Items, NoMemory};
 use std::alloc::Global;
-use v_synth_parts::{Nodes, push, unsigned};
+use synth_parts::{Nodes, push, unsigned};
 use word_net::Operation;
 
 /// A word of a signal of which bits are registers.
@@ -49,7 +49,7 @@ impl First {
 }
 
 /// The width of a signal.
-#[tactic(auto, using(v_synth_parts::proofs::Scenes::signals_at))]
+#[tactic(auto, using(synth_parts::proofs::Scenes::signals_at))]
 fn width(signals: &[Signal], s: u32) -> u8
     requires { s < length signals.now }
     ensures { result ≡ width_at signals.now s }

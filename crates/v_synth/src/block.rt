@@ -4,13 +4,13 @@ ghost use Rattle.std.specs.List.{list_all};
 ghost use Rattle.design_core.specs.Valuation.{width_at};
 ghost use Rattle.design_core.specs.WellFormed.{signal_fits};
 ghost use Rattle.word_net.specs.Build.{made};
-ghost use Rattle.v_synth_parts.specs.Store.{nodes_made};
-ghost use Rattle.v_synth_parts.specs.Statement.{maps};
+ghost use Rattle.synth_parts.specs.Store.{nodes_made};
+ghost use Rattle.synth_parts.specs.Statement.{maps};
 ghost use Rattle.v_synth.specs.Clocked.{active_made, left_at, left_made, own_made, own_mask, owns_made, turned_made};
 ghost use Rattle.v_synth.specs.Clocked.{body_made, register_mask, reset_made};
 ghost use Rattle.v_synth.specs.Owned.{AreBlank, AreDriven, AreOwn, BlockFits, HasBegun, IsBlank};
 ghost use Rattle.v_synth.specs.Rows.{IsRow};
-ghost use Rattle.v_synth_parts.specs.Arms.{StatementFits};
+ghost use Rattle.synth_parts.specs.Arms.{StatementFits};
 
 use crate::assigned::{Assigned, numbers};
 use crate::clocked::Turn;
@@ -19,7 +19,7 @@ use design_core::{Clocked, Design, Reset, Stmt, UnaryOp};
 use loc_base::{Items, NoMemory};
 use node_map::ascending;
 use std::alloc::Global;
-use v_synth_parts::{Left, Nodes, push, unsigned};
+use synth_parts::{Left, Nodes, push, unsigned};
 use word_net::Operation;
 
 /// A word that a block leaves, and the word so far.
@@ -132,7 +132,7 @@ impl Own<'_> {
     }
 
     /// The width of a signal.
-    #[tactic(auto, using(v_synth_parts::proofs::Scenes::signals_at))]
+    #[tactic(auto, using(synth_parts::proofs::Scenes::signals_at))]
     fn width(&self, s: usize) -> u8
         requires { s < length self.now.design.now.signals.items }
         ensures { result ≡ width_at self.now.design.now.signals.items s }

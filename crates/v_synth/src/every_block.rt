@@ -2,7 +2,7 @@
 ghost use Rattle.std.specs.Prelude.{◌≡◌, ◌^◌, ◌<◌, length, IsTrue, OnOk};
 ghost use Rattle.std.specs.List.{list_all};
 ghost use Rattle.design_core.specs.WellFormed.{clocked_fits, signal_fits};
-ghost use Rattle.v_synth_parts.specs.Store.{nodes_made};
+ghost use Rattle.synth_parts.specs.Store.{nodes_made};
 ghost use Rattle.v_synth.specs.Clocked.{bodies_made, register_mask, resets_made};
 ghost use Rattle.v_synth.specs.Rows.{IsRow};
 
@@ -10,7 +10,7 @@ use crate::assigned::Assigned;
 use crate::block::Block;
 use crate::rows::Blocks;
 use loc_base::{Items, NoMemory};
-use v_synth_parts::Nodes;
+use synth_parts::Nodes;
 
 impl Blocks<'_> {
     /// The reset values of all blocks, where their resets are active.

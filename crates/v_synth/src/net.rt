@@ -9,7 +9,7 @@ ghost use Rattle.design_core.specs.Reads.{IsOrder};
 ghost use Rattle.design_core.specs.Run.{start_state};
 ghost use Rattle.design_core.specs.WellFormed.{IsWellFormed, signal_fits};
 ghost use Rattle.word_net.specs.Nets.{IsNet};
-ghost use Rattle.v_synth_parts.specs.Store.{nodes_made};
+ghost use Rattle.synth_parts.specs.Store.{nodes_made};
 ghost use Rattle.v_synth.specs.Clocked.{register_mask};
 ghost use Rattle.v_synth.specs.Matches.{IsNetOf, MeansCycle, OneNet};
 ghost use Rattle.v_synth.specs.Net.{net_of, nexts_made};
@@ -21,7 +21,7 @@ use design_core::Design;
 use design_core::types::Order;
 use loc_base::{Bits, Items, NoMemory};
 use std::alloc::Global;
-use v_synth_parts::{Left, Nodes};
+use synth_parts::{Left, Nodes};
 use word_net::WordNet;
 
 /// What a net is made of.

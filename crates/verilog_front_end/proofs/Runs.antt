@@ -6,8 +6,8 @@ use Rattle.design_core.specs.WellFormed.{IsWellFormed}
 use Rattle.design_core.specs.Reads.{IsOrder}
 use Rattle.design_core.specs.Run.{Choices}
 use Rattle.design_core.proofs.RunLaws.{run-exists, run-unique}
-use Rattle.v_rules.specs.OneDriver.{IsDrivenTwice}
-use Rattle.v_rules.proofs.OneDriverLaws.{driven-once}
+use Rattle.design_rules.specs.OneDriver.{IsDrivenTwice}
+use Rattle.design_rules.proofs.OneDriverLaws.{driven-once}
 use Rattle.verilog_front_end.specs.Texts.{HasOneRun}
 
 pub one-run : (d : Design) (order : List ℕ) → IsWellFormed d → ((s : ℕ) → ¬ IsDrivenTwice d s) → IsOrder d order

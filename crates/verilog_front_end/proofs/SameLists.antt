@@ -16,13 +16,13 @@ use Rattle.design_core.specs.Reads.{driver_reads, Depends}
 use Rattle.design_core.specs.Order.{HasCircle}
 use Rattle.design_core.specs.WellFormed.{input_fits}
 use Rattle.design_core.proofs.OrderLaws.{circle-alike}
-use Rattle.v_rules.specs.Size.{is_too_large}
-use Rattle.v_rules.specs.Entries.{is_net, is_variable}
-use Rattle.v_rules.specs.OneDriver.{IsDrivenTwice}
-use Rattle.v_rules.specs.DrivenReads.{IsUndriven}
-use Rattle.v_rules.specs.Latches.{driver_holds, IsLatch}
-use Rattle.v_rules.specs.Assignments.{by_equals, by_arrow, by_either, driver_sets, clocked_sets, connects}
-use Rattle.v_rules.specs.Races.{others, IsRace}
+use Rattle.design_rules.specs.Size.{is_too_large}
+use Rattle.design_rules.specs.Entries.{is_net, is_variable}
+use Rattle.design_rules.specs.OneDriver.{IsDrivenTwice}
+use Rattle.design_rules.specs.DrivenReads.{IsUndriven}
+use Rattle.design_rules.specs.Latches.{driver_holds, IsLatch}
+use Rattle.design_rules.specs.Assignments.{by_equals, by_arrow, by_either, driver_sets, clocked_sets, connects}
+use Rattle.design_rules.specs.Races.{others, IsRace}
 use Rattle.v_binding.specs.declared.error.BindErr.{BindErr}
 use Rattle.v_binding.specs.declared.error.BindErr.TheVariants as fault
 use Rattle.bind_rules.specs.Beside.{Beside}

@@ -12,7 +12,7 @@ use Rattle.design_core.specs.declared.design.Design.{Design}
 use Rattle.design_core.specs.WellFormed.{IsWellFormed, is_signal}
 use Rattle.v_binding.specs.declared.error.BindErr.{BindErr}
 use Rattle.v_binding.specs.declared.error.BindErr.TheVariants as fault
-use Rattle.v_rules.specs.Size.{is_too_large}
+use Rattle.design_rules.specs.Size.{is_too_large}
 use Rattle.v_hierarchy.specs.Instances.{Instance}
 use Rattle.bind_rules.specs.Rules.{AtSize, Driven}
 use Rattle.v_design.specs.Means.{beside_binding, IsMeant}

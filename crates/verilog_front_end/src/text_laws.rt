@@ -9,7 +9,7 @@ ghost use Rattle.design_core.specs.WellFormed.{IsWellFormed};
 ghost use Rattle.v_parser.specs.Modules.{IsSource};
 ghost use Rattle.v_hierarchy.specs.Instances.{instances};
 ghost use Rattle.v_binding.specs.Binding.{binding};
-ghost use Rattle.v_rules.specs.OneDriver.{IsDrivenTwice};
+ghost use Rattle.design_rules.specs.OneDriver.{IsDrivenTwice};
 ghost use Rattle.bind_laws.specs.Every.{Every};
 ghost use Rattle.bind_laws.specs.Written.{WrittenModule};
 ghost use Rattle.bind_laws.specs.Whole.{IsDesignOf};

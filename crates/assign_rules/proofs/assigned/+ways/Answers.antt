@@ -1,7 +1,7 @@
 use Rattle.std.proofs.Common.{◌∙◌, ap, ap₂, sym, ℕ}
 use Rattle.std.specs.Prelude.{◌||◌, ◌&&◌}
 use Rattle.std.specs.List.{list_any}
-use Rattle.v_rules.specs.Assignments.{part_of}
+use Rattle.design_rules.specs.Assignments.{part_of}
 use Rattle.design_core.specs.Drives.{some_set}
 use Rattle.assign_rules.specs.Ways.{by_way}
 use Rattle.design_core.proofs.StatementSteps.{sets_if}

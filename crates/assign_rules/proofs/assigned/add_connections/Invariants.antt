@@ -1,7 +1,7 @@
 use Rattle.std.proofs.Common.{take}
 use Rattle.std.specs.List.{list_any}
 use Rattle.design_bits.specs.Masks.{Adds}
-use Rattle.v_rules.specs.Assignments.{connects}
+use Rattle.design_rules.specs.Assignments.{connects}
 use Rattle.assign_rules.proofs.assigned.add_connections.Given as goal
 
 abbrev pub invariant-loop-driver : goal.invariant-loop-driver

@@ -1,7 +1,7 @@
 use Rattle.std.proofs.Common.{take}
 use Rattle.std.specs.List.{list_any}
 use Rattle.design_bits.specs.Masks.{Adds}
-use Rattle.v_rules.specs.Assignments.{driver_sets}
+use Rattle.design_rules.specs.Assignments.{driver_sets}
 use Rattle.assign_rules.specs.Ways.{by_way}
 use Rattle.assign_rules.proofs.assigned.add_drivers.Given as goal
 

@@ -2,7 +2,7 @@ use Rattle.std.proofs.Common.{◌∙◌, ap, ◌==◌}
 use Rattle.std.specs.Prelude.{◌&&◌}
 use Rattle.loc_base.proofs.ShelfBools.{and-true}
 use Rattle.design_bits.proofs.Added.{adds-same, on-ok, equal-turned}
-use Rattle.v_rules.proofs.TallyLaws.{all-bits}
+use Rattle.design_rules.proofs.TallyLaws.{all-bits}
 use Rattle.assign_rules.proofs.assigned.add_home.Goals as goal
 
 pub returns : goal.returns

@@ -1,7 +1,7 @@
 use Rattle.std.proofs.Common.{take}
 use Rattle.std.specs.List.{list_any}
 use Rattle.design_bits.specs.Masks.{Adds}
-use Rattle.v_rules.specs.Assignments.{part_of}
+use Rattle.design_rules.specs.Assignments.{part_of}
 use Rattle.assign_rules.proofs.assigned.add_parts.Given as goal
 
 abbrev pub invariant-loop-part : goal.invariant-loop-part

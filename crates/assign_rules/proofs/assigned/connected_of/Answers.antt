@@ -1,7 +1,7 @@
 use Rattle.std.proofs.Common.{subst}
 use Rattle.std.specs.List.{list_any}
 use Rattle.design_bits.specs.Masks.{Adds}
-use Rattle.v_rules.specs.Assignments.{connects}
+use Rattle.design_rules.specs.Assignments.{connects}
 use Rattle.assign_rules.proofs.WayLaws.{has-added}
 use Rattle.assign_rules.proofs.assigned.connected_of.Goals as goal
 

@@ -1,6 +1,6 @@
 use Rattle.std.proofs.Common.{◌∙◌, ap, sym, subst, arith}
 use Rattle.std.proofs.lemmas.Bool.{false≢true}
-use Rattle.v_rules.specs.Entries.{is_variable}
+use Rattle.design_rules.specs.Entries.{is_variable}
 use Rattle.assign_rules.specs.Ways.{AreWays, is_mixed}
 use Rattle.assign_rules.proofs.WayLaws.{mixed-same, none-more, none-mixed}
 use Rattle.assign_rules.proofs.assigned.first_misassigned.Goals as goal

@@ -1,5 +1,5 @@
 use Rattle.std.proofs.Common.{◌≡◌, ◌<◌, ℕ, false}
-use Rattle.v_rules.specs.Assignments.{is_misassigned}
+use Rattle.design_rules.specs.Assignments.{is_misassigned}
 use Rattle.assign_rules.proofs.assigned.first_misassigned.Given as goal
 
 abbrev pub invariant-loop-home : goal.invariant-loop-home

@@ -1,6 +1,6 @@
 use Rattle.std.proofs.Common.{◌≡◌, ◌<◌, ◌∙◌, ap, subst, length, get_or, false}
 use Rattle.design_bits.proofs.Touched.{owned}
-use Rattle.v_rules.specs.Assignments.{clocked_sets}
+use Rattle.design_rules.specs.Assignments.{clocked_sets}
 use Rattle.assign_rules.specs.Ways.{by_way}
 use Rattle.assign_rules.proofs.RaceLaws.{more-racing}
 use Rattle.assign_rules.proofs.races.racing_of.Goals as goal

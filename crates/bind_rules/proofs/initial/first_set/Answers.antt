@@ -1,8 +1,8 @@
 use Rattle.std.proofs.Common.{◌≡◌, ◌+◌, ◌∙◌, Some, true, sym, ap, ap₂, subst, take}
 use Rattle.std.specs.Prelude.{if◌then◌else◌}
-use Rattle.v_rules.specs.First.{IsFirst}
+use Rattle.design_rules.specs.First.{IsFirst}
 use Rattle.bind_rules.specs.Lower.{lower_of}
-use Rattle.v_rules.specs.Entries.{is_variable}
+use Rattle.design_rules.specs.Entries.{is_variable}
 use Rattle.bind_rules.proofs.FirstLaws.{is_set_among, set-none, set-step, set-whole}
 use Rattle.bind_rules.proofs.initial.first_set.Goals as goal
 

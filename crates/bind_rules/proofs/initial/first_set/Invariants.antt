@@ -1,6 +1,6 @@
 use Rattle.std.proofs.Common.{◌≡◌, take, true}
-use Rattle.v_rules.specs.Entries.{is_variable}
-use Rattle.v_rules.specs.First.{IsFirst}
+use Rattle.design_rules.specs.Entries.{is_variable}
+use Rattle.design_rules.specs.First.{IsFirst}
 use Rattle.bind_rules.proofs.FirstLaws.{is_set_among}
 use Rattle.bind_rules.proofs.initial.first_set.Given as goal
 

@@ -1,7 +1,7 @@
 use Rattle.std.proofs.Common.{◌≡◌, Some, true, sym, ap, subst, inl, inr}
 use Rattle.std.specs.Prelude.{option_map, IfSome}
 use Rattle.v_binding.specs.declared.error.BindErr.TheVariants as fault
-use Rattle.v_rules.specs.First.{IsFirst}
+use Rattle.design_rules.specs.First.{IsFirst}
 use Rattle.bind_rules.specs.Rules.{is_mixed, mixed_span, Races, Assigns}
 use Rattle.bind_rules.specs.Views.{beside_of}
 use Rattle.bind_rules.proofs.FirstLaws.{if-ok}

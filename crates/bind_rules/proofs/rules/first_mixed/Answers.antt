@@ -1,7 +1,7 @@
 use Rattle.std.proofs.Common.{◌≡◌, true, sym, ap, subst, ◌∙◌}
 use Rattle.std.specs.Prelude.{if◌then◌else◌}
-use Rattle.v_rules.specs.Assignments.{is_misassigned}
-use Rattle.v_rules.specs.First.{IsFirst}
+use Rattle.design_rules.specs.Assignments.{is_misassigned}
+use Rattle.design_rules.specs.First.{IsFirst}
 use Rattle.bind_rules.specs.Rules.{span_at, initial_span, is_set_first, is_mixed}
 use Rattle.bind_rules.specs.Views.{beside_of}
 use Rattle.bind_rules.proofs.FirstLaws.{either-first, first-this}

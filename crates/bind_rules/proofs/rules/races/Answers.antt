@@ -1,7 +1,7 @@
 use Rattle.std.proofs.Common.{Some, None, refl, sym, ap, subst, ◌∙◌, inl, inr}
 use Rattle.v_binding.specs.declared.error.BindErr.TheVariants as fault
-use Rattle.v_rules.specs.First.{IsFirst}
-use Rattle.v_rules.specs.Races.{IsRace}
+use Rattle.design_rules.specs.First.{IsFirst}
+use Rattle.design_rules.specs.Races.{IsRace}
 use Rattle.bind_rules.proofs.rules.races.Goals as goal
 
 pub returns-in-Some : goal.returns-in-Some

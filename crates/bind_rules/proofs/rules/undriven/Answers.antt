@@ -1,7 +1,7 @@
 use Rattle.std.proofs.Common.{Some, None, refl, sym, ap, subst, ◌∙◌, inl, inr}
 use Rattle.v_binding.specs.declared.error.BindErr.TheVariants as fault
-use Rattle.v_rules.specs.First.{IsFirst}
-use Rattle.v_rules.specs.DrivenReads.{IsUndriven}
+use Rattle.design_rules.specs.First.{IsFirst}
+use Rattle.design_rules.specs.DrivenReads.{IsUndriven}
 use Rattle.bind_rules.specs.Rules.{Undriven, Latches}
 use Rattle.bind_rules.specs.Views.{beside_of}
 use Rattle.bind_rules.proofs.FirstLaws.{if-ok}

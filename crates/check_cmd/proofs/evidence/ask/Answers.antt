@@ -1,7 +1,7 @@
 use Rattle.std.proofs.Common.{map, ◌∙◌, sym}
 use Rattle.std.proofs.lemmas.Bool.{false≢true}
-use Rattle.list_inputs.specs.Ends.{HasCause, HasStatus, IsSpared}
-use Rattle.run_inputs.proofs.Loaded.{passed_on}
+use Rattle.load_problem.specs.Ends.{HasCause, HasStatus, IsSpared}
+use Rattle.load_texts.proofs.Loaded.{passed_on}
 use Rattle.check_cmd.specs.Asked.{asked_of}
 use Rattle.check_cmd.specs.Parts.{KindRefused}
 use Rattle.check_cmd.specs.Refusals.{Refused}

@@ -1,8 +1,8 @@
 use Rattle.std.proofs.Common.{subst, sym, ◌∙◌}
 use Rattle.std.proofs.lemmas.Bool.{false≢true}
 use Rattle.command_contract.specs.Contract.{Texts}
-use Rattle.list_inputs.specs.Ends.{HasCause, HasStatus, IsSpared}
-use Rattle.run_inputs.proofs.Loaded.{passed_on}
+use Rattle.load_problem.specs.Ends.{HasCause, HasStatus, IsSpared}
+use Rattle.load_texts.proofs.Loaded.{passed_on}
 use Rattle.check_cmd.specs.Asked.{asked_of}
 use Rattle.check_cmd.specs.Means.{Given, MeansLog}
 use Rattle.check_cmd.specs.Parts.{OtherRefused, digests_of, posed_of}

@@ -1,6 +1,6 @@
 use Rattle.std.proofs.Common.{subst}
 use Rattle.debug_core.specs.Problems.{IsFormFor, IsProblem, IsRefused, Problem}
-use Rattle.list_inputs.specs.Ends.{problem_in}
+use Rattle.load_problem.specs.Ends.{problem_in}
 use Rattle.check_cmd.proofs.WholeCauses.{form-cause, form-memory}
 use Rattle.check_cmd.proofs.evidence.plan_in.Goals as goal
 

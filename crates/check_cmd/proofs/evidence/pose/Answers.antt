@@ -1,11 +1,11 @@
 use Rattle.std.proofs.Common.{ap, sym, subst, ◌∙◌}
 use Rattle.suspect_map.specs.Choose.{joined}
 use Rattle.debug_core.specs.Problems.{IsProblem}
-use Rattle.list_inputs.specs.Asked.{AreKnown, Asked as Wanted, IsAsked, asked_of as wanted_asked}
-use Rattle.list_inputs.specs.Ends.{HasCause, HasStatus, IsSpared, problem_in}
-use Rattle.list_inputs.specs.Means.{IsDigestOf, Suspecting}
-use Rattle.list_inputs.specs.Refusals.{IsReady as IsReadyList, Refused as InputsRefused}
-use Rattle.run_inputs.proofs.Loaded.{passed_on}
+use Rattle.load_problem.specs.Asked.{AreKnown, Asked as Wanted, IsAsked, asked_of as wanted_asked}
+use Rattle.load_problem.specs.Ends.{HasCause, HasStatus, IsSpared, problem_in}
+use Rattle.load_problem.specs.Means.{IsDigestOf, Suspecting}
+use Rattle.load_problem.specs.Refusals.{IsReady as IsReadyList, Refused as InputsRefused}
+use Rattle.load_texts.proofs.Loaded.{passed_on}
 use Rattle.check_cmd.specs.Asked.{asked_of, wanted_by}
 use Rattle.check_cmd.specs.Parts.{FormRefused}
 use Rattle.check_cmd.specs.Refusals.{Refused}

@@ -2,8 +2,8 @@ use Rattle.check_cmd.specs.Asked.{asked_of}
 use Rattle.check_cmd.specs.Means.{IsLogOf, MeansLog}
 use Rattle.check_cmd.specs.Parts.{LogTextRefused}
 use Rattle.check_cmd.specs.Refusals.{LogRefused}
-use Rattle.list_inputs.specs.Ends.{HasCause, HasStatus, IsMemory, IsSpared}
-use Rattle.run_inputs.proofs.Loaded.{passed_on}
+use Rattle.load_problem.specs.Ends.{HasCause, HasStatus, IsMemory, IsSpared}
+use Rattle.load_texts.proofs.Loaded.{passed_on}
 use Rattle.check_cmd.proofs.Causes.{err-of, low-counts_of, low-status, memory-spared, ok-of}
 use Rattle.check_cmd.proofs.LoadedTexts.{at-name, at-text, name-short, of-text, log-cause_load, log-cause_text, log-low}
 use Rattle.check_cmd.proofs.logs.load_log.Goals as goal

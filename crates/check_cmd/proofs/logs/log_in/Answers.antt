@@ -2,7 +2,7 @@ use Rattle.std.proofs.Common.{List, ℕ, subst}
 use Rattle.proof_check.specs.declared.types.LogText.{LogText}
 use Rattle.check_cmd.specs.Means.{IsLogOf}
 use Rattle.check_cmd.specs.Parts.{LogTextRefused}
-use Rattle.list_inputs.specs.Ends.{HasCause, IsMemory}
+use Rattle.load_problem.specs.Ends.{HasCause, IsMemory}
 use Rattle.check_cmd.proofs.LoadedTexts.{few-steps, log-cause, log-memory}
 use Rattle.check_cmd.proofs.logs.log_in.Goals as goal
 

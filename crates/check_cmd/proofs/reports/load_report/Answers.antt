@@ -2,10 +2,10 @@ use Rattle.check_cmd.specs.Asked.{asked_of}
 use Rattle.check_cmd.specs.Means.{MeansReport}
 use Rattle.check_cmd.specs.Parts.{ReportTextRefused}
 use Rattle.check_cmd.specs.Refusals.{ReportRefused}
-use Rattle.list_inputs.specs.Ends.{HasCause, HasStatus, IsMemory, IsSpared}
+use Rattle.load_problem.specs.Ends.{HasCause, HasStatus, IsMemory, IsSpared}
 use Rattle.report_doc.specs.Shape.{IsReport}
 use Rattle.report_reading.specs.Reading.{IsReportOf}
-use Rattle.run_inputs.proofs.Loaded.{passed_on}
+use Rattle.load_texts.proofs.Loaded.{passed_on}
 use Rattle.check_cmd.proofs.Causes.{err-of, low-counts_of, low-status, memory-spared, ok-of}
 use Rattle.check_cmd.proofs.LoadedTexts.{at-name, at-text, name-short, of-text, report-cause_load, report-cause_text, report-low}
 use Rattle.check_cmd.proofs.reports.load_report.Goals as goal

@@ -3,7 +3,7 @@ use Rattle.report_doc.specs.declared.types.Report.{Report}
 use Rattle.report_doc.specs.Json.{IsJson}
 use Rattle.report_reading.specs.Reading.{IsReportOf}
 use Rattle.check_cmd.specs.Parts.{ReportTextRefused}
-use Rattle.list_inputs.specs.Ends.{HasCause, IsMemory}
+use Rattle.load_problem.specs.Ends.{HasCause, IsMemory}
 use Rattle.check_cmd.proofs.LoadedTexts.{report-cause, report-memory}
 use Rattle.check_cmd.proofs.reports.report_in.Goals as goal
 

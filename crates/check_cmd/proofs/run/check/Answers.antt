@@ -1,8 +1,8 @@
 use Rattle.std.proofs.Common.{List, ℕ, ap, refl, sym, subst, ◌∙◌, Ok, Err}
 use Rattle.std.proofs.lemmas.Bool.{and_parts}
-use Rattle.list_inputs.specs.declared.refusal.Refusal.TheVariants.{Memory}
-use Rattle.list_inputs.specs.Ends.{Prints}
-use Rattle.list_inputs.proofs.Keeping.{refused-keeps}
+use Rattle.load_problem.specs.declared.refusal.Refusal.TheVariants.{Memory}
+use Rattle.load_problem.specs.Ends.{Prints}
+use Rattle.load_problem.proofs.Keeping.{refused-keeps}
 use Rattle.check_cmd.specs.Asked.{asked_of}
 use Rattle.check_cmd.specs.Parts.{given_of}
 use Rattle.check_cmd.proofs.Keeping.{answer-status, ends-by_lines, judged, judged-keeps}

@@ -1,4 +1,4 @@
-use Rattle.run_inputs.specs.Refusals.{load_line, load_status}
+use Rattle.load_texts.specs.Refusals.{load_line, load_status}
 use Rattle.check_cmd.specs.Parts.{LoadRefused, text_load}
 use Rattle.check_cmd.proofs.Causes.{said}
 use Rattle.check_cmd.proofs.LoadedTexts.{load-counts, load-spared}

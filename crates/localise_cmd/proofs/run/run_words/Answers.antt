@@ -8,7 +8,7 @@ use Rattle.command_words.specs.CheckRequests.{check_asked_of}
 use Rattle.command_words.specs.FindRequests.{find_asked_of, sim_asked_of}
 use Rattle.command_words.specs.MakeRequests.{make_asked_of}
 use Rattle.check_cmd.specs.Asked.{asked_of as asked_of_check}
-use Rattle.find_sets.specs.Requests.{asked_of as asked_of_find}
+use Rattle.find_cmd.specs.Requests.{asked_of as asked_of_find}
 use Rattle.make_cmd.specs.Requests.{asked_of as asked_of_make}
 use Rattle.sim_cmd.specs.Requests.{asked_of as asked_of_sim}
 use Rattle.verilog_front_end.specs.Meaning.{Means}

@@ -1,9 +1,9 @@
 use Rattle.std.proofs.Common.{refl, sym, subst}
 use Rattle.suspect_map.specs.Choose.{joined}
-use Rattle.list_inputs.specs.Asked.{AreKnown, Asked as Wanted, IsAsked, asked_of as wanted_asked}
-use Rattle.list_inputs.specs.Means.{Suspecting}
-use Rattle.find_sets.specs.Requests.{asked_of as list_asked}
-use Rattle.find_sets.proofs.Reading.{read-wanted}
+use Rattle.load_problem.specs.Asked.{AreKnown, Asked as Wanted, IsAsked, asked_of as wanted_asked}
+use Rattle.load_problem.specs.Means.{Suspecting}
+use Rattle.find_cmd.specs.Requests.{asked_of as list_asked}
+use Rattle.find_cmd.proofs.Reading.{read-wanted}
 use Rattle.make_cmd.specs.Shelves.{texts_of}
 use Rattle.make_cmd.proofs.Reading.{counts-anywhere, never-five}
 use Rattle.make_cmd.proofs.run.list_texts.Goals as goal

@@ -3,10 +3,10 @@ use Rattle.std.specs.Prelude.{◌&&◌}
 use Rattle.std.proofs.lemmas.Bool.{and_parts}
 use Rattle.command_contract.specs.Contract.{Run, counts_of, run_of}
 use Rattle.suspect_map.specs.Choose.{joined}
-use Rattle.list_inputs.specs.Ends.{Prints}
-use Rattle.list_inputs.specs.Means.{Suspecting}
-use Rattle.find_sets.specs.Asked.{AreKnown, Asked as Finding, IsAsked as IsListAsked}
-use Rattle.find_sets.specs.Requests.{asked_of as list_asked}
+use Rattle.load_problem.specs.Ends.{Prints}
+use Rattle.load_problem.specs.Means.{Suspecting}
+use Rattle.find_cmd.specs.Asked.{AreKnown, Asked as Finding, IsAsked as IsListAsked}
+use Rattle.find_cmd.specs.Requests.{asked_of as list_asked}
 use Rattle.write_order.proofs.Carried.{none-done}
 use Rattle.make_cmd.specs.Requests.{asked_of}
 use Rattle.make_cmd.specs.Shelves.{texts_of}

@@ -5,12 +5,12 @@ use Rattle.command_contract.specs.Contract.{Texts, counts_of}
 use Rattle.design_core.specs.declared.trace.Trace.{Trace}
 use Rattle.vcd_traces.proofs.PortLaws.{formed_has_ports}
 use Rattle.sim_lines.specs.Lines.{AreLines}
-use Rattle.run_inputs.specs.Asked.{Asked, asked_of as asked_by}
-use Rattle.run_inputs.specs.Causes.{DesignCause}
-use Rattle.run_inputs.specs.Loading.{DesignCounts, HasTrace, StopsAt, TraceCounts, TraceSpared, trace_at}
-use Rattle.run_inputs.specs.Means.{MeansDesign, MeanTraces}
-use Rattle.run_inputs.proofs.Counting.{design-named, trace-named_at}
-use Rattle.run_inputs.proofs.Ports.{has-ports}
+use Rattle.load_texts.specs.Asked.{Asked, asked_of as asked_by}
+use Rattle.load_texts.specs.Causes.{DesignCause}
+use Rattle.load_texts.specs.Loading.{DesignCounts, HasTrace, StopsAt, TraceCounts, TraceSpared, trace_at}
+use Rattle.load_texts.specs.Means.{MeansDesign, MeanTraces}
+use Rattle.load_texts.proofs.Counting.{design-named, trace-named_at}
+use Rattle.load_texts.proofs.Ports.{has-ports}
 use Rattle.sim_cmd.specs.Requests.{asked_of}
 use Rattle.sim_cmd.proofs.Counting.{design-complete, trace-complete}
 use Rattle.sim_cmd.proofs.Ending.{no-design, no-trace_at, shown}

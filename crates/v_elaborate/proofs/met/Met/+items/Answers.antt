@@ -7,7 +7,7 @@ use Rattle.v_scopes.proofs.GivenLaws.{passed_on}
 use Rattle.v_hierarchy.specs.Frames.{Refuses}
 use Rattle.v_hierarchy.specs.Items.{item}
 use Rattle.v_hierarchy.specs.Views.{copied_of, copies_of}
-use Rattle.v_declare.specs.Places.{place_of}
+use Rattle.v_connections.specs.Places.{place_of}
 use Rattle.v_elaborate.specs.Parts.{turns_met}
 use Rattle.v_elaborate.specs.Met.{met_of, outer_at, frames_at}
 use Rattle.v_elaborate.proofs.ItemEquations.{arm-ok, arm-refuses, item-loop}

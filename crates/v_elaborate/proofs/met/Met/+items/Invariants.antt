@@ -2,8 +2,8 @@ use Rattle.std.proofs.Common.{◌≡◌, ◌-◌, map, drop}
 use Rattle.v_syntax.specs.StatementTree.{head_of}
 use Rattle.v_syntax.specs.ItemTree.{item_of, items_of, block_of}
 use Rattle.v_hierarchy.specs.Items.{items}
-use Rattle.v_unroll.specs.Heads.{IsTurning}
-use Rattle.v_declare.specs.Places.{place_of}
+use Rattle.v_loops.specs.Heads.{IsTurning}
+use Rattle.v_connections.specs.Places.{place_of}
 use Rattle.v_elaborate.specs.Parts.{turns_met}
 use Rattle.v_elaborate.specs.Met.{met_of, outer_at, frames_at}
 use Rattle.v_elaborate.proofs.TurnSteps.{generate_from}

@@ -4,7 +4,7 @@ use Rattle.v_syntax.specs.ModuleTree.{module_of}
 use Rattle.v_hierarchy.specs.Items.{instance_of}
 use Rattle.v_hierarchy.specs.Steps.{each}
 use Rattle.v_hierarchy.specs.Views.{given_of}
-use Rattle.v_declare.specs.Places.{place_of}
+use Rattle.v_connections.specs.Places.{place_of}
 use Rattle.v_elaborate.specs.Met.{met_of, outer_at}
 use Rattle.v_elaborate.proofs.met.Met.instances.Given as goal
 

@@ -6,8 +6,8 @@ use Rattle.word_net.specs.declared.node.Operation.TheVariants as operation
 use Rattle.word_net.specs.declared.node.WordNode.{WordNode}
 use Rattle.word_net.specs.Build.{Made, made, pushed}
 use Rattle.v_synth.specs.declared.clocked.Turn.{Turn}
-use Rattle.v_synth_parts.specs.Expression.{unsigned}
-use Rattle.v_synth_parts.specs.Statement.{Maps, maps}
+use Rattle.synth_parts.specs.Expression.{unsigned}
+use Rattle.synth_parts.specs.Statement.{Maps, maps}
 use Rattle.v_synth.specs.Clocked.{left_at, turned_made, own_made}
 use Rattle.v_synth.proofs.OwnSteps.{own-here}
 use Rattle.v_synth.proofs.block.Own.signal.Goals as goal

@@ -5,7 +5,7 @@ use Rattle.design_core.specs.declared.design.Design.{Design}
 use Rattle.word_net.specs.declared.node.WordNode.{WordNode}
 use Rattle.word_net.specs.Build.{made}
 use Rattle.v_synth.specs.declared.clocked.Turn.{Turn}
-use Rattle.v_synth_parts.specs.Statement.{maps}
+use Rattle.synth_parts.specs.Statement.{maps}
 use Rattle.v_synth.specs.Clocked.{own_made, owns_made}
 use Rattle.v_synth.proofs.OwnSteps.{gone, owns-driven}
 use Rattle.v_synth.proofs.block.Own.signals.Goals as goal

@@ -1,5 +1,5 @@
 use Rattle.std.proofs.Common.{◌≡◌, ◌-◌, length}
-use Rattle.v_synth_parts.specs.Statement.{maps}
+use Rattle.synth_parts.specs.Statement.{maps}
 use Rattle.v_synth.specs.Clocked.{owns_made}
 use Rattle.v_synth.proofs.OwnSteps.{gone}
 use Rattle.v_synth.proofs.block.Own.signals.Given as goal

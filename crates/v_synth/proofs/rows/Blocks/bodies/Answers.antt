@@ -2,7 +2,7 @@ use Rattle.std.proofs.Common.{◌≡◌, ℕ, ◌<◌, List, length, arith, ap, 
 use Rattle.design_core.specs.declared.driver.Clocked.{Clocked}
 use Rattle.design_core.specs.declared.design.Design.{Design}
 use Rattle.node_map.specs.declared.pair.Pair.{Pair}
-use Rattle.v_synth_parts.specs.Store.{nodes_made}
+use Rattle.synth_parts.specs.Store.{nodes_made}
 use Rattle.v_synth.specs.Clocked.{body_made}
 use Rattle.v_synth.proofs.BlockSteps.{block-fits, bodies-next}
 use Rattle.v_synth.proofs.rows.Blocks.bodies.Goals as goal

@@ -3,8 +3,8 @@ use Rattle.std.specs.Prelude.{map, get_or}
 use Rattle.design_core.specs.declared.design.Design.{Design}
 use Rattle.design_core.specs.Valuation.{number, width_at}
 use Rattle.design_core.specs.Run.{start_state}
-use Rattle.v_synth_parts.specs.Store.{nodes_made}
-use Rattle.v_synth_parts.specs.Driver.{drivers_made}
+use Rattle.synth_parts.specs.Store.{nodes_made}
+use Rattle.synth_parts.specs.Driver.{drivers_made}
 use Rattle.v_synth.specs.Clocked.{bodies_made, resets_made}
 use Rattle.v_synth.specs.Net.{nexts_made}
 use Rattle.v_synth.proofs.NetSteps.{net-is, parts-fit}

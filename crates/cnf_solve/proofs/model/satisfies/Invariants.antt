@@ -1,7 +1,0 @@
-use Rattle.std.proofs.Common.{ℕ, ◌<◌, [], get_or}
-use Rattle.clause_base.specs.Satisfaction.{SatisfiesClause}
-use Rattle.sat_core.specs.SolverState.{assignment_of}
-use Rattle.cnf_solve.proofs.model.satisfies.Given as goal
-
-abbrev pub invariant-loop-place : goal.invariant-loop-place
-invariant-loop-place l = (k : ℕ) → k < l.place → SatisfiesClause (assignment_of l.model) (get_or l.clauses k [])

@@ -1,0 +1,10 @@
+use Rattle.std.proofs.Common.{◌≡◌, take, length}
+use Rattle.std.specs.List.{list_any}
+use Rattle.design_core.specs.Drives.{block_drives}
+use Rattle.design_bits.specs.Masks.{Adds}
+use Rattle.design_rules.proofs.undriven.join_blocks.Given as goal
+
+abbrev pub invariant-loop-block : goal.invariant-loop-block
+invariant-loop-block l =
+    (length l.own ≡ length l.initial.own) × (length l.table.items ≡ length l.own)
+    × Adds l.initial.table.items l.table.items (λ s b. list_any (λ y. block_drives l.design.signals.items s b y) (take l.block-index l.design.clocked.items))

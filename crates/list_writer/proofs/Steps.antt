@@ -1,0 +1,81 @@
+-- Lists, and the steps of logs.
+use Rattle.std.proofs.Common.{◌≡◌, ℕ, Bool, true, false, cond, List, []}
+use Rattle.std.proofs.Common.{◌∷◌, ◌++◌, map, refl, ap, ◌∙◌, subst, arith}
+use Rattle.std.specs.Prelude.{All, count_by, filter}
+use Rattle.std.proofs.lemmas.List.{get_or-map, length-map, map-append}
+use Rattle.std.proofs.lemmas.List.Elements.{All-cons, All-head, All-tail, filter-append}
+use Rattle.std.proofs.lemmas.List.Sums.{sum_by-cons}
+use Rattle.clause_base.specs.declared.literal.Lit.{Lit}
+use Rattle.clause_base.specs.declared.log.Step.{Step}
+use Rattle.clause_base.specs.declared.log.StepKind.{StepKind}
+use Rattle.clause_base.specs.declared.log.StepKind.TheVariants.{Block, Derived, Learned}
+use Rattle.clause_base.specs.Acceptance.{is_block}
+use Rattle.clause_base.specs.Counted.{is_derived_kind}
+use Rattle.sat_core.specs.Outcome.{is_derived}
+use Rattle.sat_core.specs.Outcome.{is_derived_kind as is_derived_there}
+use Rattle.sat_core.specs.SolverState.{blocks_of}
+use Rattle.set_enum.specs.EnumState.{AreChainless}
+use Rattle.set_enum.specs.EnumState.{HasNoChain as HasNoChainThere}
+use Rattle.set_enum.specs.Sets.{block_of}
+use Rattle.log_portions.specs.Portions.{HasNoChain}
+use Rattle.list_writer.specs.Checks.{blocks_for}
+use Rattle.list_writer.specs.Found.{Portion, found_of, sets_of}
+
+-- what stands behind the same front is the same
+pub append-cancel : {A : Type 0} (xs ys zs : List A) → xs ++ ys ≡ xs ++ zs → ys ≡ zs
+append-cancel [] ys zs e = e
+append-cancel (x ∷ xs) ys zs e = append-cancel xs ys zs (cc)
+
+pub append-nothing : {A : Type 0} (xs ys : List A) → xs ++ ys ≡ xs → ys ≡ []
+append-nothing [] ys e = e
+append-nothing (x ∷ xs) ys e = append-nothing xs ys (cc)
+
+-- ---- kinds of steps
+pub blocks_of-append : (one next : List Step) → blocks_of (one ++ next) ≡ blocks_of one ++ blocks_of next
+blocks_of-append one next =
+    ap (map (λ (step : Step). step.clause)) (filter-append is_block one next)
+    ∙ map-append (λ (step : Step). step.clause) (filter is_block one) (filter is_block next)
+
+same-derived : (kind : StepKind) → is_derived_kind kind ≡ is_derived_there kind
+same-derived Block = refl
+same-derived Learned = refl
+same-derived Derived = refl
+
+pub derived-counted : (log : List Step) → count_by (λ (step : Step). is_derived_kind step.kind) log ≡ count_by is_derived log
+derived-counted [] = refl
+derived-counted (s ∷ log) = omega (
+  arith,
+  sum_by-cons (λ (x : Step). cond (is_derived_kind x.kind) 1 0) s log,
+  sum_by-cons (λ (x : Step). cond (is_derived x) 1 0) s log,
+  ap {B = ℕ} (λ b. cond b 1 0) (same-derived s.kind),
+  derived-counted log,
+)
+
+no-chain : (kind : StepKind) (step : Step) → HasNoChainThere kind step → HasNoChain kind step
+no-chain Block step none = none
+no-chain Learned step none = none
+no-chain Derived step none = none
+
+pub chainless : (log : List Step) → AreChainless log → All (λ (step : Step). HasNoChain step.kind step) log
+chainless log all i d within = no-chain _ _ (all i d within)
+
+-- what holds of each clause of a log
+pub of-steps : (P : List Lit → Type 0) (log : List Step) → All P (map (λ (step : Step). step.clause) log)
+    → All (λ (step : Step). P step.clause) log
+of-steps P log all i d within =
+    subst P (get_or-map (λ (step : Step). step.clause) log i d d.clause within)
+    (all i d.clause (omega (arith, within, length-map log (λ (step : Step). step.clause))))
+
+pub blocks-in : (P : List Lit → Type 0) (log : List Step) → All P (map (λ (step : Step). step.clause) log) → All P (blocks_of log)
+blocks-in P [] all = all
+blocks-in P (s ∷ log) all = at (is_block s) (blocks-in P log (All-tail P s.clause (map (λ (step : Step). step.clause) log) all))
+  where
+    at : (b : Bool) → All P (blocks_of log) → All P (map (λ (step : Step). step.clause) (cond b (s ∷ filter is_block log)
+        (filter is_block log)))
+    at true rest = All-cons P s.clause (blocks_of log) (All-head P s.clause (map (λ (step : Step). step.clause) log) all) rest
+    at false rest = rest
+
+-- the blocks of sets, by their portions
+pub sets-blocks : (portions : List Portion) → map block_of (sets_of portions) ≡ blocks_for (found_of portions)
+sets-blocks [] = refl
+sets-blocks (portion ∷ portions) = ap (λ (blocks : List (List Lit)). block_of portion.set.members ∷ blocks) (sets-blocks portions)

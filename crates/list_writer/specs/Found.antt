@@ -1,0 +1,87 @@
+-- What is found of a problem's list, with the log that shows it: so far, and when the listing has ended.
+use Rattle.std.specs.Prelude.{ℕ, ◌≡◌, ◌+◌, ◌-◌, ◌<◌, ◌≤◌, List, [], ◌∷◌, ◌++◌, All, length, map, count_by, slice_get}
+use Rattle.std.specs.Option.{option_map_or}
+use Rattle.std.specs.List.{flat_map}
+use Rattle.design_core.specs.declared.values.SetWithValues.{SetWithValues}
+use Rattle.design_core.specs.Explained.{AreValuesOf, Explains}
+use Rattle.clause_base.specs.declared.literal.Lit.{Lit}
+use Rattle.clause_base.specs.declared.log.Step.{Step}
+use Rattle.clause_base.specs.Acceptance.{IsAccepted}
+use Rattle.clause_base.specs.Counted.{IsCounted}
+use Rattle.clause_base.specs.Progress.{IsClosing}
+use Rattle.proof_check.specs.Text.{IsLogText}
+use Rattle.sat_core.specs.Outcome.{is_learned}
+use Rattle.sat_core.specs.SolverState.{blocks_of}
+use Rattle.set_enum.specs.Bounds.{bound_of, bounds_of}
+use Rattle.set_enum.specs.Sets.{block_of}
+use Rattle.report_doc.specs.declared.types.Ending.{Ending}
+use Rattle.report_doc.specs.declared.types.Ending.TheVariants.{Complete, Budget, Sets, Earlier}
+use Rattle.debug_core.specs.Problems.{Problem, suspect_count, suspects_of}
+use Rattle.debug_core.specs.Debugging.{IsFrontOf, IsListOf}
+use Rattle.list_writer.specs.Asked.{Asked}
+
+-- ---- a set
+-- a set that was found, with the steps that the log grew by from the set before it on
+pub record Portion : Type 0 where
+  pub steps : List Step
+  pub set : SetWithValues
+
+abbrev pub found_of : List Portion → List SetWithValues
+found_of portions = map (λ portion. portion.set) portions
+
+abbrev pub sets_of : List Portion → List (List ℕ)
+sets_of portions = map (λ portion. portion.set.members) portions
+
+-- the log with the portions of these sets
+abbrev pub log_of : List Portion → List Step
+log_of portions = flat_map (λ portion. portion.steps) portions
+
+-- the values of a set are those of its places, a row of them for each cycle of the traces, and with them each trace is right
+pub record IsShown (p : Problem) (set : SetWithValues) : Type 0 where
+  pub rows : AreValuesOf p.design p.traces (suspects_of p) set.members set.values
+  pub explains : Explains p.design p.traces (suspects_of p) set.members set.values
+
+-- a set's portion has its block, and no other
+abbrev pub HasItsBlock : Portion → Type 0
+HasItsBlock portion = blocks_of portion.steps ≡ block_of portion.set.members ∷ []
+
+-- ---- so far
+-- sets of a front of the problem's list, with values, and a log that is accepted after the form, with their blocks
+pub record AreFound (p : Problem) (form : List (List Lit)) (portions : List Portion) : Type 0 where
+  pub front : IsFrontOf p (sets_of portions)
+  pub shown : All (IsShown p) (found_of portions)
+  pub blocks : All HasItsBlock portions
+  pub accepted : IsAccepted form (map block_of (sets_of portions)) (log_of portions)
+
+-- ---- at the end
+-- the members of the last set, none where there is no set
+abbrev pub last_of : List (List ℕ) → List ℕ
+last_of sets = option_map_or (λ set. set) (slice_get sets (length sets - 1)) []
+
+-- the learned steps of a log of the problem are fresh, and its derived steps are few
+abbrev pub IsCountedFor : Problem → List (List Lit) → List (List ℕ) → List Step → Type 0
+IsCountedFor p form sets log =
+    let n = suspect_count p in
+    IsCounted form (bounds_of n p.k) (p.k + 1) n (last_of sets) (bound_of n p.k (length (last_of sets))) log 0
+
+-- the list is whole and the log closing; or the budget is spent on learned steps, to the last unit; or as many sets were found as
+-- were asked for
+abbrev pub EndsAs : Asked → List (List ℕ) → List Step → Ending → Type 0
+EndsAs asked sets log Complete =
+    IsListOf asked.problem sets
+    × IsClosing (bound_of (suspect_count asked.problem) asked.problem.k asked.problem.k) log
+    × (length sets < asked.sets)
+EndsAs asked sets log Budget = (count_by is_learned log ≡ asked.budget) × (length sets < asked.sets)
+EndsAs asked sets log Sets = length sets ≡ asked.sets
+EndsAs asked sets log Earlier = ⊥
+
+-- a listing that ended: what was found, and the steps behind the last set, `rest`
+pub record IsEnded (asked : Asked) (form : List (List Lit)) (portions : List Portion) (rest : List Step) (ending : Ending) : Type 0 where
+  pub found : AreFound asked.problem form portions
+  pub no_block : blocks_of rest ≡ []
+  pub accepted : IsAccepted form (map block_of (sets_of portions)) (log_of portions ++ rest)
+  pub counted : IsCountedFor asked.problem form (sets_of portions) (log_of portions ++ rest)
+  pub within_budget : count_by is_learned (log_of portions ++ rest) ≤ asked.budget
+  pub ends : EndsAs asked (sets_of portions) (log_of portions ++ rest) ending
+  -- the text of the log stands for this log alone
+  pub readable : IsLogText (record { inputs = asked.inputs; log = log_of portions ++ rest })

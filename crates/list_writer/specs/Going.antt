@@ -1,0 +1,251 @@
+-- Private, for the functions inside this crate: what is known while sets are listed.
+use Rattle.std.specs.Prelude.{ℕ, ◌≡◌, ◌+◌, ◌≤◌, ◌⊎◌, Bool, true, false, List, [], ◌∷◌, ◌++◌, All, length, take, drop, count_by}
+use Rattle.std.specs.Prelude.{Option, Some, None, Result, Ok, Err}
+use Rattle.std.specs.List.{flat_map}
+use Rattle.design_core.specs.declared.values.SetWithValues.{SetWithValues}
+use Rattle.io_ports.specs.Faults.{Rose}
+use Rattle.clause_base.specs.declared.literal.Lit.{Lit}
+use Rattle.clause_base.specs.declared.log.Step.{Step}
+use Rattle.log_portions.specs.Portions.{steps_text}
+use Rattle.sat_core.specs.Outcome.{is_learned}
+use Rattle.sat_core.specs.SolverState.{blocks_of}
+use Rattle.write_order.specs.Writes.{AreBegun, AreDone, Outputs, StopsIn, Write, begin_text, print_piece, put_piece}
+use Rattle.write_order.specs.declared.write.WriteErr.{WriteErr}
+use Rattle.write_order.specs.declared.write.WriteErr.TheVariants as write
+use Rattle.report_doc.specs.declared.types.Ending.{Ending}
+use Rattle.report_doc.specs.declared.types.Ending.TheVariants.{Complete, Budget, Sets, Earlier}
+use Rattle.command_contract.specs.Contract.{Counts, NoneRose, WriteFailed}
+use Rattle.debug_core.specs.Problems.{IsFormFor}
+use Rattle.debug_core.specs.Debugging.{DebugState, FindsEnd, FindsNothing, FindsSet, IsDebugger, Searches}
+use Rattle.list_writer.specs.declared.stop.Stop.{Stop}
+use Rattle.list_writer.specs.declared.stop.Stop.TheVariants.{Failed, Memory}
+use Rattle.list_writer.specs.declared.outcome.Outcome.{Outcome}
+use Rattle.list_writer.specs.declared.outcome.Outcome.TheVariants as outcome
+use Rattle.list_writer.specs.Asked.{Asked}
+use Rattle.list_writer.specs.Found.{AreFound, EndsAs, HasItsBlock, IsShown, Portion, found_of, log_of, sets_of}
+use Rattle.list_writer.specs.Lines.{ending_line, memory_line}
+use Rattle.list_writer.specs.Texts.{report_of, waves}
+use Rattle.set_waves.specs.Waved.{Runs}
+use Rattle.list_writer.specs.Due.{IsBody, IsListedTo, IsStopped, prints, set_writes, sets_in}
+
+-- ---- the outputs
+abbrev pub outputs : (List ℕ → Option (List ℕ)) → (List ℕ → Option (List ℕ)) → List ℕ → List ℕ → Outputs
+outputs written now_written printed now_printed =
+    record { written = written; now_written = now_written; printed = printed; now_printed = now_printed }
+
+-- the cause of an answer: a count of faults of writes rose where one failed, and no other answer lets a count rise
+abbrev pub WriteCauses : {X : Type 0} → Counts → Result X WriteErr → Type 0
+WriteCauses counts (Ok _) = NoneRose counts
+WriteCauses counts (Err write.Failed) = WriteFailed counts
+WriteCauses counts (Err write.NoMemory) = NoneRose counts
+
+abbrev pub StopCauses : {X : Type 0} → Counts → Result X Stop → Type 0
+StopCauses counts (Ok _) = NoneRose counts
+StopCauses counts (Err Failed) = WriteFailed counts
+StopCauses counts (Err (Memory sets)) = NoneRose counts
+
+-- the writes of some sets
+abbrev pub sets_writes : Asked → List Portion → List Write
+sets_writes asked portions = flat_map (set_writes asked) portions
+
+-- those of the report
+abbrev pub report_writes : Asked → List SetWithValues → Ending → List Write
+report_writes asked found ending = begin_text asked.report ∷ put_piece asked.report (report_of asked found ending) ∷ []
+
+-- those behind the search
+abbrev pub closing_writes : Asked → List SetWithValues → List Step → Ending → Runs → List Write
+closing_writes asked found rest ending runs =
+    put_piece asked.log (steps_text rest) ∷ begin_text asked.report ∷ put_piece asked.report (report_of asked found ending)
+    ∷ (waves asked found runs ++ print_piece (ending_line ending (length found)) ∷ [])
+
+-- ---- between two sets
+-- all that the search put into its log is written, and so are the lines of all sets that were found
+pub record IsGoing (asked : Asked) (s : DebugState) (found : List SetWithValues) (steps left : ℕ) (portions : List Portion) : Type 0 where
+  pub holds : IsDebugger s
+  pub problem : s.problem ≡ asked.problem
+  pub found_are : found ≡ found_of portions
+  pub listed : s.listed ≡ sets_of portions
+  pub written : s.log ≡ log_of portions
+  pub steps_are : steps ≡ length s.log
+  pub shown : All (IsShown asked.problem) found
+  pub blocks : All HasItsBlock portions
+  pub units : count_by is_learned s.log + left ≡ asked.budget
+  pub goes_on : s.ended ≡ false
+
+-- sets that were found, and their writes
+pub record SearchGoes (asked : Asked) (s : DebugState) (found : List SetWithValues) (steps left : ℕ) (o : Outputs)
+    (told : Bool) : Type 0 where
+  pub portions : List Portion
+  pub going : IsGoing asked s found steps left portions
+  pub done : told ≡ true → AreDone (sets_writes asked portions) o
+
+-- ---- a turn of the search
+-- what was known before and after it, the sets that are kept, how many steps are written, the units that are left, and the outputs
+pub record Turn : Type 0 where
+  pub asked : Asked
+  pub old : DebugState
+  pub new : DebugState
+  pub found : List SetWithValues
+  pub now_found : List SetWithValues
+  pub steps : ℕ
+  pub now_steps : ℕ
+  pub left : ℕ
+  pub now_left : ℕ
+  pub o : Outputs
+  pub told : Bool
+
+-- what is kept between two turns: the sets, how many steps are written, and the units that are left
+pub record Kept : Type 0 where
+  pub found : List SetWithValues
+  pub steps : ℕ
+  pub left : ℕ
+
+abbrev pub turn_of : Asked → DebugState → DebugState → Kept → Kept → Outputs → Bool → Turn
+turn_of asked old new was is o told = record {
+  asked = asked;
+  old = old;
+  new = new;
+  found = was.found;
+  now_found = is.found;
+  steps = was.steps;
+  now_steps = is.steps;
+  left = was.left;
+  now_left = is.left;
+  o = o;
+  told = told;
+}
+
+-- a set with the steps that aren't written yet
+abbrev pub portion_of : Turn → SetWithValues → Portion
+portion_of t set = record { steps = drop t.steps t.new.log; set = set }
+
+-- a set was found, and is written and kept
+pub record TakesSet (t : Turn) : Type 0 where
+  pub set : SetWithValues
+  pub finds : FindsSet t.old t.new set
+  pub kept : t.now_found ≡ t.found ++ set ∷ []
+  pub steps_are : t.now_steps ≡ length t.new.log
+  pub done : t.told ≡ true → AreDone (set_writes t.asked (portion_of t set)) t.o
+
+-- nothing is written
+pub record Rests (t : Turn) : Type 0 where
+  pub kept : t.now_found ≡ t.found
+  pub steps_are : t.now_steps ≡ t.steps
+  pub done : t.told ≡ true → AreDone [] t.o
+
+abbrev pub EndsTurn : Turn → Ending → Type 0
+EndsTurn t Complete = FindsEnd t.old t.new × Rests t
+EndsTurn t Budget = (t.now_left ≡ 0) × FindsNothing t.old t.new × Rests t
+EndsTurn t Sets = ⊥
+EndsTurn t Earlier = ⊥
+
+-- a set was found, and a write of it failed
+pub record FailsTurn (t : Turn) : Type 0 where
+  pub set : SetWithValues
+  pub finds : FindsSet t.old t.new set
+  pub stops : t.told ≡ true → StopsIn (set_writes t.asked (portion_of t set)) t.o
+
+-- memory was wanted by the search, or for the writes of a set
+pub data CutsTurn (t : Turn) : Type 0 where
+  searching : (t.told ≡ true → AreDone [] t.o) → CutsTurn t
+  writing : (set : SetWithValues) → FindsSet t.old t.new set → (t.told ≡ true → AreBegun (set_writes t.asked (portion_of t set)) t.o)
+      → CutsTurn t
+
+abbrev pub Turns : Turn → Result (Option Ending) Stop → Type 0
+Turns t (Ok None) = TakesSet t
+Turns t (Ok (Some ending)) = EndsTurn t ending
+Turns t (Err Failed) = FailsTurn t
+Turns t (Err (Memory sets)) = (sets ≡ Some (length t.found)) × CutsTurn t
+
+pub record IsTurn (t : Turn) (result : Result (Option Ending) Stop) : Type 0 where
+  pub holds : IsDebugger t.new
+  pub searches : Searches t.old t.new t.left t.now_left
+  pub answer : Turns t result
+
+-- ---- behind the search
+-- what it added since the last set is the rest of the log, which isn't written yet
+pub record HasEnded (asked : Asked) (s : DebugState) (found : List SetWithValues) (steps : ℕ) (ending : Ending)
+    (portions : List Portion) : Type 0 where
+  pub holds : IsDebugger s
+  pub problem : s.problem ≡ asked.problem
+  pub found_are : found ≡ found_of portions
+  pub listed : s.listed ≡ sets_of portions
+  pub shown : All (IsShown asked.problem) found
+  pub so_far : AreFound asked.problem s.form portions
+  pub joined : log_of portions ++ drop steps s.log ≡ s.log
+  pub no_block : blocks_of (drop steps s.log) ≡ []
+  pub within_budget : count_by is_learned s.log ≤ asked.budget
+  pub ends : EndsAs asked (sets_of portions) s.log ending
+
+-- what a search of sets knows at its end, and what it wrote
+pub record Searched : Type 0 where
+  pub asked : Asked
+  pub s : DebugState
+  pub found : List SetWithValues
+  pub steps : ℕ
+  pub o : Outputs
+  pub told : Bool
+
+pub record SearchEnds (e : Searched) (ending : Ending) : Type 0 where
+  pub portions : List Portion
+  pub ended : HasEnded e.asked e.s e.found e.steps ending portions
+  pub done : e.told ≡ true → AreDone (sets_writes e.asked portions) e.o
+
+pub record SearchFails (e : Searched) : Type 0 where
+  pub portions : List Portion
+  pub found : AreFound e.asked.problem e.s.form portions
+  pub stops : e.told ≡ true → StopsIn (sets_writes e.asked portions) e.o
+
+-- some of these writes were carried out, from the first one on, and so many sets are printed by them
+pub record AreCut (writes : List Write) (sets : Option ℕ) (o : Outputs) : Type 0 where
+  pub count : ℕ
+  pub within : count ≤ length writes
+  pub sets_are : sets ≡ Some (count_by prints (take count writes))
+  pub done : AreDone (take count writes) o
+
+pub record SearchCut (e : Searched) (sets : Option ℕ) : Type 0 where
+  pub portions : List Portion
+  pub found : AreFound e.asked.problem e.s.form portions
+  pub cut : e.told ≡ true → AreCut (sets_writes e.asked portions) sets e.o
+
+abbrev pub searched_of : Asked → DebugState → List SetWithValues → ℕ → Outputs → Bool → Searched
+searched_of asked s found steps o told = record { asked = asked; s = s; found = found; steps = steps; o = o; told = told }
+
+abbrev pub SearchLeaves : Searched → Result Ending Stop → Type 0
+SearchLeaves e (Ok ending) = SearchEnds e ending
+SearchLeaves e (Err Failed) = SearchFails e
+SearchLeaves e (Err (Memory sets)) = SearchCut e sets
+
+pub record IsSearched (e : Searched) (result : Result Ending Stop) : Type 0 where
+  pub holds : IsDebugger e.s
+  pub problem : e.s.problem ≡ e.asked.problem
+  pub answer : SearchLeaves e result
+
+-- ---- all of it
+-- a listing that stopped for want of memory, behind so many sets that are printed
+pub record StopsShort (asked : Asked) (sets : Option ℕ) (o : Outputs) : Type 0 where
+  pub vars : ℕ
+  pub form : List (List Lit)
+  pub is_form : IsFormFor asked.problem vars form
+  pub body : List Write
+  pub is_body : IsBody asked form body
+  pub count : ℕ
+  pub within : count ≤ length body
+  pub sets_are : sets ≡ sets_in (take count body)
+  pub done : AreDone (take count body) o
+
+abbrev pub RunLeaves : Asked → Outputs → Result Ending Stop → Type 0
+RunLeaves asked o (Ok ending) = IsListedTo asked o ending
+RunLeaves asked o (Err Failed) = IsStopped asked o
+RunLeaves asked o (Err (Memory sets)) = StopsShort asked sets o
+
+-- the line that says that memory was wanted is printed, or nothing; or the sink failed
+abbrev pub TellsMemory : Option ℕ → Outputs → Outcome → Type 0
+TellsMemory sets o (outcome.Ended ending) = ⊥
+TellsMemory sets o outcome.Failed = StopsIn (print_piece (memory_line sets) ∷ []) o
+TellsMemory sets o outcome.Memory = AreDone (print_piece (memory_line sets) ∷ []) o ⊎ AreDone [] o
+
+abbrev pub MemoryCause : ℕ → ℕ → Outcome → Type 0
+MemoryCause old new (outcome.Ended ending) = ⊥
+MemoryCause old new outcome.Failed = Rose old new
+MemoryCause old new outcome.Memory = new ≡ old

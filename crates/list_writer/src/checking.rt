@@ -1,0 +1,70 @@
+//! The check of the whole log of a list, by several workers.
+ghost use Rattle.std.specs.Prelude.{◌≡◌, IfOk, IsTrue};
+ghost use Rattle.clause_base.specs.Literal.{has_distinct_variables};
+ghost use Rattle.set_enum.specs.Sets.{block_of};
+ghost use Rattle.list_writer.specs.Checks.{AreSets, CanBeChecked, blocks_for};
+ghost use Rattle.list_writer.specs.Jobs.{IsUpTo};
+
+use crate::job::Tools;
+use crate::search::Search;
+use clause_base::{Clause, Lit};
+use design_core::SetWithValues;
+use loc_base::{Gate, NoMemory};
+use proof_check::check_log_parallel;
+use std::alloc::Global;
+use std::thread::Threads;
+
+/// The block of a set: the negations of its members.
+fn block_of(alloc: Global, members: &[u32]) -> Result<Clause, NoMemory>
+    requires { IsTrue (has_distinct_variables (block_of members.now)) }
+    ensures { IfOk result (λ block. block ≡ block_of members.now) }
+{
+    let mut literals = Vec::new(alloc);
+    for member in members {
+        literals.push(Lit {
+            var: *member,
+            negated: true,
+        })?;
+    }
+    Clause::new(alloc, &literals)
+}
+
+/// The blocks of the sets that were found.
+fn blocks_of(alloc: Global, found: &[SetWithValues]) -> Result<Vec<Clause>, NoMemory>
+    requires { AreSets found.now }
+    ensures { IfOk result (λ blocks. blocks.items ≡ blocks_for found.now) }
+{
+    let mut blocks = Vec::new(alloc);
+    for set in found {
+        blocks.push(block_of(alloc, set.members.as_slice())?)?;
+    }
+    Ok(blocks)
+}
+
+/// Checks the log after the form, with the blocks of the sets that were found. It is accepted, so that nothing but want of memory
+/// is answered.
+pub(crate) fn check_log<R: Threads + Sync, G: Gate + Sync, D: Search>(
+    tools: &Tools<R, G>,
+    search: &D,
+    found: &[SetWithValues],
+) -> Result<(), NoMemory>
+    requires workers { IsUpTo 64 tools.now.workers }
+    requires can { CanBeChecked (D.state search.now) found.now }
+{
+    let blocks = blocks_of(tools.alloc, found)?;
+    let form = search.form();
+    let log = search.log();
+    let refused = check_log_parallel(
+        tools.runtime,
+        tools.alloc,
+        form,
+        &blocks,
+        log,
+        tools.workers,
+        tools.gate,
+    )?;
+    match refused {
+        None => Ok(()),
+        Some(_) => unreachable!(),
+    }
+}

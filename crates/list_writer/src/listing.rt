@@ -1,0 +1,334 @@
+//! The listing: sets are searched for, and each is written as it is found.
+ghost use Rattle.std.specs.Prelude.{◌≡◌, ◌≢◌, ◌<◌, ◌≤◌, ◌∷◌, [], ◌++◌, ◌&&◌, All, IsSome, List, OnOk, Option, drop, length, true, ℕ};
+ghost use Rattle.command_contract.specs.Contract.{counts_of};
+ghost use Rattle.debug_core.specs.Debugging.{Begins, HasRoom, IsDebugger};
+ghost use Rattle.report_doc.specs.Lines.{AreWithin, IsMemberOf};
+ghost use Rattle.report_doc.specs.Shape.{IsReport};
+ghost use Rattle.write_order.specs.Writes.{Leaves, WriteCause, on_shelf, on_sink};
+ghost use Rattle.list_writer.specs.Due.{set_writes};
+ghost use Rattle.list_writer.specs.Going.{IsTurn, IsSearched, MemoryCause, RunLeaves, StopCauses, TellsMemory};
+ghost use Rattle.list_writer.specs.Going.{WriteCauses, closing_writes, outputs, report_writes, searched_of, turn_of};
+ghost use Rattle.list_writer.specs.Jobs.{IsJob, IsUpTo, asked_of};
+ghost use Rattle.list_writer.specs.Outcomes.{Leaves as Ends, OutcomeCause};
+ghost use Rattle.list_writer.specs.Checks.{CanBeChecked};
+ghost use Rattle.list_writer.specs.Reporting.{CanBeReported};
+ghost use Rattle.list_writer.specs.Texts.{report_for, waved_for, waves};
+ghost use Rattle.set_waves.specs.Names.{IsWave};
+ghost use Rattle.set_waves.specs.Waved.{AreRuns, CanBeWaved, HaveValues, Runs};
+
+use crate::checking::check_log;
+use crate::job::{Job, Task, Tools};
+use crate::outcome::Outcome;
+use crate::report::text_of_report;
+use crate::search::Search;
+use crate::stop::{Stop, stopped};
+use crate::waving::waves_under;
+use crate::writes::{
+    Written, begin_log, print_ending, print_memory, print_set, put_head, put_steps,
+};
+use debug_core::Found;
+use design_core::SetWithValues;
+use io_ports::{Shelf, Sink};
+use loc_base::{Gate, NoMemory};
+use report_doc::types::Ending;
+use sat_core::Budget;
+use set_waves::put_waves;
+use std::alloc::Global;
+use std::thread::Threads;
+use write_order::{WriteErr, begin_text, put_piece};
+
+/// A listing that goes on: what is found so far, how many steps of the log are written, and what is left of the budget.
+#[derive(Drop)]
+struct Listing<'a, D> {
+    alloc: Global,
+    job: Job<'a>,
+    search: D,
+    found: Vec<SetWithValues>,
+    steps: usize,
+    budget: Budget,
+}
+
+impl<'a, D: Search + Drop> Listing<'a, D> {
+    /// Writes a set that was found, and keeps it.
+    fn take<S: Shelf, O: Sink>(
+        &mut self,
+        set: SetWithValues,
+        shelf: &mut S,
+        out: &mut O,
+    ) -> Result<(), WriteErr>
+        requires begun { S.tells shelf.old ≡ true → IsSome (S.written shelf.old self.old.job.log.now) }
+        requires members { All (IsMemberOf (asked_of self.old.job).problem.groups) set.members }
+        requires within { AreWithin (asked_of self.old.job).problem.design.places.items (asked_of self.old.job).problem.groups }
+        ensures job { self.new.job ≡ self.old.job }
+        ensures search { self.new.search ≡ self.old.search }
+        ensures budget { self.new.budget ≡ self.old.budget }
+        ensures kept { OnOk result (self.new.found.items ≡ self.old.found.items ++ set ∷ []) }
+        ensures steps { OnOk result (self.new.steps ≡ length (D.state self.old.search).log) }
+        ensures tells_shelf { S.tells shelf.new ≡ S.tells shelf.old }
+        ensures tells_sink { O.tells out.new ≡ O.tells out.old }
+        ensures texts { S.texts shelf.new ≡ S.texts shelf.old }
+        ensures begun { S.tells shelf.old ≡ true → OnOk result (IsSome (S.written shelf.new self.old.job.log.now)) }
+        ensures left { S.tells shelf.old ≡ true → O.tells out.old ≡ true
+            → Leaves (set_writes (asked_of self.old.job) (record { steps = drop self.old.steps (D.state self.old.search).log; set = set }))
+            (outputs (S.written shelf.old) (S.written shelf.new) (O.written out.old) (O.written out.new)) result }
+        ensures causes { WriteCauses (counts_of (S.faults shelf.old) (S.faults shelf.new) (O.faults out.old) (O.faults out.new)) result }
+    {
+        // Room first, so that no set is printed that the report can't hold.
+        if self.found.reserve(1).is_err() {
+            return Err(WriteErr::NoMemory);
+        }
+        let log = self.search.log();
+        let steps = log.len();
+        let news = Written {
+            log,
+            before: self.steps,
+        };
+        put_steps(self.alloc, &self.job, &news, shelf)?;
+        print_set(self.alloc, &self.job, &set, out)?;
+        self.steps = steps;
+        self.found.push(set).unwrap();
+        Ok(())
+    }
+
+    /// Searches for the next set and writes it; an ending where there is none.
+    fn advance<S: Shelf, O: Sink>(
+        &mut self,
+        shelf: &mut S,
+        out: &mut O,
+    ) -> Result<Option<Ending>, Stop>
+        requires room { HasRoom (D.state self.old.search) self.old.budget }
+        requires problem { (D.state self.old.search).problem ≡ (asked_of self.old.job).problem }
+        requires begun { S.tells shelf.old ≡ true → IsSome (S.written shelf.old self.old.job.log.now) }
+        ensures job { self.new.job ≡ self.old.job }
+        ensures tells_shelf { S.tells shelf.new ≡ S.tells shelf.old }
+        ensures tells_sink { O.tells out.new ≡ O.tells out.old }
+        ensures texts { S.texts shelf.new ≡ S.texts shelf.old }
+        ensures begun { S.tells shelf.old ≡ true → OnOk result (IsSome (S.written shelf.new self.old.job.log.now)) }
+        ensures turn { IsTurn (turn_of (asked_of self.old.job) (D.state self.old.search) (D.state self.new.search)
+            (record { found = self.old.found.items; steps = self.old.steps; left = self.old.budget })
+            (record { found = self.new.found.items; steps = self.new.steps; left = self.new.budget })
+            (outputs (S.written shelf.old) (S.written shelf.new) (O.written out.old) (O.written out.new))
+            (S.tells shelf.old && O.tells out.old)) result }
+        ensures causes { StopCauses (counts_of (S.faults shelf.old) (S.faults shelf.new) (O.faults out.old) (O.faults out.new)) result }
+    {
+        match self.search.next(&mut self.budget) {
+            Ok(Found::Set(set)) => {
+                let count = self.found.len();
+                stopped(self.take(set, shelf, out), Some(count))?;
+                Ok(None)
+            }
+            Ok(Found::End) => Ok(Some(Ending::Complete)),
+            Ok(Found::Spent) => Ok(Some(Ending::Budget)),
+            Err(NoMemory) => Err(Stop::Memory(Some(self.found.len()))),
+        }
+    }
+
+    /// Searches until the list is whole, the budget is spent, or as many sets are found as were asked for.
+    fn search_on<S: Shelf, O: Sink>(&mut self, shelf: &mut S, out: &mut O) -> Result<Ending, Stop>
+        requires job { IsJob (asked_of self.old.job) }
+        requires begins { Begins (asked_of self.old.job).problem (D.state self.old.search) }
+        requires holds { IsDebugger (D.state self.old.search) }
+        requires found { self.old.found.items ≡ [] }
+        requires steps { self.old.steps ≡ 0 }
+        requires units { self.old.budget ≡ self.old.job.budget }
+        requires begun { S.tells shelf.old ≡ true → IsSome (S.written shelf.old self.old.job.log.now) }
+        ensures job { self.new.job ≡ self.old.job }
+        ensures tells_shelf { S.tells shelf.new ≡ S.tells shelf.old }
+        ensures tells_sink { O.tells out.new ≡ O.tells out.old }
+        ensures texts { S.texts shelf.new ≡ S.texts shelf.old }
+        ensures begun { S.tells shelf.old ≡ true → OnOk result (IsSome (S.written shelf.new self.old.job.log.now)) }
+        ensures left { IsSearched (searched_of (asked_of self.old.job) (D.state self.new.search)
+            self.new.found.items self.new.steps
+            (outputs (S.written shelf.old) (S.written shelf.new) (O.written out.old) (O.written out.new))
+            (S.tells shelf.old && O.tells out.old)) result }
+        ensures causes { StopCauses (counts_of (S.faults shelf.old) (S.faults shelf.new) (O.faults out.old) (O.faults out.new)) result }
+    {
+        while self.found.len() < self.job.sets as usize {
+            match self.advance(shelf, out)? {
+                None => {}
+                Some(ending) => return Ok(ending),
+            }
+        }
+        Ok(Ending::Sets)
+    }
+
+    /// Checks the log of a list that is whole.
+    fn check<R: Threads + Sync, G: Gate + Sync>(
+        &self,
+        tools: &Tools<R, G>,
+        ending: Ending,
+    ) -> Result<(), NoMemory>
+        requires workers { IsUpTo 64 tools.now.workers }
+        requires can { CanBeChecked (D.state self.now.search) self.now.found.items }
+    {
+        match ending {
+            Ending::Complete => check_log(tools, &self.search, &self.found),
+            Ending::Budget | Ending::Sets | Ending::Earlier => Ok(()),
+        }
+    }
+
+    /// Writes the report.
+    fn put_report<S: Shelf>(&self, ending: Ending, shelf: &mut S) -> Result<(), WriteErr>
+        requires { CanBeReported (asked_of self.now.job) self.now.found.items }
+        ensures tells { S.tells shelf.new ≡ S.tells shelf.old }
+        ensures texts { S.texts shelf.new ≡ S.texts shelf.old }
+        ensures left { S.tells shelf.old ≡ true → (printed : List ℕ)
+            → Leaves (report_writes (asked_of self.now.job) self.now.found.items ending)
+            (on_shelf (S.written shelf.old) (S.written shelf.new) printed) result }
+        ensures report { OnOk result (IsReport (report_for (asked_of self.now.job) self.now.found.items ending)) }
+        ensures cause { WriteCause (S.faults shelf.old) (S.faults shelf.new) result }
+    {
+        // The text first, so that the report isn't begun where there is no memory for it.
+        match text_of_report(self.alloc, &self.job, &self.found, ending) {
+            Ok(text) => {
+                begin_text(shelf, self.job.report)?;
+                put_piece(shelf, self.job.report, text.as_slice())
+            }
+            Err(NoMemory) => Err(WriteErr::NoMemory),
+        }
+    }
+
+    /// Writes the waves, where they are asked for.
+    fn put_waves<S: Shelf>(&self, shelf: &mut S) -> Result<(), WriteErr>
+        requires waved { CanBeWaved (waved_for (asked_of self.now.job)) (asked_of self.now.job).problem.order }
+        requires values { HaveValues (waved_for (asked_of self.now.job)) self.now.found.items }
+        ensures tells { S.tells shelf.new ≡ S.tells shelf.old }
+        ensures texts { S.texts shelf.new ≡ S.texts shelf.old }
+        ensures left { S.tells shelf.old ≡ true → (runs : Runs) (printed : List ℕ)
+            → AreRuns (waved_for (asked_of self.now.job)) self.now.found.items runs
+            → Leaves (waves (asked_of self.now.job) self.now.found.items runs)
+            (on_shelf (S.written shelf.old) (S.written shelf.new) printed) result }
+        ensures cause { WriteCause (S.faults shelf.old) (S.faults shelf.new) result }
+    {
+        match self.job.waves {
+            None => Ok(()),
+            Some(prefix) => put_waves(
+                self.alloc,
+                &waves_under(&self.job, prefix),
+                &self.found,
+                shelf,
+            ),
+        }
+    }
+
+    /// Writes what stands behind the search: the rest of the log, the report, the waves, and the last line.
+    fn close<S: Shelf, O: Sink>(
+        &self,
+        ending: Ending,
+        shelf: &mut S,
+        out: &mut O,
+    ) -> Result<(), WriteErr>
+        requires begun { S.tells shelf.old ≡ true → IsSome (S.written shelf.old self.now.job.log.now) }
+        requires report { CanBeReported (asked_of self.now.job) self.now.found.items }
+        requires waved { CanBeWaved (waved_for (asked_of self.now.job)) (asked_of self.now.job).problem.order }
+        requires values { HaveValues (waved_for (asked_of self.now.job)) self.now.found.items }
+        ensures tells_shelf { S.tells shelf.new ≡ S.tells shelf.old }
+        ensures tells_sink { O.tells out.new ≡ O.tells out.old }
+        ensures texts { S.texts shelf.new ≡ S.texts shelf.old }
+        ensures left { S.tells shelf.old ≡ true → O.tells out.old ≡ true
+            → (runs : Runs) → AreRuns (waved_for (asked_of self.now.job)) self.now.found.items runs
+            → Leaves (closing_writes (asked_of self.now.job) self.now.found.items
+            (drop self.now.steps (D.state self.now.search).log) ending runs)
+            (outputs (S.written shelf.old) (S.written shelf.new) (O.written out.old) (O.written out.new)) result }
+        ensures report { OnOk result (IsReport (report_for (asked_of self.now.job) self.now.found.items ending)) }
+        ensures causes { WriteCauses (counts_of (S.faults shelf.old) (S.faults shelf.new) (O.faults out.old) (O.faults out.new)) result }
+    {
+        let rest = Written {
+            log: self.search.log(),
+            before: self.steps,
+        };
+        put_steps(self.alloc, &self.job, &rest, shelf)?;
+        self.put_report(ending, shelf)?;
+        self.put_waves(shelf)?;
+        print_ending(self.alloc, ending, self.found.len(), out)
+    }
+
+    /// Lists the sets, and writes all that is due.
+    fn run<R: Threads + Sync, G: Gate + Sync, S: Shelf, O: Sink>(
+        &mut self,
+        tools: &Tools<R, G>,
+        shelf: &mut S,
+        out: &mut O,
+    ) -> Result<Ending, Stop>
+        requires workers { IsUpTo 64 tools.now.workers }
+        requires job { IsJob (asked_of self.old.job) }
+        requires begins { Begins (asked_of self.old.job).problem (D.state self.old.search) }
+        requires holds { IsDebugger (D.state self.old.search) }
+        requires found { self.old.found.items ≡ [] }
+        requires steps { self.old.steps ≡ 0 }
+        requires units { self.old.budget ≡ self.old.job.budget }
+        ensures tells_shelf { S.tells shelf.new ≡ S.tells shelf.old }
+        ensures tells_sink { O.tells out.new ≡ O.tells out.old }
+        ensures texts { S.texts shelf.new ≡ S.texts shelf.old }
+        ensures left { S.tells shelf.old ≡ true → O.tells out.old ≡ true
+            → RunLeaves (asked_of self.old.job)
+            (outputs (S.written shelf.old) (S.written shelf.new) (O.written out.old) (O.written out.new)) result }
+        ensures causes { StopCauses (counts_of (S.faults shelf.old) (S.faults shelf.new) (O.faults out.old) (O.faults out.new)) result }
+    {
+        stopped(begin_log(&self.job, shelf), None)?;
+        stopped(put_head(self.alloc, &self.job, shelf), Some(0))?;
+        let ending = self.search_on(shelf, out)?;
+        let sets = Some(self.found.len());
+        if self.check(tools, ending).is_err() {
+            return Err(Stop::Memory(sets));
+        }
+        stopped(self.close(ending, shelf, out), sets)?;
+        Ok(ending)
+    }
+}
+
+/// Prints that memory was wanted, behind so many sets that are printed.
+fn tell_memory<O: Sink>(alloc: Global, sets: Option<usize>, out: &mut O) -> Outcome
+    ensures tells { O.tells out.new ≡ O.tells out.old }
+    ensures left { O.tells out.old ≡ true → (written : List ℕ → Option (List ℕ))
+        → TellsMemory sets (on_sink written (O.written out.old) (O.written out.new)) result }
+    ensures cause { MemoryCause (O.faults out.old) (O.faults out.new) result }
+{
+    match print_memory(alloc, sets, out) {
+        Ok(()) => Outcome::Memory,
+        Err(WriteErr::Failed) => Outcome::Failed,
+        Err(WriteErr::NoMemory) => Outcome::Memory,
+    }
+}
+
+/// Lists the sets of a problem and writes them as they are found: the log in portions, the lines of each set, the report, the waves,
+/// and the last line. A list is said to be complete only where it is whole and its log was checked.
+pub fn list<R: Threads + Sync, G: Gate + Sync, D: Search + Drop, S: Shelf, O: Sink>(
+    tools: &Tools<R, G>,
+    task: Task<D>,
+    shelf: &mut S,
+    out: &mut O,
+) -> Outcome
+    requires workers { IsUpTo 64 tools.now.workers }
+    requires job { IsJob (asked_of task.job) }
+    requires begins { Begins (asked_of task.job).problem (D.state task.search) }
+    requires holds { IsDebugger (D.state task.search) }
+    ensures tells_shelf { S.tells shelf.new ≡ S.tells shelf.old }
+    ensures tells_sink { O.tells out.new ≡ O.tells out.old }
+    ensures texts { S.texts shelf.new ≡ S.texts shelf.old }
+
+    // What stands then, and under the other names what stood before.
+    ensures left { S.tells shelf.old ≡ true → O.tells out.old ≡ true
+        → Ends (asked_of task.entry.job)
+        (outputs (S.written shelf.old) (S.written shelf.new) (O.written out.old) (O.written out.new)) result }
+    ensures others { S.tells shelf.old ≡ true → O.tells out.old ≡ true
+        → (name : List ℕ) → name ≢ task.entry.job.log.now → name ≢ task.entry.job.report.now
+        → ¬ IsWave (asked_of task.entry.job).waves (asked_of task.entry.job).sets (length (asked_of task.entry.job).problem.traces) name
+        → S.written shelf.new name ≡ S.written shelf.old name }
+    ensures causes { OutcomeCause (counts_of (S.faults shelf.old) (S.faults shelf.new) (O.faults out.old) (O.faults out.new)) result }
+{
+    let Task { job, search } = task;
+    let mut listing = Listing {
+        alloc: tools.alloc,
+        job,
+        search,
+        found: Vec::new(tools.alloc),
+        steps: 0,
+        budget: Budget::new(job.budget),
+    };
+    match listing.run(tools, shelf, out) {
+        Ok(ending) => Outcome::Ended(ending),
+        Err(Stop::Failed) => Outcome::Failed,
+        Err(Stop::Memory(sets)) => tell_memory(tools.alloc, sets, out),
+    }
+}

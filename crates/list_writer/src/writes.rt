@@ -1,0 +1,141 @@
+//! The writes of a listing, each with the text that it needs.
+ghost use Rattle.std.specs.Prelude.{◌≡◌, ◌∷◌, [], ℕ, List, All, Option, IsSome, OnOk, true, drop};
+ghost use Rattle.log_portions.specs.Portions.{head_text, steps_text};
+ghost use Rattle.proof_check.specs.Text.{IsDigest};
+ghost use Rattle.report_doc.specs.Lines.{AreWithin, IsMemberOf};
+ghost use Rattle.write_order.specs.Writes.{Leaves, PrintCause, WriteCause, begin_text as begin_of, on_shelf, on_sink, print_piece, put_piece};
+ghost use Rattle.list_writer.specs.Jobs.{asked_of};
+ghost use Rattle.list_writer.specs.Lines.{ending_line, memory_line};
+ghost use Rattle.list_writer.specs.Texts.{lines_of};
+
+use crate::job::Job;
+use crate::lines::{ending_line, memory_line};
+use clause_base::Log;
+use design_core::SetWithValues;
+use io_ports::{Shelf, Sink};
+use loc_base::NoMemory;
+use log_portions::{head_text, portion};
+use report_doc::set_lines;
+use report_doc::types::Ending;
+use std::alloc::Global;
+use write_order::{WriteErr, begin_text, print_piece, put_piece};
+
+/// Begins the log.
+pub(crate) fn begin_log<S: Shelf>(job: &Job, shelf: &mut S) -> Result<(), WriteErr>
+    ensures tells { S.tells shelf.new ≡ S.tells shelf.old }
+    ensures texts { S.texts shelf.new ≡ S.texts shelf.old }
+    ensures left { S.tells shelf.old ≡ true → (printed : List ℕ)
+        → Leaves (begin_of job.now.log.now ∷ []) (on_shelf (S.written shelf.old) (S.written shelf.new) printed) result }
+    ensures begun { S.tells shelf.old ≡ true → OnOk result (IsSome (S.written shelf.new job.now.log.now)) }
+    ensures cause { WriteCause (S.faults shelf.old) (S.faults shelf.new) result }
+{
+    begin_text(shelf, job.log)
+}
+
+/// Puts the head of the log.
+#[tactic(auto, using(crate::proofs::Putting::put_rules))]
+pub(crate) fn put_head<S: Shelf>(alloc: Global, job: &Job, shelf: &mut S) -> Result<(), WriteErr>
+    requires begun { S.tells shelf.old ≡ true → IsSome (S.written shelf.old job.now.log.now) }
+    ensures tells { S.tells shelf.new ≡ S.tells shelf.old }
+    ensures texts { S.texts shelf.new ≡ S.texts shelf.old }
+    ensures left { S.tells shelf.old ≡ true → (printed : List ℕ)
+        → Leaves (put_piece job.now.log.now (head_text job.now.inputs) ∷ [])
+        (on_shelf (S.written shelf.old) (S.written shelf.new) printed) result }
+    ensures begun { S.tells shelf.old ≡ true → OnOk result (IsSome (S.written shelf.new job.now.log.now)) }
+    ensures digest { OnOk result (IsDigest job.now.inputs) }
+    ensures cause { WriteCause (S.faults shelf.old) (S.faults shelf.new) result }
+{
+    match head_text(alloc, &job.inputs) {
+        Ok(head) => put_piece(shelf, job.log, &head),
+        Err(NoMemory) => Err(WriteErr::NoMemory),
+    }
+}
+
+/// A log of which the steps before a place are written.
+#[derive(Clone, Copy)]
+pub(crate) struct Written<'a> {
+    pub(crate) log: &'a Log,
+    pub(crate) before: usize,
+}
+
+/// Puts the lines of the steps that aren't written.
+#[tactic(auto, using(crate::proofs::Putting::put_rules))]
+pub(crate) fn put_steps<S: Shelf>(
+    alloc: Global,
+    job: &Job,
+    written: &Written,
+    shelf: &mut S,
+) -> Result<(), WriteErr>
+    requires begun { S.tells shelf.old ≡ true → IsSome (S.written shelf.old job.now.log.now) }
+    ensures tells { S.tells shelf.new ≡ S.tells shelf.old }
+    ensures texts { S.texts shelf.new ≡ S.texts shelf.old }
+    ensures left { S.tells shelf.old ≡ true → (printed : List ℕ)
+        → Leaves (put_piece job.now.log.now (steps_text (drop written.now.before written.now.log.now)) ∷ [])
+        (on_shelf (S.written shelf.old) (S.written shelf.new) printed) result }
+    ensures begun { S.tells shelf.old ≡ true → OnOk result (IsSome (S.written shelf.new job.now.log.now)) }
+    ensures cause { WriteCause (S.faults shelf.old) (S.faults shelf.new) result }
+{
+    match portion(alloc, written.log, written.before) {
+        Ok(text) => put_piece(shelf, job.log, &text),
+        Err(NoMemory) => Err(WriteErr::NoMemory),
+    }
+}
+
+/// Prints the lines of a set.
+#[tactic(auto, using(crate::proofs::Putting::put_rules))]
+pub(crate) fn print_set<O: Sink>(
+    alloc: Global,
+    job: &Job,
+    set: &SetWithValues,
+    out: &mut O,
+) -> Result<(), WriteErr>
+    requires members { All (IsMemberOf (asked_of job.now).problem.groups) set.now.members }
+    requires within { AreWithin (asked_of job.now).problem.design.places.items (asked_of job.now).problem.groups }
+    ensures tells { O.tells out.new ≡ O.tells out.old }
+    ensures left { O.tells out.old ≡ true → (written : List ℕ → Option (List ℕ))
+        → Leaves (print_piece (lines_of (asked_of job.now) set.now) ∷ []) (on_sink written (O.written out.old) (O.written out.new)) result }
+    ensures cause { PrintCause (O.faults out.old) (O.faults out.new) result }
+{
+    let question = &job.question;
+    match set_lines(alloc, set, question.groups, &question.design.places) {
+        Ok(lines) => print_piece(out, lines.as_slice()),
+        Err(NoMemory) => Err(WriteErr::NoMemory),
+    }
+}
+
+/// Prints the line of an ending, with the number of sets.
+#[tactic(auto, using(crate::proofs::Putting::put_rules))]
+pub(crate) fn print_ending<O: Sink>(
+    alloc: Global,
+    ending: Ending,
+    count: usize,
+    out: &mut O,
+) -> Result<(), WriteErr>
+    ensures tells { O.tells out.new ≡ O.tells out.old }
+    ensures left { O.tells out.old ≡ true → (written : List ℕ → Option (List ℕ))
+        → Leaves (print_piece (ending_line ending count) ∷ []) (on_sink written (O.written out.old) (O.written out.new)) result }
+    ensures cause { PrintCause (O.faults out.old) (O.faults out.new) result }
+{
+    match ending_line(alloc, ending, count) {
+        Ok(line) => print_piece(out, &line),
+        Err(NoMemory) => Err(WriteErr::NoMemory),
+    }
+}
+
+/// Prints that memory was wanted.
+#[tactic(auto, using(crate::proofs::Putting::put_rules))]
+pub(crate) fn print_memory<O: Sink>(
+    alloc: Global,
+    sets: Option<usize>,
+    out: &mut O,
+) -> Result<(), WriteErr>
+    ensures tells { O.tells out.new ≡ O.tells out.old }
+    ensures left { O.tells out.old ≡ true → (written : List ℕ → Option (List ℕ))
+        → Leaves (print_piece (memory_line sets) ∷ []) (on_sink written (O.written out.old) (O.written out.new)) result }
+    ensures cause { PrintCause (O.faults out.old) (O.faults out.new) result }
+{
+    match memory_line(alloc, sets) {
+        Ok(line) => print_piece(out, &line),
+        Err(NoMemory) => Err(WriteErr::NoMemory),
+    }
+}

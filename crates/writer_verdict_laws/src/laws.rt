@@ -1,0 +1,37 @@
+//! The laws. Each is the contract of a function that does nothing.
+ghost use Rattle.std.specs.Prelude.{◌≡◌, All, IsSomeAnd};
+ghost use Rattle.debug_core.specs.Problems.{IsProblem};
+ghost use Rattle.proof_check.specs.Text.{IsLogText, text_of};
+ghost use Rattle.report_reading.specs.Reading.{IsKindName, IsReportOf};
+ghost use Rattle.list_verdict.specs.Verdicts.{IsVerdict, IsWhole};
+ghost use Rattle.list_verdict.specs.declared.verdict.Verdict.TheVariants.{Whole};
+ghost use Rattle.list_writer.specs.Asked.{HasOwnNames};
+ghost use Rattle.list_writer.specs.Laws.{Listed};
+ghost use Rattle.writer_verdict_laws.specs.Listings.{Judged, claim_in, log_in, report_in};
+
+/// A listing that ends with status 0 is whole by the sets of its report and by its log: they are in order, none holds another, with the
+/// values of each the traces are right, the log is accepted with their blocks, and it closes the list.
+pub fn listed_is_whole()
+    ghost of: { Listed }
+    requires { of.status ≡ 0 }
+    ensures { IsWhole (claim_in of) }
+{}
+
+/// So that of a problem that can be asked no other answer than `Whole` is one.
+pub fn listed_is_judged()
+    ghost of: { Judged }
+    requires problem { IsProblem of.listed.asked.problem }
+    requires status { of.listed.status ≡ 0 }
+    requires verdict { IsVerdict (claim_in of.listed) of.verdict }
+    ensures { of.verdict ≡ Whole }
+{}
+
+/// What a listing leaves at the statuses 0 and 1 is read back: under the log's name stands a text that is that of its log, and under the
+/// report's name one that is that of its report, where the kinds of suspects have names of kinds.
+pub fn listed_is_read()
+    ghost of: { Listed }
+    requires names { HasOwnNames of.asked }
+    requires kinds { All IsKindName of.asked.kinds }
+    ensures log { IsSomeAnd (of.outputs.now_written of.asked.log) (λ text. IsLogText (log_in of) × (text ≡ text_of (log_in of))) }
+    ensures report { IsSomeAnd (of.outputs.now_written of.asked.report) (λ text. IsReportOf text (report_in of)) }
+{}
