@@ -5,6 +5,7 @@ pub mod Examples
 pub mod NameSteps
 pub mod PortSteps
 pub mod NamingSteps
+pub mod DoubleSteps
 pub mod NameLaws
 pub mod NamingLaws
 pub mod NamingExamples

@@ -1,11 +1,11 @@
 -- The names of ports are names where all lines name something rightly.
-use Rattle.std.proofs.Common.{◌≡◌, ◌≢◌, ℕ, zero, suc, ◌+◌, ◌-◌, ◌^◌, ◌<◌, ◌≤◌, ◌==◌, Bool, true, false, not, ◌||◌, List, [], ◌∷◌, ◌++◌, map, length, get_or, Option, Some, None, All, decimal, if◌then◌else◌, refl, sym, ◌∙◌, ap, subst, arith, ◌⊎◌, inl, inr}
-use Rattle.std.specs.Prelude.{slice_get, nat_le, nat_lt, ◌&&◌, IfSome}
+use Rattle.std.proofs.Common.{◌≡◌, ◌≢◌, ℕ, zero, suc, ◌+◌, ◌-◌, ◌^◌, ◌<◌, ◌≤◌, ◌==◌, Bool, true, false, ◌||◌, List, [], ◌∷◌, ◌++◌, map, length, get_or, Option, Some, None, All, decimal, refl, sym, ◌∙◌, ap, subst, arith, inl, inr}
+use Rattle.std.specs.Prelude.{nat_lt, IfSome}
 use Rattle.std.specs.List.{range_with_len}
 use Rattle.std.specs.Option.{option_map_or, option_to_list}
-use Rattle.std.proofs.lemmas.Bool.{cases_Bool, cases_lt, or_cases, and_parts, cond-true, cond-false, true≢false}
+use Rattle.std.proofs.lemmas.Bool.{cases_Bool, cond-true, cond-false, true≢false}
 use Rattle.std.proofs.lemmas.Bool.Decides.{nat_tests}
-use Rattle.std.proofs.lemmas.List.{length-map, map-append}
+use Rattle.std.proofs.lemmas.List.{map-append}
 use Rattle.std.proofs.lemmas.List.Elements.{All-cons, All-nil, All-append, All-map, All-from_get_or}
 use Rattle.std.proofs.lemmas.Fmt.{decimal_is_IsNumeral}
 use Rattle.std.proofs.lemmas.Str.Parse.{digit_at}
@@ -16,7 +16,7 @@ use Rattle.aiger_text.specs.Rows.{first_output, first_and}
 use Rattle.aiger_text.specs.Symbols.{PlainSymbol}
 use Rattle.aiger_text.specs.Content.{Content}
 use Rattle.aiger_rules.specs.Names.{is_plain, plain_byte, plain_text, symbol_of, own_name, row_name, port_name}
-use Rattle.aiger_rules.specs.Ports.{rows_without, port_names}
+use Rattle.aiger_rules.specs.Ports.{rows_without}
 use Rattle.aiger_rules.specs.Naming.{is_bad_symbol, is_misplaced, IsNamedWell}
 use Rattle.aiger_rules.proofs.NameSteps.{symbol_of-within}
 

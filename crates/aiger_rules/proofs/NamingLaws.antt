@@ -1,5 +1,5 @@
 -- What is refused of names.
-use Rattle.std.proofs.Common.{ℕ, ◌≤◌, refl, arith}
+use Rattle.std.proofs.Common.{◌≤◌, refl, arith}
 use Rattle.aiger_text.specs.declared.fault.AigerErr.TheVariants.{TooLong, Header, Shape, Literal, Naming, Places, NoMemory}
 use Rattle.aiger_rules.specs.Laws.{NoMisnaming, OneName}
 

@@ -1,19 +1,17 @@
 -- Lines that name something wrongly, one by one.
-use Rattle.std.proofs.Common.{◌≡◌, ℕ, ◌+◌, ◌<◌, ◌≤◌, Bool, true, false, not, ◌||◌, List, [], ◌∷◌, ◌++◌, length, take, map, get_or, Option, Some, None, if◌then◌else◌, refl, sym, ◌∙◌, ap, subst, arith, ◌⊎◌, inl, inr}
-use Rattle.std.specs.Prelude.{is_some, slice_get, slice_index}
+use Rattle.std.proofs.Common.{◌≡◌, ℕ, ◌+◌, ◌<◌, ◌≤◌, Bool, true, false, ◌||◌, List, [], ◌∷◌, length, take, map, get_or, Option, Some, None, if◌then◌else◌, refl, sym, ◌∙◌, ap, subst, arith, ◌⊎◌, inl, inr}
+use Rattle.std.specs.Prelude.{slice_get, slice_index}
 use Rattle.std.specs.Option.{option_map, option_map_or}
 use Rattle.std.proofs.lemmas.Option.{slice_get-map}
-use Rattle.std.specs.Bool.{OnTrue, OnFalse}
+use Rattle.std.specs.Bool.{OnFalse}
 use Rattle.std.specs.Str.{bytes_eq}
-use Rattle.std.specs.Cmp.Lexicographic.{same_text}
-use Rattle.std.specs.List.{list_any}
-use Rattle.std.proofs.lemmas.Bool.{cases_lt, cases_Bool, cond-true, cond-false, false≢true, OnTrue_at, lt-ltb, le-ltb}
+use Rattle.std.proofs.lemmas.Bool.{cases_lt, cond-true, cond-false, false≢true, lt-ltb, le-ltb}
 use Rattle.std.proofs.lemmas.List.Folds.{list_any-append}
 use Rattle.std.proofs.lemmas.List.{get_or_default}
-use Rattle.loc_base.proofs.ShelfBools.{or-false, or-true, not-not}
+use Rattle.loc_base.proofs.ShelfBools.{or-false}
 use Rattle.loc_base.proofs.ShelfLists.{take-at, slice_get-at}
 use Rattle.loc_base.specs.declared.name_table.NameTable.{NameTable}
-use Rattle.loc_base.specs.NameTable.{number_of, with_number}
+use Rattle.loc_base.specs.NameTable.{number_of}
 use Rattle.aiger_text.specs.declared.symbol.Symbol.{Symbol}
 use Rattle.aiger_text.specs.Symbols.{plain}
 use Rattle.aiger_text.specs.Content.{Content}
@@ -104,50 +102,17 @@ least-more test line_of place least found far is =
 -- ---- names that were met
 
 -- one name more
-is_among-more : (names : List (List ℕ)) (place : ℕ) (name other : List ℕ) → place < length names → name ≡ get_or names place []
+pub is_among-more : (names : List (List ℕ)) (place : ℕ) (name other : List ℕ) → place < length names → name ≡ get_or names place []
     → is_among (take (place + 1) names) other ≡ (is_among (take place names) other || bytes_eq name other)
 is_among-more names place name other within is =
     ap (λ xs. is_among xs other) (take-at names place name within (is ∙ get_or_default names place [] name within))
     ∙ list_any-append (λ own. bytes_eq own other) (take place names) (name ∷ [])
     ∙ ap (λ b. is_among (take place names) other || b) (or-false (bytes_eq name other))
 
--- a table of the names that were met
-pub met-more : (old new : List ℕ → Option ℕ) (names : List (List ℕ)) (place : ℕ) (name : List ℕ) (added : Bool) → place < length names
-    → name ≡ get_or names place [] → ((other : List ℕ) → is_some (old other) ≡ is_among (take place names) other) → added ≡ not (is_some (old name))
-    → OnTrue added ((other : List ℕ) → new other ≡ with_number name 0 old other) → OnFalse added ((other : List ℕ) → new other ≡ old other)
-    → (other : List ℕ) → is_some (new other) ≡ is_among (take (place + 1) names) other
-met-more old new names place name true within is met fresh put stays other =
-    ap is_some (put other) ∙ found (bytes_eq name other) ∙ ap (λ b. b || bytes_eq name other) (met other)
-    ∙ sym (is_among-more names place name other within is)
-  where
-    found : (same : Bool) → is_some (if same then Some 0 else old other) ≡ (is_some (old other) || same)
-    found true = sym (or-true (is_some (old other)))
-    found false = sym (or-false (is_some (old other)))
-met-more old new names place name false within is met fresh put stays other =
-    ap is_some (stays other) ∙ known (cases_Bool (bytes_eq name other)) ∙ ap (λ b. b || bytes_eq name other) (met other)
-    ∙ sym (is_among-more names place name other within is)
-  where
-    there : (b : Bool) → false ≡ not b → b ≡ true
-    there true kept = refl
-    there false kept = cc
-
-    known : ((bytes_eq name other) ≡ true) ⊎ ((bytes_eq name other) ≡ false) → is_some (old other) ≡ (is_some (old other) || bytes_eq name other)
-    known (inl same) =
-        let own : name ≡ other = same_text name other (sym same) in
-        sym (ap (λ o. is_some (old o)) own) ∙ there (is_some (old name)) fresh ∙ sym (ap (λ b. is_some (old other) || b) same ∙ or-true (is_some (old other)))
-    known (inr apart) = sym (ap (λ b. is_some (old other) || b) apart ∙ or-false (is_some (old other)))
-
 -- a table that stays as it is keeps its numbers
 pub stays-same : (old new : NameTable) (added : Bool) → OnFalse added (new ≡ old) → OnFalse added ((name : List ℕ) → number_of new name ≡ number_of old name)
 stays-same old new true stays = tt
 stays-same old new false stays = λ name. ap (λ table. number_of table name) stays
-
--- a name that was met already is a double
-pub double-is : (old : List ℕ → Option ℕ) (names : List (List ℕ)) (place : ℕ) (name : List ℕ) (added : Bool)
-    → ((other : List ℕ) → is_some (old other) ≡ is_among (take place names) other) → name ≡ get_or names place [] → added ≡ not (is_some (old name))
-    → not added ≡ is_double names place
-double-is old names place name added met is fresh =
-    ap not fresh ∙ not-not (is_some (old name)) ∙ met name ∙ ap (is_among (take place names)) is
 
 pub ruleset misplaced_steps = (least-none)
 

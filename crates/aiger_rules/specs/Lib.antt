@@ -5,3 +5,4 @@ pub mod Laws
 pub mod Names
 pub mod Ports
 pub mod Naming
+pub mod Doubles

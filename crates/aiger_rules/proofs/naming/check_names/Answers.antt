@@ -1,4 +1,4 @@
-use Rattle.std.proofs.Common.{◌≡◌, ℕ, List, ◌++◌, map, Option, Some, None, All, ◌∙◌, ap, sym, subst}
+use Rattle.std.proofs.Common.{◌≡◌, ℕ, List, ◌++◌, map, Some, None, All, ◌∙◌, ap, sym, subst}
 use Rattle.std.specs.Option.{option_copied, option_to_list}
 use Rattle.loc_base.specs.Name.{IsName}
 use Rattle.aiger_text.specs.Content.{content_of}
@@ -6,6 +6,8 @@ use Rattle.aiger_rules.specs.Names.{port_name}
 use Rattle.aiger_rules.specs.Ports.{port_line, port_lines, port_names, rows_without}
 use Rattle.aiger_rules.specs.Naming.{lesser, IsLeastOf, IsMisnaming}
 use Rattle.aiger_rules.proofs.NamingSteps.{misnaming}
+use Rattle.aiger_rules.specs.Doubles.{OwnDiffer}
+use Rattle.aiger_rules.proofs.DoubleSteps.{ports-differ}
 use Rattle.aiger_rules.proofs.NameLaws.{ports-named}
 use Rattle.aiger_rules.proofs.naming.check_names.Goals as goal
 
@@ -50,3 +52,15 @@ returns-clause-named c =
     let P : List (List ℕ) → Type 0 = λ names. All IsName names in
     subst P (sym c.in_ok-names.ensures.same)
     (ports-named w clock c.in_ok-left_out.left_out well c.in_ok-names.ensures.named c.in_ok-names.ensures.low c.in_ok-left_out.ensures.within)
+
+pub least_double-requires-clause-differ : goal.least_double-requires-clause-differ
+least_double-requires-clause-differ c =
+    let w = content_of c.args.content.now in
+    let clock = option_copied c.args.clock in
+    let P : List (List ℕ) → Type 0 = λ names. OwnDiffer c.rows.result names c.deref.result.now in
+    let Q : List ℕ → Type 0 =
+    λ lines. OwnDiffer c.rows.result (option_to_list clock ++ map (port_name w) (rows_without w.counts c.in_ok-left_out.left_out)) lines in
+    let R : ℕ → Type 0 = λ rows. OwnDiffer rows (option_to_list clock ++ map (port_name w) (rows_without w.counts c.in_ok-left_out.left_out))
+    (map (λ (_ : List ℕ). 1) (option_to_list clock) ++ map (port_line w) (rows_without w.counts c.in_ok-left_out.left_out)) in
+    subst P (sym c.in_ok-names.ensures.same) (subst Q (sym (c.deref.ensures.value ∙ c.in_ok-lines.ensures))
+    (subst R (sym c.rows.ensures.count) (ports-differ w clock c.in_ok-left_out.left_out c.in_ok-left_out.ensures.within c.in_ok-names.ensures.low)))

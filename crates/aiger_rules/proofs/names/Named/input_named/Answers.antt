@@ -1,4 +1,4 @@
-use Rattle.std.proofs.Common.{◌≡◌, ℕ, ◌∙◌, true, false, ap₂, sym, below_more, arith}
+use Rattle.std.proofs.Common.{◌≡◌, ◌∙◌, true, false, ap₂, sym, below_more, arith}
 use Rattle.std.specs.Str.{bytes_eq}
 use Rattle.aiger_text.specs.Content.{content_of}
 use Rattle.aiger_rules.specs.Names.{port_name}

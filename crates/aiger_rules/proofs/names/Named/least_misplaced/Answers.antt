@@ -1,4 +1,4 @@
-use Rattle.std.proofs.Common.{◌≡◌, ℕ, ◌+◌, ◌≤◌, ◌∙◌, Bool, length, map, Some, None, if◌then◌else◌, refl, ap, ap₂, sym, subst, arith}
+use Rattle.std.proofs.Common.{◌≡◌, ℕ, ◌+◌, ◌∙◌, Bool, length, map, Some, None, if◌then◌else◌, refl, ap, ap₂, sym, subst, arith}
 use Rattle.std.proofs.lemmas.List.{length-map}
 use Rattle.aiger_text.specs.Symbols.{plain}
 use Rattle.aiger_text.specs.Content.{content_of}

@@ -1,4 +1,4 @@
-use Rattle.std.proofs.Common.{◌≡◌, ◌<◌, ◌∙◌, length, map, Some, sym, arith}
+use Rattle.std.proofs.Common.{◌≡◌, ◌<◌, ◌∙◌, length, Some, sym, arith}
 use Rattle.std.proofs.lemmas.List.{length-map}
 use Rattle.aiger_text.specs.Symbols.{plain}
 use Rattle.aiger_text.specs.Content.{content_of}

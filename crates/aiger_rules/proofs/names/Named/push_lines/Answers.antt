@@ -1,4 +1,4 @@
-use Rattle.std.proofs.Common.{ℕ, List, [], ◌∷◌, ◌++◌, ◌∙◌, ap, arith}
+use Rattle.std.proofs.Common.{ℕ, [], ◌∷◌, ◌++◌, ◌∙◌, ap, arith}
 use Rattle.aiger_text.specs.Content.{content_of}
 use Rattle.aiger_rules.specs.Ports.{port_line}
 use Rattle.aiger_rules.proofs.PortSteps.{push-range}
