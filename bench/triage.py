@@ -5,30 +5,32 @@
     bench/triage.py [PROGRAM] --pages [--only NAME..]
     bench/triage.py [PROGRAM] --record [--only NAME..]
 
-For each design and seed two to four right sides are changed at random, such that each is the first to show in some tests. Icarus Verilog (Debian's package `iverilog`) records N tests (20) of random inputs
-of the right text, and each goes through `case`, then `bins`. A unit (a test, or a group of outputs of one) is of those bugs of which one repaired alone
-makes its cut dump right, as `localise sim` says. PROGRAM is crates/localise/out/localise where it isn't given. Printed are, for each design:
+For each design and seed two to four right sides are changed at random, such that each is the first to show in some tests. Icarus Verilog
+(Debian's package `iverilog`) records N tests (20) of random inputs of the right text, and each goes through `case`, then `bins`. A unit
+(a test, or a group of outputs of one) is of those bugs of which one repaired alone makes its cut dump right, as `localise sim` says.
+PROGRAM is crates/localise/out/localise where it isn't given. Printed are, for each design:
 
-    bugs       those that are planted, and that a unit is of
-    fail       how many tests fail, and units: how many have a list; in brackets those that are of no bug, where two bugs meet at one output
+    bugs       those that are planted, and those that a unit is of
+    fail       how many tests fail
+    units      how many there are in bins; in brackets those that are of no bug, since two bugs meet at one output
     bins       and families
     least      the least number of places, by `ask least`
-    purity     the share of units in a bin most of whose units have a bug of theirs; whole: the share of units in the bin that has the most of their bug
-    output     the same two by the name of the first wrong output in place of a bin
-    rank       the mean rank, in the bins, of the place of the bug of most of the units; listed: in how many bins it stands
+    purity     the share of units in a bin most of whose units have a bug of theirs
+    whole      the share of units in the bin that has the most of their bug
+    by output  the same two for bins by the name of the first wrong output
+    rank       the mean rank, in the bins, of the place of the bug of most of the units; behind it in how many bins it stands
     runs s     seconds by the clock of all cases, and bins s of the bins
 
-and then the sums. The status is 1 where the purity of all is below 0.97, a design has fewer bins than bugs, or the mean rank is above 2.5.
+and then the sums. The status is 1 where the purity of all is below 0.97, a design has fewer bins than bugs, or the mean rank is above
+2.5.
 
-With --pages the five designs of bench/regressions go through all steps, and their pages (text, JSON and HTML) have to be the ones that stand there, whole. With
---record their dumps and pages are made again, to be looked at before they are committed.
+With --pages the five designs of bench/regressions go through all steps, and their pages (text, JSON and HTML) have to be the ones that
+stand there, whole. With --record their dumps and pages are made again, to be looked at before they are committed.
 """
 
 import argparse
 import json
 import os
-import random
-import re
 import shutil
 import statistics
 import subprocess
@@ -36,160 +38,17 @@ import sys
 import tempfile
 import time
 from concurrent.futures import ThreadPoolExecutor
+from dataclasses import dataclass
+from itertools import product
 
 HERE = os.path.dirname(os.path.abspath(__file__))
 sys.path[:0] = [HERE, os.path.join(HERE, "..", "tools")]
 import asked_bin  # noqa: E402
-from simulation import ports_of, test_of  # noqa: E402
+from planted_bugs import PLANTED, RECORDED, REGRESSIONS, bugs_at_random, record, right_text, with_bugs  # noqa: E402
 
 BUILT = os.path.join(HERE, "..", "crates", "localise", "out", "localise")
 SCRIPT = os.path.join(HERE, "..", "tools", "triage.py")
-REGRESSIONS = os.path.join(HERE, "regressions")
 CLOCK = ["--clock", "clk"]
-
-# the designs of bench/regressions: what the right text has, and what stands there
-PLANTED = {
-    "spi_master": [
-        ("wait_for <= period;\n                    high <= 0;", "wait_for <= 0;\n                    high <= 0;"),
-        ("taken <= {taken[6:0], miso};", "taken <= {taken[6:0], miso || left == 1};"),
-        ("finished <= left == 1;", "finished <= left == 1 && !slow;"), ("shift <= {shift[6:0], 1'b0};", "shift <= {shift[6:0], shift[7]};")],
-    "pwm": [
-        ("default: scale <= value[1:0];", "default: scale <= value[2:1];"), ("width_a <= next_a;", "width_a <= next_b;"),
-        ("pending <= ends || (pending && !clear);", "pending <= (ends || pending) && !clear;")],
-    "queue": [("head <= tail;", "head <= tail + 1;"), ("lost <= push && full;", "lost <= push && almost;")],
-    "crossing": [
-        ("time_of_next = 3;", "time_of_next = 2;"), ("(wanted && state != STOP);", "(wanted && state != READY);"), ("cars != 3", "cars != 2")],
-    "unit": [
-        ("+ {4'b0, subtracts};", "+ 5'd0;"), ("value = {1'b0, accumulator[3:1]};", "value = {accumulator[3], accumulator[3:1]};"),
-        ("carried <= accumulator[3];", "carried <= accumulator[2];")],
-}
-# the cycles of a test, and the tests: such that each bug is the first to show in some, and one of `unit` passes
-RECORDED = {
-    "spi_master": (60, [1, 2, 3, 4, 5, 7, 17, 20, 35, 43]), "pwm": (40, [1, 2, 3, 4, 5, 6, 9, 17]), "queue": (40, [1, 2, 3, 4, 5, 6]),
-    "crossing": (60, [1, 2, 3, 4, 6, 8, 9, 25]), "unit": (40, [1, 2, 3, 5, 7, 9, 14, 17])}
-
-# what a right side becomes
-CHANGES = [(r" \+ ", " - "), (r" - ", " + "), (" && ", " || "), (r" \|\| ", " && "), (" == ", " != "), (" < ", " <= "), (" & ", " | "), (r" \| ", " & "),
-           (r" \^ ", " & "), (r"\?(.*):(.*);", r"?\2:\1;"), (r"!(?=\w)", ""), (r"~(?=\w)", ""), (r"(?<![:\[])\b0\b", "1"), (r"\b1\b", "2"), (r"'d1\b", "'d0"), (r"\[0\]", "[1]")]
-RIGHT_SIDE = re.compile(r"^\s*(?:assign |wire (?:\[\d+:0\] )?|[\w']+: )?\w+(?:\[[^]]*\])* (?:<=|=) (.*)$")
-
-
-# ---- planted bugs
-
-def right_text(name):
-    """The right text of a design: of bench/regressions what stands there, with the bugs repaired."""
-    path = os.path.join(REGRESSIONS, name, name + ".v")
-    with open(path if name in PLANTED else os.path.join(HERE, "designs", name + ".v")) as file:
-        text = file.read()
-    for right, wrong in PLANTED.get(name, []):
-        text = changed(text, wrong, right)
-    return text
-
-
-def changed(text, old, new):
-    if text.count(old) != 1:
-        sys.exit("%r stands there %d times" % (old, text.count(old)))
-    return text.replace(old, new)
-
-
-def other_lines(line):
-    """What a line becomes, where it assigns more than a number, by each change that does something to its right side."""
-    found = RIGHT_SIDE.match(line)
-    if not found or re.fullmatch(r"[\d'a-f]+;", found[1]):
-        return []
-    head, side = line[:found.start(1)], found[1]
-    return [head + other for other in (re.sub(old, new, side, count=1) for old, new in CHANGES) if other != side]
-
-
-def test_text(name, cycles, path):
-    """A test of random inputs by a seed, which prints the outputs just before each edge."""
-    bench = test_of(path, name, cycles).replace("$random", "$random(seed)")
-    bench = bench.replace("initial begin", 'integer seed, given;\ninitial begin\n  given = $value$plusargs("seed=%d", seed);', 1)
-    outputs = [it for kind, _, it in ports_of(path, name) if kind == "output"]
-    return bench.replace("#5 clk = 1;", '#5 $display("%s", %s); clk = 1;' % (" ".join(["%h"] * len(outputs)), ", ".join(outputs)))
-
-
-def runs_of(text, name, tests, cycles):
-    """What a text gives in each cycle of each test; None where Icarus doesn't take it."""
-    with tempfile.TemporaryDirectory() as room:
-        made = os.path.join(room, "m.v")
-        with open(made, "w") as file:
-            file.write(text)
-        with open(os.path.join(room, "test.v"), "w") as file:
-            file.write(test_text(name, cycles, made))
-        if subprocess.run(["iverilog", "-g2005", "-o", "run", "test.v", "m.v"], cwd=room, capture_output=True).returncode:
-            return None
-        words = ["vvp", "-n", "run"]
-        return [subprocess.run([*words, "+seed=%d" % number], cwd=room, stdout=subprocess.PIPE, text=True).stdout.split("\n") for number in range(1, tests + 1)]
-
-
-def misses_of(runs, rights):
-    """The cycle of each test's first miss; past all cycles where there is none."""
-    return [next((cycle for cycle, pair in enumerate(zip(run, right)) if pair[0] != pair[1]), 10**6) for run, right in zip(runs, rights)]
-
-
-def live_bugs(text, name, chance, tests, cycles):
-    """For each line a bug that shows in some tests, and mostly not in the first cycles, with the cycles in which it does."""
-    lines, rights, found = text.split("\n"), runs_of(text, name, tests, cycles), {}
-    for number, line in enumerate(lines):
-        for other in chance.sample(other_lines(line), min(1, len(other_lines(line)))):
-            runs = runs_of("\n".join(lines[:number] + [other] + lines[number + 1:]), name, tests, cycles)
-            misses = misses_of(runs, rights) if runs else []
-            if sum(it < 10**6 for it in misses) * 5 >= tests and statistics.median(misses) >= 4:
-                found[number] = (other, misses)
-    return found
-
-
-def shows_each(misses):
-    """Whether each of several bugs is the first to show in a tenth of the tests, were they alone."""
-    firsts = [min(range(len(misses)), key=lambda bug: misses[bug][test]) for test in range(len(misses[0])) if min(it[test] for it in misses) < 10**6]
-    return all(firsts.count(bug) * 10 >= len(misses[0]) for bug in range(len(misses)))
-
-
-def bugs_at_random(text, name, seed, tests, cycles):
-    """Two to four bugs, each of which some tests show first: for each a line's number, from 0, and what stands there. Fewer, where there are no such."""
-    chance = random.Random(seed)
-    live = live_bugs(text, name, chance, tests, cycles)
-    for number in range(2 + seed % 3, 0, -1):
-        for _ in range(100):
-            some = chance.sample(sorted(live), min(number, len(live)))
-            if some and shows_each([live[it][1] for it in some]):
-                return {it: live[it][0] for it in some}
-    return {}
-
-
-def with_bugs(text, bugs):
-    return "\n".join(bugs.get(number, line) for number, line in enumerate(text.split("\n")))
-
-
-def bugs_of(name):
-    """The planted bugs of a design of bench/regressions."""
-    right, bugs = right_text(name).split("\n"), {}
-    with open(os.path.join(REGRESSIONS, name, name + ".v")) as file:
-        for number, line in enumerate(file.read().split("\n")):
-            if line != right[number]:
-                bugs[number] = line
-    return bugs
-
-
-# ---- tests
-
-def record(text, name, seeds, cycles, room):
-    """Writes dumps of random tests of a right text into a folder, one for each seed."""
-    made = os.path.join(room, "right.v")
-    with open(made, "w") as file:
-        file.write(text)
-    with open(os.path.join(room, "test.v"), "w") as file:
-        file.write(test_text(name, cycles, made))
-    subprocess.run(["iverilog", "-g2005", "-o", "run", "test.v", "right.v"], cwd=room, check=True)
-    for number in seeds:
-        subprocess.run(["vvp", "-n", "run", "+dump", "+seed=%d" % number], cwd=room, check=True, stdout=subprocess.DEVNULL)
-        with open(os.path.join(room, "dump.vcd")) as dump, open(os.path.join(room, "t%02d.vcd" % number), "w") as file:
-            file.write(re.sub(r"\$(date|version)\s.*?\$end\n", "", dump.read(), flags=re.S))
-    for rest in ("dump.vcd", "run", "test.v", "right.v"):
-        os.remove(os.path.join(room, rest))
-    return ["t%02d.vcd" % number for number in seeds]
-
 
 def step(program, room, *words):
     """A step of tools/triage.py in a folder: its status and what it prints."""
@@ -200,7 +59,7 @@ def step(program, room, *words):
 
 def make_cases(program, name, dumps, room, jobs):
     with ThreadPoolExecutor(jobs) as pool:
-        list(pool.map(lambda dump: step(program, room, "case", name + ".v", name, dump, os.path.basename(dump)[:-4] + ".case", *CLOCK), dumps))
+        list(pool.map(lambda dump: step(program, room, "case", name + ".v", name, dump, ".", *CLOCK), dumps))
 
 
 # ---- whose a unit is
@@ -225,10 +84,10 @@ def causes_of(program, name, text, bugs, unit, room):
 # ---- measures
 
 def shares(groups):
-    """Of units in groups, each unit the bugs that it may be of: the share in a group most of which has a bug of theirs, and the share in the group with
-    the most of their bug; and for each group the bug that most of it have."""
+    """Of units in groups, each unit the bugs that it may be of: the share in a group most of which has a bug of theirs, and the share in
+    the group with the most of their bug; and for each group the bug that most of it have."""
     number = sum(map(len, groups))
-    most = [max({bug for causes in group for bug in causes}, key=lambda bug: sum(bug in causes for causes in group)) for group in groups]
+    most = [max(sorted({bug for causes in group for bug in causes}), key=lambda bug: sum(bug in it for it in group)) for group in groups]
     pure = sum(bug in causes for bug, group in zip(most, groups) for causes in group)
     bugs = {bug for group in groups for causes in group for bug in causes[:1]}
     whole = sum(max(sum(causes[:1] == [bug] for causes in group) for group in groups) for bug in bugs)
@@ -270,54 +129,70 @@ def measured(asked, name, text, bugs, room):
             "causes": [[(unit, causes_of(asked.program, name, text, bugs, unit, room)) for unit in it["units"]] for it in bins["bins"]]}
 
 
+@dataclass
+class Row:
+    """What is said of one design: of its units those of a bin's bug, those in the bin with the most of theirs, and those by the first output."""
+    units: int
+    pure: float
+    whole: float
+    named: float
+    ranks: list
+    bins: int
+    bugs: int
+    outputs: int
+    tests: int
+
+
+FORM = "%-12s %4s %5s %5s %9s %8s %6s %13s %13s %13s %8s %8s"
+HEADS = ("design", "seed", "bugs", "fail", "units", "bins", "least", "purity whole", "by output", "rank listed", "runs s", "bins s")
+
+
 def row_of(it, name, seed, bugs):
     """Prints what was measured of a design, and gives the sums."""
-    known = [[(unit, causes) for unit, causes in group if causes] for group in it["causes"]]
-    kept = [(entry, group) for entry, group in zip(it["bins"]["bins"], known) if group]
-    pure, whole, most = shares([[causes for _, causes in group] for _, group in kept])
+    known = [(entry, [pair for pair in group if pair[1]]) for entry, group in zip(it["bins"]["bins"], it["causes"])]
+    kept = [(entry, group) for entry, group in known if group]
     units = [pair for _, group in kept for pair in group]
-    by_name = shares(by_output(units))
-    seen = {bug for _, causes in units for bug in causes[:1]}
+    pure, whole, most = shares([[causes for _, causes in group] for _, group in kept])
+    named = by_output(units)
+    of_named, whole_named, _ = shares(named)
     ranks = [rank_of(entry, bug, it["bins"]["suspects"]) for (entry, _), bug in zip(kept, most)]
-    listed = [rank for rank in ranks if rank]
-    number, counts = sum(map(len, it["causes"])), it["bins"]["counts"]
-    print("%-12s %4d %5s %5d %9s %8s %6d %16s %16s %16s %8.1f %8.2f" % (
-        name, seed, "%d %d" % (len(bugs), len(seen)), counts["fails"] + counts["unfinished"], "%d (%d)" % (number, number - len(units)),
-        "%d %d" % (len(it["bins"]["bins"]), it["bins"]["families"]), it["least"], "%.3f %.3f" % (pure, whole), "%.3f %.3f" % by_name[:2],
-        "%.2f %d of %d" % (statistics.mean(listed) if listed else 0, len(listed), len(ranks)), it["runs"], it["binning"]), flush=True)
-    return {"units": len(units), "pure": pure * len(units), "whole": whole * len(units), "named": by_name[0] * len(units), "ranks": listed, "bins": len(ranks),
-            "bugs": len(seen), "fewer": len(it["bins"]["bins"]) < len(seen), "equal": len(it["bins"]["bins"]) == len(seen),
-            "fewer_by_name": len(by_output(units)) < len(seen), "tests": counts["fails"] + counts["unfinished"]}
+    listed, seen = [rank for rank in ranks if rank], {bug for _, causes in units for bug in causes[:1]}
+    number, counts, bins = sum(map(len, it["causes"])), it["bins"]["counts"], len(it["bins"]["bins"])
+    fail = counts["fails"] + counts["unfinished"]
+    print(FORM % (
+        name, seed, "%d %d" % (len(bugs), len(seen)), fail, "%d (%d)" % (number, number - len(units)), "%d %d" % (bins, it["bins"]["families"]),
+        it["least"], "%.3f %.3f" % (pure, whole), "%.3f %.3f" % (of_named, whole_named),
+        "%.2f %d of %d" % (statistics.mean(listed) if listed else 0, len(listed), len(ranks)), "%.1f" % it["runs"], "%.2f" % it["binning"]), flush=True)
+    return Row(len(units), pure * len(units), whole * len(units), of_named * len(units), listed, bins, len(seen), len(named), fail)
 
 
 def measure(asked):
-    print("%-12s %4s %5s %5s %9s %8s %6s %16s %16s %16s %8s %8s" % (
-        "design", "seed", "bugs", "fail", "units", "bins", "least", "purity whole", "by output", "rank listed", "runs s", "bins s"))
+    print(FORM % HEADS)
     rows = []
-    for name in asked.only or list(PLANTED):
-        for seed in asked.seeds:
-            text = right_text(name).replace(" or posedge reset", "")
-            bugs = bugs_at_random(text, name, seed, asked.tests, asked.cycles)
-            with tempfile.TemporaryDirectory() as room:
-                it = measured(asked, name, text, bugs, room)
-                if asked.keep:
-                    shutil.copytree(room, os.path.join(asked.keep, "%s-%d" % (name, seed)), dirs_exist_ok=True)
-            if it is None:
-                print("%-12s %4d: no test fails" % (name, seed), flush=True)
-            else:
-                rows.append(row_of(it, name, seed, bugs))
+    for name, seed in product(asked.only or list(PLANTED), asked.seeds):
+        text = right_text(name).replace(" or posedge reset", "")
+        bugs = bugs_at_random(text, name, seed, asked.tests, asked.cycles)
+        with tempfile.TemporaryDirectory() as room:
+            it = measured(asked, name, text, bugs, room)
+            if asked.keep:
+                shutil.copytree(room, os.path.join(asked.keep, "%s-%d" % (name, seed)), dirs_exist_ok=True)
+        if it is None:
+            print("%-12s %4d: no test fails" % (name, seed), flush=True)
+        else:
+            rows.append(row_of(it, name, seed, bugs))
     return judged(rows)
 
 
 def judged(rows):
     """Prints the sums, and gives the status."""
-    units, ranks = sum(it["units"] for it in rows), [rank for it in rows for rank in it["ranks"]]
-    purity, rank = sum(it["pure"] for it in rows) / units, statistics.mean(ranks)
+    units, ranks = sum(it.units for it in rows), [rank for it in rows for rank in it.ranks]
+    purity, whole, named = (sum(it) / units for it in ([row.pure for row in rows], [row.whole for row in rows], [row.named for row in rows]))
+    equal, fewer = sum(it.bins == it.bugs for it in rows), sum(it.bins < it.bugs for it in rows)
     print("%d designs, %d tests, %d units: purity %.3f, whole %.3f, by output %.3f" % (
-        len(rows), sum(it["tests"] for it in rows), units, purity, sum(it["whole"] for it in rows) / units, sum(it["named"] for it in rows) / units))
+        len(rows), sum(it.tests for it in rows), units, purity, whole, named))
     print("as many bins as bugs in %d, fewer in %d; fewer outputs than bugs in %d; rank %.2f, in %d of %d bins" % (
-        sum(it["equal"] for it in rows), sum(it["fewer"] for it in rows), sum(it["fewer_by_name"] for it in rows), rank, len(ranks), sum(it["bins"] for it in rows)))
-    return 0 if purity >= 0.97 and rank <= 2.5 and not any(it["fewer"] for it in rows) else 1
+        equal, fewer, sum(it.outputs < it.bugs for it in rows), statistics.mean(ranks), len(ranks), sum(it.bins for it in rows)))
+    return 0 if purity >= 0.97 and statistics.mean(ranks) <= 2.5 and not fewer else 1
 
 
 # ---- the pages of bench/regressions
@@ -367,7 +242,8 @@ def record_pages(asked, name):
 def main():
     parser = argparse.ArgumentParser(description=__doc__, formatter_class=argparse.RawDescriptionHelpFormatter)
     parser.add_argument("program", nargs="?", default=BUILT)
-    parser.add_argument("--only", nargs="*"), parser.add_argument("--seeds", type=lambda text: [int(it) for it in text.split(",")], default=[1, 2, 3])
+    parser.add_argument("--only", nargs="*")
+    parser.add_argument("--seeds", type=lambda text: [int(it) for it in text.split(",")], default=[1, 2, 3])
     parser.add_argument("--tests", type=int, default=20), parser.add_argument("--cycles", type=int, default=60)
     parser.add_argument("--jobs", type=int, default=1), parser.add_argument("--keep")
     parser.add_argument("--pages", action="store_true"), parser.add_argument("--record", action="store_true")

@@ -24,7 +24,7 @@ import messages
 
 HERE = os.path.dirname(os.path.abspath(__file__))
 TOP = os.path.dirname(HERE)
-DOCUMENTS = ["walkthrough.md", "annotate.md", "waves.md", "long-tests.md", "reading-the-list.md"]
+DOCUMENTS = ["walkthrough.md", "annotate.md", "waves.md", "long-tests.md", "reading-the-list.md", "regression.md"]
 # What a machine happens to have: in the gate (which sets CI) these are passed over, so that it says the same everywhere.
 ENGINES = {"parallel", "sbatch", "snakemake"}
 PASSED = {"gtkwave"} | (ENGINES if os.environ.get("CI") else set())
@@ -69,7 +69,7 @@ def check(name, program):
         copy, programs = os.path.join(room, "copy"), os.path.join(room, "programs")
         os.makedirs(copy), os.makedirs(programs)
         os.symlink(program, os.path.join(programs, "localise"))
-        files = subprocess.run(["git", "ls-files", "-z", "examples", "tools"], cwd=TOP, capture_output=True, text=True, check=True).stdout
+        files = subprocess.run(["git", "ls-files", "-z", "examples", "tools", "bench/regressions"], cwd=TOP, capture_output=True, text=True, check=True).stdout
         for file in filter(None, files.split("\0")):
             os.makedirs(os.path.dirname(os.path.join(copy, file)), exist_ok=True)
             shutil.copy(os.path.join(TOP, file), os.path.join(copy, file))

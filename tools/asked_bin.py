@@ -1,7 +1,7 @@
 """The joint runs of `tools/triage.py ask`: of the tests of one bin, and of a test of each bin, for the least number of places.
 
-Each leaves a folder: `answer.json`, and of the run that it tells of `report.json`, `log` and `dumps/`, which `localise check` takes; of a bin also
-`list.html`, the page of that report, and `waves/`, the values of each suspect in the dump to look at first.
+Each leaves a folder: `answer.json`, and of the run that it tells of `report.json`, `log` and `dumps/`, which `localise check` takes; of a
+bin also `list.html`, the page of that report, and `waves/`, the values of each suspect in the dump to look at first.
 """
 
 import os

@@ -1,13 +1,14 @@
-"""Puts the failing tests of a regression into bins by their lists of single suspects, each bin as if it had one bug of its own. Which tests belong
-together is a guess, if a measured one (bench/triage.py): nothing here is proved. The same lists give the same bins, in whatever order they come.
+"""Puts the failing tests of a regression into bins by their lists of single suspects, each bin as if it had one bug of its own. Which
+tests belong together is a guess, if a measured one (bench/triage.py): nothing here is proved. The same lists give the same bins, in
+whatever order they come.
 
-Tests with equal lists begin as one bin. Of the bins that share a suspect those two are joined that make the whole most likely, as long as it grows, and
-where a suspect is left that all their lists have. A bin of n lists, of which count(s) have the suspect s, is worth
+Tests with equal lists begin as one bin. Of the bins that share a suspect those two are joined that make the whole most likely, as long as
+it grows, and where a suspect is left that all their lists have. A bin of n lists, of which count(s) have the suspect s, is worth
 
-    sum over the suspects s of [B(1/2 + count(s), 1/2 + n - count(s)) - B(1/2, 1/2)] + ln (n-1)!        with B the logarithm of Euler's beta
+    sum over the suspects s of [B(1/2 + count(s), 1/2 + n - count(s)) - B(1/2, 1/2)] + ln (n-1)!    with B = ln of Euler's beta
 
-where the suspects are those that stand in any list: in a bin each suspect has a rate of its own at which it is listed, of which nothing is known
-before (Jeffreys' prior), and the bins are a draw of the Chinese restaurant process.
+where the suspects are those that stand in any list: in a bin each suspect has a rate of its own at which it is listed, of which nothing
+is known before (Jeffreys' prior), and the bins are a draw of the Chinese restaurant process.
 """
 
 import heapq
@@ -52,7 +53,8 @@ def bins_of_equal_lists(lists):
     places = {}
     for place, listed in enumerate(lists):
         places.setdefault(tuple(sorted(listed)), []).append(place)
-    return [Bin(key, units, dict.fromkeys(listed, len(units)), frozenset(listed)) for key, (listed, units) in enumerate(sorted(places.items()))]
+    rows = enumerate(sorted(places.items()))
+    return [Bin(key, units, dict.fromkeys(listed, len(units)), frozenset(listed)) for key, (listed, units) in rows]
 
 
 class Joining:
@@ -100,7 +102,8 @@ def bins_of(lists):
 # ---- what made-up failures say
 
 def tallied(failures):
-    """By outputs, how many failures were made up there, and how many of these each suspect explains; given are pairs of an output and its suspects."""
+    """By outputs, how many failures were made up there, and how many of these each suspect explains; given are pairs of an output and its
+    suspects."""
     numbers, hits = Counter(), {}
     for output, suspects in failures:
         numbers[output] += 1

@@ -31,8 +31,8 @@ def expect_one_question(cases):
 
 def units_of(cases):
     """Each unit whose list is whole, with what a bin has to know of its test."""
-    return [{"dump": case["dump"], "dump_digest": case["dump_digest"], "cycle": case["cycle"], "end": case["end"], "names": case["names"], **unit}
-            for case in cases for unit in case["units"] if unit["ending"].startswith("complete ")]
+    names = ("dump", "dump_digest", "cycle", "end", "names")
+    return [{**{name: case[name] for name in names}, **unit} for case in cases for unit in case["units"] if unit["ending"].startswith("complete ")]
 
 
 def tests_of(units):
@@ -54,8 +54,10 @@ def bin_entry(it, units, made_up):
 
 
 def rows_of(suspects, it, outputs, made_up):
-    """Suspects of a bin, the likeliest first: how many lists have each, and how many of the failures that were made up at its outputs it explains."""
-    return [{"number": number, "lists": it.counts[number], "hits": hits, "of": of} for number, hits, of in binning.ranked(suspects, outputs, made_up)]
+    """Suspects of a bin, the likeliest first: how many lists have each, and how many of the failures that were made up at its outputs it
+    explains."""
+    ranked = binning.ranked(suspects, outputs, made_up)
+    return [{"number": number, "lists": it.counts[number], "hits": hits, "of": of} for number, hits, of in ranked]
 
 
 def first_outputs(units):

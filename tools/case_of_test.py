@@ -1,9 +1,9 @@
 """What is known of one test: whether it fails, and where it does the list of single suspects of its dump, cut at the first wrong output.
 
-Where several outputs are wrong in that cycle and no single suspect explains all of them, the list is made output by output, the others left open.
-Outputs that one suspect explains are put together again, where a run on both says so. Each such group of outputs is a unit. For each unit one failure
-is made up: the same dump is cut at some cycle before, and one bit of the unit's first output wanted otherwise there. A suspect that explains that too
-explains anything, and says little.
+Where several outputs are wrong in that cycle and no single suspect explains all of them, the list is made output by output, the others
+left open. Outputs that one suspect explains are put together again, where a run on both says so. Each such group of outputs is a unit.
+For each unit one failure is made up: the same dump is cut at some cycle before, and one bit of the unit's first output wanted otherwise
+there. A suspect that explains that too explains anything, and says little.
 """
 
 import os
@@ -52,8 +52,8 @@ def singles(asked, text, *further):
 def run_find(asked, room, dumps, size, *further):
     """The last line and all that `find` prints of dumps in a folder, where it leaves its report and its log."""
     sets = [] if "--sets" in asked.options or "--sets" in further else ["--sets", MOST]
-    words = [asked.program, "find", asked.design, asked.top, *(os.path.join(room, it) for it in dumps), "--size", size, *sets, *asked.options, *further]
-    words += ["--clock", asked.clock] if asked.clock else []
+    words = [asked.program, "find", asked.design, asked.top, *(os.path.join(room, it) for it in dumps)]
+    words += ["--size", size, *sets, *asked.options, *further] + (["--clock", asked.clock] if asked.clock else [])
     words += ["--report", os.path.join(room, "report.json"), "--log", os.path.join(room, "log")]
     ran = subprocess.run(words, stdin=subprocess.DEVNULL, stdout=subprocess.PIPE, text=True, errors="backslashreplace")
     last = (ran.stdout.strip("\n").split("\n") or [""])[-1]
@@ -165,8 +165,8 @@ def made_up(asked, cut, said, unit):
 
 @dataclass
 class Case:
-    """What is said of a test: `answer` is fails, passes, refused, unfinished (it fails, and a list of it isn't whole) or killed, and `line` is the
-    program's word for it. `end` is where the dump is cut, and `names` are those by which its ports are found."""
+    """What is said of a test: `answer` is fails, passes, refused, unfinished (it fails, and a list of it isn't whole) or killed, and
+    `line` is the program's word for it. `end` is where the dump is cut, and `names` are those by which its ports are found."""
     answer: str
     line: str = ""
     cycle: Optional[int] = None
@@ -178,7 +178,8 @@ class Case:
 
 def unit_entry(asked, cut, said, unit):
     """A unit as it stands in the file."""
-    entry = {"outputs": unit.outputs, "opened": unit.opened, "suspects": sorted(unit.listed.suspects), "ending": unit.listed.ending, "made_up": None}
+    entry = {"outputs": unit.outputs, "opened": unit.opened, "suspects": sorted(unit.listed.suspects), "ending": unit.listed.ending}
+    entry["made_up"] = None
     if unit.listed.suspects and unit.listed.is_whole():
         try:
             entry["made_up"] = made_up(asked, cut, said, unit)

@@ -74,8 +74,8 @@ def simulated(asked, text):
 
 
 def shortest(asked, text, cycles, number):
-    """The shortest front of a dump of that number of cycles, ended before a stamp, that has so many. More stamps never have fewer cycles: where a
-    clock is regular the place is found in two or three runs, and after four the rest is halved each time."""
+    """The shortest front of a dump of that number of cycles, ended before a stamp, that has so many. More stamps never have fewer cycles:
+    where a clock is regular the place is found in two or three runs, and after four the rest is halved each time."""
     ends = stamps(text)
     low, high, fewer, more = -1, len(ends) - 1, 0, number
     for turn in range(len(ends)):

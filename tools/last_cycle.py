@@ -1,7 +1,8 @@
 """Gives outputs other values in the last cycle of a cut dump: x, where they aren't to be checked there, or a value that wasn't wanted.
 
-A change is written before the last stamp where there is a clock, since a cycle has the values from just before its edge, and at the end where there is
-none. Whether it came to what was meant is for `localise sim` to say: this reads no more of a dump than its variables and its stamps.
+A change is written before the last stamp where there is a clock, since a cycle has the values from just before its edge, and at the end
+where there is none. Whether it came to what was meant is for `localise sim` to say: this reads no more of a dump than its variables and
+its stamps.
 """
 
 import re
@@ -86,8 +87,8 @@ def digits_of(value, bits):
 
 
 def with_last(text, values, all_names, clocked):
-    """The text with these values of outputs, by their names, in its last cycle; None leaves one open. `all_names` are those by which the scope is
-    found: all outputs, and the clock where there is one."""
+    """The text with these values of outputs, by their names, in its last cycle; None leaves one open. `all_names` are those by which the
+    scope is found: all outputs, and the clock where there is one."""
     text = with_own_codes(text, values, all_names)
     scope, at = scope_with(text, all_names), stamps(text)[-2] if clocked else len(text)
     changes = b"".join(b"b%s %s\n" % (digits_of(value, scope[name].bits), scope[name].code) for name, value in values.items())

@@ -6,17 +6,18 @@
     tools/triage.py ask OUT BINS N|least [--program FILE]
     tools/triage.py page BINS [ASKED..] [--html OUT] [--json OUT]
 
-`case` looks at one test: `sim` says where its first output is wrong, the dump is cut there, and `find --size 1` lists the single suspects that explain
-it; then the same of a failure that is made up. OUT has what was found, also where the test passes, or is refused; where OUT is a folder, NAME.case in
-it for a dump NAME.vcd. `bins` puts the tests into bins by these lists; a CASE may be a folder, which stands for its files that end in `.case`. `ask`
-asks for all tests of bin N together, or for the least number of places that have to be wrong; it leaves a folder. `page` prints what is known, and
-writes it as a page or as JSON.
+`case` looks at one test: `sim` says where its first output is wrong, the dump is cut there, and `find --size 1` lists the single suspects
+that explain it; then the same of a failure that is made up. OUT has what was found, also where the test passes, or is refused; where OUT
+is a folder, NAME.case in it for a dump NAME.vcd. `bins` puts the tests into bins by these lists; a CASE may be a folder, which stands for
+its files that end in `.case`. `ask` asks for all tests of bin N together, or for the least number of places that have to be wrong; it
+leaves a folder. `page` prints what is known, and writes it as a page or as JSON.
 
-Options that aren't named here are handed through to `find`, as they are given. Each file, and the folder, is there whole or not at all, and what stands
-is not made again: the same command goes on after a break.
+Options that aren't named here are handed through to `find`, as they are given. Each file, and the folder, is there whole or not at all,
+and what stands is not made again: the same command goes on after a break.
 
-The status is 0; 1 where a run of the program was ended by a signal, or the dump can't be read (the same command tries again), and of `bins` where no
-test fails; 2 where the arguments are wrong, or another file can't be read or is of another run, which standard error says.
+The status is 0; 1 where a run of the program was ended by a signal, or the dump can't be read (the same command tries again), and of
+`bins` where no test fails; 2 where the arguments are wrong, or another file can't be read or is of another run, which standard error
+says.
 """
 
 import argparse
@@ -50,8 +51,8 @@ def say(words, *of):
 
 def question_of(asked, text):
     """What a case is of."""
-    return {"design": asked.design, "design_digest": digest(load(asked.design)), "top": asked.top, "clock": asked.clock, "options": asked.options,
-            "dump": asked.dump, "dump_digest": digest(text)}
+    return {"design": asked.design, "design_digest": digest(load(asked.design)), "top": asked.top, "clock": asked.clock,
+            "options": asked.options, "dump": asked.dump, "dump_digest": digest(text)}
 
 
 def is_there(out, question):
@@ -190,8 +191,8 @@ def parser_of():
     bins = step.add_parser("bins", allow_abbrev=False)
     bins.add_argument("out", metavar="OUT"), bins.add_argument("cases", metavar="CASE", nargs="+"), bins.set_defaults(make=make_bins)
     ask = step.add_parser("ask", allow_abbrev=False)
-    ask.add_argument("out", metavar="OUT"), ask.add_argument("bins", metavar="BINS"), ask.add_argument("what", metavar="N|least", type=what_of)
-    ask.set_defaults(make=make_answer)
+    ask.add_argument("out", metavar="OUT"), ask.add_argument("bins", metavar="BINS")
+    ask.add_argument("what", metavar="N|least", type=what_of), ask.set_defaults(make=make_answer)
     page = step.add_parser("page", allow_abbrev=False)
     page.add_argument("bins", metavar="BINS"), page.add_argument("asked", metavar="ASKED", nargs="*")
     page.add_argument("--html", metavar="OUT"), page.add_argument("--json", metavar="OUT"), page.set_defaults(make=make_page)

@@ -1,5 +1,6 @@
-"""The page of a regression: one file of HTML and CSS, which loads nothing. What is certified and what is likely differs by a word and by its look: the
-one stands behind a whole bar, the other behind a broken one."""
+"""The page of a regression: one file of HTML and CSS, which loads nothing. What is certified and what is likely differs by a word and by
+its look: the one stands behind a whole bar, the other behind a broken one.
+"""
 
 import os
 from urllib.parse import quote
@@ -17,10 +18,12 @@ main.triage { display: block; padding: 0 1.2rem 1.5rem; }
 .what.likely { color: var(--faint); border: 1px dashed var(--faint); font-style: italic; font-weight: 400; }
 .said { padding: .25rem .8rem; margin: .35rem 0; max-width: 75rem; overflow-wrap: anywhere; }
 .said.certified { border-left: 5px solid var(--ink); } .said.likely { border-left: 5px dashed var(--faint); }
-table.bins { width: 100%; } table.bins td, table.bins th { text-align: left; white-space: normal; vertical-align: top; padding: .4rem .6rem; }
+table.bins { width: 100%; }
+table.bins td, table.bins th { text-align: left; white-space: normal; vertical-align: top; padding: .4rem .6rem; }
 table.bins td, table.bins tbody th { font-family: inherit; font-size: .9375rem; } table.bins .n { white-space: nowrap; }
-ol.ranked { list-style: none; margin: .2rem 0 0; padding: 0; } ol.ranked li { padding: .12rem 0 .12rem .5rem; border-left: 3px solid var(--ink); }
-ol.ranked.mostly li { border-left: 3px dashed var(--faint); } ol.ranked code { overflow-wrap: anywhere; } ol.ranked .note { white-space: nowrap; } td ul { margin: 0; padding-left: 1rem; }
+ol.ranked { list-style: none; margin: .2rem 0 0; padding: 0; }
+ol.ranked li { padding: .12rem 0 .12rem .5rem; border-left: 3px solid var(--ink); } ol.ranked.mostly li { border-left: 3px dashed var(--faint); }
+ol.ranked code { overflow-wrap: anywhere; } ol.ranked .note { white-space: nowrap; } td ul { margin: 0; padding-left: 1rem; }
 .tests code { white-space: nowrap; }
 @media print { details > * { display: block; } }
 """
@@ -43,8 +46,8 @@ def link_to(path, folder, text):
 
 def suspect_html(row, before=""):
     code = " <code>%s</code>" % shown(row["text"]) if row["text"] else ""
-    return '<li><b>%d</b> %s, line %d, %s%s <span class="note">%s%s</span></li>\n' % (
-        row["number"], shown(row["kind"]), row["line"], shown(row["label"]), code, before, hits_text(row))
+    return '<li><b>%d</b> %s, line %d, %s%s <span class="note">%sexplains %s</span></li>\n' % (
+        row["number"], shown(row["kind"]), row["line"], shown(row["label"]), code, before, hits_text(row).removeprefix("and "))
 
 
 def mostly_html(it):
@@ -60,8 +63,13 @@ def suspects_html(rows):
         many(len(rest), "further suspect"), "".join(map(suspect_html, rest))) if rest else "")
 
 
+def test_html(it):
+    """A test by its dump, with the cycle and the outputs that are wrong in it."""
+    return "<code>%s</code>, cycle %d, %s" % (shown(it["dump"]), it["cycle"], shown(", ".join(it["outputs"])))
+
+
 def tests_html(it):
-    rows = "".join("<li><code>%s</code>, cycle %d, %s</li>\n" % (shown(test["dump"]), test["cycle"], shown(", ".join(test["outputs"]))) for test in it["dumps"])
+    rows = "".join("<li>%s</li>\n" % test_html(test) for test in it["dumps"])
     return '<details class="tests"><summary>its tests</summary>\n<ul>\n%s</ul>\n</details>\n' % rows
 
 
@@ -70,28 +78,31 @@ def joint_html(it, folder):
     joint = it["joint"]
     if joint is None:
         return '<span class="note">not asked</span>\n'
-    links = [link_to(os.path.join(joint["folder"], "list.html"), folder, "list and values")] if joint["line"].startswith("complete") else []
-    links += [link_to(os.path.join(joint["folder"], "waves", "suspect-%d.vcd" % row["number"]), folder, "wave of %d" % row["number"]) for row in it["suspects"][:FOLDED]]
-    of = many(joint["units"], "cut dump") if joint["dumps"] == joint["units"] else "%d of %s" % (joint["dumps"], many(joint["units"], "cut dump"))
+    files = [("list.html", "list and values")] if joint["line"].startswith("complete") else []
+    files += [("waves/suspect-%d.vcd" % row["number"], "wave of %d" % row["number"]) for row in it["suspects"][:FOLDED]]
+    links = [link_to(os.path.join(joint["folder"], name), folder, text) for name, text in files]
+    of = ("" if joint["dumps"] == joint["units"] else "%d of " % joint["dumps"]) + many(joint["units"], "cut dump")
     return "%s<p class=\"note\">one run on %s: <code>%s</code></p>\n" % ("<br>".join(links), of, shown(joint["line"]))
 
 
 def row_html(it, folder):
     # (the suspects are certified: each explains all tests of the bin alone, and no other one does; their order isn't)
     first = ", ".join("<code>%s</code>" % shown(name) for name in it["first_outputs"])
+    suspects = suspects_html(it["suspects"]) + mostly_html(it)
     return ('<tr id="bin%d"><th scope="row" class="n">%d</th><td class="n">%d</td><td class="n">%s%s</td><td>%s</td>\n<td>%s</td>\n'
             "<td><code>%s</code></td>\n<td>%s</td></tr>\n") % (
-        it["number"], it["number"], it["family"], format(it["tests"], ",d"), tests_html(it), first, suspects_html(it["suspects"]) + mostly_html(it),
-        shown(it["look_at"]), joint_html(it, folder))
+        it["number"], it["number"], it["family"], format(it["tests"], ",d"), tests_html(it), first, suspects, shown(it["look_at"]),
+        joint_html(it, folder))
 
 
-HEADS = [("Bin", "likely"), ("Family", "likely"), ("Tests", ""), ("First wrong at", "certified"), ("Suspects: each alone explains every test of the bin, and no other does",
-                                                                                         "certified"), ("Look at first", ""), ("More", "")]
+HEADS = [
+    ("Bin", badge("likely")), ("Family", badge("likely")), ("Tests", ""), ("First wrong at", badge("certified")),
+    ("Suspects: each alone explains every test of the bin, and no other does", badge("certified") + badge("likely") + "order"),
+    ("Look at first", ""), ("More", "")]
 
 
 def bins_html(known, folder):
-    heads = "".join('<th scope="col">%s%s</th>' % (name, "<br>" + badge(kind) if kind else "") for name, kind in HEADS)
-    heads = heads.replace("and no other does<br>" + badge("certified"), "and no other does<br>" + badge("certified") + badge("likely") + "order")
+    heads = "".join('<th scope="col">%s%s</th>' % (name, "<br>" + kinds if kinds else "") for name, kinds in HEADS)
     rows = "".join(row_html(it, folder) for it in known["bins"])
     return '<table class="bins">\n<thead><tr>%s</tr></thead>\n<tbody>\n%s</tbody>\n</table>\n' % (heads, rows)
 
@@ -116,13 +127,12 @@ def could_be_html(it):
 
 
 def others_html(known):
-    kinds = "/".join(known["kinds"]) or "suspect"
+    unexplained = "No single %s explains what is wrong in the cycle of the first miss. Two may, or a coarser kind of suspect."
     parts = [
-        list_html("Not explained", "No single %s explains what is wrong in the cycle of the first miss. Two may, or a coarser kind of suspect." % kinds, [
-            "<code>%s</code>, cycle %d, %s" % (shown(it["dump"]), it["cycle"], shown(", ".join(it["outputs"]))) for it in known["unexplained"]]),
-        list_html("Not finished", "The list of such a test isn't whole, so it is in no bin.", [could_be_html(it) for it in known["unfinished"]]),
-        list_html("Refused", "The design, the dump or the question can't be taken.", [named(it) for it in known["refused"]]),
-        list_html("Without an answer", "No run came to its end. The same command tries these again.", [named(it) for it in known["killed"]]),
+        list_html("Not explained", unexplained % ("/".join(known["kinds"]) or "suspect"), list(map(test_html, known["unexplained"]))),
+        list_html("Not finished", "The list of such a test isn't whole, so it is in no bin.", list(map(could_be_html, known["unfinished"]))),
+        list_html("Refused", "The design, the dump or the question can't be taken.", list(map(named, known["refused"]))),
+        list_html("Without an answer", "No run came to its end. The same command tries these again.", list(map(named, known["killed"]))),
         list_html("Passing", "All outputs are as wanted.", ["<code>%s</code>" % shown(it) for it in known["passing"]], False),
     ]
     return "<h2>Tests in no bin</h2>\n%s" % "".join(parts) if any(parts) else ""
@@ -131,17 +141,18 @@ def others_html(known):
 # ---- the page
 
 def header_html(known):
-    facts = [("design", known["design"]), ("top", known["top"]), ("clock", known["clock"] or "none"), ("suspects", ", ".join(known["kinds"]) or "none"),
-             ("options", " ".join(known["options"]) or "none")]
+    facts = [("design", known["design"]), ("top", known["top"]), ("clock", known["clock"] or "none"),
+             ("suspects", ", ".join(known["kinds"]) or "none"), ("options", " ".join(known["options"]) or "none")]
     rows = "".join("<div><dt>%s</dt><dd>%s</dd></div>\n" % (name, shown(value)) for name, value in facts)
     return "<header>\n<h1>The failing tests of <code>%s</code></h1>\n<p>%s.</p>\n<dl>\n%s</dl>\n</header>\n" % (
         shown(known["top"]), counts_text(known["counts"]), rows)
 
 
 MEANINGS = (
-    '<p class="note">%s follows from lists of <code>localise find</code> that are whole: this is proved, and <code>localise check</code> tells it from the logs. '
-    "A count of places says how many right sides have to change, if nothing but right sides is wrong; a bug may be in more than one. %s is a guess from the "
-    "lists: which tests belong together, which bins are one family, the order of suspects, the number of bugs.</p>\n") % (badge("certified"), badge("likely"))
+    '<p class="note">%s follows from lists of <code>localise find</code> that are whole: this is proved, and <code>localise check</code> tells '
+    "it from the logs. A count of places isn't one of bugs: a bug may be in more than one. %s is a guess from the lists: which tests belong "
+    "together, which bins are one family, the order of suspects, the number of bugs. A made-up failure is a wrong bit in an earlier cycle: what "
+    "explains these too explains anything.</p>\n") % (badge("certified"), badge("likely"))
 
 
 def known_html(known, folder):
@@ -155,8 +166,8 @@ def known_html(known, folder):
 def page_of(known, folder):
     """The page, for a file in this folder."""
     title = "%s: %s" % (shown(known["top"]), many(len(known["bins"]), "bin"))
-    head = '<meta charset="utf-8">\n<meta name="viewport" content="width=device-width, initial-scale=1">\n<title>%s</title>\n<style>%s%s</style>\n' % (
-        title, STYLE, MORE_STYLE)
+    head = '<meta charset="utf-8">\n<meta name="viewport" content="width=device-width, initial-scale=1">\n'
+    head += "<title>%s</title>\n<style>%s%s</style>\n" % (title, STYLE, MORE_STYLE)
     bins = "<h2>Bins</h2>\n" + bins_html(known, folder) if known["bins"] else ""
     return '<!DOCTYPE html>\n<html lang="en">\n<head>\n%s</head>\n<body>\n%s<main class="triage">\n%s%s%s</main>\n</body>\n</html>\n' % (
         head, header_html(known), known_html(known, folder), bins, others_html(known))

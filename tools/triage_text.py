@@ -1,5 +1,6 @@
-"""What is known of a regression, as `tools/triage.py page` writes it as JSON and prints it. What is certified and what is likely is said of each thing:
-certified is what a list of `find` says that is whole, likely is what the bins guess."""
+"""What is known of a regression, as `tools/triage.py page` writes it as JSON and prints it. What is certified and what is likely is said
+of each thing: certified is what a list of `find` says that is whole, likely is what the bins guess.
+"""
 
 import os
 
@@ -35,8 +36,9 @@ def bin_entry(it, bins, answers, lines):
     answer = answers.get(it["number"])
     joint = answer and {name: answer[name] for name in ("folder", "line", "units")} | {"dumps": len(answer["dumps"])}
     tests = [{name: unit[name] for name in ("dump", "cycle", "outputs")} for unit in it["units"]]
-    return {"number": it["number"], "family": it["family"], "tests": it["tests"], "first_outputs": it["first_outputs"], "look_at": it["look_at"],
-            **{name: [suspect_entry(row, bins, lines) for row in it[name]] for name in ("suspects", "mostly")}, "dumps": tests, "joint": joint}
+    suspects = {name: [suspect_entry(row, bins, lines) for row in it[name]] for name in ("suspects", "mostly")}
+    same = {name: it[name] for name in ("number", "family", "tests", "first_outputs", "look_at")}
+    return {**same, **suspects, "dumps": tests, "joint": joint}
 
 
 def least_of(answers):
@@ -68,15 +70,15 @@ def certified_text(known):
     if least is None:
         return "how many places are wrong wasn't asked"
     if least["least"] == 1:
-        return "at least 1 place (%s) is wrong%s" % (kinds, " (the search for more ended: %s)" % least["ended"] if least["ended"] else "")
+        return "at least 1 place (%s) is wrong, if no condition is%s" % (
+            kinds, " (the search for more ended: %s)" % least["ended"] if least["ended"] else "")
     fewer = "no single one explains" if least["least"] == 2 else "no %d explain" % (least["least"] - 1)
-    return "at least %d places (%s) are wrong: %s these dumps together: %s" % (least["least"], kinds, fewer, ", ".join(least["dumps"]))
+    return "at least %d places (%s) are wrong, if no condition is: %s these dumps together: %s" % (
+        least["least"], kinds, fewer, ", ".join(least["dumps"]))
 
 
 def hits_text(row):
     """How many of the failures that were made up a suspect explains too."""
-    if not row["of"]:
-        return "no failure could be made up"
     return "and %d of %s" % (row["hits"], many(row["of"], "made-up failure"))
 
 
@@ -94,7 +96,8 @@ def bin_text(it):
         it["number"], it["family"], many(it["tests"], "dump"), ", ".join(it["first_outputs"]), it["look_at"])
     rest = len(it["suspects"]) - SHOWN
     further = "        and %s\n" % many(rest, "further suspect") if rest > 0 else ""
-    return head + "".join(map(suspect_line, it["suspects"][:SHOWN])) + further + "".join(mostly_line(row, it) for row in it["mostly"][:SHOWN])
+    mostly = "".join(mostly_line(row, it) for row in it["mostly"][:SHOWN])
+    return head + "".join(map(suspect_line, it["suspects"][:SHOWN])) + further + mostly
 
 
 def others_text(head, lines):

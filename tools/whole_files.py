@@ -32,9 +32,8 @@ def write_whole(path, text):
     """Writes a file that is there whole or not at all."""
     folder, name = os.path.split(path)
     try:
-        with tempfile.NamedTemporaryFile("w", dir=folder or ".", prefix="." + name + ".", encoding="utf-8", errors="surrogateescape", newline="\n",
-                                         delete=False) as file:
-            file.write(text)
+        with tempfile.NamedTemporaryFile("wb", dir=folder or ".", prefix="." + name + ".", delete=False) as file:
+            file.write(text.encode("utf-8", "surrogateescape"))
         os.chmod(file.name, 0o666 & ~umask())
         os.replace(file.name, path)
     except (OSError, ValueError) as error:
