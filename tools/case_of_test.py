@@ -51,7 +51,8 @@ def singles(asked, text, *further):
 
 def run_find(asked, room, dumps, size, *further):
     """The last line and all that `find` prints of dumps in a folder, where it leaves its report and its log."""
-    sets = [] if "--sets" in asked.options or "--sets" in further else ["--sets", MOST]
+    given = {it.partition("=")[0] for it in (*asked.options, *further)}
+    sets = [] if "--sets" in given else ["--sets", MOST]
     words = [asked.program, "find", asked.design, asked.top, *(os.path.join(room, it) for it in dumps)]
     words += ["--size", size, *sets, *asked.options, *further] + (["--clock", asked.clock] if asked.clock else [])
     words += ["--report", os.path.join(room, "report.json"), "--log", os.path.join(room, "log")]

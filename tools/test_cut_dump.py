@@ -1,11 +1,13 @@
 """Tests of cut_dump.py, over a stand-in of the program: each stamp is a cycle, and the output is wrong where a `1!` stands."""
 
 import os
+import random
 import stat
 import subprocess
 import sys
 import tempfile
 import unittest
+import unittest.mock
 
 HERE = os.path.dirname(os.path.abspath(__file__))
 sys.path.insert(0, HERE)
@@ -35,6 +37,34 @@ class Stamps(unittest.TestCase):
         body = b"#0 b01 #1 sa #2\n$comment #3 $end\n#4 0#5\n"
         found = cut_dump.stamps(HEAD + body)
         self.assertEqual([(HEAD + body)[it : it + 2] for it in found], [b"#0", b"#4", b""])
+
+
+class Shortest(unittest.TestCase):
+    """Stamps of which some are cycles: those with a `1!`."""
+
+    def simulated(self, asked, text):
+        self.runs += 1
+        return cut_dump.Simulation(b"", text.count(b"1!"))
+
+    def shortest(self, pieces, cycles):
+        """The number of stamps of the shortest front, and how many runs it took to find it."""
+        self.runs = 0
+        with unittest.mock.patch("cut_dump.simulated", self.simulated):
+            text = cut_dump.shortest(None, HEAD + b"".join(pieces), cycles, sum(b"1!" in it for it in pieces))
+        return len(cut_dump.stamps(text)) - 1, self.runs
+
+    def test_it_is_the_first_that_has_so_many_cycles(self):
+        chance = random.Random(3)
+        for _ in range(100):
+            pieces = [b"#%d %d!\n" % (number, chance.random() < chance.choice([0.1, 0.9])) for number in range(chance.randrange(1, 40))]
+            ends = [sum(b"1!" in it for it in pieces[:number]) for number in range(len(pieces) + 1)]
+            for cycles in range(ends[-1] + 1):
+                self.assertEqual(self.shortest(pieces, cycles)[0], ends.index(cycles))
+
+    def test_a_regular_clock_takes_few_runs(self):
+        pieces = [b"#%d %d!\n" % (number, number % 2) for number in range(20000)]
+        self.assertEqual(self.shortest(pieces, 7000), (14000, 2))
+        self.assertLess(self.shortest([b"#0 1!\n"] * 9 + [b"#9 0!\n"] * 20000, 5)[1], 20)
 
 
 class Cuts(unittest.TestCase):

@@ -20,13 +20,15 @@ import unittest.mock
 HERE = os.path.dirname(os.path.abspath(__file__))
 TOP = os.path.dirname(HERE)
 sys.path.insert(0, HERE)
+import asked_bin  # noqa: E402
 import case_of_test  # noqa: E402
 import cut_dump  # noqa: E402
 import triage  # noqa: E402
 import whole_files  # noqa: E402
 
 PROGRAM = os.environ.get("LOCALISE", os.path.join(TOP, "crates", "localise", "out", "localise"))
-HEAD = "$comment %s $end\n$scope module m $end\n$var wire 1 c clk $end\n$var wire 2 y y [1:0] $end\n$var wire 1 z z $end\n$upscope $end\n$enddefinitions $end\n"
+HEAD = "$comment %s $end\n$scope module m $end\n$var wire 1 c clk $end\n$var wire 2 y y [1:0] $end\n$var wire 1 z z $end\n" \
+    "$upscope $end\n$enddefinitions $end\n"
 
 
 # ---- what stands for the program
@@ -91,8 +93,8 @@ class FakeFind:
     def leave(self, room, found, waves):
         """Writes a report of these suspects, a log, and waves where they are wanted."""
         suspects = [{"kind": "stmt", "label": "m", "line": number + 1} for number in range(1, 9)]
-        report = {"clock": "clk", "ending": "complete", "inputs": "0" * 64, "kinds": ["stmt"], "size": 1, "suspects": suspects, "top": "m", "version": 1,
-                  "sets": [{"members": [it], "values": [[["0"]]]} for it in found]}
+        report = {"clock": "clk", "ending": "complete", "inputs": "0" * 64, "kinds": ["stmt"], "size": 1, "top": "m", "version": 1,
+                  "suspects": suspects, "sets": [{"members": [it], "values": [[["0"]]]} for it in found]}
         names = ["wave-%d-1.vcd" % number for number in range(1, len(found) + 1)] if waves else []
         for name, text in [("report.json", json.dumps(report)), ("log", "")] + [(it, "") for it in names]:
             with open(os.path.join(room, name), "w") as file:
@@ -173,14 +175,16 @@ class Cases(Room):
 
     def test_outputs_that_no_one_suspect_explains_are_asked_for_one_by_one(self):
         case, _ = self.case("t", {"y": [2, 4], "z": [5]}, wrong="yz")
-        self.assertEqual([(it["outputs"], it["opened"], it["suspects"]) for it in case["units"]], [(["y"], ["z"], [2, 4]), (["z"], ["y"], [5])])
+        units = [(it["outputs"], it["opened"], it["suspects"]) for it in case["units"]]
+        self.assertEqual(units, [(["y"], ["z"], [2, 4]), (["z"], ["y"], [5])])
 
     def test_outputs_that_one_suspect_explains_are_one_unit(self):
         case, _ = self.case("t", {"y": [2, 4], "z": [4]}, wrong="yz")
         self.assertEqual([(it["outputs"], it["suspects"]) for it in case["units"]], [(["y", "z"], [4])])
 
     def test_passing_refused_unfinished_and_killed(self):
-        for name, says, wanted in (("passes", {"at": 9}, ("passes", "")), ("dump", {"refused": "input T2 1 7"}, ("refused", "input T2 1 7")),
+        for name, says, wanted in (("passes", {"at": 9}, ("passes", "")),
+                                   ("dump", {"refused": "input T2 1 7"}, ("refused", "input T2 1 7")),
                                    ("limit", {"y": [1], "ending": "limit Z5"}, ("refused", "limit Z5")),
                                    ("front", {"y": [1], "ending": "front 1 budget"}, ("unfinished", "front 1 budget"))):
             case, answer = self.case(name, says, wrong="" if name == "passes" else "y")
@@ -203,7 +207,8 @@ class Cases(Room):
     def test_a_dump_that_is_not_there_is_tried_again(self):
         os.mkdir("cases")
         self.assertEqual(self.step("case", "m.v", "m", "late.vcd", "cases", "--clock", "clk")[0], 1)
-        self.assertEqual(whole_files.read_json("cases/late.case", "localise-case 1")["line"], "late.vcd: can't be read: No such file or directory")
+        line = whole_files.read_json("cases/late.case", "localise-case 1")["line"]
+        self.assertEqual(line, "late.vcd: can't be read: No such file or directory")
         self.write("late.vcd", dump_of({"y": [2]}))
         self.assertEqual(self.step("case", "m.v", "m", "late.vcd", "cases", "--clock", "clk")[0], 0)
         self.assertEqual(whole_files.read_json("cases/late.case", "localise-case 1")["answer"], "fails")
@@ -227,7 +232,9 @@ class Cases(Room):
 
 # ---- a regression
 
-class Regressions(Room):
+class Night(Room):
+    """A folder in which a regression can be run."""
+
     def regression(self):
         """Two bugs, at y and z, and of each other kind of test one."""
         for number in range(3):
@@ -237,6 +244,8 @@ class Regressions(Room):
         self.write("g.case", "{")
         return self.step("bins", "bins.json", ".")
 
+
+class Regressions(Night):
     def test_bins_and_all_others(self):
         status, said, _ = self.regression()
         self.assertEqual((status, said), (0, "8 dumps fail (1 not finished), 1 passes, 1 refused, 1 without an answer: 2 bins\n"))
@@ -258,6 +267,10 @@ class Regressions(Room):
         self.assertEqual((known["certified"]["least"], known["certified"]["line"]), (2, "complete 0"))
         self.assertEqual([it["joint"]["line"] for it in known["bins"]], ["complete 2", "complete 2"])
 
+    def test_the_number_of_sets_is_left_out_where_one_is_enough(self):
+        asked = argparse.Namespace(options=["--sets", "7", "--budget", "9", "--sets=8"], top="m")
+        self.assertEqual(asked_bin.without_sets(asked).options, ["--budget", "9"])
+
     def test_an_answer_of_other_tests_is_left_out(self):
         self.regression()
         self.step("ask", "one", "bins.json", "1")
@@ -274,7 +287,8 @@ class Regressions(Room):
         os.remove("c.case")
         self.case("d", {"refused": "limit Z1"})
         status, _, errors = self.step("bins", "bins.json", ".")
-        self.assertEqual((status, errors), (1, "triage.py: no test fails, but one has no answer, as d.vcd: limit Z1: there is nothing to put into bins\n"))
+        said = "triage.py: no test fails, but one has no answer, as d.vcd: limit Z1: there is nothing to put into bins\n"
+        self.assertEqual((status, errors), (1, said))
         self.assertFalse(os.path.exists("bins.json"))
 
     def test_two_runs_in_one_folder(self):
@@ -291,9 +305,9 @@ class Regressions(Room):
             bug = number % 4
             listed = [10 * bug + 1] + [10 * bug + it for it in (2, 3, 4) if chance.random() < 0.5]
             unit = {"outputs": ["y%d" % bug], "opened": [], "suspects": listed, "ending": "complete 1", "made_up": None}
-            case = {"form": "localise-case 1", "design": "m.v", "design_digest": "", "top": "m", "clock": "", "options": [], "dump": "%d.vcd" % number,
-                    "dump_digest": "", "answer": "fails", "line": "", "cycle": 3, "end": 0, "names": ["y"], "units": [unit],
-                    "suspects": {str(it): {"kind": "stmt", "line": 1, "label": "m"} for it in listed}}
+            case = {"form": "localise-case 1", "design": "m.v", "design_digest": "", "top": "m", "clock": "", "options": [],
+                    "dump": "%d.vcd" % number, "dump_digest": "", "answer": "fails", "line": "", "cycle": 3, "end": 0, "names": ["y"],
+                    "units": [unit], "suspects": {str(it): {"kind": "stmt", "line": 1, "label": "m"} for it in listed}}
             self.write("%d.case" % number, json.dumps(case))
         self.assertEqual(self.step("bins", "bins.json", ".")[:2], (0, "2000 dumps fail, 0 pass, 0 refused: 4 bins\n"))
 
@@ -318,7 +332,7 @@ class Balanced(html.parser.HTMLParser):
             raise AssertionError("%s ends out of order" % tag)
 
 
-class Pages(Regressions):
+class Pages(Night):
     def test_the_page_is_well_formed_and_its_links_are_there(self):
         self.regression()
         self.step("ask", "bin <1>", "bins.json", "1")
@@ -334,7 +348,7 @@ class Pages(Regressions):
         self.known("least")
         with open("page.html") as file:
             text = file.read()
-        self.assertRegex(text, r'<div class="said certified"><span class="what certified">certified</span>at least 2 places \(stmt\) are wrong, if no condition is')
+        self.assertIn('<div class="said certified"><span class="what certified">certified</span>at least 2 places (stmt) are wrong, if no cond', text)
         self.assertRegex(text, r'<div class="said likely"><span class="what likely">likely</span>2 bugs')
 
 

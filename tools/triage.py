@@ -40,6 +40,7 @@ REFUSED = {
     "--log": "the runs of a test leave none: `ask` does",
     "--report": "the runs of a test leave none: `ask` does",
     "--waves": "the runs of a test leave none: `ask` does",
+    "--question": "a function has to be the same in all tests, so the lists of single tests don't tell bugs apart by it",
 }
 
 
