@@ -34,7 +34,7 @@ use Rattle.aiger_design.specs.declared.numbering.Numbering.{Numbering}
 use Rattle.aiger_design.specs.Numbering.{input_count, first_register, first_result, signal_count, row_signal, and_signal, output_signal, latch_signal, and_number, latch_number}
 use Rattle.aiger_design.specs.Signals.{bit_word, signal, signals_of, port_signal, row_signal_of, row_path}
 use Rattle.aiger_design.specs.Values.{bit_of, variable, value, first_value, second_value, and_value, first_read, second_read}
-use Rattle.aiger_design.specs.Drivers.{and_driver, output_driver, drivers_of, latch_block, blocks_of, place, and_place, latch_place, places_of}
+use Rattle.aiger_design.specs.Drivers.{and_driver, output_driver, drivers_of, latch_block, blocks_of, place, and_place, latch_place, and_places, latch_places, places_of}
 use Rattle.aiger_design.specs.Reads.{HasSignal, HasSignals}
 use Rattle.aiger_design.specs.File.{IsDesignBy}
 use Rattle.aiger_design.proofs.Lists.{all-both, all-made, all-range, get-made, get-front, has-one, has-test, sum-none, sum-one, range-distinct}
@@ -187,13 +187,6 @@ pub record ArePlaces (places : List Place) (count : ℕ) : Type 0 where
 place-fits : (places : List Place) (count width p : ℕ) → ArePlaces places count → width ≡ 1 → p < count → place_fits places width p ≡ true
 place-fits places count width p are is within =
     ap (λ w. place_fits places w p) is ∙ has-test (λ place. place.width == 1) places p are.width (omega (arith, are.long, within))
-
--- the places in their two parts
-abbrev and_places : List Row → Numbering → List ℕ → List Place
-and_places rows n top = map (and_place rows n top) (range_with_len (first_and n.counts) n.counts.ands)
-
-abbrev latch_places : Numbering → List ℕ → List Place
-latch_places n top = map (latch_place n top) (range_with_len (first_latch n.counts) n.counts.latches)
 
 -- a test that each place of one bit passes, all do
 all-places : (test : Place → Bool) (rows : List Row) (n : Numbering) (top : List ℕ)

@@ -34,10 +34,15 @@ and_driver rows n row = Cont (whole (and_signal n row)) (and_value rows n row) (
 abbrev pub output_driver : List Row → Numbering → ℕ → Driver
 output_driver rows n row = Cont (whole (output_signal n row)) (first_value rows n row) None (line_span row)
 
+-- those of the ANDs, then those of the outputs
+abbrev pub and_drivers : List Row → Numbering → List Driver
+and_drivers rows n = map (and_driver rows n) (range_with_len (first_and n.counts) n.counts.ands)
+
+abbrev pub output_drivers : List Row → Numbering → List Driver
+output_drivers rows n = map (output_driver rows n) (range_with_len (first_output n.counts) n.counts.outputs)
+
 abbrev pub drivers_of : List Row → Numbering → List Driver
-drivers_of rows n =
-    map (and_driver rows n) (range_with_len (first_and n.counts) n.counts.ands)
-    ++ map (output_driver rows n) (range_with_len (first_output n.counts) n.counts.outputs)
+drivers_of rows n = and_drivers rows n ++ output_drivers rows n
 
 -- the block of a latch's row, which takes the value that the row reads
 abbrev pub latch_block : List Row → Numbering → ℕ → Clocked
@@ -61,7 +66,12 @@ and_place rows n top row = place And top (row_path rows 97 row) (row + 2) (and_s
 abbrev pub latch_place : Numbering → List ℕ → ℕ → Place
 latch_place n top row = place Step top top (row + 2) (latch_signal n row)
 
+-- those of the ANDs, then those of the latches
+abbrev pub and_places : List Row → Numbering → List ℕ → List Place
+and_places rows n top = map (and_place rows n top) (range_with_len (first_and n.counts) n.counts.ands)
+
+abbrev pub latch_places : Numbering → List ℕ → List Place
+latch_places n top = map (latch_place n top) (range_with_len (first_latch n.counts) n.counts.latches)
+
 abbrev pub places_of : List Row → Numbering → List ℕ → List Place
-places_of rows n top =
-    map (and_place rows n top) (range_with_len (first_and n.counts) n.counts.ands)
-    ++ map (latch_place n top) (range_with_len (first_latch n.counts) n.counts.latches)
+places_of rows n top = and_places rows n top ++ latch_places n top

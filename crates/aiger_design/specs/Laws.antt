@@ -18,11 +18,14 @@ pub record AreAlike (d e : Design) : Type 0 where
 
 -- a text means one design at most
 abbrev pub OneDesign : Type 0
-OneDesign = (text top : List ℕ) (clock : Option (List ℕ)) (d e : Design) → IsFile text top clock d → IsFile text top clock e → AreAlike d e
+OneDesign =
+    (text top : List ℕ) (clock : Option (List ℕ)) (d e : Design) → IsFile text top clock d → IsFile text top clock e → AreAlike d e
 
 -- a text that means one is refused for want of memory alone
 abbrev pub NoRefusal : Type 0
-NoRefusal = (text top : List ℕ) (clock : Option (List ℕ)) (d : Design) (fault : AigerErr) → IsFile text top clock d → AigerCause text clock fault → fault ≡ NoMemory
+NoRefusal =
+    (text top : List ℕ) (clock : Option (List ℕ)) (d : Design) (fault : AigerErr) → IsFile text top clock d
+    → AigerCause text clock fault → fault ≡ NoMemory
 
 -- a design that a text means is well formed
 abbrev pub FileIsWellFormed : Type 0

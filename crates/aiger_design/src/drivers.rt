@@ -1,9 +1,8 @@
 //! The drivers and the clocked blocks.
-ghost use Rattle.std.specs.Prelude.{◌≡◌, ◌<◌, ◌≤◌, ◌++◌, map, IfOk, OnOk};
-ghost use Rattle.std.specs.List.{range_with_len};
+ghost use Rattle.std.specs.Prelude.{◌≡◌, ◌<◌, ◌≤◌, ◌++◌, IfOk, OnOk};
 ghost use Rattle.aiger_text.specs.Rows.{first_latch, first_output, first_and, row_count};
 ghost use Rattle.aiger_design.specs.Numbering.{and_number, and_signal, latch_number, latch_signal, output_signal};
-ghost use Rattle.aiger_design.specs.Drivers.{whole, and_driver, output_driver, drivers_of, latch_block, blocks_of};
+ghost use Rattle.aiger_design.specs.Drivers.{whole, and_driver, output_driver, and_drivers, output_drivers, drivers_of, latch_block, blocks_of};
 ghost use Rattle.aiger_design.specs.Stands.{Stands};
 
 use crate::file::File;
@@ -87,8 +86,7 @@ impl File<'_> {
     #[tactic(auto, using(crate::proofs::Ranges::range_steps))]
     fn push_ands(&self, drivers: &mut Vec<Driver>) -> Result<(), NoMemory>
         requires { Stands self.now }
-        ensures { OnOk result (drivers.new.items ≡ drivers.old.items
-            ++ map (and_driver self.now.rows.now self.now.numbering) (range_with_len (first_and self.now.numbering.counts) self.now.numbering.counts.ands)) }
+        ensures { OnOk result (drivers.new.items ≡ drivers.old.items ++ and_drivers self.now.rows.now self.now.numbering) }
     {
         let counts = self.numbering.counts;
         for row in counts.first_and()..counts.rows() {
@@ -101,8 +99,7 @@ impl File<'_> {
     #[tactic(auto, using(crate::proofs::Ranges::range_steps))]
     fn push_outputs(&self, drivers: &mut Vec<Driver>) -> Result<(), NoMemory>
         requires { Stands self.now }
-        ensures { OnOk result (drivers.new.items ≡ drivers.old.items
-            ++ map (output_driver self.now.rows.now self.now.numbering) (range_with_len (first_output self.now.numbering.counts) self.now.numbering.counts.outputs)) }
+        ensures { OnOk result (drivers.new.items ≡ drivers.old.items ++ output_drivers self.now.rows.now self.now.numbering) }
     {
         let counts = self.numbering.counts;
         for row in counts.first_output()..counts.first_and() {

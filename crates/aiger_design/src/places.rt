@@ -1,8 +1,7 @@
 //! The places.
-ghost use Rattle.std.specs.Prelude.{◌≡◌, ◌<◌, ◌≤◌, ◌++◌, map, IfOk, OnOk};
-ghost use Rattle.std.specs.List.{range_with_len};
+ghost use Rattle.std.specs.Prelude.{◌≡◌, ◌<◌, ◌≤◌, ◌++◌, IfOk, OnOk};
 ghost use Rattle.aiger_text.specs.Rows.{first_latch, first_output, first_and, row_count};
-ghost use Rattle.aiger_design.specs.Drivers.{place, and_place, latch_place, places_of};
+ghost use Rattle.aiger_design.specs.Drivers.{place, and_place, latch_place, and_places, latch_places, places_of};
 ghost use Rattle.aiger_design.specs.Stands.{Stands};
 
 use crate::file::File;
@@ -72,8 +71,7 @@ impl File<'_> {
     #[tactic(auto, using(crate::proofs::Ranges::range_steps))]
     fn push_and_places(&self, top: &Name, places: &mut Vec<Place>) -> Result<(), NoMemory>
         requires { Stands self.now }
-        ensures { OnOk result (places.new.items ≡ places.old.items
-            ++ map (and_place self.now.rows.now self.now.numbering top.now) (range_with_len (first_and self.now.numbering.counts) self.now.numbering.counts.ands)) }
+        ensures { OnOk result (places.new.items ≡ places.old.items ++ and_places self.now.rows.now self.now.numbering top.now) }
     {
         let counts = self.numbering.counts;
         for row in counts.first_and()..counts.rows() {
@@ -86,8 +84,7 @@ impl File<'_> {
     #[tactic(auto, using(crate::proofs::Ranges::range_steps))]
     fn push_latch_places(&self, top: &Name, places: &mut Vec<Place>) -> Result<(), NoMemory>
         requires { Stands self.now }
-        ensures { OnOk result (places.new.items ≡ places.old.items
-            ++ map (latch_place self.now.numbering top.now) (range_with_len (first_latch self.now.numbering.counts) self.now.numbering.counts.latches)) }
+        ensures { OnOk result (places.new.items ≡ places.old.items ++ latch_places self.now.numbering top.now) }
     {
         let counts = self.numbering.counts;
         for row in u64::from(counts.inputs)..counts.first_output() {

@@ -18,7 +18,8 @@ OwnDiffer rows names lines =
 -- a table has the names of all ports below a place whose lines are those of symbols, and the clock's
 abbrev pub AreShared : ℕ → List (List ℕ) → List ℕ → ℕ → NameTable → Type 0
 AreShared rows names lines count table =
-    (place : ℕ) → place < count → is_own rows (slice_index lines place) ≡ false → has_number table (slice_index_or names place []) ≡ true
+    (place : ℕ) → place < count → is_own rows (slice_index lines place) ≡ false
+    → has_number table (slice_index_or names place []) ≡ true
 
 -- which names were met, with one more if it is shared
 abbrev pub met_with : (List ℕ → Bool) → (List ℕ → Bool) → List ℕ → List ℕ → Bool

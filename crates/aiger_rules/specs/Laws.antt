@@ -17,8 +17,10 @@ OneLine = (w : Content) (one other : ℕ) → IsMisused w one → IsMisused w ot
 
 -- where all lines name something rightly, names are refused for want of memory alone
 abbrev pub NoMisnaming : Type 0
-NoMisnaming = (w : Content) (clock : Option (List ℕ)) (fault : AigerErr) → IsNamedWell w clock → NamingCause w clock fault → fault ≡ NoMemory
+NoMisnaming =
+    (w : Content) (clock : Option (List ℕ)) (fault : AigerErr) → IsNamedWell w clock → NamingCause w clock fault → fault ≡ NoMemory
 
 -- one line is refused at most
 abbrev pub OneName : Type 0
-OneName = (w : Content) (clock : Option (List ℕ)) (one other : ℕ) → IsMisnamed w clock one → IsMisnamed w clock other → one ≡ other
+OneName =
+    (w : Content) (clock : Option (List ℕ)) (one other : ℕ) → IsMisnamed w clock one → IsMisnamed w clock other → one ≡ other

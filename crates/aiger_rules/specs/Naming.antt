@@ -1,5 +1,5 @@
--- Which lines name something wrongly: a symbol without a place, a second one of a place, one without a name, and a port that has the name of
--- an earlier one. That port's line is the one of its symbol, and where it has none, the one of its row.
+-- Which lines name something wrongly: a symbol without a place, a second one of a place, one without a name, and a port that has the
+-- name of an earlier one. That port's line is the one of its symbol, and where it has none, the one of its row.
 use Rattle.std.specs.Prelude.{ℕ, ◌≡◌, ◌<◌, ◌≤◌, ◌==◌, Bool, true, false, not, ◌||◌, List, [], length, take, slice_get, slice_index, slice_index_or, Option, None, Some, if◌then◌else◌, nat_lt, ◌⊎◌}
 use Rattle.std.specs.Str.{bytes_eq}
 use Rattle.std.specs.List.{list_any}

@@ -53,7 +53,8 @@ impl Named<'_, '_> {
     fn least_misplaced(&self) -> Option<u64>
         requires symbols { AreSymbols (content_of self.now.content.now) self.now.symbols.now }
         requires few { length self.now.content.now.symbols.items ≤ 16777216 }
-        ensures { let w = content_of self.now.content.now in IsLeastOf (IsLineOf (is_misplaced w) (symbol_line w) (length w.symbols)) result }
+        ensures { let w = content_of self.now.content.now
+            in IsLeastOf (IsLineOf (is_misplaced w) (symbol_line w) (length w.symbols)) result }
     {
         let mut least = None;
         for (place, symbol) in self.content.symbols.iter().enumerate() {
@@ -109,7 +110,8 @@ fn is_met_again<'a>(
     name: &'a [u8],
 ) -> Result<bool, NoMemory>
     ensures again { IfOk result (λ again. again ≡ (has_number shared.now name.now && has_number met.old name.now)) }
-    ensures met { OnOk result ((other : List ℕ) → has_number met.new other ≡ met_with (has_number shared.now) (has_number met.old) name.now other) }
+    ensures met { OnOk result ((other : List ℕ) → has_number met.new other
+        ≡ met_with (has_number shared.now) (has_number met.old) name.now other) }
 {
     if shared.find(name).is_none() {
         return Ok(false);

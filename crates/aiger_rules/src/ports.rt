@@ -73,7 +73,8 @@ impl Named<'_, '_> {
     #[tactic(auto, using(crate::proofs::PortSteps::range_steps))]
     fn push_names(&self, names: &mut Rows<u8>, from: u64, to: u64) -> Result<(), NoMemory>
         requires { AreSymbols (content_of self.now.content.now) self.now.symbols.now }
-        ensures { OnOk result (names.new ≡ names.old ++ map (port_name (content_of self.now.content.now)) (range_with_len from (to - from))) }
+        ensures { OnOk result (names.new ≡ names.old
+            ++ map (port_name (content_of self.now.content.now)) (range_with_len from (to - from))) }
     {
         for row in from..to {
             let name = self.port_name(row)?;
@@ -121,7 +122,8 @@ impl Named<'_, '_> {
         requires symbols { AreSymbols (content_of self.now.content.now) self.now.symbols.now }
         requires few { length self.now.content.now.symbols.items ≤ 16777216 }
         requires low { to ≤ row_count self.now.content.now.counts }
-        ensures { OnOk result (lines.new.items ≡ lines.old.items ++ map (port_line (content_of self.now.content.now)) (range_with_len from (to - from))) }
+        ensures { OnOk result (lines.new.items ≡ lines.old.items
+            ++ map (port_line (content_of self.now.content.now)) (range_with_len from (to - from))) }
     {
         for row in from..to {
             lines.push(self.port_line(row))?;
