@@ -48,7 +48,7 @@ def bin_entry(it, units, made_up):
     """A bin as it stands in the file, but for its number and its family."""
     of = sorted((units[place] for place in it.units), key=lambda unit: (unit["dump"], unit["outputs"]))
     outputs = sorted({name for unit in of for name in unit["outputs"]})
-    mostly = {number for number, count in it.counts.items() if 2 * count >= len(of)} - it.shared
+    mostly = {number for number, count in it.counts.items() if 2 * count > len(of)} - it.shared
     return {"tests": tests_of(of), "outputs": outputs, "first_outputs": first_outputs(of), "look_at": to_look_at(of)["dump"], "units": of,
             "suspects": rows_of(it.shared, it, outputs, made_up), "mostly": rows_of(mostly, it, outputs, made_up)}
 

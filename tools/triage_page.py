@@ -13,7 +13,7 @@ FOLDED = 12         # suspects of a bin that stand open
 
 MORE_STYLE = """
 main.triage { display: block; padding: 0 1.2rem 1.5rem; }
-.what { display: inline-block; font-size: .75rem; font-weight: 700; padding: 0 .45rem; border-radius: 3px; margin-right: .5rem; }
+.what { display: inline-block; vertical-align: middle; font-size: .75rem; font-weight: 700; padding: 0 .45rem; border-radius: 3px; margin-right: .5rem; }
 .what.certified { background: var(--ink); color: var(--paper); border: 1px solid var(--ink); }
 .what.likely { color: var(--faint); border: 1px dashed var(--faint); font-style: italic; font-weight: 400; }
 .said { padding: .25rem .8rem; margin: .35rem 0; max-width: 75rem; overflow-wrap: anywhere; }
