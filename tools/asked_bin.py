@@ -4,7 +4,6 @@ Each leaves a folder: `answer.json`, and of the run that it tells of `report.jso
 bin also `list.html`, the page of that report, and `waves/`, the values of each suspect in the dump to look at first.
 """
 
-import argparse
 import os
 import shutil
 import tempfile
@@ -102,14 +101,6 @@ def bin_answer(asked, it, room):
 
 # ---- the least number of places
 
-def without_sets(asked):
-    """The same words without `--sets`, of which a run takes one."""
-    options = list(asked.options)
-    for place in reversed([place for place, it in enumerate(options) if it.partition("=")[0] == "--sets"]):
-        del options[place: place + (1 if "=" in options[place] else 2)]
-    return argparse.Namespace(**{**vars(asked), "options": options})
-
-
 def least_answer(asked, units, room):
     """Asks for a dump of each bin, together, for sets of more and more suspects: no set of fewer than `least` makes them all right."""
     names = write_dumps(asked, units, room)
@@ -118,7 +109,7 @@ def least_answer(asked, units, room):
         with tempfile.TemporaryDirectory(prefix="triage-") as other:
             os.symlink(os.path.abspath(os.path.join(room, "dumps")), os.path.join(other, "dumps"))
             try:
-                last, _ = run_find(without_sets(asked), other, names, str(size), "--sets", "1")
+                last, _ = run_find(asked, other, names, str(size), "--sets", "1")
             except NoAnswer as said:
                 return dict(answer, ended=str(said))
             if last != "complete 0":

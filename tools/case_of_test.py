@@ -49,19 +49,29 @@ def singles(asked, text, *further):
     return Listed(members, last)
 
 
+def parted(words, names):
+    """The options of these names with their values, and the others."""
+    some, others, left = [], [], list(words)
+    while left:
+        word = left.pop(0)
+        value = [left.pop(0)] if word in names and left else []
+        (some if word.partition("=")[0] in names else others).extend([word, *value])
+    return some, others
+
+
 def run_find(asked, room, dumps, size, *further):
     """The last line and all that `find` prints of dumps in a folder, where it leaves its report and its log."""
-    given = {it.partition("=")[0] for it in (*asked.options, *further)}
-    sets = [] if "--sets" in given else ["--sets", MOST]
+    effort = asked.effort if "--sets" not in further else parted(asked.effort, ("--sets",))[1]
+    sets = [] if parted([*effort, *further], ("--sets",))[0] else ["--sets", MOST]
     words = [asked.program, "find", asked.design, asked.top, *(os.path.join(room, it) for it in dumps)]
-    words += ["--size", size, *sets, *asked.options, *further] + (["--clock", asked.clock] if asked.clock else [])
+    words += ["--size", size, *sets, *asked.options, *effort, *further] + (["--clock", asked.clock] if asked.clock else [])
     words += ["--report", os.path.join(room, "report.json"), "--log", os.path.join(room, "log")]
     ran = subprocess.run(words, stdin=subprocess.DEVNULL, stdout=subprocess.PIPE, text=True, errors="backslashreplace")
     last = (ran.stdout.strip("\n").split("\n") or [""])[-1]
     if ran.returncode < 0:
         raise Killed("find was ended by signal %d" % -ran.returncode)
     if ran.returncode == 2:
-        raise Problem("find refuses its arguments: %s (options that are handed through: %s)" % (last, " ".join(asked.options) or "none"))
+        raise Problem("find refuses its arguments: %s (options that are handed through: %s)" % (last, " ".join([*asked.options, *effort]) or "none"))
     if ran.returncode > 1 and not last.startswith("front "):
         raise NoAnswer(last or "find ended with status %d" % ran.returncode)
     return last, ran.stdout

@@ -20,7 +20,6 @@ import unittest.mock
 HERE = os.path.dirname(os.path.abspath(__file__))
 TOP = os.path.dirname(HERE)
 sys.path.insert(0, HERE)
-import asked_bin  # noqa: E402
 import case_of_test  # noqa: E402
 import cut_dump  # noqa: E402
 import triage  # noqa: E402
@@ -204,6 +203,14 @@ class Cases(Room):
         case, _ = self.case("t", {"y": [2]}, "--suspects", "block", "--x-inputs=free", "--scope", "u.v")
         self.assertEqual(case["options"], ["--suspects", "block", "--x-inputs=free", "--scope", "u.v"])
 
+    def test_more_effort_tries_an_unfinished_test_again_and_no_other(self):
+        for name, ending in (("front", "front 1 budget"), ("whole", "complete 1")):
+            self.case(name, {"y": [2], "ending": ending})
+            self.find.calls.clear()
+            case, answer = self.case(name, {"y": [2], "ending": ending}, "--budget=900", "--sets", "7")
+            self.assertEqual((answer[0], len(self.find.calls)), (0, int(name == "front")))
+        self.assertEqual(case_of_test.parted(["--sets", "7", "--scope", "u", "--sets=8"], ("--sets",)), (["--sets", "7", "--sets=8"], ["--scope", "u"]))
+
     def test_a_dump_that_is_not_there_is_tried_again(self):
         os.mkdir("cases")
         self.assertEqual(self.step("case", "m.v", "m", "late.vcd", "cases", "--clock", "clk")[0], 1)
@@ -266,10 +273,6 @@ class Regressions(Night):
         known = self.known("bin 1", "bin 2", "bin least")
         self.assertEqual((known["certified"]["least"], known["certified"]["line"]), (2, "complete 0"))
         self.assertEqual([it["joint"]["line"] for it in known["bins"]], ["complete 2", "complete 2"])
-
-    def test_the_number_of_sets_is_left_out_where_one_is_enough(self):
-        asked = argparse.Namespace(options=["--sets", "7", "--budget", "9", "--sets=8"], top="m")
-        self.assertEqual(asked_bin.without_sets(asked).options, ["--budget", "9"])
 
     def test_an_answer_of_other_tests_is_left_out(self):
         self.regression()

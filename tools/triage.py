@@ -3,7 +3,7 @@
 
     tools/triage.py case DESIGN TOP DUMP OUT [--clock NAME] [--program FILE] [OPTION OF find]..
     tools/triage.py bins OUT CASE..
-    tools/triage.py ask OUT BINS N|least [--program FILE]
+    tools/triage.py ask OUT BINS N|least [--program FILE] [--budget B] [--sets M] [--workers N]
     tools/triage.py page BINS [ASKED..] [--html OUT] [--json OUT]
 
 `case` looks at one test: `sim` says where its first output is wrong, the dump is cut there, and `find --size 1` lists the single suspects
@@ -31,10 +31,12 @@ import asked_bin  # noqa: E402
 import bins_of_tests  # noqa: E402
 import triage_page  # noqa: E402
 import triage_text  # noqa: E402
-from case_of_test import Case, case_of  # noqa: E402
+from case_of_test import Case, case_of, parted  # noqa: E402
 from report import design_lines  # noqa: E402
 from whole_files import Problem, digest, json_text, load, read_json, write_whole  # noqa: E402
 
+# (how long is searched, and not what is asked: a list that is whole is the same with more)
+EFFORT = ("--budget", "--sets", "--workers")
 REFUSED = {
     "--size": "a test is known by its single suspects",
     "--log": "the runs of a test leave none: `ask` does",
@@ -56,8 +58,8 @@ def question_of(asked, text):
             "options": asked.options, "dump": asked.dump, "dump_digest": digest(text)}
 
 
-def is_there(out, question):
-    """Whether the case is made already; a Problem where what stands is of another run."""
+def is_there(out, question, effort):
+    """Whether the case is made already, and this effort wouldn't change it; a Problem where what stands is of another run."""
     if not os.path.exists(out):
         return False
     stands = read_json(out, bins_of_tests.CASE)
@@ -66,7 +68,7 @@ def is_there(out, question):
     other = next((name for name in question if stands.get(name) != question[name]), None)
     if other:
         raise Problem("%s: is of another run: its %s differs; take another folder, or remove it" % (out, other.replace("_", "'s ")))
-    return True
+    return stands["answer"] != "unfinished" or stands["effort"] == effort
 
 
 def out_of(asked):
@@ -83,10 +85,10 @@ def make_case(asked):
     except Problem as problem:
         text, case = b"", Case("killed", str(problem))
     question = question_of(asked, text)
-    if is_there(asked.out, question):
+    if is_there(asked.out, question, asked.effort):
         return 0
     case = case or case_of(asked)
-    write_whole(asked.out, json_text({"form": bins_of_tests.CASE, **question, **dataclasses.asdict(case)}))
+    write_whole(asked.out, json_text({"form": bins_of_tests.CASE, **question, "effort": asked.effort, **dataclasses.asdict(case)}))
     if case.answer == "killed":
         say("%s: %s", asked.dump, case.line)
     return 1 if case.answer == "killed" else 0
@@ -120,7 +122,8 @@ def asked_of_bins(asked, bins):
     question = bins["question"]
     if digest(load(question["design"])) != question["design_digest"]:
         raise Problem("%s: was changed since the cases were made" % question["design"])
-    return argparse.Namespace(program=asked.program, **{name: question[name] for name in ("design", "top", "clock", "options")})
+    same = {name: question[name] for name in ("design", "top", "clock", "options")}
+    return argparse.Namespace(program=asked.program, effort=asked.effort, **same)
 
 
 def make_answer(asked):
@@ -203,15 +206,15 @@ def parser_of():
 
 
 def asked_of(words):
-    """The words as they are given; what `case` doesn't know itself is for `find`."""
+    """The words as they are given; what `case` doesn't know itself is for `find`, and of `ask` what says how long it may search."""
     parser = parser_of()
-    asked, asked_further = parser.parse_known_args(words)
-    if asked_further and asked.step != "case":
-        parser.error("not known: %s" % " ".join(asked_further))
-    for word in asked_further:
-        if word.partition("=")[0] in REFUSED:
-            parser.error("%s: %s" % (word.partition("=")[0], REFUSED[word.partition("=")[0]]))
-    asked.options = asked_further
+    asked, further = parser.parse_known_args(words)
+    asked.effort, asked.options = parted(further, EFFORT)
+    for name in (word.partition("=")[0] for word in asked.options):
+        if name in REFUSED:
+            parser.error("%s: %s" % (name, REFUSED[name]))
+    if asked.step != "case" and asked.options or asked.step in ("bins", "page") and asked.effort:
+        parser.error("not known: %s" % " ".join(further))
     return asked
 
 
