@@ -14,7 +14,7 @@ from dataclasses import dataclass, field
 from typing import Optional
 
 import cut_dump
-from last_cycle import NotThere, scope_with, with_last
+from last_cycle import NotThere, bits_of, with_last
 from whole_files import Problem, digest
 
 MOST = "4097"       # (there are at most 4,096 suspects, so a list of single ones never ends at this)
@@ -160,7 +160,7 @@ def made_up(asked, cut, said, unit):
     chance = int(digest(b"%s %s" % (digest(cut.text).encode(), unit.outputs[0].encode())), 16)
     if said.miss == 0:
         return None
-    bits = scope_with(cut.text, cut.names)[unit.outputs[0]].bits
+    bits = bits_of(cut.text, unit.outputs[0], cut.names)
     cycle, bit = chance % said.miss, chance // said.miss % bits
     text = cut_dump.shortest(asked, cut.text, cycle + 1, said.miss + 1)
     other = value_at(said, cycle, unit.outputs[0]) ^ (1 << bit)

@@ -6,6 +6,7 @@ its stamps.
 """
 
 import re
+from itertools import product
 
 from cut_dump import stamps
 
@@ -49,12 +50,17 @@ def scopes_of(text):
     return scopes
 
 
-def scope_with(text, names):
-    """The first scope that has all these variables."""
-    found = next((it for it in scopes_of(text) if all(name in it for name in names)), None)
-    if found is None:
+def scopes_with(text, names):
+    """The scopes that have all these variables. `localise` reads the first that has the inputs, too: it is one of them, and so all are changed."""
+    found = [it for it in scopes_of(text) if all(name in it for name in names)]
+    if not found:
         raise NotThere("no scope of the dump has %s" % ", ".join(names))
     return found
+
+
+def bits_of(text, name, names):
+    """The bits of a variable in the scopes that have all these."""
+    return scopes_with(text, names)[0][name].bits
 
 
 # ---- a code of its own
@@ -70,8 +76,8 @@ def with_code_doubled(text, variable, code):
 
 def with_own_codes(text, names, all_names):
     """The text in which each of these outputs has a code of its own, as a dump has it where a change of one isn't one of another port."""
-    for name in names:
-        scope = scope_with(text, all_names)
+    for place, name in product(range(len(scopes_with(text, all_names))), names):
+        scope = scopes_with(text, all_names)[place]
         variable = scope[name]
         if sum(it.code == variable.code for it in scope.values()) > 1:
             code = next(it for it in (b"own%d" % number for number in range(len(text))) if it not in text)
@@ -90,6 +96,7 @@ def with_last(text, values, all_names, clocked):
     """The text with these values of outputs, by their names, in its last cycle; None leaves one open. `all_names` are those by which the
     scope is found: all outputs, and the clock where there is one."""
     text = with_own_codes(text, values, all_names)
-    scope, at = scope_with(text, all_names), stamps(text)[-2] if clocked else len(text)
-    changes = b"".join(b"b%s %s\n" % (digits_of(value, scope[name].bits), scope[name].code) for name, value in values.items())
-    return text[:at] + (b"" if text[:at].endswith(b"\n") else b"\n") + changes + text[at:]
+    at = stamps(text)[-2] if clocked else len(text)
+    variables = [(scope[name], value) for scope in scopes_with(text, all_names) for name, value in values.items()]
+    changes = dict.fromkeys(b"b%s %s\n" % (digits_of(value, it.bits), it.code) for it, value in variables)
+    return text[:at] + (b"" if text[:at].endswith(b"\n") else b"\n") + b"".join(changes) + text[at:]

@@ -64,13 +64,17 @@ class LastCycles(unittest.TestCase):
     def test_the_change_stands_before_the_last_stamp_of_a_clock_and_else_at_the_end(self):
         text = self.TEXT.replace(b"$var wire 4 b q $end\n", b"")
         self.assertTrue(last_cycle.with_last(text, {"y": 5}, ["y", "clk"], True).endswith(b"#10\n0!\nb0101 b\n#15\n1!\n"))
-        self.assertTrue(last_cycle.with_last(text, {"y": None}, ["y"], False).endswith(b"\nbx a\n"))
+        self.assertTrue(last_cycle.with_last(text, {"y": None}, ["y"], False).endswith(b"\nbx a\nbx b\n"))
 
     def test_a_code_that_is_of_two_ports_is_told_apart(self):
         text = last_cycle.with_last(self.TEXT, {"y": 5}, ["y", "clk"], True)
         self.assertIn(b"$var reg 4 own0 y [3:0] $end\n$var wire 4 b q $end", text)
         self.assertIn(b"#0\n0!\nb11 b\nb11 own0\n", text)
         self.assertTrue(text.endswith(b"0!\nb0101 own0\n#15\n1!\n"))
+
+    def test_each_scope_that_may_be_meant_is_changed(self):
+        text = last_cycle.with_last(self.TEXT.replace(b"y $end", b"y $end\n$var reg 1 t clk $end", 1), {"y": 0}, ["y", "clk"], True)
+        self.assertTrue(text.endswith(b"0!\nb0 a\nb0000 own0\n#15\n1!\n"))
 
     def test_where_no_scope_has_the_ports(self):
         with self.assertRaises(last_cycle.NotThere):
