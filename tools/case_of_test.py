@@ -26,7 +26,10 @@ class NoAnswer(Exception):
 
 
 class Killed(Exception):
-    """The program was ended by a signal."""
+    """The program was ended by a signal, or there was no memory or no room on the disk: another time it may give an answer."""
+
+
+WITHOUT_ROOM = (6, 7)       # (the statuses where a write failed, or memory ran out)
 
 
 @dataclass
@@ -68,13 +71,18 @@ def run_find(asked, room, dumps, size, *further):
     words += ["--report", os.path.join(room, "report.json"), "--log", os.path.join(room, "log")]
     ran = subprocess.run(words, stdin=subprocess.DEVNULL, stdout=subprocess.PIPE, text=True, errors="backslashreplace")
     last = (ran.stdout.strip("\n").split("\n") or [""])[-1]
-    if ran.returncode < 0:
-        raise Killed("find was ended by signal %d" % -ran.returncode)
-    if ran.returncode == 2:
-        raise Problem("find refuses its arguments: %s (options that are handed through: %s)" % (last, " ".join([*asked.options, *effort]) or "none"))
-    if ran.returncode > 1 and not last.startswith("front "):
-        raise NoAnswer(last or "find ended with status %d" % ran.returncode)
+    judge("find", ran.returncode, last, [*asked.options, *effort])
+    if ran.returncode > 1:
+        raise NoAnswer(last)
     return last, ran.stdout
+
+
+def judge(command, status, last, options=()):
+    """Raises what is said of a run that was ended, or whose arguments are wrong."""
+    if status < 0 or status in WITHOUT_ROOM:
+        raise Killed("%s was ended by signal %d" % (command, -status) if status < 0 else "%s ended with status %d" % (command, status))
+    if status == 2:
+        raise Problem("%s refuses its arguments: %s%s" % (command, last, "; handed through are %s" % " ".join(options) if options else ""))
 
 
 # ---- the cut dump
@@ -213,18 +221,22 @@ def failing(asked, text, said):
 def case_of(asked):
     """What is known of the test. A Problem says that nothing can be known of any test, since the words are wrong."""
     try:
-        text, said = cut_dump.read(asked)
-        return Case("passes", cycle=None) if said.miss is None else failing(asked, text, said)
-    except cut_dump.Refused as refused:
-        line, status = refused.args
-        if status == 2:
-            raise Problem("sim refuses its arguments: %s" % line.decode(errors="replace").strip()) from None
-        return Case("killed", "sim was ended by signal %d" % -status) if status < 0 else Case("refused", last_line(line))
+        return looked_at(asked)
     except Killed as killed:
         return Case("killed", str(killed))
-    except (NoAnswer, NotThere, OSError) as refused:
+    except (NoAnswer, NotThere) as refused:
         return Case("refused", str(refused))
+    except OSError as error:
+        raise Problem("%s: %s" % (error.filename or asked.program, error.strerror)) from None
 
 
-def last_line(text):
-    return text.decode(errors="replace").strip().split("\n")[-1] or "sim gave no answer"
+def looked_at(asked):
+    """The case of a test for which each run gives an answer."""
+    try:
+        text, said = cut_dump.read(asked)
+        return Case("passes") if said.miss is None else failing(asked, text, said)
+    except cut_dump.Refused as refused:
+        line, status = refused.args
+        last = line.decode(errors="replace").strip().split("\n")[-1]
+        judge("sim", status, last)
+        raise NoAnswer(last) from None

@@ -188,8 +188,16 @@ class Cases(Room):
                                    ("front", {"y": [1], "ending": "front 1 budget"}, ("unfinished", "front 1 budget"))):
             case, answer = self.case(name, says, wrong="" if name == "passes" else "y")
             self.assertEqual(((case["answer"], case["line"]), answer[0]), (wanted, 0))
-        case, answer = self.case("killed", {"y": [1], "ending": "killed"})
-        self.assertEqual((case["answer"], answer[0]), ("killed", 1))
+        for name, says, line in (("killed", {"y": [1], "ending": "killed"}, "find was ended by signal 9"),
+                                 ("full", {"refused": "memory", "status": 7}, "sim ended with status 7")):
+            case, answer = self.case(name, says)
+            self.assertEqual((case["answer"], case["line"], answer[0]), ("killed", line, 1))
+
+    def test_a_program_that_is_not_there(self):
+        self.write("t.vcd", dump_of({"y": [2]}))
+        with unittest.mock.patch("cut_dump.simulated", side_effect=FileNotFoundError(2, "No such file or directory", "localise")):
+            answer = self.step("case", "m.v", "m", "t.vcd", "t.case", "--clock", "clk")
+        self.assertEqual((answer, os.path.exists("t.case")), ((2, "", "triage.py: localise: No such file or directory\n"), False))
 
     def test_wrong_words_leave_nothing(self):
         self.write("t.vcd", dump_of({"refused": "usage words", "status": 2}))
@@ -273,6 +281,13 @@ class Regressions(Night):
         known = self.known("bin 1", "bin 2", "bin least")
         self.assertEqual((known["certified"]["least"], known["certified"]["line"]), (2, "complete 0"))
         self.assertEqual([it["joint"]["line"] for it in known["bins"]], ["complete 2", "complete 2"])
+
+    def test_an_answer_whose_run_is_killed_leaves_nothing(self):
+        self.regression()
+        before = sorted(os.listdir())
+        with unittest.mock.patch("asked_bin.run_find", side_effect=case_of_test.Killed("find was ended by signal 9")):
+            self.assertEqual(self.step("ask", "one", "bins.json", "1"), (1, "", "triage.py: find was ended by signal 9\n"))
+        self.assertEqual(sorted(os.listdir()), before)
 
     def test_an_answer_of_other_tests_is_left_out(self):
         self.regression()

@@ -15,9 +15,9 @@ leaves a folder. `page` prints what is known, and writes it as a page or as JSON
 Options that aren't named here are handed through to `find`, as they are given. Each file, and the folder, is there whole or not at all,
 and what stands is not made again: the same command goes on after a break.
 
-The status is 0; 1 where a run of the program was ended by a signal, or the dump can't be read (the same command tries again), and of
-`bins` where no test fails; 2 where the arguments are wrong, or another file can't be read or is of another run, which standard error
-says.
+The status is 0; 1 where a run of the program was ended by a signal or for lack of room, or the dump can't be read (the same command tries
+again), and of `bins` where no test fails; 2 where the arguments are wrong, or another file can't be read or is of another run, which
+standard error says.
 """
 
 import argparse
@@ -31,7 +31,7 @@ import asked_bin  # noqa: E402
 import bins_of_tests  # noqa: E402
 import triage_page  # noqa: E402
 import triage_text  # noqa: E402
-from case_of_test import Case, case_of, parted  # noqa: E402
+from case_of_test import Case, Killed, case_of, parted  # noqa: E402
 from report import design_lines  # noqa: E402
 from whole_files import Problem, digest, json_text, load, read_json, write_whole  # noqa: E402
 
@@ -231,6 +231,12 @@ def main(words):
         # (who reads the lines wants no more of them)
         os.dup2(os.open(os.devnull, os.O_WRONLY), sys.stdout.fileno())
         return 0
+    except Killed as killed:
+        say("%s", killed)
+        return 1
+    except OSError as error:
+        say("%s: %s", error.filename, error.strerror)
+        return 2
 
 
 if __name__ == "__main__":
