@@ -104,7 +104,7 @@ def bin_answer(asked, it, room):
 def least_answer(asked, units, room):
     """Asks for a dump of each bin, together, for sets of more and more suspects: no set of fewer than `least` makes them all right."""
     names = write_dumps(asked, units, room)
-    answer = {"bin": "least", "least": 1, "line": "", "dumps": [unit["dump"] for unit in units]}
+    answer = {"bin": "least", "least": 1, "line": "", "ended": None, "dumps": [unit["dump"] for unit in units]}
     for size in range(1, min(len(units), MOST_SIZE + 1)):
         with tempfile.TemporaryDirectory(prefix="triage-") as other:
             os.symlink(os.path.abspath(os.path.join(room, "dumps")), os.path.join(other, "dumps"))
@@ -137,6 +137,12 @@ def is_of(answer, bins):
     return answer["of"] == digest_of([bins["question"], subject_of(bins, what)])
 
 
+def is_settled(answer, effort):
+    """Whether this effort wouldn't change an answer: its search came to an end, or it is the same effort."""
+    is_whole = answer["ended"] is None if answer["bin"] == "least" else answer["line"].startswith("complete ")
+    return is_whole or answer["effort"] == effort
+
+
 def asked_folder(asked, bins, what, out):
     """Makes the folder of an answer beside its name, which it takes when it is whole."""
     folder, name = os.path.split(out.rstrip("/"))
@@ -144,7 +150,7 @@ def asked_folder(asked, bins, what, out):
     try:
         subject = subject_of(bins, what)
         answer = least_answer(asked, subject, room) if what == "least" else bin_answer(asked, subject, room)
-        answer.update(form=ASKED, of=digest_of([bins["question"], subject]))
+        answer.update(form=ASKED, effort=asked.effort, of=digest_of([bins["question"], subject]))
         with open(os.path.join(room, "answer.json"), "w", encoding="utf-8", errors="surrogateescape") as file:
             file.write(json_text(answer))
         os.chmod(room, 0o755)

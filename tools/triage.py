@@ -133,7 +133,7 @@ def make_answer(asked):
         raise Problem("there is no bin %s: %s has %d" % (asked.what, asked.bins, len(bins["bins"])))
     if os.path.exists(asked.out):
         answer = read_json(os.path.join(asked.out, "answer.json"), asked_bin.ASKED)
-        if str(answer["bin"]) == asked.what and asked_bin.is_of(answer, bins):
+        if str(answer["bin"]) == asked.what and asked_bin.is_of(answer, bins) and asked_bin.is_settled(answer, asked.effort):
             return 0
     asked_bin.asked_folder(asked_of_bins(asked, bins), bins, asked.what, asked.out)
     return 0

@@ -44,7 +44,7 @@ def bin_entry(it, bins, answers, lines):
 def least_of(answers):
     """What the run on a dump of each bin says, where there was one."""
     answer = answers.get("least")
-    return answer and {name: answer.get(name) for name in ("folder", "least", "line", "dumps", "ended")}
+    return answer and {name: answer[name] for name in ("folder", "least", "line", "dumps", "ended")}
 
 
 def known_of(bins, answers, lines):
@@ -69,12 +69,12 @@ def certified_text(known):
     least, kinds = known["certified"], "/".join(known["kinds"])
     if least is None:
         return "how many places are wrong wasn't asked"
+    ended = " (the search for more ended: %s)" % least["ended"] if least["ended"] else ""
     if least["least"] == 1:
-        return "at least 1 place (%s) is wrong, if no condition is%s" % (
-            kinds, " (the search for more ended: %s)" % least["ended"] if least["ended"] else "")
+        return "at least 1 place (%s) is wrong, if only right sides are%s" % (kinds, ended)
     fewer = "no single one explains" if least["least"] == 2 else "no %d explain" % (least["least"] - 1)
-    return "at least %d places (%s) are wrong, if no condition is: %s these dumps together: %s" % (
-        least["least"], kinds, fewer, ", ".join(least["dumps"]))
+    return "at least %d places (%s) are wrong, if only right sides are: %s these dumps together: %s%s" % (
+        least["least"], kinds, fewer, ", ".join(least["dumps"]), ended)
 
 
 def hits_text(row):
