@@ -129,12 +129,17 @@ def subject_of(bins, what):
     return bins["bins"][int(what) - 1]
 
 
+def digest_of_subject(bins, subject):
+    """What an answer is of: the question, and the units with their dumps and lists."""
+    return digest_of([bins["question"], subject["units"] if isinstance(subject, dict) else subject])
+
+
 def is_of(answer, bins):
     """Whether an answer is of these bins: of the same design, and of the same tests."""
     what = answer["bin"]
     if what != "least" and what > len(bins["bins"]):
         return False
-    return answer["of"] == digest_of([bins["question"], subject_of(bins, what)])
+    return answer["of"] == digest_of_subject(bins, subject_of(bins, what))
 
 
 def is_settled(answer, effort):
@@ -150,7 +155,7 @@ def asked_folder(asked, bins, what, out):
     try:
         subject = subject_of(bins, what)
         answer = least_answer(asked, subject, room) if what == "least" else bin_answer(asked, subject, room)
-        answer.update(form=ASKED, effort=asked.effort, of=digest_of([bins["question"], subject]))
+        answer.update(form=ASKED, effort=asked.effort, of=digest_of_subject(bins, subject))
         with open(os.path.join(room, "answer.json"), "w", encoding="utf-8", errors="surrogateescape") as file:
             file.write(json_text(answer))
         os.chmod(room, 0o755)
