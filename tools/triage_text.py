@@ -77,14 +77,14 @@ def certified_text(known):
         least["least"], kinds, fewer, ", ".join(least["dumps"]), ended)
 
 
-def hits_text(row):
+def hits_text(row, verb):
     """How many of the failures that were made up a suspect explains too."""
-    return "and %d of %s" % (row["hits"], many(row["of"], "made-up failure"))
+    return "%s %d of %s" % (verb, row["hits"], many(row["of"], "made-up failure")) if row["of"] else "no made-up failures"
 
 
 def suspect_line(row, before=""):
     code = ": " + row["text"] if row["text"] else ""
-    return "  %5d %s line %d %s%s   [%s%s]\n" % (row["number"], row["kind"], row["line"], row["label"], code, before, hits_text(row))
+    return "  %5d %s line %d %s%s   [%s%s]\n" % (row["number"], row["kind"], row["line"], row["label"], code, before, hits_text(row, "and"))
 
 
 def mostly_line(row, it):
