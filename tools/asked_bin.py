@@ -11,7 +11,7 @@ import tempfile
 import page
 from bins_of_tests import digest_of, to_look_at
 from case_of_test import Cut, MEMBER, NoAnswer, run_find
-from report import ReportError, design_lines, read_report
+from report import design_lines, read_report
 from whole_files import Problem, digest, json_text, load
 
 ASKED = "localise-asked 1"
@@ -67,10 +67,7 @@ def waves_of(asked, room, dump):
 
 def write_list(asked, room):
     """Writes the page of the joint run's report."""
-    try:
-        report, lines = read_report(os.path.join(room, "report.json")), design_lines(asked.design)
-    except ReportError as error:
-        raise Problem(str(error)) from None
+    report, lines = read_report(os.path.join(room, "report.json")), design_lines(asked.design)
     said = page.page_of(report, page.Wanted(asked.design, lines, False, None, None), [])
     with open(os.path.join(room, "list.html"), "w", encoding="utf-8", newline="\n") as file:
         file.write(said)

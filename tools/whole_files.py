@@ -5,18 +5,7 @@ import json
 import os
 import tempfile
 
-
-class Problem(Exception):
-    """What is wrong, in one line."""
-
-
-def load(path):
-    """The bytes of a file."""
-    try:
-        with open(path, "rb") as file:
-            return file.read()
-    except (OSError, ValueError) as error:
-        raise Problem("%s: can't be read: %s" % (path, getattr(error, "strerror", None) or error)) from None
+from report import ReportError as Problem, load
 
 
 def digest(text):
