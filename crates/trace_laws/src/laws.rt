@@ -8,15 +8,14 @@ ghost use Rattle.design_core.specs.Works.{IsSet, Works};
 ghost use Rattle.trace_laws.specs.Joined.{AreTraceLists, IsJoin, has_one_of_each};
 ghost use Rattle.trace_laws.specs.Laws.{ByTrace, OneSet, Passing};
 
-/// A set of at most k suspects works for all traces exactly where it has within it a set of each trace's list.
+/// What has within it a set of each trace's list works for all traces; and a set of at most k suspects that works has.
 pub fn works_by_trace()
     ghost one: { OneSet }
     requires well_formed { IsWellFormed one.of.design }
     requires lists { AreTraceLists one.of.design one.of.traces one.of.groups one.of.size one.of.lists }
-    requires suspects { IsSet one.of.groups one.set }
-    requires few { length one.set ≤ one.of.size }
     ensures works { has_one_of_each one.of.lists one.set ≡ true → Works one.of.design one.of.traces one.of.groups one.set }
-    ensures only { Works one.of.design one.of.traces one.of.groups one.set → has_one_of_each one.of.lists one.set ≡ true }
+    ensures only { IsSet one.of.groups one.set → length one.set ≤ one.of.size
+        → Works one.of.design one.of.traces one.of.groups one.set → has_one_of_each one.of.lists one.set ≡ true }
 {}
 
 /// The list of all traces is the join of the lists of each: their least unions of at most k members, in order; and no other list is.
