@@ -2,6 +2,16 @@
 
 from itertools import combinations
 
+MOST_PAIRS = 100000000      # (of a union and a set, that one step may look at)
+MOST_UNIONS = 1000000       # (that one step may hold)
+
+
+class TooMany(Exception):
+    """The join of so many lists, the shortest first, passes a bound; what it passes."""
+
+    def __init__(self, lists, bound):
+        super().__init__("the join of the %d shortest lists passes %s" % (lists, bound))
+
 
 def has_one(listed, one):
     """Whether a set of some is within the one set."""
@@ -17,16 +27,21 @@ def least(sets):
     return kept
 
 
-def join_two(unions, listed, size):
+def join_two(unions, listed, size, number):
     """The least unions of at most `size` members of a set of the first and one of the second."""
     found = {one for one in unions if has_one(listed, one)}
-    found.update(one | other for one in unions - found for other in listed if len(one | other) <= size)
+    if len(unions - found) * len(listed) > MOST_PAIRS:
+        raise TooMany(number, "%d pairs of sets" % MOST_PAIRS)
+    for one in unions - found:
+        found.update(one | other for other in listed if len(one | other) <= size)
+        if len(found) > MOST_UNIONS:
+            raise TooMany(number, "%d unions" % MOST_UNIONS)
     return least(found)
 
 
 def joined(lists, size):
     """The least unions of at most `size` members of one set of each list, by size and then by members."""
     unions = {frozenset()}
-    for listed in sorted(lists, key=len):
-        unions = join_two(unions, {frozenset(one) for one in listed}, size)
+    for number, listed in enumerate(sorted(lists, key=len), 1):
+        unions = join_two(unions, {frozenset(one) for one in listed}, size, number)
     return sorted((sorted(one) for one in unions), key=lambda one: (len(one), one))

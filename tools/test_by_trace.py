@@ -1,172 +1,59 @@
 #!/usr/bin/env python3
-"""Tests of tools/by_trace.py: `python3 tools/test_by_trace.py`. Most need no program: a small script stands for it, and says what the test wants. With
-the built program (crates/localise/out/localise, or the one that the variable LOCALISE names) its lists are held against those of joint runs."""
+"""Tests of tools/by_trace.py: `python3 tools/test_by_trace.py`. Most need no program: a small script stands for it, and says what the test
+wants. With the built program (crates/localise/out/localise, or the one that the variable LOCALISE names) its lists are held against those
+of joint runs."""
 
 import contextlib
 import io
-import itertools
 import json
 import os
-import random
 import re
 import shutil
+import signal
 import subprocess
 import sys
-import tempfile
+import time
 import unittest
 import unittest.mock
 
 HERE = os.path.dirname(os.path.abspath(__file__))
 sys.path.insert(0, HERE)
 import by_trace  # noqa: E402
-import joining  # noqa: E402
-import report  # noqa: E402
+from by_trace_stand_in import InAFolder, WithoutProgram  # noqa: E402
 
 TOP = os.path.dirname(HERE)
 PROGRAM = os.environ.get("LOCALISE", os.path.join(TOP, "crates", "localise", "out", "localise"))
 EXAMPLE = os.path.join(TOP, "examples", "multiplexer")
-SUSPECTS = [{"kind": "stmt", "label": "m", "line": line} for line in (3, 4, 5, 6)]
-
-
-class FakeProgram:
-    """What stands for the program: it notes each call. A dump's text says what there is to say of it: `sim` passes "pass", or prints another text and
-    refuses; `find` writes sets, after so many learned steps as are needed; `check` says yes to a log that ends in `end`."""
-
-    def __init__(self):
-        self.calls = []
-
-    def run(self, asked, command, design, top, *words):
-        given = dict(zip(words, words[1:]))
-        dump = words[2] if command == "check" else words[0]
-        self.calls.append((command, dump))
-        if command == "check":
-            return self.check(*words[:2])
-        says = json.loads(report.load(dump))
-        if command == "find":
-            return self.find(design, top, dump, says, given)
-        return (0, "trace 1 ok") if says == "pass" else (3, says) if isinstance(says, str) else (0, "trace 1 miss 0 y")
-
-    def check(self, report_path, log_path):
-        sets = json.loads(report.load(report_path))["sets"]
-        return (0, "yes %d" % len(sets)) if report.load(log_path).endswith(b"end\n") else (8, "no closing")
-
-    def find(self, design, top, dump, says, given):
-        question = {"top": top, "clock": given.get("--clock", ""), "kinds": given["--suspects"].split(","), "size": int(given["--size"])}
-        digest = report.inputs_digest(question, design, [dump])
-        learned = min(says.get("needs", 0), int(given["--budget"]))
-        ending = "budget" if learned < says.get("needs", 0) else "complete"
-        sets = [{"members": it, "values": []} for it in says["sets"]]
-        with open(given["--report"], "w") as file:
-            json.dump(dict(question, ending=ending, inputs=digest, sets=sets, version=1, suspects=SUSPECTS), file)
-        with open(given["--log"], "w") as file:
-            file.write("localise-log 1\ninputs %s\n" % digest + "l 1 : 2\n" * learned + "end\n")
-        return (0, "complete %d" % len(sets)) if ending == "complete" else (1, "front %d budget" % len(sets))
-
-
-class Joins(unittest.TestCase):
-    def test_worked_examples(self):
-        for lists, size, wanted in (
-                ([[[1], [3, 4]], [[1, 2], [3]]], 2, [[1, 2], [1, 3], [3, 4]]),
-                ([[[1], [3, 4]], [[1, 2], [3]]], 1, []),
-                ([[[1], [2]], [[1], [2]]], 2, [[1], [2]]),
-                ([[[]], [[2], [1, 3]]], 2, [[2], [1, 3]]),
-                ([[], [[1]]], 2, []), ([[[]], [[]]], 0, [[]]), ([], 2, [[]]),
-                ([[[1]], [[2]], [[3]]], 2, []), ([[[1]], [[2]], [[3]]], 3, [[1, 2, 3]]),
-                ([[[10], [9, 11]]], 2, [[10], [9, 11]])):
-            self.assertEqual(joining.joined(lists, size), wanted)
-
-    def test_random_lists_beside_all_sets(self):
-        """The join is that of trying all sets: those of at most `size` members that have one of each list within them, and no part that has."""
-        chance = random.Random(3)
-        for _ in range(300):
-            most, size = chance.randrange(1, 8), chance.randrange(5)
-            every = [frozenset(it) for many in range(most + 1) for it in itertools.combinations(range(1, most + 1), many)]
-            few = [it for it in every if len(it) <= size]
-            lists = [joining.least(chance.sample(few, chance.randrange(min(6, len(few)) + 1))) for _ in range(chance.randrange(4))]
-            works = [one for one in few if all(any(part <= one for part in listed) for listed in lists)]
-            wanted = sorted((sorted(one) for one in works if not any(part < one for part in works)), key=lambda one: (len(one), one))
-            self.assertEqual(joining.joined([[sorted(one) for one in listed] for listed in lists], size), wanted)
-
-
-class InAFolder(unittest.TestCase):
-    def setUp(self):
-        room = tempfile.TemporaryDirectory()
-        self.addCleanup(room.cleanup)
-        self.addCleanup(os.chdir, os.getcwd())
-        os.chdir(room.name)
-        self.top, self.dumps = "m", []
-
-    def write(self, name, text):
-        with open(name, "w") as file:
-            file.write(text)
-
-    def read(self, name):
-        with open(name) as file:
-            return file.read()
-
-    def begin(self, *words):
-        """The status, what was printed, and what standard error says."""
-        printed, error = io.StringIO(), io.StringIO()
-        with contextlib.redirect_stdout(printed), contextlib.redirect_stderr(error):
-            try:
-                status = by_trace.main(["m.v", self.top, *self.dumps, "--program", "./program", *words])
-            except SystemExit as ended:
-                status = ended.code
-        return status, printed.getvalue(), error.getvalue()
-
-    def change(self, name, **members):
-        self.write(name, json.dumps({**json.loads(self.read(name)), **members}))
-
-    def refused(self, said, *words, status=2):
-        """That no list is printed, and what standard error says."""
-        answer, printed, error = self.begin(*words)
-        self.assertEqual((answer, re.search("set|complete", printed)), (status, None))
-        self.assertRegex(error, said)
-
-
-class WithoutProgram(InAFolder):
-    """With what stands for the program, and three dumps."""
-
-    def setUp(self):
-        super().setUp()
-        self.fake = FakeProgram()
-        patch = unittest.mock.patch.object(by_trace, "run", self.fake.run)
-        patch.start()
-        self.addCleanup(patch.stop)
-        self.write("m.v", "")
-        self.dump({"sets": [[1], [3, 4]]}, "pass", {"sets": [[1, 2], [3]]})
-
-    def dump(self, *says):
-        self.dumps = ["%s.vcd" % name for name, _ in zip("abcdef", says)]
-        for name, it in zip(self.dumps, says):
-            self.write(name, json.dumps(it))
-
-    def calls(self, command):
-        """The dumps for which a command was begun since the last look at it, in their order."""
-        calls = sorted(dump for begun, dump in self.fake.calls if begun == command)
-        self.fake.calls = [it for it in self.fake.calls if it[0] != command]
-        return calls
+# (a program whose `sim` says that a dump fails, and whose `find` notes its number, and sleeps)
+SLEEPER = """#!/bin/sh
+if [ $1 = sim ]; then echo trace 1 miss 0 y; exit 0; fi
+touch %s/child-$$
+exec sleep 300
+"""
 
 
 class Runs(WithoutProgram):
     def test_a_joined_list(self):
         status, printed, error = self.begin("--jobs", "2")
-        lines = ["set {1,2}", "  1 stmt 3 m", "  2 stmt 4 m", "set {1,3}", "  1 stmt 3 m", "  3 stmt 5 m", "set {3,4}", "  3 stmt 5 m", "  4 stmt 6 m"]
+        lines = ["set {1,2}", "  1 stmt 3 m", "  2 stmt 4 m", "set {1,3}", "  1 stmt 3 m", "  3 stmt 5 m"]
+        lines += ["set {3,4}", "  3 stmt 5 m", "  4 stmt 6 m"]
         self.assertEqual((status, printed), (0, "\n".join(lines + ["complete 3 by trace"]) + "\n"))
         self.assertIn("trace 1 (a.vcd): yes 2, by check of localise-1.json and localise-1.log\n", error)
         self.assertIn("trace 2 (b.vcd): ok, by sim\n", error)
         self.assertIn("this script joined them", error)
-        self.assertEqual(sorted(it for it in os.listdir() if it.startswith("localise")), ["localise-1.json", "localise-1.log", "localise-3.json", "localise-3.log"])
+        self.assertIn("kinds, lines and labels are what the reports say, all alike, and nobody checked them\n", error)
+        self.assertEqual(self.pairs(), ["localise-1.json", "localise-1.log", "localise-3.json", "localise-3.log"])
 
     def test_a_second_start_searches_nothing(self):
         first = self.begin()
         self.assertEqual(self.calls("find"), ["a.vcd", "c.vcd"])
         self.assertEqual((self.calls("check"), self.calls("sim")), (["a.vcd", "c.vcd"], ["a.vcd", "b.vcd", "c.vcd"]))
-        self.assertEqual(self.begin("--jobs", "3"), first)
+        self.assertEqual(self.begin("--jobs", "3")[:2], first[:2])
         self.assertEqual((self.calls("find"), self.calls("check"), self.calls("sim")), ([], ["a.vcd", "c.vcd"], ["b.vcd"]))
 
     def test_engines_begin_dumps_one_by_one(self):
-        self.assertEqual([self.begin("--only", it)[:2] for it in "123"], [(0, "trace 1 complete 2\n"), (0, "trace 2 ok\n"), (0, "trace 3 complete 2\n")])
+        said = [(0, "trace 1 complete 2\n"), (0, "trace 2 ok\n"), (0, "trace 3 complete 2\n")]
+        self.assertEqual([self.begin("--only", it)[:2] for it in "123"], said)
         self.assertEqual((self.calls("check"), self.calls("find")), ([], ["a.vcd", "c.vcd"]))
         self.assertEqual(self.begin("--join")[0], 0)
         self.assertEqual(self.calls("find"), [])
@@ -174,6 +61,12 @@ class Runs(WithoutProgram):
     def test_all_dumps_pass(self):
         self.dump("pass", "pass")
         self.assertEqual(self.begin()[:2], (0, "set {}\ncomplete 1 by trace\n"))
+        self.assertEqual((self.calls("find"), self.pairs()), (["a.vcd"], []))
+
+    def test_all_dumps_pass_and_there_are_no_such_suspects(self):
+        self.dump("pass", "pass")
+        for words in ((), ("--join",)):
+            self.refused(r"trace 1 \(a.vcd\): usage kind, by find", "--suspects", "foo", *words)
 
     def test_no_set(self):
         self.dump({"sets": []}, {"sets": [[1]]})
@@ -184,10 +77,91 @@ class Runs(WithoutProgram):
         for _ in range(2):
             self.assertEqual(self.begin("--budget", "3")[:2], (1, "trace 2 front 1 budget\n"))
         self.assertEqual(self.calls("find"), ["a.vcd", "b.vcd"])
-        self.assertEqual(self.begin("--budget", "3", "--join")[:2], (1, "trace 2 front 1 budget\n"))
+        for words in (("--budget", "3"), ("--budget", "5")):
+            self.assertEqual(self.begin("--join", *words)[:2], (1, "trace 2 front 1 budget\n"))
         self.assertEqual(self.calls("find"), [])
         self.assertEqual(self.begin("--budget", "5")[0], 0)
         self.assertEqual(self.calls("find"), ["b.vcd"])
+
+    def test_a_list_with_more_sets_than_asked_for(self):
+        self.dump({"sets": [[1]]}, {"sets": [[2], [3], [4]]})
+        for words in (("--sets", "2"), ("--sets", "2", "--budget", "9000000")):
+            self.assertEqual(self.begin(*words)[:2], (1, "trace 2 front 2 sets\n"))
+        self.assertEqual(self.calls("find"), ["a.vcd", "b.vcd"])
+        self.assertEqual(self.begin("--sets", "4")[0], 0)
+        self.assertEqual(self.calls("find"), ["b.vcd"])
+
+    def test_the_severest_status(self):
+        whole, front, odd = {"sets": [[1]]}, {"sets": [[2]], "needs": 5}, "input T4 1"
+        cases = ((whole, front, odd), 0, 3), ((odd, front, whole), 0, 3), ((front, odd, whole), 3, 8), ((whole, odd, front), 1, 8)
+        for says, cut, status in cases:
+            with self.subTest(says):
+                self.dump(*says), self.begin("--budget", "3")
+                if cut:
+                    self.write("localise-%d.log" % cut, self.read("localise-%d.log" % cut)[:-4])
+                self.assertEqual(self.begin("--budget", "3")[0], status)
+                for name in self.pairs():
+                    os.remove(name)
+
+    def test_find_without_memory_leaves_no_pair(self):
+        self.dump({"sets": [[1]], "memory": True}, {"sets": [[2]]})
+        self.assertEqual(self.begin()[:2], (7, "trace 1 front 1 memory\n"))
+        self.assertEqual(self.pairs(), ["localise-2.json", "localise-2.log"])
+
+    def test_at_most_so_many_at_once(self):
+        self.dump(*[{"sets": [[1]]}] * 6)
+        self.fake.before_find = lambda dump: time.sleep(0.1)
+        for number, jobs in enumerate((1, 3)):
+            self.fake.most = 0
+            self.assertEqual(self.begin("--jobs", str(jobs), "--prefix", "p%d" % number)[0], 0)
+            self.assertEqual(self.fake.most, jobs)
+
+    def test_answers_are_told_as_they_come(self):
+        def look(dump):
+            deadline = time.time() + 10
+            while dump == "c.vcd" and "trace 1 (a.vcd)" not in sys.stderr.getvalue() and time.time() < deadline:
+                time.sleep(0.01)
+            told.append((dump, "trace 1 (a.vcd)" in sys.stderr.getvalue()))
+        told, self.fake.before_find = [], look
+        self.assertEqual(self.begin()[0], 0)
+        self.assertEqual(told, [("a.vcd", False), ("c.vcd", True)])
+
+    def test_a_join_that_is_too_large(self):
+        with unittest.mock.patch("joining.MOST_UNIONS", 1):
+            status, printed, error = self.begin()
+        self.assertEqual((status, printed), (4, "limit join\n"))
+        self.assertIn("passes 1 unions", error)
+
+    def test_names_that_begin_as_options(self):
+        os.rename("a.vcd", "-a.vcd"), os.rename("m.v", "-m.v")
+        printed, error = io.StringIO(), io.StringIO()
+        with contextlib.redirect_stdout(printed), contextlib.redirect_stderr(error):
+            status = by_trace.main(["--program", "./program", "--", "-m.v", "m", "-a.vcd", "b.vcd"])
+        self.assertEqual((status, printed.getvalue()[-21:]), (0, "\ncomplete 2 by trace\n"), error.getvalue())
+        self.assertEqual(self.calls("find"), ["./-a.vcd"])
+
+    def test_only_one_dump_is_read(self):
+        os.remove("a.vcd"), os.remove("b.vcd")
+        self.assertEqual(self.begin("--only", "3")[:2], (0, "trace 3 complete 2\n"))
+        self.assertEqual(self.begin("--only", "3")[:2], (0, "trace 3 complete 2\n"))
+        self.assertEqual(self.calls("find"), ["c.vcd"])
+
+    def test_an_end_between_the_names_leaves_no_pair(self):
+        for after in (0, 1):
+            with self.subTest(after):
+                self.dump({"sets": [[1]], "needs": 5}), self.begin("--budget", "3", "--prefix", "p%d" % after)
+                self.calls("find")
+                replace, done = os.replace, []
+
+                def break_off(*names):
+                    if len(done) == after:
+                        raise OSError("the end")
+                    done.append(replace(*names))
+                with unittest.mock.patch("os.replace", break_off):
+                    self.refused("the end", "--budget", "5", "--prefix", "p%d" % after)
+                self.assertEqual((self.calls("find"), os.path.exists("p%d-1.json" % after)), (["a.vcd"], False))
+                self.assertEqual(self.begin("--budget", "5", "--prefix", "p%d" % after)[0], 0)
+                self.assertEqual(self.calls("find"), ["a.vcd"])
 
     def test_a_pair_is_not_written_over_what_is_read(self):
         os.rename("c.vcd", "localise-2.log")
@@ -200,65 +174,13 @@ class Runs(WithoutProgram):
         self.assertEqual(self.begin()[:2], (3, "trace 2 input T4 1\n"))
 
     def test_options_are_handed_on(self):
-        self.assertEqual(self.begin("--clock", "clk", "--size=1", "--suspects", "block,gate", "--prefix", "p")[0], 0)
+        words = ("--clock", "clk", "--size=1", "--suspects", "block,gate", "--sets", "7", "--workers", "3", "--budget", "9")
+        self.assertEqual(self.begin("--prefix", "p", *words)[0], 0)
         said = json.loads(self.read("p-1.json"))
         self.assertEqual((said["clock"], said["size"], said["kinds"]), ("clk", 1, ["block", "gate"]))
-
-
-class Pairs(WithoutProgram):
-    """Pairs that are none of their dumps are named, and no list is printed."""
-
-    def setUp(self):
-        super().setUp()
-        self.assertEqual(self.begin()[0], 0)
-        self.fake.calls = []
-
-    def test_of_another_question(self):
-        self.refused(r"trace 1 \(a.vcd\): localise-1.json is of another question: its size is 2, and 1 is asked", "--size", "1")
-        self.refused("its clock is '', and 'clk' is asked", "--clock", "clk")
-        self.refused(r"its kinds is \['stmt'\]", "--suspects", "block")
-
-    def test_of_another_design_or_dump(self):
-        self.write("m.v", "//")
-        self.refused("localise-1.json is of other inputs: another design, dump, clock, size or kinds")
-        self.write("m.v", ""), self.write("c.vcd", '{"sets": []}')
-        self.refused(r"trace 3 \(c.vcd\): localise-3.json is of other inputs")
-
-    def test_exchanged(self):
-        os.rename("localise-1.log", "x"), os.rename("localise-3.log", "localise-1.log"), os.rename("x", "localise-3.log")
-        self.refused(r"trace 1 \(a.vcd\): localise-1.log is of trace 3 \(c.vcd\)")
-        os.rename("localise-1.json", "x"), os.rename("localise-3.json", "localise-1.json"), os.rename("x", "localise-3.json")
-        self.refused(r"trace 1 \(a.vcd\): localise-1.json is of trace 3 \(c.vcd\)")
-
-    def test_dumps_in_another_order(self):
-        self.dumps.reverse()
-        self.refused(r"trace 1 \(c.vcd\): localise-1.json is of trace 3 \(a.vcd\)")
-
-    def test_lacking(self):
-        os.remove("localise-3.log")
-        self.refused(r"trace 3 \(c.vcd\): localise-3.log is lacking", "--join")
-        self.assertEqual((self.begin()[0], self.calls("find")), (0, ["c.vcd"]))
-
-    def test_a_cut_log(self):
-        self.write("localise-1.log", self.read("localise-1.log")[:-3])
-        status, printed, error = self.begin()
-        self.assertEqual((status, printed), (8, "trace 1 no closing\n"))
-        self.assertIn("nothing is said of all dumps together", error)
-        self.write("localise-1.log", "localise-log 1\n")
-        self.refused("localise-1.log: no log of localise")
-
-    def test_no_reports(self):
-        for text, said in (("{", "localise-1.json: not JSON"), ("{}", "localise-1.json: not a report")):
-            self.write("localise-1.json", text)
-            self.refused(said)
-
-    def test_other_suspects(self):
-        self.change("localise-3.json", suspects=SUSPECTS[:3] + [dict(SUSPECTS[3], line=9)])
-        self.refused("traces 1 and 3 have other suspects")
-
-    def test_files_that_are_not_there(self):
-        os.remove("c.vcd")
-        self.refused("c.vcd: can't be read")
+        self.assertEqual({it.get("--clock") for it in self.words("sim")}, {"clk"})
+        self.assertEqual({(it.get("--sets"), it.get("--workers"), it.get("--budget")) for it in self.words("find")}, {("7", "3", "9")})
+        self.assertEqual({it.get("--workers") for it in self.words("check")}, {"3"})
 
 
 class Words(InAFolder):
@@ -267,11 +189,51 @@ class Words(InAFolder):
         self.write("m.v", "")
         self.refused("./program: can't be started: No such file")
 
+    def test_a_folder_that_is_not_there(self):
+        self.dumps = ["m.v"]
+        self.refused("there/to: there is no such folder", "--prefix", "there/to/p")
+
+    def test_a_program_that_a_signal_ends(self):
+        self.write("program", "#!/bin/sh\nkill -9 $$\n"), os.chmod("program", 0o755)
+        self.write("m.v", "")
+        self.dumps = ["m.v"]
+        self.refused(r"trace 1 \(m.v\): ./program sim: ended by signal 9")
+
+    def test_a_run_that_is_asked_to_end(self):
+        self.write("program", SLEEPER % os.getcwd()), os.chmod("program", 0o755)
+        for name in ("m.v", "a.vcd", "b.vcd", "c.vcd"):
+            self.write(name, name)
+        for number in (signal.SIGTERM, signal.SIGINT):
+            words = ["m.v", "m", "a.vcd", "b.vcd", "c.vcd", "--program", "./program", "--jobs", "2"]
+            begun = [sys.executable, os.path.join(HERE, "by_trace.py"), *words]
+            with subprocess.Popen(begun, stdout=subprocess.PIPE, stderr=subprocess.PIPE, text=True) as ran:
+                self.wait_for(lambda: len(self.children()) == 2)
+                ran.send_signal(number)
+                printed, error = ran.communicate(timeout=60)
+            self.assertEqual((ran.returncode, printed), (128 + number, ""))
+            self.assertEqual(error.splitlines()[-1:], ["by_trace.py: ended by signal %d" % number])
+            self.assertNotIn("Traceback", error)
+            self.assertEqual(self.pairs(), [])
+            for child in self.children():
+                self.assertRaises(ProcessLookupError, os.kill, int(child), 0)
+                os.remove("child-" + child)
+
+    def children(self):
+        return [it[6:] for it in os.listdir() if it.startswith("child-")]
+
+    def wait_for(self, holds):
+        deadline = time.time() + 60
+        while not holds() and time.time() < deadline:
+            time.sleep(0.01)
+        self.assertTrue(holds())
+
     def test_words_that_ask_for_nothing(self):
         self.dumps = ["a.vcd"]
-        for words, said in ((("--question", "function"), "a function has to be the same in all dumps"), (("--log", "x"), "--prefix names them"),
-                            (("--report", "x"), "--prefix names them"), (("--waves", "x"), "joined set"), (("--size", "9"), "0 to 8"), (("--jobs", "0"), "1 to"),
-                            (("--only", "2"), "there is no dump 2: 1 are named"), (("--only", "1", "--join"), "not allowed with"), (("--other", "1"), "unrecognized")):
+        cases = (("--question", "function"), "a function has to be the same in all dumps"), (("--log", "x"), "--prefix names them"), (
+            ("--report", "x"), "--prefix names them"), (("--waves", "x"), "joined set"), (("--size", "9"), "0 to 8"), (
+            ("--jobs", "0"), "1 to"), (("--only", "2"), "there is no dump 2: 1 are named"), (
+            ("--only", "1", "--join"), "not allowed with"), (("--other", "1"), "unrecognized")
+        for words, said in cases:
             self.refused(said, *words)
 
 

@@ -1,0 +1,73 @@
+"""Runs of the program that end when this process is asked to end."""
+
+import os
+import signal
+import subprocess
+import threading
+
+from report import ReportError
+
+ENDING = (signal.SIGINT, signal.SIGTERM, signal.SIGHUP)
+
+
+class Stopped(BaseException):
+    """This process was asked to end, by a signal of this number."""
+
+
+class Children:
+    """The runs that are going on. Once they are ended no other begins."""
+
+    def __init__(self):
+        self.lock, self.going, self.ended = threading.Lock(), set(), False
+
+    def begin(self, words):
+        with self.lock:
+            if self.ended:
+                raise ReportError("not begun: this run was asked to end")
+            child = subprocess.Popen(words, stdout=subprocess.PIPE, errors="backslashreplace")
+            self.going.add(child)
+            return child
+
+    def end(self):
+        with self.lock:
+            self.ended = True
+            for child in self.going:
+                child.terminate()
+
+    def last_line(self, words):
+        """The status of a run, and the last line that it prints."""
+        child = self.begin(words)
+        with child:
+            last = last_of(child)
+        with self.lock:
+            self.going.discard(child)
+        return child.returncode, last
+
+
+def last_of(child):
+    """The last line that a child prints, which is ended where this is broken off."""
+    last = ""
+    try:
+        for line in child.stdout:
+            last = line
+    except BaseException:
+        child.terminate()
+        raise
+    return last.rstrip("\n")
+
+
+def word_of(path):
+    """The name of a file as a word that no program takes for an option."""
+    return os.path.join(".", path) if path.startswith("-") else path
+
+
+def stop_at_signals():
+    """From now on a signal to end raises `Stopped` in the first thread, once."""
+    def stop(number, _):
+        # (a child takes its own way of a signal that is handled here, and would keep ignoring one that is ignored)
+        for it in ENDING:
+            signal.signal(it, lambda *_: None)
+        raise Stopped(number)
+    for it in ENDING:
+        if signal.getsignal(it) != signal.SIG_IGN:
+            signal.signal(it, stop)
