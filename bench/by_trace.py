@@ -4,21 +4,24 @@
     bench/by_trace.py [PROGRAM] [--only NAME..] [--tests N] [--cycles N] [--size K] [--jobs 1,2,4]
     bench/by_trace.py [PROGRAM] --random N [--seed S]
 
-For each design Icarus Verilog (Debian's package `iverilog`) runs the right text of bench/find.py on N tests (8) of random inputs, and the wrong text
-is asked for. PROGRAM is crates/localise/out/localise where it isn't given. Printed are the cycles of a test, how many tests fail, the sets, and seconds
-by the clock:
+For each design Icarus Verilog (Debian's package `iverilog`) runs the right text of bench/find.py on N tests (8) of random inputs, and the
+wrong text is asked for. PROGRAM is crates/localise/out/localise where it isn't given. Printed are the cycles of a test, how many tests fail,
+the sets, and seconds by the clock:
 
     find       one run of `find` on all dumps; in brackets the processor's seconds
     check      `check` of its list, and the processor's seconds
-    by N       tools/by_trace.py with --jobs N: all runs of `sim`, `find` and `check`, and the join; behind the first in brackets the processor's seconds
+    by N       tools/by_trace.py with --jobs N: all runs of `sim`, `find` and `check`, and the join; behind the first in brackets the
+               processor's seconds
     join       the joining of the lists alone
     x          how many times as fast the last `by` is as `find` and `check` together, and in brackets as `find` alone
     MB         the most memory that the joint run held, and that the largest process of the others did
 
 and then the medians. The status is 1 where a joined list is not that of the joint run, line for line.
 
-With `--random` small random designs are asked for, and each joined list has to be that of the joint run, line for line; then the report or the log of one of its
-pairs is altered, and has to be refused with no list, or to give the same one, until N are altered (a design that passes all its tests has none).
+With `--random` small random designs are asked for, until N of them have two failing tests or more: of each of these the joined list has to be
+that of the joint run, line for line, and then the report or the log of one of its pairs is altered, and has to be refused by a line that names
+its trace, with no list, or to give the same one. The designs of which fewer tests fail are compared too, and counted apart, since nothing is
+joined there. A design that fails fewer than two of its tests counts for nothing of the N.
 """
 
 import argparse
@@ -32,6 +35,7 @@ import subprocess
 import sys
 import tempfile
 import time
+from dataclasses import dataclass
 
 HERE = os.path.dirname(os.path.abspath(__file__))
 sys.path[:0] = [HERE, os.path.join(HERE, "..", "tools")]
@@ -74,7 +78,12 @@ def recorded(name, cycles, tests, room):
 
 
 def by_trace_words(asked, jobs, prefix, words):
-    return ["sh", "-c", 'exec "$@" 2>/dev/null', "sh", sys.executable, SCRIPT, *words, "--program", asked.program, "--jobs", str(jobs), "--prefix", prefix]
+    return [sys.executable, SCRIPT, *words, "--program", asked.program, "--jobs", str(jobs), "--prefix", prefix]
+
+
+def in_silence(words):
+    """The words of a command whose standard error is dropped."""
+    return ["sh", "-c", 'exec "$@" 2>/dev/null', "sh", *words]
 
 
 def join_alone(room, prefix, tests, size):
@@ -98,7 +107,7 @@ def row_of(asked, name):
         words = ["wrong.v", name, *traces, "--clock", "clk", "--size", str(asked.size), "--budget", "10000000"]
         joint, _, find, find_cpu, joint_memory = measured([asked.program, "find", *words], room)
         said, _, check, check_cpu, _ = measured([asked.program, "check", "wrong.v", name, "localise.json", "localise.log", *traces], room)
-        ran = [measured(by_trace_words(asked, jobs, "by%d" % jobs, words), room) for jobs in asked.jobs]
+        ran = [measured(in_silence(by_trace_words(asked, jobs, "by%d" % jobs, words)), room) for jobs in asked.jobs]
         prefix = "by%d" % asked.jobs[0]
         join, fail = join_alone(room, prefix, asked.tests, asked.size), failing(room, prefix, asked.tests)
     right = all(it[0] == by_trace_of(joint) for it in ran) and last_line(said).startswith("yes")
@@ -127,8 +136,9 @@ def measure(asked):
 # ---- random designs
 
 def run(words, room):
-    ran = subprocess.run(words, cwd=room, stdout=subprocess.PIPE, stderr=subprocess.DEVNULL, text=True)
-    return ran.returncode, ran.stdout
+    """The status, what is printed, and what standard error says."""
+    ran = subprocess.run(words, cwd=room, capture_output=True, text=True)
+    return ran.returncode, ran.stdout, ran.stderr
 
 
 def asked_at_random(asked, seed, room):
@@ -143,7 +153,7 @@ def asked_at_random(asked, seed, room):
 
 def altered_report(chance, report):
     """The report with a thing changed that `check` or the script has to notice, or that changes no set."""
-    sets, kind = report["sets"], chance.randrange(8)
+    sets, kind = report["sets"], chance.randrange(9)
     if kind == 0 and sets:
         sets.pop(chance.randrange(len(sets)))
     elif kind == 1 and sets:
@@ -162,6 +172,8 @@ def altered_report(chance, report):
         report["ending"] = chance.choice(["budget", "sets", "earlier"])
     elif kind == 6:
         report["size"] = (report["size"] + 1) % 4
+    elif kind == 7:
+        chance.choice(report["suspects"]).update(chance.choice([{"line": 1}, {"label": "other"}, {"kind": "gate"}]))
     else:
         report.update(chance.choice([{"clock": "i0"}, {"kinds": ["gate"]}, {"top": "n"}, {"inputs": "0" * 64}, {"version": 2}]))
 
@@ -212,41 +224,68 @@ def alter(chance, room, names):
 
 def is_same(asked, seed, words, room):
     """Whether the joined list of a random question is that of the joint run, line for line."""
-    status, joint = run([asked.program, "find", *words], room)
+    status, joint, _ = run([asked.program, "find", *words], room)
     got = run(by_trace_words(asked, 1, "by", words), room)
-    if got != (status, by_trace_of(joint)):
+    if got[:2] != (status, by_trace_of(joint)):
         print("seed %d: joint %d %r, by trace %r" % (seed, status, joint, got), flush=True)
-    return got == (status, by_trace_of(joint)), got[1]
+    return got[:2] == (status, by_trace_of(joint)), got[1]
 
 
 def altered(asked, seed, words, room, whole):
-    """What comes of an altered pair: "refused" with no list, "same" list, or "other"; None where there is no pair to alter."""
-    names = sorted(it[:-5] for it in os.listdir(room) if it.startswith("by-") and it.endswith(".json"))
-    if not names:
-        return None
-    kind = alter(random.Random(seed), room, names)
-    status, printed = run(by_trace_words(asked, 1, "by", words) + ["--join"], room)
-    if status and not re.search("^(set|complete) ", printed, re.M):
+    """What comes of an altered pair: "refused" with no list and the trace's name, "same" list, or "other"."""
+    kind = alter(random.Random(seed), room, pairs_in(room))
+    status, printed, said = run(by_trace_words(asked, 1, "by", words) + ["--join"], room)
+    if status and not re.search("^(set|complete) ", printed, re.M) and is_named(said):
         return "refused"
     if (status, printed) != (0, whole):
-        print("seed %d, %s: %d %r for %r" % (seed, kind, status, printed, whole), flush=True)
+        print("seed %d, %s: %d %r for %r; %s" % (seed, kind, status, printed, whole, said), flush=True)
     return "same" if (status, printed) == (0, whole) else "other"
 
 
+def pairs_in(room):
+    return sorted(it[:-5] for it in os.listdir(room) if it.startswith("by-") and it.endswith(".json"))
+
+
+def is_named(said):
+    """Whether standard error says of a trace more than that it is right."""
+    lines = [it for it in said.split("\n") if re.match(r"by_trace\.py: trace \d+ \(", it)]
+    return any(not re.search(r"\): (ok, by sim|yes \d+, by check of .*)$", it) for it in lines)
+
+
+@dataclass
+class Counts:
+    """How many questions were asked by the number of failing tests (2 is two or more), which lists were the same, and what came of altered pairs."""
+    asked: list
+    same: list
+    altered: list
+
+    def is_full(self, wanted):
+        return self.asked[2] == wanted
+
+    def text(self):
+        of = [("%d of no failing test" % self.asked[0], self.same[0]), ("%d of one" % self.asked[1], self.same[1]),
+              ("%d of two or more" % self.asked[2], self.same[2])]
+        return "questions: %s\naltered: %d, of which %d refused by the trace's name, %d with the same list" % (
+            ", ".join("%s (%d compared, the same)" % it for it in of), len(self.altered), self.altered.count("refused"), self.altered.count("same"))
+
+    def are_right(self):
+        return self.asked == self.same and "other" not in self.altered
+
+
 def compare(asked):
-    """Asks random questions until as many pairs are altered as are wanted."""
-    same, found = [], []
+    """Asks random questions until as many with two failing tests are compared and altered as are wanted."""
+    counts = Counts([0, 0, 0], [0, 0, 0], [])
     for seed in itertools.count(asked.seed):
-        if len(found) == asked.random:
+        if counts.is_full(asked.random):
             break
         with tempfile.TemporaryDirectory() as room:
             words = asked_at_random(asked, seed, room)
             is_right, whole = is_same(asked, seed, words, room)
-            said = altered(asked, seed, words, room, whole)
-        same, found = same + [is_right], found + [said] * (said is not None)
-    print("%d of %d joined lists are those of joint runs, line for line" % (sum(same), len(same)))
-    print("%d altered pairs: %d refused, %d with the same list" % (len(found), found.count("refused"), found.count("same")))
-    return 0 if all(same) and "other" not in found else 1
+            fail = min(2, len(pairs_in(room)))
+            counts.asked[fail], counts.same[fail] = counts.asked[fail] + 1, counts.same[fail] + is_right
+            counts.altered += [altered(asked, seed, words, room, whole)] if fail == 2 else []
+    print(counts.text())
+    return 0 if counts.are_right() else 1
 
 
 def main():

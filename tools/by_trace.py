@@ -40,7 +40,7 @@ import os
 import re
 import sys
 import tempfile
-from concurrent.futures import ThreadPoolExecutor, as_completed
+from concurrent.futures import FIRST_COMPLETED, ThreadPoolExecutor, wait
 from dataclasses import dataclass
 from typing import List, Optional
 
@@ -204,13 +204,20 @@ def guarded(number, ask, *of):
         return Answer(number, 2, "", str(error))
 
 
+def as_done(waiting):
+    """What is waited for, as it is done. (A signal may come to another thread; this one has to wake to see it.)"""
+    while waiting:
+        done, waiting = wait(waiting, timeout=0.5, return_when=FIRST_COMPLETED)
+        yield from done
+
+
 def side_by_side(asked, pairs):
     """The answers of the dumps, each told as it comes; first those whose pair stands."""
     pool = ThreadPoolExecutor(asked.jobs)
     try:
         numbers = sorted(pairs, key=lambda number: pairs[number] is None)
         waiting = [pool.submit(guarded, number, answer, asked, number, pairs[number]) for number in numbers]
-        return [tell(asked, it.result()) for it in as_completed(waiting)]
+        return [tell(asked, it.result()) for it in as_done(waiting)]
     except BaseException:
         asked.children.end()
         raise

@@ -68,6 +68,12 @@ class Runs(WithoutProgram):
         for words in ((), ("--join",)):
             self.refused(r"trace 1 \(a.vcd\): usage kind, by find", "--suspects", "foo", *words)
 
+    def test_the_size(self):
+        self.dump({"sets": [[1, 2]]}, {"sets": [[3]]})
+        for size, said in (("2", "complete 0"), ("3", "complete 1"), ("8", "complete 1")):
+            status, printed, _ = self.begin("--size", size, "--prefix", "p" + size)
+            self.assertEqual((status, printed.splitlines()[-1]), (0, said + " by trace"))
+
     def test_no_set(self):
         self.dump({"sets": []}, {"sets": [[1]]})
         self.assertEqual(self.begin()[:2], (0, "complete 0 by trace\n"))
