@@ -266,7 +266,7 @@ class Counts:
         of = [("%d of no failing test" % self.asked[0], self.same[0]), ("%d of one" % self.asked[1], self.same[1]),
               ("%d of two or more" % self.asked[2], self.same[2])]
         return "questions: %s\naltered: %d, of which %d refused by the trace's name, %d with the same list" % (
-            ", ".join("%s (%d compared, the same)" % it for it in of), len(self.altered), self.altered.count("refused"), self.altered.count("same"))
+            ", ".join("%s (%d the same)" % it for it in of), len(self.altered), self.altered.count("refused"), self.altered.count("same"))
 
     def are_right(self):
         return self.asked == self.same and "other" not in self.altered

@@ -293,7 +293,7 @@ def print_join(asked, answers, suspects):
         return 4
     reports = sum(it.suspects is not None for it in answers)
     say("that the list of all dumps is the join of these lists is proved (list_by_trace of crates/trace_laws); this script joined them")
-    say("the numbers of suspects are certified; their kinds, lines and labels are what %s, and nobody checked them",
+    say("the numbers of suspects are certified; their kinds, lines and labels are what %s, unchecked",
         "the reports say, all alike" if reports > 1 else "the one report says")
     print_list(sets, suspects)
     return 0

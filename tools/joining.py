@@ -33,7 +33,7 @@ def join_two(unions, listed, size, number):
     if len(unions - found) * len(listed) > MOST_PAIRS:
         raise TooMany(number, "%d pairs of sets" % MOST_PAIRS)
     for one in unions - found:
-        found.update(one | other for other in listed if len(one | other) <= size)
+        found.update(it for it in map(one.union, listed) if len(it) <= size)
         if len(found) > MOST_UNIONS:
             raise TooMany(number, "%d unions" % MOST_UNIONS)
     return least(found)

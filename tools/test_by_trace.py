@@ -41,7 +41,7 @@ class Runs(WithoutProgram):
         self.assertIn("trace 1 (a.vcd): yes 2, by check of localise-1.json and localise-1.log\n", error)
         self.assertIn("trace 2 (b.vcd): ok, by sim\n", error)
         self.assertIn("this script joined them", error)
-        self.assertIn("kinds, lines and labels are what the reports say, all alike, and nobody checked them\n", error)
+        self.assertIn("kinds, lines and labels are what the reports say, all alike, unchecked\n", error)
         self.assertEqual(self.pairs(), ["localise-1.json", "localise-1.log", "localise-3.json", "localise-3.log"])
 
     def test_a_second_start_searches_nothing(self):
@@ -213,9 +213,12 @@ class Words(InAFolder):
             words = ["m.v", "m", "a.vcd", "b.vcd", "c.vcd", "--program", "./program", "--jobs", "2"]
             begun = [sys.executable, os.path.join(HERE, "by_trace.py"), *words]
             with subprocess.Popen(begun, stdout=subprocess.PIPE, stderr=subprocess.PIPE, text=True) as ran:
-                self.wait_for(lambda: len(self.children()) == 2)
-                ran.send_signal(number)
-                printed, error = ran.communicate(timeout=60)
+                try:
+                    self.wait_for(lambda: len(self.children()) == 2)
+                    ran.send_signal(number)
+                    printed, error = ran.communicate(timeout=60)
+                finally:
+                    ran.kill()
             self.assertEqual((ran.returncode, printed), (128 + number, ""))
             self.assertEqual(error.splitlines()[-1:], ["by_trace.py: ended by signal %d" % number])
             self.assertNotIn("Traceback", error)
