@@ -366,7 +366,7 @@ class Pages(Night):
         self.known("least")
         with open("page.html") as file:
             text = file.read()
-        self.assertIn('<div class="said certified"><span class="what certified">certified</span>at least 2 places (stmt) are wrong, if only right', text)
+        self.assertIn('<div class="said certified"><span class="what certified">certified</span>at least 2 places (stmt) are wrong, if nothing but values', text)
         self.assertRegex(text, r'<div class="said likely"><span class="what likely">likely</span>2 bugs')
 
 

@@ -97,7 +97,7 @@ def row_html(it, folder):
 
 HEADS = [
     ("Bin", badge("likely")), ("Family", badge("likely")), ("Tests", ""), ("First wrong at", badge("certified")),
-    ("Suspects: each alone explains every test of the bin, and no other does", badge("certified") + badge("likely") + "order"),
+    ("Suspects: each alone explains every test of the bin up to its first miss (of a split test, the outputs named), and no other of these kinds does", badge("certified") + badge("likely") + "order"),
     ("Look at first", ""), ("More", "")]
 
 

@@ -71,9 +71,9 @@ def certified_text(known):
         return "how many places are wrong wasn't asked"
     ended = " (the search for more ended: %s)" % least["ended"] if least["ended"] else ""
     if least["least"] == 1:
-        return "at least 1 place (%s) is wrong, if only right sides are%s" % (kinds, ended)
+        return "at least 1 place (%s) is wrong, if nothing but values of such places is%s" % (kinds, ended)
     fewer = "no single one explains" if least["least"] == 2 else "no %d explain" % (least["least"] - 1)
-    return "at least %d places (%s) are wrong, if only right sides are: %s these dumps together: %s%s" % (
+    return "at least %d places (%s) are wrong, if nothing but values of such places is: %s these dumps together: %s%s" % (
         least["least"], kinds, fewer, ", ".join(least["dumps"]), ended)
 
 
