@@ -30,15 +30,38 @@ def cut_text(asked, unit):
     return cut.with_last(dict.fromkeys(unit["opened"]))
 
 
+def of_each_list(units):
+    """Of the units with equal lists the first to be looked at."""
+    equal = {}
+    for unit in units:
+        equal.setdefault(tuple(unit["suspects"]), []).append(unit)
+    return [to_look_at(it) for it in equal.values()]
+
+
+def narrowing(first, units):
+    """Units that leave fewer and fewer suspects beside the first one's list, until none of the others takes one away."""
+    found, left = [first], set(first["suspects"])
+    while True:
+        unit = min(units, key=lambda it: len(left & set(it["suspects"])))
+        if left <= set(unit["suspects"]):
+            return found
+        found.append(unit)
+        left &= set(unit["suspects"])
+
+
 def chosen(units):
-    """The units that a joint run takes: all of them; where they are too many, of those with equal lists the first to be looked at."""
-    if len(units) > MOST_DUMPS:
-        equal = {}
-        for unit in units:
-            equal.setdefault(tuple(unit["suspects"]), []).append(unit)
-        units = [to_look_at(it) for it in equal.values()]
+    """The units that a joint run takes, the first to be looked at first: all of them. Where they are too many, those that all together have
+    in common what all units have, and others with lists of their own."""
     first = to_look_at(units)
-    return ([first] + [it for it in units if it is not first])[:MOST_DUMPS]
+    if len(units) <= MOST_DUMPS:
+        return [first] + [it for it in units if it is not first]
+    some = narrowing(first, units)
+    return (some + [it for it in of_each_list(units) if not any(it is other for other in some)])[:MOST_DUMPS]
+
+
+def in_common(units):
+    """The suspects that explain each of these units alone, and so all of them together."""
+    return sorted(set.intersection(*(set(it["suspects"]) for it in units)))
 
 
 def write_dumps(asked, units, room):
@@ -73,15 +96,15 @@ def write_list(asked, room):
         file.write(said)
 
 
-def joint_run(asked, it, room, names):
-    """What `find` says of all these dumps together: its last line and the suspects; where it passes a limit, that line alone."""
+def joint_run(asked, units, room, names):
+    """What `find` says of the dumps of these units together: its last line and the suspects; where it passes a limit, that line alone."""
     try:
         last, printed = run_find(asked, room, names, "1")
     except NoAnswer as said:
         return str(said), []
     found = sorted(int(row[0]) for row in MEMBER.findall(printed))
-    if last.startswith("complete ") and found != sorted(row["number"] for row in it["suspects"]):
-        raise Problem("the run on all dumps of bin %d gives other suspects than their lists do: %s" % (it["number"], found))
+    if last.startswith("complete ") and found != in_common(units):
+        raise Problem("one run on these dumps gives other suspects than their lists do: %s, and not %s" % (found, in_common(units)))
     return last, found
 
 
@@ -89,7 +112,7 @@ def bin_answer(asked, it, room):
     """Asks for all cut dumps of a bin at once, and what the answer has to say."""
     units = chosen(it["units"])
     names = write_dumps(asked, units, room)
-    last, found = joint_run(asked, it, room, names)
+    last, found = joint_run(asked, units, room, names)
     waves_of(asked, room, names[0])
     if found:
         write_list(asked, room)

@@ -14,6 +14,7 @@ is known before (Jeffreys' prior), and the bins are a draw of the Chinese restau
 import heapq
 from collections import Counter
 from dataclasses import dataclass
+from functools import lru_cache
 from itertools import combinations
 from math import lgamma
 
@@ -33,11 +34,27 @@ def log_beta(a, b):
     return lgamma(a) + lgamma(b) - lgamma(a + b)
 
 
+@lru_cache(maxsize=None)
+def unlisted(number):
+    """What a suspect is worth that none of so many lists has, as a logarithm."""
+    return log_beta(0.5, 0.5 + number) - log_beta(0.5, 0.5)
+
+
+@lru_cache(maxsize=None)
+def more(count, number):
+    """How much more it is worth where so many of them have it."""
+    return log_beta(0.5 + count, 0.5 + number - count) - log_beta(0.5, 0.5 + number)
+
+
+@lru_cache(maxsize=None)
+def alone(number, suspects):
+    """How likely a bin of so many lists is that have none of the suspects, of which there are so many."""
+    return suspects * unlisted(number) + lgamma(number)
+
+
 def worth(number, counts, suspects):
     """How likely one bin of so many lists is, as a logarithm, where `suspects` stand in any list."""
-    none = log_beta(0.5, 0.5)
-    listed = sum(log_beta(0.5 + count, 0.5 + number - count) - none for count in counts.values())
-    return listed + (suspects - len(counts)) * (log_beta(0.5, 0.5 + number) - none) + lgamma(number)
+    return alone(number, suspects) + sum(more(count, number) for count in counts.values())
 
 
 def sum_of(some, others):
@@ -64,19 +81,39 @@ class Joining:
         self.suspects, self.bins, self.pairs = suspects, {it.key: it for it in bins}, []
         self.worths = {it.key: self.worth_of(it) for it in bins}
         for one, other in combinations(bins, 2):
-            self.offer(one, other)
+            common = len(one.shared & other.shared)
+            if common:
+                self.offer(one, other, self.worth_of_plain(one, other, common))
 
     def worth_of(self, it):
         return worth(len(it.units), it.counts, self.suspects)
 
-    def offer(self, one, other):
+    def worth_of_plain(self, one, other, common):
+        """The worth of two bins together, each of equal lists, that have so many suspects in common."""
+        first, second = len(one.units), len(other.units)
+        number = first + second
+        apart = (len(one.counts) - common) * more(first, number) + (len(other.counts) - common) * more(second, number)
+        return alone(number, self.suspects) + common * more(number, number) + apart
+
+    def worths_with(self, it):
+        """The worth of this bin together with each that shares a suspect with it."""
+        sums = {}
+        for other in self.bins.values():
+            if it.shared.isdisjoint(other.shared):
+                continue
+            number = len(it.units) + len(other.units)
+            if number not in sums:
+                sums[number] = alone(number, self.suspects) + sum(more(count, number) for count in it.counts.values())
+            grown = sum(more(it.counts.get(suspect, 0) + count, number) - (more(it.counts[suspect], number) if suspect in it.counts else 0)
+                        for suspect, count in other.counts.items())
+            yield other, sums[number] + grown
+
+    def offer(self, one, other, both):
         """Notes the pair where its joining makes the bins more likely."""
-        if one.shared & other.shared:
-            both = joined(one, other)
-            gain = self.worth_of(both) - self.worths[one.key] - self.worths[other.key]
-            if gain > 0:
-                first, second = sorted([one, other], key=lambda it: it.key)
-                heapq.heappush(self.pairs, (-gain, first.key, second.key, len(first.units), len(second.units)))
+        gain = both - self.worths[one.key] - self.worths[other.key]
+        if gain > 0:
+            first, second = sorted([one, other], key=lambda it: it.key)
+            heapq.heappush(self.pairs, (-gain, first.key, second.key, len(first.units), len(second.units)))
 
     def is_as_offered(self, first, second, *numbers):
         """Whether neither bin was joined since: a bin that was is gone, or has more units."""
@@ -88,8 +125,8 @@ class Joining:
             if self.is_as_offered(first, second, *numbers):
                 both = joined(self.bins.pop(first), self.bins.pop(second))
                 self.worths[both.key] = self.worth_of(both)
-                for other in self.bins.values():
-                    self.offer(both, other)
+                for other, worth_of_both in self.worths_with(both):
+                    self.offer(both, other, worth_of_both)
                 self.bins[both.key] = both
         return sorted(self.bins.values(), key=lambda it: it.key)
 

@@ -8,12 +8,30 @@ BINS = "localise-bins 1"
 SAME = ("design", "design_digest", "top", "clock", "options")
 
 
+# what a case has, and each of its units
+SHAPE = {"design": str, "design_digest": str, "top": str, "clock": str, "options": list, "dump": str, "dump_digest": str, "answer": str,
+         "line": str, "cycle": (int, type(None)), "end": (int, type(None)), "names": list, "units": list, "suspects": dict}
+UNIT = {"outputs": list, "opened": list, "suspects": list, "ending": str, "made_up": (dict, type(None))}
+
+
+def has_shape(value, shape):
+    return isinstance(value, dict) and all(name in value and isinstance(value[name], kind) for name, kind in shape.items())
+
+
+def read_case(path):
+    """The case in a file; a Problem where it has another shape."""
+    case = read_json(path, CASE)
+    if not (has_shape(case, SHAPE) and all(has_shape(it, UNIT) and it["outputs"] for it in case["units"])):
+        raise Problem("%s: not whole, or changed by hand" % path)
+    return dict(case, path=path)
+
+
 def cases_in(paths):
     """The cases that can be read, by their dumps; and for each that can't its path and why."""
     found, unread = [], []
     for path in paths:
         try:
-            found.append(dict(read_json(path, CASE), path=path))
+            found.append(read_case(path))
         except Problem as problem:
             unread.append({"dump": path, "line": str(problem)})
     return sorted(found, key=lambda it: (it["dump"], it["path"])), unread

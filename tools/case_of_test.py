@@ -30,6 +30,7 @@ class Killed(Exception):
 
 
 WITHOUT_ROOM = (6, 7)       # (the statuses where a write failed, or memory ran out)
+ENDED = 124                 # (from here on a shell, or `timeout`, says that it ended the run, or that there is none)
 
 
 @dataclass
@@ -79,8 +80,10 @@ def run_find(asked, room, dumps, size, *further):
 
 def judge(command, status, last, options=()):
     """Raises what is said of a run that was ended, or whose arguments are wrong."""
-    if status < 0 or status in WITHOUT_ROOM:
+    if status < 0 or status in WITHOUT_ROOM or status >= ENDED:
         raise Killed("%s was ended by signal %d" % (command, -status) if status < 0 else "%s ended with status %d" % (command, status))
+    if not last:
+        raise Killed("%s ended with status %d and printed nothing" % (command, status))
     if status == 2:
         raise Problem("%s refuses its arguments: %s%s" % (command, last, "; handed through are %s" % " ".join(options) if options else ""))
 

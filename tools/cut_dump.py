@@ -62,7 +62,8 @@ def simulated(asked, text):
             file.write(text)
         words = [asked.program, "sim", asked.design, asked.top, f"{room}/dump.vcd"]
         words += ["--clock", asked.clock] if asked.clock else []
-        ran = subprocess.run(words, stdin=subprocess.DEVNULL, stdout=subprocess.PIPE)
+        # (what `sim` tells a person beside its lines, these lines say too)
+        ran = subprocess.run(words, stdin=subprocess.DEVNULL, stdout=subprocess.PIPE, stderr=subprocess.DEVNULL)
     if ran.stdout == NO_CYCLE:
         return Simulation(b"", 0)
     if ran.stdout == TOO_MANY:

@@ -28,6 +28,26 @@ class Bins(unittest.TestCase):
     def test_lists_that_differ_a_little_are_joined(self):
         self.assertEqual(self.members([[1, 2, 3]] * 3 + [[1, 2]] * 3 + [[7, 8, 9]] * 3), [[0, 1, 2, 3, 4, 5], [6, 7, 8]])
 
+    def test_the_best_pair_is_joined_first(self):
+        """The list [1] lies nearest to [1, 2], and then [1, 3] to [3]; had [1, 3] come to [1] first, [3] would be left alone."""
+        self.assertEqual(self.members([[3], [1, 2], [1, 3], [1]]), [[0, 2], [1, 3]])
+
+    def test_bins_are_joined_only_where_that_is_likelier(self):
+        self.assertEqual(self.members([[1], [4], [3], [1, 3, 4]]), [[0], [1], [2], [3]])
+
+    def test_what_pairs_are_worth_is_what_their_bin_is_worth(self):
+        chance = random.Random(3)
+        for _ in range(30):
+            lists = [sorted(chance.sample(range(7), chance.randrange(1, 5))) for _ in range(12)]
+            bins = binning.bins_of_equal_lists(lists)
+            joining = binning.Joining(bins, 7)
+            both = binning.joined(bins[0], bins[1])
+            for other, worth in joining.worths_with(both):
+                self.assertAlmostEqual(worth, joining.worth_of(binning.joined(both, other)))
+            for one, other in zip(bins, bins[1:]):
+                worth = joining.worth_of_plain(one, other, len(one.shared & other.shared))
+                self.assertAlmostEqual(worth, joining.worth_of(binning.joined(one, other)))
+
     def test_a_bin_keeps_a_suspect_that_all_lists_have(self):
         chance = random.Random(7)
         for _ in range(30):
@@ -55,6 +75,12 @@ class Bins(unittest.TestCase):
         made_up = binning.tallied([("y", [3])] * 5)
         self.assertEqual(binning.families_of(bins, [{"y"}] * 3, made_up), [1, 1, 2])
         self.assertEqual(binning.families_of(bins, [{"y"}] * 3, {}), [1, 2, 3])
+
+    def test_a_suspect_that_explains_a_third_of_what_is_made_up_makes_no_family(self):
+        bins = [binning.Bin(key, [key], {}, frozenset([1])) for key in (0, 1)]
+        for explained, families in ((1, [1, 2]), (0, [1, 1])):
+            made_up = binning.tallied([("y", [1])] * explained + [("y", [2])] * (3 - explained))
+            self.assertEqual(binning.families_of(bins, [{"y"}] * 2, made_up), families)
 
 
 class LastCycles(unittest.TestCase):

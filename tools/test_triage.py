@@ -20,6 +20,7 @@ import unittest.mock
 HERE = os.path.dirname(os.path.abspath(__file__))
 TOP = os.path.dirname(HERE)
 sys.path.insert(0, HERE)
+import asked_bin  # noqa: E402
 import case_of_test  # noqa: E402
 import cut_dump  # noqa: E402
 import triage  # noqa: E402
@@ -189,7 +190,9 @@ class Cases(Room):
             case, answer = self.case(name, says, wrong="" if name == "passes" else "y")
             self.assertEqual(((case["answer"], case["line"]), answer[0]), (wanted, 0))
         for name, says, line in (("killed", {"y": [1], "ending": "killed"}, "find was ended by signal 9"),
-                                 ("full", {"refused": "memory", "status": 7}, "sim ended with status 7")):
+                                 ("full", {"refused": "memory", "status": 7}, "sim ended with status 7"),
+                                 ("late", {"refused": "limit", "status": 124}, "sim ended with status 124"),
+                                 ("mute", {"refused": " ", "status": 5}, "sim ended with status 5 and printed nothing")):
             case, answer = self.case(name, says)
             self.assertEqual((case["answer"], case["line"], answer[0]), ("killed", line, 1))
 
@@ -236,6 +239,15 @@ class Cases(Room):
         self.case("k", {"y": [2], "ending": "killed"})
         self.assertEqual(len(self.find.calls), 1)
 
+    def test_two_dumps_of_one_name(self):
+        os.mkdir("cases"), os.mkdir("other")
+        for name in ("t.vcd", "other/t.vcd"):
+            self.write(name, dump_of({"y": [2]}))
+        self.assertEqual(self.step("case", "m.v", "m", "t.vcd", "cases", "--clock", "clk")[0], 0)
+        status, _, errors = self.step("case", "m.v", "m", "other/t.vcd", "cases", "--clock", "clk")
+        said = "triage.py: cases/t.case: is of t.vcd; give the case of other/t.vcd a name of its own, or another folder\n"
+        self.assertEqual((status, errors), (2, said))
+
     def test_a_case_of_another_run_is_not_written_over(self):
         self.case("t", {"y": [2]})
         before = whole_files.load("t.case")
@@ -270,6 +282,35 @@ class Regressions(Night):
         self.assertEqual(known["bins"][0]["suspects"][0]["text"], "line 3")
         self.assertEqual((known["unfinished"][0]["bins"], known["passing"], known["unexplained"][0]["dump"]), ([1], ["c.vcd"], "f.vcd"))
         self.assertEqual(known["likely"], {"least": 2, "most": 2})
+
+    def test_cases_that_are_not_whole(self):
+        self.case("a", {"y": [2]})
+        with open("a.case") as file:
+            whole = json.load(file)
+        wrong = [{"form": "localise-case 1"}, dict(whole, units=[{}]), dict(whole, dump=3), dict(whole, units=[dict(whole["units"][0], outputs=[])])]
+        for number, it in enumerate(wrong):
+            self.write("b%d.case" % number, json.dumps(it))
+        self.assertEqual(self.step("bins", "bins.json", ".")[:2], (0, "1 dump fails, 0 pass, 0 refused, 4 without an answer: 1 bin\n"))
+        self.assertEqual(self.known()["killed"][0], {"dump": "./b0.case", "line": "./b0.case: not whole, or changed by hand"})
+        status, _, errors = self.step("case", "m.v", "m", "a.vcd", "b0.case", "--clock", "clk")
+        self.assertEqual((status, errors), (2, "triage.py: b0.case: not whole, or changed by hand\n"))
+
+    def test_cases_that_are_named_in_a_file(self):
+        """One that isn't there is told, and one that isn't named is left alone."""
+        self.case("a b", {"y": [2]}), self.case("old", {"y": [3]})
+        self.write("names", "a b.case\ngone.case\n")
+        self.assertEqual(self.step("bins", "bins.json", "--names", "names")[:2], (0, "1 dump fails, 0 pass, 0 refused, 1 without an answer: 1 bin\n"))
+        self.assertEqual(self.known()["killed"][0]["dump"], "gone.case")
+        with self.assertRaises(SystemExit), contextlib.redirect_stderr(io.StringIO()):
+            triage.main(["bins", "bins.json"])
+
+    def test_more_lists_than_one_run_takes(self):
+        """The dumps of a joint run have no more suspects in common than all of the bin."""
+        units = [{"suspects": sorted({1, 2} | {number % 7 + 10, number + 100}), "cycle": 3, "dump": "%d.vcd" % number} for number in range(299)]
+        units.append({"suspects": [1, *range(10, 17), *range(100, 399)], "cycle": 3, "dump": "last.vcd"})
+        found = asked_bin.chosen(units)
+        self.assertEqual((len(found), len({it["dump"] for it in found}), asked_bin.in_common(found)), (256, 256, [1]))
+        self.assertIs(found[0], asked_bin.to_look_at(units))
 
     def test_asked_bins_and_the_least_number_of_places(self):
         self.regression()
@@ -359,6 +400,22 @@ class Pages(Night):
             page = Balanced(file.read())
         self.assertEqual(page.opened, [])
         self.assertIn("bin%20%3C1%3E/waves/suspect-2.vcd", page.links)
+
+    def test_one_bin_needs_no_run_for_the_least_number(self):
+        self.case("a", {"y": [2]})
+        self.step("bins", "bins.json", "."), self.step("ask", "least", "bins.json", "least")
+        self.known("least")
+        with open("page.html") as file:
+            text = file.read()
+        self.assertIn(">dumps</a>).", text)
+        self.assertNotIn("report, log", text)
+
+    def test_what_was_not_asked_is_not_certified(self):
+        self.regression()
+        said = self.step("page", "bins.json", "--html", "page.html")[1]
+        self.assertIn("\nnot asked: how many places are wrong\n", said)
+        with open("page.html") as file:
+            self.assertNotIn('class="said certified"', file.read())
 
     def test_certified_and_likely_are_told_apart_by_word_and_class(self):
         self.regression()

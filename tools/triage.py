@@ -2,14 +2,14 @@
 """Sorts the failing tests of a regression by their bugs: which tests belong together, how many bugs there are at least, where each may be.
 
     tools/triage.py case DESIGN TOP DUMP OUT [--clock NAME] [--program FILE] [OPTION OF find]..
-    tools/triage.py bins OUT CASE..
+    tools/triage.py bins OUT CASE.. [--names FILE]
     tools/triage.py ask OUT BINS N|least [--program FILE] [--budget B] [--sets M] [--workers N]
     tools/triage.py page BINS [ASKED..] [--html OUT] [--json OUT]
 
 `case` looks at one test: `sim` says where its first output is wrong, the dump is cut there, and `find --size 1` lists the single suspects
 that explain it; then the same of a failure that is made up. OUT has what was found, also where the test passes, or is refused; where OUT
 is a folder, NAME.case in it for a dump NAME.vcd. `bins` puts the tests into bins by these lists; a CASE may be a folder, which stands for
-its files that end in `.case`. `ask` asks for all tests of bin N together, or for the least number of places that have to be wrong; it
+its files that end in `.case`; FILE has further names, one a line. `ask` asks for all tests of bin N together, or for the least number of places that have to be wrong; it
 leaves a folder. `page` prints what is known, and writes it as a page or as JSON.
 
 Options that aren't named here are handed through to `find`, as they are given. Each file, and the folder, is there whole or not at all,
@@ -58,16 +58,23 @@ def question_of(asked, text):
             "options": asked.options, "dump": asked.dump, "dump_digest": digest(text)}
 
 
+def another(out, stands, question, name):
+    """Why a case that stands isn't the one that is asked for."""
+    if name == "dump" and os.path.basename(stands["dump"]) == os.path.basename(question["dump"]):
+        return "%s: is of %s; give the case of %s a name of its own, or another folder" % (out, stands["dump"], question["dump"])
+    return "%s: is of another run: its %s differs; take another folder, or remove it" % (out, name.replace("_", "'s "))
+
+
 def is_there(out, question, effort):
     """Whether the case is made already, and this effort wouldn't change it; a Problem where what stands is of another run."""
     if not os.path.exists(out):
         return False
-    stands = read_json(out, bins_of_tests.CASE)
+    stands = bins_of_tests.read_case(out)
     if stands["answer"] == "killed":
         return False
-    other = next((name for name in question if stands.get(name) != question[name]), None)
+    other = next((name for name in ("dump", *question) if stands.get(name) != question[name]), None)
     if other:
-        raise Problem("%s: is of another run: its %s differs; take another folder, or remove it" % (out, other.replace("_", "'s ")))
+        raise Problem(another(out, stands, question, other))
     return stands["answer"] != "unfinished" or stands["effort"] == effort
 
 
@@ -96,17 +103,17 @@ def make_case(asked):
 
 # ---- bins
 
-def case_paths(names):
+def case_paths(asked):
     """The files of cases: of a folder those that end in `.case`."""
-    found = []
-    for name in names:
+    found, named = [], load(asked.names).decode("utf-8", "surrogateescape").split("\n") if asked.names else []
+    for name in asked.cases + [it for it in named if it]:
         found += [os.path.join(name, it) for it in sorted(os.listdir(name)) if it.endswith(".case")] if os.path.isdir(name) else [name]
     return list(dict.fromkeys(found))
 
 
 def make_bins(asked):
     """Leaves the bins of a regression, and prints how many tests there are of each kind."""
-    bins = bins_of_tests.bins_file(case_paths(asked.cases))
+    bins = bins_of_tests.bins_file(case_paths(asked))
     print(bins_of_tests.counts_text(bins["counts"]) + ": " + triage_text.many(len(bins["bins"]), "bin"))
     if not bins["counts"]["fails"] + bins["counts"]["unfinished"]:
         say("no test fails%s: there is nothing to put into bins", triage_text.why_none(bins))
@@ -193,7 +200,8 @@ def parser_of():
         case.add_argument(name, metavar=name.upper())
     case.add_argument("--clock", default=""), case.set_defaults(make=make_case)
     bins = step.add_parser("bins", allow_abbrev=False)
-    bins.add_argument("out", metavar="OUT"), bins.add_argument("cases", metavar="CASE", nargs="+"), bins.set_defaults(make=make_bins)
+    bins.add_argument("out", metavar="OUT"), bins.add_argument("cases", metavar="CASE", nargs="*")
+    bins.add_argument("--names", metavar="FILE"), bins.set_defaults(make=make_bins)
     ask = step.add_parser("ask", allow_abbrev=False)
     ask.add_argument("out", metavar="OUT"), ask.add_argument("bins", metavar="BINS")
     ask.add_argument("what", metavar="N|least", type=what_of), ask.set_defaults(make=make_answer)
@@ -213,6 +221,8 @@ def asked_of(words):
     for name in (word.partition("=")[0] for word in asked.options):
         if name in REFUSED:
             parser.error("%s: %s" % (name, REFUSED[name]))
+    if asked.step == "bins" and not asked.cases and not asked.names:
+        parser.error("bins: no case is named")
     if asked.step != "case" and asked.options or asked.step in ("bins", "page") and asked.effort:
         parser.error("not known: %s" % " ".join(further))
     return asked

@@ -155,12 +155,19 @@ MEANINGS = (
     "explains these too explains anything.</p>\n") % (badge("certified"), badge("likely"))
 
 
+def least_html(known, folder):
+    """The least number of places, with what shows it: a run was made for it only where it is more than one."""
+    least = known["certified"]
+    if not least:
+        return '<p class="note">How many places are wrong wasn\'t asked.</p>\n'
+    files = "report, log and dumps" if least["line"] else "dumps"
+    return said("certified", "%s (%s)." % (shown(certified_text(known)), link_to(least["folder"] + "/", folder, files)))
+
+
 def known_html(known, folder):
     """How many places and bugs there are, and what the two words mean."""
-    least = known["certified"]
-    link = " (%s)" % link_to(least["folder"] + "/", folder, "report, log and dumps") if least else ""
     likely = range_text(known["likely"]["least"], known["likely"]["most"], "bug")
-    return said("certified", shown(certified_text(known)) + link + ".") + (said("likely", likely + ".") if known["bins"] else "") + MEANINGS
+    return least_html(known, folder) + (said("likely", likely + ".") if known["bins"] else "") + MEANINGS
 
 
 def page_of(known, folder):

@@ -67,8 +67,6 @@ def range_text(least, most, word):
 def certified_text(known):
     """The certified least number of places, in words."""
     least, kinds = known["certified"], "/".join(known["kinds"])
-    if least is None:
-        return "how many places are wrong wasn't asked"
     ended = " (the search for more ended: %s)" % least["ended"] if least["ended"] else ""
     if least["least"] == 1:
         return "at least 1 place (%s) is wrong, if nothing but values of such places is%s" % (kinds, ended)
@@ -116,7 +114,7 @@ def text_of(known):
     """What is known, as text."""
     kinds = "/".join(known["kinds"]) or "suspect"
     head = "triage of %s, top %s: %s\n" % (os.path.basename(known["design"]), known["top"], counts_text(known["counts"]))
-    head += "certified: %s\n" % certified_text(known)
+    head += "certified: %s\n" % certified_text(known) if known["certified"] else "not asked: how many places are wrong\n"
     head += "likely:    %s\n" % range_text(known["likely"]["least"], known["likely"]["most"], "bug") if known["bins"] else ""
     parts = [bin_text(it) for it in known["bins"]]
     parts.append(others_text("no single %s explains:" % kinds, [
