@@ -25,7 +25,7 @@ runs (3) each but for the first. They are the processor's, where it isn't said t
     sim s      `sim` on the same design and dump, which reads both, simulates once, and prints a line a cycle
 
 and the most memory that `check` held with one worker, in MB. PROGRAM is crates/localise/out/localise where it isn't given. The status is
-1 where `check` doesn't say `yes` to a list that is whole, or anything but `no closing` to another, or says something else with four
+1 where `check` doesn't say `yes` to a list that is whole, or anything but `front` to another, or says something else with four
 workers.
 """
 
@@ -136,7 +136,7 @@ def row_of(asked, name, top, files, words, room):
     number = sum(sizes_of(printed).values())
     print("%-12s %4d %7d %9d %9d %8d %8.3f %7.3f %7.3f %7.3f %7.3f %7.3f %13s %7.3f %7.3f %7.3f %12s %7.2f %7.3f %5.0f" % (
         name, number, *log, *sizes, found, form, *parts, simulated, memory), flush=True)
-    wanted = "yes %d" % number if ending[0].startswith("complete") else "no closing"
+    wanted = "%s %d" % ("yes" if ending[0].startswith("complete") else "front", number)
     if said != [wanted, wanted]:
         print("%s: %r in place of %r behind %r" % (name, said, wanted, ending[0]))
         return False

@@ -15,8 +15,8 @@ dump, at most --jobs at once (1):
 
 Then the lists are joined: a set of at most K suspects makes all dumps right exactly where it has within it a set of each dump's list, so
 the list of all is that of the least unions of one set of each (crates/trace_laws proves it). Standard error says of each dump, as soon as
-it is known, who vouches for its list: the numbers of suspects are certified; their lines and labels are what the reports say, which have
-to be the same in all.
+it is known, who vouches for its list. Each check that says yes has found the suspects of the report to be the design's, and all reports
+have to have the same.
 
 All pairs that stand are looked at before the first `find` begins. Where all dumps pass, a short `find` of the first one looks at the kinds
 of suspects. --sets counts for each dump, and the joined list may be longer; where the joining itself gets too large (100,000,000 pairs of
@@ -291,10 +291,8 @@ def print_join(asked, answers, suspects):
         say("%s: ask for smaller sets, or leave out a dump whose list is long", error)
         print("limit join")
         return 4
-    reports = sum(it.suspects is not None for it in answers)
     say("that the list of all dumps is the join of these lists is proved (list_by_trace of crates/trace_laws); this script joined them")
-    say("the numbers of suspects are certified; their kinds, lines and labels are what %s, unchecked",
-        "the reports say, all alike" if reports > 1 else "the one report says")
+    say("the suspects' kinds, lines and labels are those of the design, by each check that said yes")
     print_list(sets, suspects)
     return 0
 

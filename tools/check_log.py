@@ -1,12 +1,13 @@
 #!/usr/bin/env python3
-"""Looks at the log of `localise find` by itself: whether it shows that the report's sets are all. It shares no code with localise.
+"""Looks at the log of `localise find` by itself: whether it shows that the report's sets are all, or the first ones. It shares no code with localise.
 
     tools/check_log.py FORM LOG REPORT
 
 FORM has the clauses in DIMACS, as `bench_tool form` prints them of the same design, dumps, kinds and size; LOG and REPORT are what `find`
 wrote. It goes by docs/formats.md, in plain steps, and is slow. Printed is what `localise check` prints of the log: `no step N` with the first
-step that may not stand there, `no closing`, or `yes N`; that each set makes the dumps right it doesn't look at. The status is 0 for yes, 8 for no, and 2 where
-a file can't be read.
+step that may not stand there; `yes N` where the sets are all; `front N` where none is missing before the last one; else `no closing`. That the
+sets are in order, and that each makes the dumps right, it doesn't look at. The status is 0 for yes, 1 for front, 8 for no, and 2 where a file
+can't be read.
 """
 
 import argparse
@@ -70,11 +71,28 @@ def first_refused(form, blocks, steps):
     return len(steps) + 1 if due else None
 
 
+def more_than(count, report):
+    """The variable that says that more than so many suspects are chosen, or None where there aren't more."""
+    suspects, size = len(report["suspects"]), report["size"]
+    before = suspects + sum(min(it, size + 1) for it in range(1, suspects))
+    return before + count + 1 if count < suspects else None
+
+
 def is_closing(report, steps):
     """The last step is derived, and says that more than `size` suspects are chosen, or nothing can be."""
-    suspects, size = len(report["suspects"]), report["size"]
-    more = suspects + sum(min(it, size + 1) for it in range(1, suspects + 1))
-    return bool(steps) and steps[-1][0] == "d" and (steps[-1][1] == [] or size < suspects and steps[-1][1] == [more])
+    return bool(steps) and steps[-1][0] == "d" and steps[-1][1] in ([], [more_than(report["size"], report)])
+
+
+def is_front(report, steps):
+    """Of the last set: some step says that no fewer suspects can be chosen than it has; and for each suspect that it passes over, some step
+    says that without more suspects than it has this one isn't chosen together with all its members below."""
+    last = report["sets"][-1]["members"] if report["sets"] else []
+    clauses = {frozenset(clause) for _, clause, _ in steps}
+    allowed = [{more_than(len(last) - 1, report)}] if last else []
+    for suspect in range(1, max(last, default=0)):
+        if suspect not in last:
+            allowed.append({-suspect, more_than(len(last), report)} | {-it for it in last if it < suspect})
+    return all(any(clause <= literals for clause in clauses) for literals in allowed)
 
 
 def verdict(form, digest, steps, report):
@@ -83,7 +101,8 @@ def verdict(form, digest, steps, report):
     refused = first_refused(form, [[-it for it in found["members"]] for found in report["sets"]], steps)
     if refused:
         return "no step %d" % refused
-    return "yes %d" % len(report["sets"]) if is_closing(report, steps) else "no closing"
+    said = "yes" if is_closing(report, steps) else "front" if is_front(report, steps) else None
+    return "%s %d" % (said, len(report["sets"])) if said else "no closing"
 
 
 def main(words):
@@ -97,7 +116,7 @@ def main(words):
         print("check_log.py: %s" % error, file=sys.stderr)
         return 2
     print(said)
-    return 0 if said.startswith("yes") else 8
+    return {"yes": 0, "front": 1}.get(said.split()[0], 8)
 
 
 if __name__ == "__main__":

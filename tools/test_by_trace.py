@@ -41,7 +41,7 @@ class Runs(WithoutProgram):
         self.assertIn("trace 1 (a.vcd): yes 2, by check of localise-1.json and localise-1.log\n", error)
         self.assertIn("trace 2 (b.vcd): ok, by sim\n", error)
         self.assertIn("this script joined them", error)
-        self.assertIn("kinds, lines and labels are what the reports say, all alike, unchecked\n", error)
+        self.assertIn("kinds, lines and labels are those of the design, by each check that said yes\n", error)
         self.assertEqual(self.pairs(), ["localise-1.json", "localise-1.log", "localise-3.json", "localise-3.log"])
 
     def test_a_second_start_searches_nothing(self):

@@ -38,8 +38,26 @@ class Checking(unittest.TestCase):
         self.assertEqual(self.answer("d 2 : 1 2\n", sets=[], size=0), (0, "yes 0"))
 
     def test_lists_that_are_not_shown_whole(self):
-        for steps in ("b -1\n", "b -1\nl : 2 3\n", "b -1\nd 2 : 1 2\n"):
+        # (that no set is smaller is to be shown)
+        for steps in ("b -1\n", "l 1 : 2\nb -1\n"):
             self.assertEqual(self.answer(steps), (8, "no closing"))
+
+    def test_fronts(self):
+        for steps in ("b -1\nl : 2 3\n", "b -1\nd 2 : 1 2\n"):
+            self.assertEqual(self.answer(steps), (1, "front 1"))
+        self.assertEqual(self.answer("", sets=[]), (1, "front 0"))
+        # of three suspects the second or the third is to be chosen: 7 says that one is, 8 that two are, 9 that all are
+        three = {"form": "p cnf 9 4\n2 3 0\n-2 7 0\n-3 7 0\n-1 8 0\n", "suspects": [SUSPECT] * 3}
+        second = [{"members": [2], "values": [[["1"]]]}]
+        some = "l 2 7 : 1 3\nl 7 : 5 2\nb -2\n"
+        self.assertEqual(self.answer(some + "d -1 8 : 4\n", sets=second, **three), (1, "front 1"))
+        self.assertEqual(self.answer(some, sets=second, **three), (8, "no closing"))
+        self.assertEqual(self.answer("l 2 7 : 1 3\nb -2\nd -1 8 : 4\n", sets=second, **three), (8, "no closing"))
+        # of two members the bounds are 8 and 9, and only the first suspect is passed over
+        pair = {**three, "sets": [{"members": [2, 3], "values": [[["1"]]]}], "size": 2, "form": "p cnf 9 3\n8 0\n-1 9 0\n7 0\n"}
+        self.assertEqual(self.answer("b -2 -3\nd 8 : 1\nd -1 9 : 2\n", **pair), (1, "front 1"))
+        self.assertEqual(self.answer("b -2 -3\nd 7 : 3\nd -1 9 : 2\n", **pair), (8, "no closing"))
+        self.assertEqual(self.answer("b -2 -3\nd 8 : 1\n", **pair), (8, "no closing"))
 
     def test_the_first_step_that_may_not_stand_there(self):
         self.assertEqual(self.answer("d : 2 3\nb -1\n"), (8, "no step 1"))

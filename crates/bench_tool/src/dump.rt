@@ -13,7 +13,7 @@ use design_core::{Design, Trace};
 use loc_base::Name;
 use std::io::{self, BufWriter, Write};
 use std::time::Instant;
-use vcd_traces::{VcdErr, has_ports, samples};
+use vcd_traces::{SampleBy, VcdErr, has_ports, samples};
 use vcd_waves::{Wave, has_rows, wave_text};
 
 /// What the program is asked: what it shows of a dump, for a design with a clock or none.
@@ -111,7 +111,11 @@ pub(crate) fn run(rt: &HostRuntime, words: &[String]) -> Result<u8, Failure> {
         return Err(Failure::Words);
     }
     let begin = Instant::now(rt)?;
-    let answer = samples(rt.alloc(), text.as_slice(), &design, clock);
+    let by = SampleBy {
+        design: &design,
+        clock,
+    };
+    let answer = samples(rt.alloc(), text.as_slice(), &by);
     let end = Instant::now(rt)?;
     if shown == "time" {
         eprintln!(rt; "{}", end.duration_since(begin).as_millis())?;

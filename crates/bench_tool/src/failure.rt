@@ -1,9 +1,9 @@
 //! Why a part of the product had no answer.
 use bit_circuit::BlastErr;
 use clause_form::FormErr;
-use front_end::DesignErr;
 use io_ports::LoadErr;
 use loc_base::NoMemory;
+use refusal::Refusal;
 use std::alloc::{AllocError, AllocFailed};
 use std::io;
 use suspect_map::ChooseErr;
@@ -24,7 +24,7 @@ pub(crate) enum Failure {
     Load(#[from] LoadErr),
     /// The design's text means none.
     #[error(transparent)]
-    Design(#[from] DesignErr),
+    Design(#[from] Refusal),
     /// The names of kinds give no suspects.
     #[error(transparent)]
     Kinds(#[from] ChooseErr),

@@ -5,28 +5,31 @@ use Rattle.command_contract.specs.Contract.{Causes, IsInputRefusal, IsStatus, Ke
 use Rattle.command_contract.proofs.Statuses.{input-range, input-refusal}
 use Rattle.front_end.specs.Means.{Meaning, Refusing}
 use Rattle.debug_core.specs.Problems.{IsProblem}
-use Rattle.refusal_lines.specs.Refusals.{memory_line}
-use Rattle.load_problem.specs.Ends.{PrintCounts, Prints}
-use Rattle.load_problem.specs.Lines.{LineCut, LineStops}
+use Rattle.refusal.specs.Lines.{memory_line}
+use Rattle.refusal.specs.Ends.{PrintCounts, Prints}
+use Rattle.refusal.specs.Stops.{LineCut, LineStops}
 use Rattle.load_problem.specs.Means.{Suspecting}
-use Rattle.load_problem.proofs.Keeping.{EndsByLines}
+use Rattle.refusal.proofs.Keeping.{EndsByLines}
 use Rattle.list_verdict.specs.declared.verdict.Verdict.{Verdict}
 use Rattle.list_verdict.specs.declared.verdict.Verdict.TheVariants as verdict
+use Rattle.check_cmd.specs.declared.verdicts.Judgement.{Judgement}
+use Rattle.check_cmd.specs.declared.verdicts.Judgement.TheVariants.{OfList, OfTable}
 use Rattle.check_cmd.specs.declared.run.Answer.{Answer}
-use Rattle.check_cmd.specs.Asked.{Asked}
-use Rattle.check_cmd.specs.Checking.{IsAnswered, IsDue, Judged, checking}
-use Rattle.check_cmd.specs.Lines.{verdict_status}
+use Rattle.requests.specs.Asked.{CheckAsked}
+use Rattle.check_cmd.specs.Checking.{IsAnswer, IsAnswered, IsDue, Judged, checking}
+use Rattle.check_cmd.specs.Lines.{judgement_status, verdict_status}
 use Rattle.check_cmd.specs.Means.{AreOfInputs, Given, Means}
 use Rattle.check_cmd.specs.Parts.{Answers}
 use Rattle.check_cmd.specs.Refusals.{Refused}
 
 -- ---- by the line of a refusal
-no-answer : (s : ℕ) → (s ≡ 0) ⊎ (s ≡ 8) → 2 ≤ s → s ≤ 7 → ⊥
+no-answer : (s : ℕ) → IsAnswer s → 2 ≤ s → s ≤ 7 → ⊥
 no-answer s (inl e) least most = omega (arith, e, least)
-no-answer s (inr e) least most = omega (arith, e, most)
+no-answer s (inr (inl e)) least most = omega (arith, e, least)
+no-answer s (inr (inr e)) least most = omega (arith, e, most)
 
 -- a refusal's line is due
-refusal-due : (M : Meaning) (R : Refusing) (known : List (List ℕ)) (S : Suspecting) (asked : Asked) (run : Run)
+refusal-due : (M : Meaning) (R : Refusing) (known : List (List ℕ)) (S : Suspecting) (asked : CheckAsked) (run : Run)
     → LineStops (Refused M R known S asked run.texts) run → LineStops (IsDue M R known S asked run.texts) run
 refusal-due M R known S asked run stops = record {
   line = stops.line;
@@ -43,7 +46,7 @@ refusal-due M R known S asked run stops = record {
     at (inl (status, refused, told)) = inl (status, inr refused, told)
     at (inr e) = inr e
 
-pub ends-by_lines : (M : Meaning) (R : Refusing) (known : List (List ℕ)) (S : Suspecting) (asked : Asked) (run : Run)
+pub ends-by_lines : (M : Meaning) (R : Refusing) (known : List (List ℕ)) (S : Suspecting) (asked : CheckAsked) (run : Run)
     → EndsByLines (checking M R known S asked) run
 ends-by_lines M R known S asked run = record {
   no_answer = no-answer;
@@ -56,32 +59,37 @@ ends-by_lines M R known S asked run = record {
 
 -- ---- by the line of a judgement
 -- what is known of a run that prints it, and ends with a status
-pub record IsJudged (M : Meaning) (known : List (List ℕ)) (S : Suspecting) (asked : Asked) (run : Run)
+pub record IsJudged (M : Meaning) (known : List (List ℕ)) (S : Suspecting) (asked : CheckAsked) (run : Run)
     (whole : ℕ) (line : List ℕ) (status : ℕ) : Type 0 where
-  pub answer : (whole ≡ 0) ⊎ (whole ≡ 8)
-  pub judged : run.told ≡ true → (v : Verdict) × Judged M known S asked run.texts v whole line
+  pub answer : IsAnswer whole
+  pub judged : run.told ≡ true → (j : Judgement) × Judged M known S asked run.texts j whole line
   pub nothing : run.now_written ≡ run.written
   pub prints : run.told ≡ true → Prints line whole run.printed run.now_printed status
   pub shelf : run.counts.now_shelf ≡ run.counts.shelf
   pub sink : PrintCounts whole run.counts.sink run.counts.now_sink status
 
 -- what is answered of the evidence
-verdict-answer : (v : Verdict) → (verdict_status v ≡ 0) ⊎ (verdict_status v ≡ 8)
+verdict-answer : (v : Verdict) → IsAnswer (verdict_status v)
 verdict-answer verdict.Whole = inl refl
-verdict-answer (verdict.Order set) = inr refl
-verdict-answer (verdict.Contains set other) = inr refl
-verdict-answer (verdict.Replay set miss) = inr refl
-verdict-answer (verdict.Step number) = inr refl
-verdict-answer verdict.Open = inr refl
+verdict-answer verdict.Front = inr (inl refl)
+verdict-answer (verdict.Order set) = inr (inr refl)
+verdict-answer (verdict.Contains set other) = inr (inr refl)
+verdict-answer (verdict.Replay set miss) = inr (inr refl)
+verdict-answer (verdict.Step number) = inr (inr refl)
+verdict-answer verdict.Open = inr (inr refl)
 
-pub answer-status : (g : Given) (answer : Answer) → Answers g answer → (answer.status ≡ 0) ⊎ (answer.status ≡ 8)
-answer-status g answer is = subst (λ n. (n ≡ 0) ⊎ (n ≡ 8)) (sym is.status) (verdict-answer is.verdict)
+judgement-answer : (j : Judgement) → IsAnswer (judgement_status j)
+judgement-answer (OfTable fault) = inr (inr refl)
+judgement-answer (OfList v) = verdict-answer v
 
-pub judged : (M : Meaning) (known : List (List ℕ)) (S : Suspecting) (asked : Asked) (texts : Texts) (g : Given) (answer : Answer)
-    → Means M known S asked texts g → AreOfInputs g → IsProblem g.posed.problem → Answers g answer
-    → (v : Verdict) × Judged M known S asked texts v answer.status answer.line.items
+pub answer-status : (top : List ℕ) (g : Given) (answer : Answer) → Answers top g answer → IsAnswer answer.status
+answer-status top g answer is = subst IsAnswer (sym is.status) (judgement-answer is.judgement)
+
+pub judged : (M : Meaning) (known : List (List ℕ)) (S : Suspecting) (asked : CheckAsked) (texts : Texts) (g : Given) (answer : Answer)
+    → Means M known S asked texts g → AreOfInputs g → IsProblem g.posed.problem → Answers asked.texts.top g answer
+    → (j : Judgement) × Judged M known S asked texts j answer.status answer.line.items
 judged M known S asked texts g answer means same can is = (
-  is.verdict,
+  is.judgement,
   record {
     given = g;
     means = means;
@@ -91,27 +99,32 @@ judged M known S asked texts g answer means same can is = (
     has_status = is.status;
     has_line = is.line;
     list = is.list;
+    front = is.front;
   },
 )
 
 -- no answer is a refusal, 6, or 7
-no-refusal : (s : ℕ) → (s ≡ 0) ⊎ (s ≡ 8) → IsInputRefusal s → ⊥
+no-refusal : (s : ℕ) → IsAnswer s → IsInputRefusal s → ⊥
 no-refusal s (inl e) is = omega (arith, e, input-range s is)
-no-refusal s (inr e) is = omega (arith, e, input-range s is)
+no-refusal s (inr (inl e)) is = omega (arith, e, input-range s is)
+no-refusal s (inr (inr e)) is = omega (arith, e, input-range s is)
 
-not-six : (s : ℕ) → (s ≡ 0) ⊎ (s ≡ 8) → s ≢ 6
+not-six : (s : ℕ) → IsAnswer s → s ≢ 6
 not-six s (inl e) six = omega (arith, e, six)
-not-six s (inr e) six = omega (arith, e, six)
+not-six s (inr (inl e)) six = omega (arith, e, six)
+not-six s (inr (inr e)) six = omega (arith, e, six)
 
-not-five : (s : ℕ) → (s ≡ 0) ⊎ (s ≡ 8) → s ≢ 5
+not-five : (s : ℕ) → IsAnswer s → s ≢ 5
 not-five s (inl e) five = omega (arith, e, five)
-not-five s (inr e) five = omega (arith, e, five)
+not-five s (inr (inl e)) five = omega (arith, e, five)
+not-five s (inr (inr e)) five = omega (arith, e, five)
 
-not-seven : (s : ℕ) → (s ≡ 0) ⊎ (s ≡ 8) → s ≢ 7
+not-seven : (s : ℕ) → IsAnswer s → s ≢ 7
 not-seven s (inl e) seven = omega (arith, e, seven)
-not-seven s (inr e) seven = omega (arith, e, seven)
+not-seven s (inr (inl e)) seven = omega (arith, e, seven)
+not-seven s (inr (inr e)) seven = omega (arith, e, seven)
 
-module _ (M : Meaning) (R : Refusing) (known : List (List ℕ)) (S : Suspecting) (asked : Asked) (run : Run)
+module _ (M : Meaning) (R : Refusing) (known : List (List ℕ)) (S : Suspecting) (asked : CheckAsked) (run : Run)
     (whole : ℕ) (line : List ℕ) where
   abbrev Is : ℕ → Type 0
   Is = IsJudged M known S asked run whole line
@@ -125,8 +138,8 @@ module _ (M : Meaning) (R : Refusing) (known : List (List ℕ)) (S : Suspecting)
       at (inr (inl e, same)) = inl e
       at (inr (inr seven, same)) = inr (inr seven)
 
-  answer-at : (status : ℕ) → status ≡ whole → (whole ≡ 0) ⊎ (whole ≡ 8) → (status ≡ 0) ⊎ (status ≡ 8)
-  answer-at status e may = subst (λ n. (n ≡ 0) ⊎ (n ≡ 8)) (sym e) may
+  answer-at : (status : ℕ) → status ≡ whole → IsAnswer whole → IsAnswer status
+  answer-at status e may = subst IsAnswer (sym e) may
 
   judged-status : (status : ℕ) → Is status → IsStatus (checking M R known S asked) status
   judged-status status is = at (which status is)
@@ -137,15 +150,15 @@ module _ (M : Meaning) (R : Refusing) (known : List (List ℕ)) (S : Suspecting)
       at (inr (inr seven)) = inr (inr (inr seven))
 
   -- ---- what it leaves
-  judged-answered : (status : ℕ) → Is status → run.told ≡ true → (status ≡ 0) ⊎ (status ≡ 8) → IsAnswered M known S asked run status
+  judged-answered : (status : ℕ) → Is status → run.told ≡ true → IsAnswer status → IsAnswered M known S asked run status
   judged-answered status is told may = at (is.prints told) (is.judged told)
     where
-      at : Prints line whole run.printed run.now_printed status → ((v : Verdict) × Judged M known S asked run.texts v whole line)
+      at : Prints line whole run.printed run.now_printed status → ((j : Judgement) × Judged M known S asked run.texts j whole line)
           → IsAnswered M known S asked run status
-      at (inl (e, put)) (v, judged) = record {
-        verdict = v;
+      at (inl (e, put)) (j, judged) = record {
+        judgement = j;
         line = line;
-        judged = subst (λ n. Judged M known S asked run.texts v n line) (sym e) judged;
+        judged = subst (λ n. Judged M known S asked run.texts j n line) (sym e) judged;
         printed = put;
         nothing_written = is.nothing;
       }
@@ -156,7 +169,7 @@ module _ (M : Meaning) (R : Refusing) (known : List (List ℕ)) (S : Suspecting)
       → LineStops (IsDue M R known S asked run.texts) run
   judged-stops status is told rose six = at (is.prints told) (is.judged told)
     where
-      at : Prints line whole run.printed run.now_printed status → ((v : Verdict) × Judged M known S asked run.texts v whole line)
+      at : Prints line whole run.printed run.now_printed status → ((j : Judgement) × Judged M known S asked run.texts j whole line)
           → LineStops (IsDue M R known S asked run.texts) run
       at (inl (e, put)) judged = absurd (not-six whole is.answer (sym e ∙ six))
       at (inr (inl (e, front))) judged = record {
@@ -209,10 +222,10 @@ module _ (M : Meaning) (R : Refusing) (known : List (List ℕ)) (S : Suspecting)
     memory = λ seven. sink-same status is (λ six. omega (arith, six, seven));
   }
 
-  judged-complete : (status : ℕ) → Is status → ¬ OneRose run.counts → ((status ≡ 0) ⊎ (status ≡ 8)) ⊎ (status ≡ 7)
+  judged-complete : (status : ℕ) → Is status → ¬ OneRose run.counts → IsAnswer status ⊎ (status ≡ 7)
   judged-complete status is none = at (which status is)
     where
-      at : (status ≡ whole) ⊎ ((status ≡ 6) ⊎ (status ≡ 7)) → ((status ≡ 0) ⊎ (status ≡ 8)) ⊎ (status ≡ 7)
+      at : (status ≡ whole) ⊎ ((status ≡ 6) ⊎ (status ≡ 7)) → IsAnswer status ⊎ (status ≡ 7)
       at (inl e) = inl (answer-at status e is.answer)
       at (inr (inl six)) = absurd (none (inr (sink-rose status is six)))
       at (inr (inr seven)) = inr seven

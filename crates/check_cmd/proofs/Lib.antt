@@ -3,4 +3,5 @@ pub mod LoadedTexts
 pub mod KindNames
 pub mod WholeCauses
 pub mod Posing
+pub mod Tables
 pub mod Keeping

@@ -12,7 +12,7 @@ use Rattle.load_texts.specs.Causes.{LoadCause}
 use Rattle.load_texts.specs.Means.{IsReadAnd, most_bytes}
 use Rattle.load_texts.specs.Refusals.{load_line, load_status}
 use Rattle.load_texts.specs.Texts.{LoadCounts}
-use Rattle.refusal_lines.specs.Refusals.{input_line, memory_line}
+use Rattle.refusal.specs.Lines.{input_line, memory_line}
 use Rattle.report_doc.specs.declared.types.Report.{Report}
 use Rattle.report_doc.specs.declared.types.ReportErr.{ReportErr}
 use Rattle.report_doc.specs.declared.types.ReportErr.TheVariants as json
@@ -25,10 +25,10 @@ use Rattle.proof_check.specs.declared.types.LogErr.{LogErr}
 use Rattle.proof_check.specs.declared.types.LogErr.TheVariants as log
 use Rattle.proof_check.specs.Errors.{OnSyntax as OnBadLine}
 use Rattle.proof_check.specs.Text.{IsFirstBadLine, IsLogText, lines_of, step_line, text_of}
-use Rattle.load_problem.specs.declared.refusal.Refusal.{Refusal}
-use Rattle.load_problem.specs.declared.refusal.Refusal.TheVariants.{Line, Memory}
-use Rattle.load_problem.specs.Ends.{HasCause, HasStatus, IsMemory, IsSpared, RefusalCounts, Says}
-use Rattle.check_cmd.specs.Asked.{Asked}
+use Rattle.refusal.specs.declared.last_line.LastLine.{LastLine}
+use Rattle.refusal.specs.declared.last_line.LastLine.TheVariants.{Line, Memory}
+use Rattle.refusal.specs.Ends.{HasCause, HasStatus, IsMemory, IsSpared, RefusalCounts, Says}
+use Rattle.requests.specs.Asked.{CheckAsked}
 use Rattle.check_cmd.specs.Means.{IsLogOf}
 use Rattle.check_cmd.specs.Parts as parts
 use Rattle.check_cmd.specs.Parts.{IsShort, LoadRefused, LogTextRefused, ReportTextRefused}
@@ -38,7 +38,7 @@ use Rattle.check_cmd.proofs.Causes.{cause-of, memory-cause, no-memory, said}
 
 -- ---- a load
 -- the shelf's faults, from those of the load of a name to those of its refusal, which names it
-pub load-counts : (old new : FaultCounts) (name : List ℕ) (why : LoadFault) (r : Refusal)
+pub load-counts : (old new : FaultCounts) (name : List ℕ) (why : LoadFault) (r : LastLine)
     → LoadCounts {X = List ℕ} name old new (Err why)
     → HasStatus r → Says r (load_status why) (load_line name why) → RefusalCounts old new r
 load-counts old new name fault.Fault (Line s l) rose has (e, f) =
@@ -52,7 +52,7 @@ not-long : (text : Option (List ℕ)) → IsShort text → IsSomeAnd text (λ by
 not-long (Some bytes) short long = omega (arith, short, long)
 not-long None short long = long
 
-pub load-spared : (text : Option (List ℕ)) (why : LoadFault) (r : Refusal) (line : List ℕ) → LoadCause text why → HasStatus r
+pub load-spared : (text : Option (List ℕ)) (why : LoadFault) (r : LastLine) (line : List ℕ) → LoadCause text why → HasStatus r
     → Says r (load_status why) line → IsShort text → IsSpared r
 load-spared text fault.Fault (Line s l) line cause has (e, f) short = e
 load-spared text fault.Size (Line s l) line cause has (e, f) short = absurd (not-long text short cause)
@@ -80,7 +80,7 @@ pub name-short : (texts : Texts) (name other : List ℕ) (P : List ℕ → Type 
 name-short texts name other P e read = is-short (texts name) P (subst (λ (n : List ℕ). IsReadAnd (texts n) P) (sym e) read)
 
 -- ---- a report
-pub report-cause_load : (asked : Asked) (texts : Texts) (name : List ℕ) (r : Refusal) → name ≡ asked.report
+pub report-cause_load : (asked : CheckAsked) (texts : Texts) (name : List ℕ) (r : LastLine) → name ≡ asked.report
     → HasCause (LoadRefused name (texts name)) r → HasCause (ReportRefused asked texts) r
 report-cause_load asked texts name r e cause =
     cause-of (LoadRefused asked.report (texts asked.report)) (ReportRefused asked texts) r at
@@ -89,7 +89,7 @@ report-cause_load asked texts name r e cause =
     at : (s : ℕ) (l : List ℕ) → LoadRefused asked.report (texts asked.report) s l → ReportRefused asked texts s l
     at s l (parts.text_load why cause) = refused.report_load why cause
 
-pub report-cause_text : (asked : Asked) (texts : Texts) (text : List ℕ) (r : Refusal) → texts asked.report ≡ Some text
+pub report-cause_text : (asked : CheckAsked) (texts : Texts) (text : List ℕ) (r : LastLine) → texts asked.report ≡ Some text
     → length text ≤ most_bytes → HasCause (ReportTextRefused text) r → HasCause (ReportRefused asked texts) r
 report-cause_text asked texts text r e short =
     cause-of (ReportTextRefused text) (ReportRefused asked texts) r at
@@ -99,7 +99,7 @@ report-cause_text asked texts text r e short =
     at s l (parts.text_shape json not) = refused.report_shape (at-text (texts asked.report) text _ e short (json, not))
 
 -- why a text is no report's
-pub report-cause : (text : List ℕ) (why : ReportErr) (r : Refusal) → OnSyntax {T = Report} (Err why) (¬ IsJson text)
+pub report-cause : (text : List ℕ) (why : ReportErr) (r : LastLine) → OnSyntax {T = Report} (Err why) (¬ IsJson text)
     → OnShape {T = Report} (Err why) (IsJson text) → OnShape {T = Report} (Err why) ((report : Report) → ¬ IsReportOf text report)
     → HasStatus r → Says r (parts.report_fault_status why) (parts.report_fault_line why) → HasCause (ReportTextRefused text) r
 report-cause text json.Syntax r syntax is shape has says =
@@ -109,7 +109,7 @@ report-cause text json.Shape r syntax is shape has says =
 report-cause text json.NoMemory r syntax is shape has says =
     memory-cause (ReportTextRefused text) r (no-memory r memory_line has says)
 
-pub report-memory : (text : List ℕ) (why : ReportErr) (r : Refusal) (report : Report) → OnSyntax {T = Report} (Err why) (¬ IsJson text)
+pub report-memory : (text : List ℕ) (why : ReportErr) (r : LastLine) (report : Report) → OnSyntax {T = Report} (Err why) (¬ IsJson text)
     → OnShape {T = Report} (Err why) ((x : Report) → ¬ IsReportOf text x) → HasStatus r
     → Says r (parts.report_fault_status why) (parts.report_fault_line why) → IsReportOf text report → IsMemory r
 report-memory text json.Syntax r report syntax shape has says is = absurd (syntax (report_data report, is.json))
@@ -121,7 +121,7 @@ report-low text s l (parts.text_syntax not) = inl refl
 report-low text s l (parts.text_shape json not) = inl refl
 
 -- ---- a log
-pub log-cause_load : (asked : Asked) (texts : Texts) (name : List ℕ) (r : Refusal) → name ≡ asked.log
+pub log-cause_load : (asked : CheckAsked) (texts : Texts) (name : List ℕ) (r : LastLine) → name ≡ asked.log
     → HasCause (LoadRefused name (texts name)) r → HasCause (LogRefused asked texts) r
 log-cause_load asked texts name r e cause =
     cause-of (LoadRefused asked.log (texts asked.log)) (LogRefused asked texts) r at
@@ -130,7 +130,7 @@ log-cause_load asked texts name r e cause =
     at : (s : ℕ) (l : List ℕ) → LoadRefused asked.log (texts asked.log) s l → LogRefused asked texts s l
     at s l (parts.text_load why cause) = refused.log_load why cause
 
-pub log-cause_text : (asked : Asked) (texts : Texts) (text : List ℕ) (r : Refusal) → texts asked.log ≡ Some text
+pub log-cause_text : (asked : CheckAsked) (texts : Texts) (text : List ℕ) (r : LastLine) → texts asked.log ≡ Some text
     → length text ≤ most_bytes → HasCause (LogTextRefused text) r → HasCause (LogRefused asked texts) r
 log-cause_text asked texts text r e short =
     cause-of (LogTextRefused text) (LogRefused asked texts) r at
@@ -139,12 +139,12 @@ log-cause_text asked texts text r e short =
     at s l (parts.text_line line bad) = refused.log_line line (at-text (texts asked.log) text _ e short bad)
 
 -- why a text is no log's
-pub log-cause : (text : List ℕ) (why : LogErr) (r : Refusal) → OnBadLine {T = LogText} (Err why) (λ line. IsFirstBadLine text line)
+pub log-cause : (text : List ℕ) (why : LogErr) (r : LastLine) → OnBadLine {T = LogText} (Err why) (λ line. IsFirstBadLine text line)
     → HasStatus r → Says r (parts.log_fault_status why) (parts.log_fault_line why) → HasCause (LogTextRefused text) r
 log-cause text (log.LogSyntax line) r bad has says = said (LogTextRefused text) r 3 (bad_line line) (parts.text_line line bad) says
 log-cause text log.NoMemory r bad has says = memory-cause (LogTextRefused text) r (no-memory r memory_line has says)
 
-pub log-memory : (text : List ℕ) (why : LogErr) (r : Refusal) (value : LogText)
+pub log-memory : (text : List ℕ) (why : LogErr) (r : LastLine) (value : LogText)
     → OnBadLine {T = LogText} (Err why) (λ _. (other : LogText) → IsLogText other → text ≢ text_of other) → HasStatus r
     → Says r (parts.log_fault_status why) (parts.log_fault_line why) → IsLogOf text value → IsMemory r
 log-memory text (log.LogSyntax line) r value none has says is = absurd (none value is.0 is.1)

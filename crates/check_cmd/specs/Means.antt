@@ -13,11 +13,12 @@ use Rattle.proof_check.specs.Text.{IsLogText, text_of}
 use Rattle.debug_core.specs.Problems.{IsFormFor, Problem}
 use Rattle.load_problem.specs.Means.{IsDigestOf, Means as MeansProblem, Suspecting}
 use Rattle.list_verdict.specs.Claims.{Claim}
-use Rattle.check_cmd.specs.Asked.{Asked, wanted_by}
+use Rattle.check_cmd.specs.Asked.{wanted_by}
+use Rattle.requests.specs.Asked.{CheckAsked}
 
 -- ---- texts
 -- the text under the report's name is that of a report
-abbrev pub MeansReport : Asked → Texts → Report → Type 0
+abbrev pub MeansReport : CheckAsked → Texts → Report → Type 0
 MeansReport asked texts report = IsReadAnd (texts asked.report) (λ text. IsReportOf text report)
 
 -- a text is that of a log
@@ -25,7 +26,7 @@ abbrev pub IsLogOf : List ℕ → LogText → Type 0
 IsLogOf text log = IsLogText log × (text ≡ text_of log)
 
 -- and the text under the log's name
-abbrev pub MeansLog : Asked → Texts → LogText → Type 0
+abbrev pub MeansLog : CheckAsked → Texts → LogText → Type 0
 MeansLog asked texts log = IsReadAnd (texts asked.log) (λ text. IsLogOf text log)
 
 -- ---- a report by which a list can be asked
@@ -33,7 +34,7 @@ MeansLog asked texts log = IsReadAnd (texts asked.log) (λ text. IsLogOf text lo
 abbrev pub unknown_kind : List (List ℕ) → Report → Option (List ℕ)
 unknown_kind known report = unknown (λ name. name) known report.kinds
 
-pub record Asks (known : List (List ℕ)) (asked : Asked) (texts : Texts) (report : Report) : Type 0 where
+pub record Asks (known : List (List ℕ)) (asked : CheckAsked) (texts : Texts) (report : Report) : Type 0 where
   pub means : MeansReport asked texts report
   pub known_kinds : unknown_kind known report ≡ None
 
@@ -47,7 +48,7 @@ pub record Posed : Type 0 where
   pub form : List (List Lit)
 
 -- the texts mean the problem that the report is of, and it has this form
-pub record Poses (M : Meaning) (known : List (List ℕ)) (S : Suspecting) (asked : Asked) (texts : Texts) (p : Posed) : Type 0 where
+pub record Poses (M : Meaning) (known : List (List ℕ)) (S : Suspecting) (asked : CheckAsked) (texts : Texts) (p : Posed) : Type 0 where
   pub report : Asks known asked texts p.report
   pub problem : MeansProblem M S (wanted_by asked p.report) texts p.problem
   pub inputs : IsDigestOf (wanted_by asked p.report) texts p.inputs
@@ -58,7 +59,7 @@ pub record Given : Type 0 where
   pub posed : Posed
   pub log : LogText
 
-pub record Means (M : Meaning) (known : List (List ℕ)) (S : Suspecting) (asked : Asked) (texts : Texts) (g : Given) : Type 0 where
+pub record Means (M : Meaning) (known : List (List ℕ)) (S : Suspecting) (asked : CheckAsked) (texts : Texts) (g : Given) : Type 0 where
   pub poses : Poses M known S asked texts g.posed
   pub log : MeansLog asked texts g.log
 

@@ -1,7 +1,7 @@
 -- Private, for the functions inside this crate: why one step of a check gives nothing, and what is judged of what was read.
 use Rattle.std.specs.Prelude.{ℕ, ◌≡◌, ◌<◌, ◌≤◌, ◌+◌, ◌^◌, List, length, Option, Some, IsSomeAnd, codes}
 use Rattle.loc_base.specs.declared.digest.Digest.{Digest}
-use Rattle.refusal_lines.specs.Refusals.{input_line, memory_line}
+use Rattle.refusal.specs.Lines.{input_line, memory_line}
 use Rattle.load_texts.specs.declared.faults.LoadFault.{LoadFault}
 use Rattle.load_texts.specs.Causes.{LoadCause}
 use Rattle.load_texts.specs.Means.{most_bytes}
@@ -18,15 +18,18 @@ use Rattle.proof_check.specs.declared.types.LogErr.TheVariants.{LogSyntax}
 use Rattle.proof_check.specs.Text.{IsFirstBadLine}
 use Rattle.debug_core.specs.declared.error.DebugErr.{DebugErr}
 use Rattle.debug_core.specs.Problems.{IsFormFor, IsProblem, IsRefused, Problem}
-use Rattle.load_problem.specs.Ends.{HaveNumbers, problem_in}
+use Rattle.load_problem.specs.Inputs.{HaveNumbers, problem_in}
 use Rattle.load_problem.specs.Refusals.{problem_line, problem_status}
-use Rattle.list_verdict.specs.declared.verdict.Verdict.{Verdict}
-use Rattle.list_verdict.specs.Verdicts.{IsVerdict, IsWholeListIf}
+use Rattle.list_verdict.specs.declared.verdict.Verdict.TheVariants as verdict
+use Rattle.list_verdict.specs.Verdicts.{IsFrontList, IsWholeList}
 use Rattle.check_cmd.specs.declared.evidence.Evidence.{Evidence}
 use Rattle.check_cmd.specs.declared.evidence.Posed.{Posed as PosedInCode}
 use Rattle.check_cmd.specs.declared.sessions.Digests.{Digests}
 use Rattle.check_cmd.specs.declared.run.Answer.{Answer}
-use Rattle.check_cmd.specs.Lines.{verdict_line, verdict_status}
+use Rattle.check_cmd.specs.declared.verdicts.Judgement.{Judgement}
+use Rattle.check_cmd.specs.declared.verdicts.Judgement.TheVariants.{OfList}
+use Rattle.check_cmd.specs.Checking.{IsJudgement}
+use Rattle.check_cmd.specs.Lines.{judgement_line, judgement_status}
 use Rattle.check_cmd.specs.Means.{Given, Posed, claim_of}
 use Rattle.check_cmd.specs.Refusals.{DiffersFirst, bad_line, kind_line, other_line}
 
@@ -110,10 +113,19 @@ pub record IsEvidence (e : Evidence) : Type 0 where
   pub posed : CanBePosed e.posed
   pub few_steps : length e.log.log + 1 < 2 ^ 32
 
+-- a yes says that the sets are the whole list
+abbrev pub IsListIf : Given → Judgement → Type 0
+IsListIf g j = j ≡ OfList verdict.Whole → IsWholeList (claim_of g)
+
+-- and a front that they are the first of it
+abbrev pub IsFrontIf : Given → Judgement → Type 0
+IsFrontIf g j = j ≡ OfList verdict.Front → IsFrontList (claim_of g)
+
 -- the answer is what is judged
-pub record Answers (g : Given) (answer : Answer) : Type 0 where
-  pub verdict : Verdict
-  pub is : IsVerdict (claim_of g) verdict
-  pub list : IsWholeListIf (claim_of g) verdict
-  pub status : answer.status ≡ verdict_status verdict
-  pub line : answer.line.items ≡ verdict_line g.posed.problem.design (length g.posed.report.sets) verdict
+pub record Answers (top : List ℕ) (g : Given) (answer : Answer) : Type 0 where
+  pub judgement : Judgement
+  pub is : IsJudgement top g judgement
+  pub list : IsListIf g judgement
+  pub front : IsFrontIf g judgement
+  pub status : answer.status ≡ judgement_status judgement
+  pub line : answer.line.items ≡ judgement_line g.posed.problem.design (length g.posed.report.sets) judgement

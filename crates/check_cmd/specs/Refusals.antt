@@ -5,7 +5,7 @@ use Rattle.hex.specs.Hex.{encode_lower}
 use Rattle.loc_base.specs.declared.digest.Digest.{Digest}
 use Rattle.printed_text.specs.Numerals.{newline}
 use Rattle.command_contract.specs.Contract.{Texts}
-use Rattle.refusal_lines.specs.Refusals.{input_line}
+use Rattle.refusal.specs.Lines.{input_line}
 use Rattle.front_end.specs.Means.{Meaning, Refusing}
 use Rattle.load_texts.specs.declared.faults.LoadFault.{LoadFault}
 use Rattle.load_texts.specs.Causes.{LoadCause}
@@ -17,7 +17,8 @@ use Rattle.report_reading.specs.Reading.{IsReportOf}
 use Rattle.proof_check.specs.Text.{IsFirstBadLine}
 use Rattle.load_problem.specs.Means.{Suspecting}
 use Rattle.load_problem.specs.Refusals.{Refused as InputsRefused}
-use Rattle.check_cmd.specs.Asked.{Asked, wanted_by}
+use Rattle.check_cmd.specs.Asked.{wanted_by}
+use Rattle.requests.specs.Asked.{CheckAsked}
 use Rattle.check_cmd.specs.Means.{Asks, Given, Means, MeansReport, Posed, Poses, unknown_kind}
 
 -- ---- lines
@@ -36,7 +37,7 @@ other_line session inputs =
 
 -- ---- texts
 -- the report's text: it isn't handed over; it isn't JSON; it is JSON of another shape than a report's
-pub data ReportRefused (asked : Asked) (texts : Texts) : ℕ → List ℕ → Type 0 where
+pub data ReportRefused (asked : CheckAsked) (texts : Texts) : ℕ → List ℕ → Type 0 where
   report_load : (fault : LoadFault) → LoadCause (texts asked.report) fault
       → ReportRefused asked texts (load_status fault) (load_line asked.report fault)
   report_syntax : IsReadAnd (texts asked.report) (λ text. ¬ IsJson text)
@@ -45,7 +46,7 @@ pub data ReportRefused (asked : Asked) (texts : Texts) : ℕ → List ℕ → Ty
       → ReportRefused asked texts 3 (input_line (codes "J2"))
 
 -- the log's text: it isn't handed over; a line of it isn't of the form
-pub data LogRefused (asked : Asked) (texts : Texts) : ℕ → List ℕ → Type 0 where
+pub data LogRefused (asked : CheckAsked) (texts : Texts) : ℕ → List ℕ → Type 0 where
   log_load : (fault : LoadFault) → LoadCause (texts asked.log) fault
       → LogRefused asked texts (load_status fault) (load_line asked.log fault)
   log_line : (line : ℕ) → IsReadAnd (texts asked.log) (λ text. IsFirstBadLine text line)
@@ -58,7 +59,7 @@ pub data DiffersFirst (report log inputs : Digest) : Digest → Type 0 where
 
 -- ---- refusals
 -- a refusal with its status and its line: what stands before it in the order has its value
-pub data Refused (M : Meaning) (R : Refusing) (known : List (List ℕ)) (S : Suspecting) (asked : Asked) (texts : Texts)
+pub data Refused (M : Meaning) (R : Refusing) (known : List (List ℕ)) (S : Suspecting) (asked : CheckAsked) (texts : Texts)
     : ℕ → List ℕ → Type 0 where
   for_report : (status : ℕ) (line : List ℕ) → ReportRefused asked texts status line
       → Refused M R known S asked texts status line

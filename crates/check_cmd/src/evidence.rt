@@ -6,8 +6,10 @@ ghost use Rattle.report_doc.specs.Shape.{IsReport};
 ghost use Rattle.debug_core.specs.declared.error.DebugErr.{DebugErr as SomeErr};
 ghost use Rattle.debug_core.specs.declared.error.DebugErr.TheVariants.{NoMemory as WantOfMemory};
 ghost use Rattle.debug_core.specs.Problems.{IsFormFor, IsProblem, IsRefused};
-ghost use Rattle.load_problem.specs.Ends.{CountsOf, HasCause, HasStatus, IsMemory, IsSpared, problem_in};
-ghost use Rattle.check_cmd.specs.Asked.{IsAsked, asked_of};
+ghost use Rattle.load_problem.specs.Inputs.{problem_in};
+ghost use Rattle.refusal.specs.Ends.{CountsOf, HasCause, HasStatus, IsMemory, IsSpared};
+ghost use Rattle.check_cmd.specs.Asked.{IsAsked};
+ghost use Rattle.requests.specs.Views.{check_asked};
 ghost use Rattle.check_cmd.specs.Checking.{IsReady};
 ghost use Rattle.check_cmd.specs.Means.{AreOfInputs, Asks, Means, Poses};
 ghost use Rattle.check_cmd.specs.Parts.{CanBePosed, FormRefused, IsEvidence, given_of, posed_of};
@@ -16,16 +18,17 @@ ghost use Rattle.check_cmd.specs.Refusals.{Refused};
 use crate::kinds::know;
 use crate::logs::load_log;
 use crate::reports::load_report;
-use crate::request::Request;
 use crate::sessions::{Digests, same_inputs};
-use crate::tools::Tools;
+use crate::wanted::wanted;
 use debug_core::{FormPlan, plan_of};
 use front_end::FrontEnd;
 use io_ports::Shelf;
-use load_problem::{Inputs, Refusal, read};
-use loc_base::Gate;
+use load_problem::{Inputs, Tools, problem_line, read};
+use loc_base::{Gate, Workers};
 use proof_check::types::LogText;
+use refusal::{LastLine, Notes};
 use report_doc::types::Report;
+use requests::CheckRequest;
 use std::alloc::Global;
 use std::thread::Threads;
 use suspect_map::Granularity;
@@ -46,7 +49,7 @@ pub(crate) struct Evidence {
 }
 
 /// The plan of the form of the problem of inputs, by the greatest size of a set. No clause is made.
-fn plan_in(alloc: Global, inputs: &Inputs, size: u32) -> Result<FormPlan, Refusal>
+fn plan_in(alloc: Global, inputs: &Inputs, size: u32) -> Result<FormPlan, LastLine>
     requires { IsProblem (problem_in inputs.now size) }
     ensures form { IfOk result (λ plan. IsFormFor (problem_in inputs.now size) plan.vars plan.clauses) }
     ensures refused { IfErr result (HasCause (FormRefused (problem_in inputs.now size))) }
@@ -55,47 +58,51 @@ fn plan_in(alloc: Global, inputs: &Inputs, size: u32) -> Result<FormPlan, Refusa
 {
     match plan_of(alloc, &inputs.question(size)) {
         Ok(plan) => Ok(plan),
-        Err(fault) => Err(Refusal::of_problem(alloc, fault)),
+        Err(fault) => Err(problem_line(alloc, fault)),
     }
 }
 
 /// The report by which the list is asked.
-fn ask<F: FrontEnd, R: Threads + Sync, G: Gate + Sync, S: Shelf>(
+fn ask<F: FrontEnd, R: Threads + Sync, G: Gate + Sync, S: Shelf, N: Notes>(
     alloc: Global,
     tools: &Tools<'_, F, R, G>,
-    request: &Request,
+    request: &CheckRequest,
     shelf: &mut S,
-) -> Result<Report, Refusal>
+    notes: &mut N,
+) -> Result<Report, LastLine>
     ensures tells { S.tells shelf.new ≡ S.tells shelf.old }
     ensures texts { S.texts shelf.new ≡ S.texts shelf.old }
     ensures written { S.written shelf.new ≡ S.written shelf.old }
     ensures counts { CountsOf (S.faults shelf.old) (S.faults shelf.new) result }
     ensures status { IfErr result HasStatus }
     ensures report { IfOk result IsReport }
-    ensures known { IfOk result (λ report. unknown (λ kind. called kind) tools.now.kinds.now report.kinds ≡ None) }
+    ensures known { IfOk result (λ report. unknown (λ kind. called (kind.vtable, kind.value)) tools.now.kinds.now report.kinds ≡ None) }
     ensures asks { S.tells shelf.old ≡ true → IfOk result
-        (Asks (map (λ kind. called kind) tools.now.kinds.now) (asked_of request.now) (S.texts shelf.old)) }
+        (Asks (map (λ kind. called (kind.vtable, kind.value)) tools.now.kinds.now) (check_asked request.now) (S.texts shelf.old)) }
     ensures refused { S.tells shelf.old ≡ true → IfErr result (HasCause
-        (Refused F.means F.refuses (map (λ kind. called kind) tools.now.kinds.now)
-        (joined (λ kind. called kind) (λ kind. lists kind) tools.now.kinds.now) (asked_of request.now) (S.texts shelf.old))) }
+        (Refused F.means F.refuses (map (λ kind. called (kind.vtable, kind.value)) tools.now.kinds.now)
+        (joined (λ kind. called (kind.vtable, kind.value)) (λ kind. lists (kind.vtable, kind.value)) tools.now.kinds.now)
+        (check_asked request.now) (S.texts shelf.old))) }
     ensures only { S.tells shelf.old ≡ true
-        → IsReady F.means (map (λ kind. called kind) tools.now.kinds.now)
-        (joined (λ kind. called kind) (λ kind. lists kind) tools.now.kinds.now) (asked_of request.now) (S.texts shelf.old)
+        → IsReady F.means (map (λ kind. called (kind.vtable, kind.value)) tools.now.kinds.now)
+        (joined (λ kind. called (kind.vtable, kind.value)) (λ kind. lists (kind.vtable, kind.value)) tools.now.kinds.now)
+        (check_asked request.now) (S.texts shelf.old)
         → IfErr result IsSpared }
 {
-    let report = load_report(alloc, request, shelf)?;
+    let report = load_report(alloc, request, shelf, notes)?;
     know(alloc, tools.kinds, &report)?;
     Ok(report)
 }
 
 /// The report, with the problem that it is of.
-fn pose<F: FrontEnd, R: Threads + Sync, G: Gate + Sync, S: Shelf>(
+fn pose<F: FrontEnd, R: Threads + Sync, G: Gate + Sync, S: Shelf, N: Notes>(
     alloc: Global,
     tools: &Tools<'_, F, R, G>,
-    request: &Request,
+    request: &CheckRequest,
     shelf: &mut S,
-) -> Result<Posed, Refusal>
-    requires { IsAsked (asked_of request.now) }
+    notes: &mut N,
+) -> Result<Posed, LastLine>
+    requires { IsAsked (check_asked request.now) }
     ensures tells { S.tells shelf.new ≡ S.tells shelf.old }
     ensures texts { S.texts shelf.new ≡ S.texts shelf.old }
     ensures written { S.written shelf.new ≡ S.written shelf.old }
@@ -103,25 +110,22 @@ fn pose<F: FrontEnd, R: Threads + Sync, G: Gate + Sync, S: Shelf>(
     ensures status { IfErr result HasStatus }
     ensures can { IfOk result CanBePosed }
     ensures poses { S.tells shelf.old ≡ true → IfOk result (λ posed.
-        Poses F.means (map (λ kind. called kind) tools.now.kinds.now)
-        (joined (λ kind. called kind) (λ kind. lists kind) tools.now.kinds.now) (asked_of request.now) (S.texts shelf.old)
+        Poses F.means (map (λ kind. called (kind.vtable, kind.value)) tools.now.kinds.now)
+        (joined (λ kind. called (kind.vtable, kind.value)) (λ kind. lists (kind.vtable, kind.value)) tools.now.kinds.now)
+        (check_asked request.now) (S.texts shelf.old)
         (posed_of posed)) }
     ensures refused { S.tells shelf.old ≡ true → IfErr result (HasCause
-        (Refused F.means F.refuses (map (λ kind. called kind) tools.now.kinds.now)
-        (joined (λ kind. called kind) (λ kind. lists kind) tools.now.kinds.now) (asked_of request.now) (S.texts shelf.old))) }
+        (Refused F.means F.refuses (map (λ kind. called (kind.vtable, kind.value)) tools.now.kinds.now)
+        (joined (λ kind. called (kind.vtable, kind.value)) (λ kind. lists (kind.vtable, kind.value)) tools.now.kinds.now)
+        (check_asked request.now) (S.texts shelf.old))) }
     ensures only { S.tells shelf.old ≡ true
-        → IsReady F.means (map (λ kind. called kind) tools.now.kinds.now)
-        (joined (λ kind. called kind) (λ kind. lists kind) tools.now.kinds.now) (asked_of request.now) (S.texts shelf.old)
+        → IsReady F.means (map (λ kind. called (kind.vtable, kind.value)) tools.now.kinds.now)
+        (joined (λ kind. called (kind.vtable, kind.value)) (λ kind. lists (kind.vtable, kind.value)) tools.now.kinds.now)
+        (check_asked request.now) (S.texts shelf.old)
         → IfErr result IsSpared }
 {
-    let report = ask(alloc, tools, request, shelf)?;
-    let reading = load_problem::Tools {
-        front: tools.front,
-        kinds: tools.kinds,
-        runtime: tools.runtime,
-        gate: tools.gate,
-    };
-    let inputs = read(alloc, &reading, &request.wanted(&report), shelf)?;
+    let report = ask(alloc, tools, request, shelf, notes)?;
+    let inputs = read(alloc, tools, &wanted(request, &report), shelf, notes)?;
     let plan = plan_in(alloc, &inputs, report.size)?;
     Ok(Posed {
         report,
@@ -130,34 +134,52 @@ fn pose<F: FrontEnd, R: Threads + Sync, G: Gate + Sync, S: Shelf>(
     })
 }
 
+/// As many workers as are asked for.
+pub(crate) fn workers_of<'a, F, R, G>(
+    tools: &Tools<'a, F, R, G>,
+    request: &CheckRequest,
+) -> Workers<'a, R, G>
+    ensures { result.count ≡ request.now.workers }
+{
+    Workers {
+        runtime: tools.runtime,
+        gate: tools.gate,
+        count: request.workers,
+    }
+}
+
 /// All that is judged. The first that is refused ends the reading, in this order: the report's text and its kinds of suspects, what
 /// its list is asked of, the limits of the form, the log's text, the digests.
-pub(crate) fn gather<F: FrontEnd, R: Threads + Sync, G: Gate + Sync, S: Shelf>(
+pub(crate) fn gather<F: FrontEnd, R: Threads + Sync, G: Gate + Sync, S: Shelf, N: Notes>(
     alloc: Global,
     tools: &Tools<'_, F, R, G>,
-    request: &Request,
+    request: &CheckRequest,
     shelf: &mut S,
-) -> Result<Evidence, Refusal>
-    requires { IsAsked (asked_of request.now) }
+    notes: &mut N,
+) -> Result<Evidence, LastLine>
+    requires { IsAsked (check_asked request.now) }
     ensures written { S.written shelf.new ≡ S.written shelf.old }
     ensures counts { CountsOf (S.faults shelf.old) (S.faults shelf.new) result }
     ensures status { IfErr result HasStatus }
     ensures can { IfOk result IsEvidence }
     ensures same { IfOk result (λ evidence. AreOfInputs (given_of evidence)) }
     ensures means { S.tells shelf.old ≡ true → IfOk result (λ evidence.
-        Means F.means (map (λ kind. called kind) tools.now.kinds.now)
-        (joined (λ kind. called kind) (λ kind. lists kind) tools.now.kinds.now) (asked_of request.now) (S.texts shelf.old)
+        Means F.means (map (λ kind. called (kind.vtable, kind.value)) tools.now.kinds.now)
+        (joined (λ kind. called (kind.vtable, kind.value)) (λ kind. lists (kind.vtable, kind.value)) tools.now.kinds.now)
+        (check_asked request.now) (S.texts shelf.old)
         (given_of evidence)) }
     ensures refused { S.tells shelf.old ≡ true → IfErr result (HasCause
-        (Refused F.means F.refuses (map (λ kind. called kind) tools.now.kinds.now)
-        (joined (λ kind. called kind) (λ kind. lists kind) tools.now.kinds.now) (asked_of request.now) (S.texts shelf.old))) }
+        (Refused F.means F.refuses (map (λ kind. called (kind.vtable, kind.value)) tools.now.kinds.now)
+        (joined (λ kind. called (kind.vtable, kind.value)) (λ kind. lists (kind.vtable, kind.value)) tools.now.kinds.now)
+        (check_asked request.now) (S.texts shelf.old))) }
     ensures only { S.tells shelf.old ≡ true
-        → IsReady F.means (map (λ kind. called kind) tools.now.kinds.now)
-        (joined (λ kind. called kind) (λ kind. lists kind) tools.now.kinds.now) (asked_of request.now) (S.texts shelf.old)
+        → IsReady F.means (map (λ kind. called (kind.vtable, kind.value)) tools.now.kinds.now)
+        (joined (λ kind. called (kind.vtable, kind.value)) (λ kind. lists (kind.vtable, kind.value)) tools.now.kinds.now)
+        (check_asked request.now) (S.texts shelf.old)
         → IfErr result IsSpared }
 {
-    let posed = pose(alloc, tools, request, shelf)?;
-    let log = load_log(tools.runtime, alloc, request, shelf)?;
+    let posed = pose(alloc, tools, request, shelf, notes)?;
+    let log = load_log(alloc, &workers_of(tools, request), request, shelf, notes)?;
     same_inputs(
         alloc,
         &Digests {

@@ -3,13 +3,13 @@ ghost use Rattle.std.specs.Prelude.{◌≡◌, ◌++◌, IfErr, IfOk, IsOk, None
 ghost use Rattle.std.specs.Cmp.Lexicographic.{pointwise};
 ghost use Rattle.std.specs.Option.{option_copied};
 ghost use Rattle.suspect_map.specs.Choose.{named, unknown};
-ghost use Rattle.load_problem.specs.Ends.{HasCause};
+ghost use Rattle.refusal.specs.Ends.{HasCause};
 ghost use Rattle.check_cmd.specs.Parts.{KindRefused};
 ghost use Rattle.check_cmd.specs.Refusals.{kind_line};
 
-use load_problem::Refusal;
 use loc_base::{Name, NoMemory};
 use printed_text::push_bytes;
+use refusal::LastLine;
 use report_doc::types::Report;
 use std::alloc::Global;
 use suspect_map::Granularity;
@@ -60,13 +60,13 @@ pub(crate) fn know(
     alloc: Global,
     kinds: &[Box<dyn Granularity>],
     report: &Report,
-) -> Result<(), Refusal>
+) -> Result<(), LastLine>
     ensures known { IfOk result (λ _. unknown (λ kind. called kind) kinds.now report.now.kinds ≡ None) }
     ensures refused { IfErr result (HasCause (KindRefused (unknown (λ kind. called kind) kinds.now report.now.kinds))) }
     ensures only { unknown (λ kind. called kind) kinds.now report.now.kinds ≡ None → IsOk result }
 {
     match first_unknown(kinds, report.kinds.as_slice()) {
         None => Ok(()),
-        Some(name) => Err(Refusal::of_made(3, kind_line_text(alloc, name))),
+        Some(name) => Err(LastLine::of_made(3, kind_line_text(alloc, name))),
     }
 }

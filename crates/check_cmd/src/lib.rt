@@ -6,13 +6,11 @@ mod evidence;
 mod kinds;
 mod logs;
 mod reports;
-mod request;
 mod run;
 mod sessions;
+mod table;
 mod texts;
-mod tools;
 mod verdicts;
+mod wanted;
 
-pub use request::Request;
 pub use run::check;
-pub use tools::Tools;

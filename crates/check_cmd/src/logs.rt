@@ -1,86 +1,76 @@
 //! The log of a text.
-ghost use Rattle.std.specs.Prelude.{◌≡◌, ◌+◌, ◌++◌, ◌<◌, ◌≤◌, ◌^◌, IfErr, IfOk, OnOk, length, true};
+ghost use Rattle.std.specs.Prelude.{◌≡◌, ◌+◌, ◌<◌, ◌≤◌, ◌^◌, IfErr, IfOk, length, true};
 ghost use Rattle.proof_check.specs.declared.types.LogText.{LogText as SomeLog};
 ghost use Rattle.load_texts.specs.Means.{most_bytes};
-ghost use Rattle.load_problem.specs.Ends.{CountsOf, HasCause, HasStatus, IsMemory, IsSpared, Says};
-ghost use Rattle.check_cmd.specs.Asked.{asked_of};
+ghost use Rattle.refusal.specs.Ends.{CountsOf, HasCause, HasStatus, IsMemory, IsSpared, Says};
+ghost use Rattle.requests.specs.Views.{check_asked};
 ghost use Rattle.check_cmd.specs.Means.{IsLogOf, MeansLog};
 ghost use Rattle.check_cmd.specs.Parts.{LogTextRefused, log_fault_line, log_fault_status};
-ghost use Rattle.check_cmd.specs.Refusals.{LogRefused, bad_line};
+ghost use Rattle.check_cmd.specs.Refusals.{LogRefused};
 
-use crate::request::Request;
-use crate::texts::load;
+use crate::texts::{NamedText, load};
 use io_ports::Shelf;
-use load_problem::Refusal;
-use loc_base::{Bytes, NoMemory};
-use printed_text::{push_bytes, push_number};
+use loc_base::{Gate, Workers};
 use proof_check::read_log_parallel;
 use proof_check::types::{LogErr, LogText};
+use refusal::{Code, LastLine, Notes};
+use requests::CheckRequest;
 use std::alloc::Global;
 use std::thread::Threads;
 
-/// The line that names a line of a log.
-fn bad_line_text(alloc: Global, line: u64) -> Result<Vec<u8>, NoMemory>
-    ensures { IfOk result (λ text. text.items ≡ bad_line line) }
-{
-    let mut text = Vec::new(alloc);
-    push_bytes(&mut text, b"input G1 ")?;
-    push_number(&mut text, line)?;
-    push_bytes(&mut text, b"\n")?;
-    Ok(text)
-}
-
-/// Why a text is no log's.
-fn refusal_of(alloc: Global, fault: LogErr) -> Refusal
+/// Why a text is no log's. It is told, but for want of memory.
+fn refused<N: Notes>(alloc: Global, text: &NamedText<'_>, fault: LogErr, notes: &mut N) -> LastLine
     ensures says { Says result (log_fault_status fault) (log_fault_line fault) }
     ensures status { HasStatus result }
 {
     match fault {
-        LogErr::LogSyntax { line } => Refusal::of_made(3, bad_line_text(alloc, line)),
-        LogErr::NoMemory => Refusal::Memory,
+        LogErr::LogSyntax { line } => text.refuse(alloc, Code::Line("G1", line), &fault, notes),
+        LogErr::NoMemory => LastLine::Memory,
     }
 }
 
 /// The log that a text is, read by so many workers.
-fn log_in<R: Threads + Sync>(
-    rt: &R,
+fn log_in<R: Threads + Sync, G: Gate + Sync, N: Notes>(
     alloc: Global,
-    text: &Bytes,
-    workers: u32,
-) -> Result<LogText, Refusal>
-    requires some { 0 < workers }
-    requires short { length text.now ≤ most_bytes }
-    ensures means { IfOk result (IsLogOf text.now) }
+    workers: &Workers<'_, R, G>,
+    text: &NamedText<'_>,
+    notes: &mut N,
+) -> Result<LogText, LastLine>
+    requires some { 0 < workers.now.count }
+    requires short { length text.now.bytes.now ≤ most_bytes }
+    ensures means { IfOk result (IsLogOf text.now.bytes.now) }
     ensures few { IfOk result (λ log. length log.log + 1 < 2 ^ 32) }
-    ensures refused { IfErr result (HasCause (LogTextRefused text.now)) }
-    ensures only { (log : SomeLog) → IsLogOf text.now log → IfErr result IsMemory }
+    ensures refused { IfErr result (HasCause (LogTextRefused text.now.bytes.now)) }
+    ensures only { (log : SomeLog) → IsLogOf text.now.bytes.now log → IfErr result IsMemory }
 {
-    match read_log_parallel(rt, alloc, text.as_slice(), workers) {
+    match read_log_parallel(workers.runtime, alloc, text.bytes.as_slice(), workers.count) {
         Ok(log) => Ok(log),
-        Err(fault) => Err(refusal_of(alloc, fault)),
+        Err(fault) => Err(refused(alloc, text, fault, notes)),
     }
 }
 
-/// The log of the text under its name, read by as many workers as are asked for.
-pub(crate) fn load_log<R: Threads + Sync, S: Shelf>(
-    rt: &R,
+/// The log of the text under its name, read by so many workers.
+pub(crate) fn load_log<R: Threads + Sync, G: Gate + Sync, S: Shelf, N: Notes>(
     alloc: Global,
-    request: &Request,
+    workers: &Workers<'_, R, G>,
+    request: &CheckRequest,
     shelf: &mut S,
-) -> Result<LogText, Refusal>
-    requires { 0 < request.now.workers }
+    notes: &mut N,
+) -> Result<LogText, LastLine>
+    requires { 0 < workers.now.count }
     ensures tells { S.tells shelf.new ≡ S.tells shelf.old }
     ensures texts { S.texts shelf.new ≡ S.texts shelf.old }
     ensures written { S.written shelf.new ≡ S.written shelf.old }
     ensures counts { CountsOf (S.faults shelf.old) (S.faults shelf.new) result }
     ensures status { IfErr result HasStatus }
     ensures few { IfOk result (λ log. length log.log + 1 < 2 ^ 32) }
-    ensures means { S.tells shelf.old ≡ true → IfOk result (MeansLog (asked_of request.now) (S.texts shelf.old)) }
+    ensures means { S.tells shelf.old ≡ true → IfOk result (MeansLog (check_asked request.now) (S.texts shelf.old)) }
     ensures refused { S.tells shelf.old ≡ true
-        → IfErr result (HasCause (LogRefused (asked_of request.now) (S.texts shelf.old))) }
+        → IfErr result (HasCause (LogRefused (check_asked request.now) (S.texts shelf.old))) }
     ensures only { S.tells shelf.old ≡ true → (log : SomeLog)
-        → MeansLog (asked_of request.now) (S.texts shelf.old) log → IfErr result IsSpared }
+        → MeansLog (check_asked request.now) (S.texts shelf.old) log → IfErr result IsSpared }
 {
-    let text = load(alloc, request.log.as_str(), shelf)?;
-    log_in(rt, alloc, &text, request.workers)
+    let name = request.log.as_str();
+    let text = load(alloc, name, shelf, notes)?;
+    log_in(alloc, workers, &NamedText { name, bytes: &text }, notes)
 }

@@ -1,14 +1,14 @@
 //! Whether a session, a report with a log, is of the inputs.
 ghost use Rattle.std.specs.Prelude.{◌≡◌, ◌++◌, IfErr, IfOk, IsOk, OnOk};
 ghost use Rattle.hex.specs.Hex.{encode_lower};
-ghost use Rattle.load_problem.specs.Ends.{HasCause};
+ghost use Rattle.refusal.specs.Ends.{HasCause};
 ghost use Rattle.check_cmd.specs.Parts.{AreSame, OtherRefused};
 ghost use Rattle.check_cmd.specs.Refusals.{other_line};
 
 use hex::encode_to_slice;
-use load_problem::Refusal;
 use loc_base::{Digest, NoMemory};
 use printed_text::push_bytes;
+use refusal::LastLine;
 use std::alloc::Global;
 
 /// The digests of a report, of a log, and of the inputs.
@@ -42,7 +42,7 @@ fn other_line_text(alloc: Global, session: &Digest, inputs: &Digest) -> Result<V
 }
 
 /// Refuses a report and a log that aren't of the inputs, by the digest of the first of the two.
-pub(crate) fn same_inputs(alloc: Global, digests: &Digests) -> Result<(), Refusal>
+pub(crate) fn same_inputs(alloc: Global, digests: &Digests) -> Result<(), LastLine>
     ensures same { IfOk result (λ _. AreSame digests.now) }
     ensures refused { IfErr result (HasCause (OtherRefused digests.now)) }
     ensures only { AreSame digests.now → IsOk result }
@@ -53,10 +53,10 @@ pub(crate) fn same_inputs(alloc: Global, digests: &Digests) -> Result<(), Refusa
         inputs,
     } = digests;
     if report != inputs {
-        return Err(Refusal::of_made(3, other_line_text(alloc, report, inputs)));
+        return Err(LastLine::of_made(3, other_line_text(alloc, report, inputs)));
     }
     if log != inputs {
-        return Err(Refusal::of_made(3, other_line_text(alloc, log, inputs)));
+        return Err(LastLine::of_made(3, other_line_text(alloc, log, inputs)));
     }
     Ok(())
 }

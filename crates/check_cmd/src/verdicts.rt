@@ -1,9 +1,11 @@
-//! The line of a judgement.
+//! The line of a judgement, and its status.
 ghost use Rattle.std.specs.Prelude.{◌≡◌, ◌+◌, ◌++◌, IfOk, OnOk, codes, decimal};
 ghost use Rattle.printed_text.specs.Numerals.{newline};
-ghost use Rattle.refusal_lines.specs.Refusals.{port_name};
+ghost use Rattle.load_texts.specs.Dumps.{port_name};
+ghost use Rattle.check_cmd.specs.Lines.{judgement_line, judgement_status, table_line};
 ghost use Rattle.check_cmd.specs.Lines.{miss_words, number_word, output_name, pair_words, verdict_line, verdict_status};
 
+use crate::table::TableFault;
 use cycle_sim::Miss;
 use design_core::Design;
 use list_verdict::Verdict;
@@ -11,13 +13,37 @@ use loc_base::NoMemory;
 use printed_text::{push_bytes, push_number};
 use std::alloc::Global;
 
-/// The status of a judgement.
-pub(crate) fn status_of(verdict: Verdict) -> u8
+/// What is judged of a report and its log.
+#[derive(Clone, Copy, Debug)]
+pub(crate) enum Judgement {
+    /// Its top or a suspect is another than it is asked of.
+    OfTable { fault: TableFault },
+    /// Both are those, and this is judged of its list.
+    OfList { verdict: Verdict },
+}
+
+/// The status of a verdict.
+fn verdict_status(verdict: Verdict) -> u8
     ensures { result ≡ verdict_status verdict }
 {
     match verdict {
         Verdict::Whole => 0,
-        _ => 8,
+        Verdict::Front => 1,
+        Verdict::Order { .. }
+        | Verdict::Contains { .. }
+        | Verdict::Replay { .. }
+        | Verdict::Step { .. }
+        | Verdict::Open => 8,
+    }
+}
+
+/// The status of a judgement.
+pub(crate) fn status_of(judgement: Judgement) -> u8
+    ensures { result ≡ judgement_status judgement }
+{
+    match judgement {
+        Judgement::OfTable { fault: _ } => 8,
+        Judgement::OfList { verdict } => verdict_status(verdict),
     }
 }
 
@@ -67,7 +93,20 @@ fn push_miss(text: &mut Vec<u8>, design: &Design, miss: Miss) -> Result<(), NoMe
     push_output(text, design, miss.output)
 }
 
-/// Appends a judgement without the end of its line.
+/// Appends what of a report's top and suspects is another, without the end of the line.
+fn push_table_fault(text: &mut Vec<u8>, fault: TableFault) -> Result<(), NoMemory>
+    ensures { OnOk result (text.new.items ++ newline ≡ text.old.items ++ table_line fault) }
+{
+    match fault {
+        TableFault::Top => push_bytes(text, b"no top"),
+        TableFault::Suspect { number } => {
+            push_bytes(text, b"no suspect")?;
+            push_word(text, number as u64)
+        }
+    }
+}
+
+/// Appends a verdict without the end of its line.
 fn push_verdict(
     text: &mut Vec<u8>,
     design: &Design,
@@ -98,21 +137,40 @@ fn push_verdict(
             push_bytes(text, b"no step")?;
             push_word(text, u64::from(number))
         }
+        Verdict::Front => {
+            push_bytes(text, b"front")?;
+            push_word(text, sets as u64)
+        }
         Verdict::Open => push_bytes(text, b"no closing"),
     }
 }
 
+/// Appends a judgement without the end of its line.
+fn push_judgement(
+    text: &mut Vec<u8>,
+    design: &Design,
+    sets: usize,
+    judgement: Judgement,
+) -> Result<(), NoMemory>
+    ensures { OnOk result (text.new.items ++ newline ≡ text.old.items ++ judgement_line design.now sets judgement) }
+{
+    match judgement {
+        Judgement::OfTable { fault } => push_table_fault(text, fault),
+        Judgement::OfList { verdict } => push_verdict(text, design, sets, verdict),
+    }
+}
+
 /// The line of a judgement on so many sets of a design.
-pub(crate) fn verdict_text(
+pub(crate) fn judgement_text(
     alloc: Global,
     design: &Design,
     sets: usize,
-    verdict: Verdict,
+    judgement: Judgement,
 ) -> Result<Vec<u8>, NoMemory>
-    ensures { IfOk result (λ text. text.items ≡ verdict_line design.now sets verdict) }
+    ensures { IfOk result (λ text. text.items ≡ judgement_line design.now sets judgement) }
 {
     let mut text = Vec::new(alloc);
-    push_verdict(&mut text, design, sets, verdict)?;
+    push_judgement(&mut text, design, sets, judgement)?;
     push_bytes(&mut text, b"\n")?;
     Ok(text)
 }

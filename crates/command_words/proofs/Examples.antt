@@ -8,12 +8,24 @@ use Rattle.command_words.specs.Check.{check_arguments}
 use Rattle.command_words.specs.Find.{find_arguments}
 use Rattle.command_words.specs.Sim.{sim_arguments}
 use Rattle.command_words.specs.Make.{make_arguments}
-use Rattle.command_words.specs.Asked.{Asked, find, sim, check, make}
+use Rattle.requests.specs.Asked.{Asked, ListingAsked, find, sim, check, make}
 use Rattle.command_words.specs.Words.{asked as asked_by}
 
 -- where two kinds of suspects are known
 abbrev asked : List (List ℕ) → Result Asked Usage
 asked words = asked_by (codes "stmt" ∷ codes "block" ∷ []) words
+
+-- a list where no other option is given
+abbrev plain_list : List (List ℕ) → ListingAsked
+plain_list suspects = record {
+  suspects = suspects;
+  size = 2;
+  budget = 200000;
+  sets = 1000;
+  workers = 1;
+  log = codes "localise.log";
+  report = codes "localise.json";
+}
 
 -- a line's words behind the command
 abbrev find_words : List (List ℕ) → List (List ℕ)
@@ -28,17 +40,8 @@ a_name_of_a_command_that_is_not_known = refl
 what_stands_where_no_option_is_given
     : asked (find_words [])
     ≡ Ok (find (record {
-      design = codes "m.v";
-      top = codes "m";
-      traces = codes "t" ∷ [];
-      clock = None;
-      suspects = codes "stmt" ∷ [];
-      size = 2;
-      budget = 200000;
-      sets = 1000;
-      workers = 1;
-      log = codes "localise.log";
-      report = codes "localise.json";
+      sources = record { texts = record { design = codes "m.v"; top = codes "m"; traces = codes "t" ∷ [] }; clock = None };
+      listing = plain_list (codes "stmt" ∷ []);
       waves = None;
     }))
 unfolding clap_on_literals read_by find_arguments
@@ -50,13 +53,7 @@ what_is_made_where_no_option_is_given
       number = 7;
       design = codes "made.v";
       trace = codes "made.vcd";
-      suspects = codes "stmt" ∷ [];
-      size = 2;
-      budget = 200000;
-      sets = 1000;
-      workers = 1;
-      log = codes "localise.log";
-      report = codes "localise.json";
+      listing = plain_list (codes "stmt" ∷ []);
     }))
 unfolding clap_on_literals read_by make_arguments
 what_is_made_where_no_option_is_given = refl
@@ -64,11 +61,9 @@ what_is_made_where_no_option_is_given = refl
 the_report_stands_before_the_log
     : asked (codes "check" ∷ codes "m.v" ∷ codes "m" ∷ codes "r" ∷ codes "l" ∷ codes "t" ∷ codes "u" ∷ [])
     ≡ Ok (check (record {
-      design = codes "m.v";
-      top = codes "m";
+      texts = record { design = codes "m.v"; top = codes "m"; traces = codes "t" ∷ codes "u" ∷ [] };
       report = codes "r";
       log = codes "l";
-      traces = codes "t" ∷ codes "u" ∷ [];
       workers = 1;
     }))
 unfolding clap_on_literals read_by check_arguments
@@ -77,17 +72,11 @@ the_report_stands_before_the_log = refl
 two_kinds_of_suspects_and_waves
     : asked (find_words (codes "--suspects" ∷ codes "block,stmt" ∷ codes "u" ∷ codes "--clock=c" ∷ codes "--waves=w" ∷ []))
     ≡ Ok (find (record {
-      design = codes "m.v";
-      top = codes "m";
-      traces = codes "t" ∷ codes "u" ∷ [];
-      clock = Some (codes "c");
-      suspects = codes "block" ∷ codes "stmt" ∷ [];
-      size = 2;
-      budget = 200000;
-      sets = 1000;
-      workers = 1;
-      log = codes "localise.log";
-      report = codes "localise.json";
+      sources = record {
+        texts = record { design = codes "m.v"; top = codes "m"; traces = codes "t" ∷ codes "u" ∷ [] };
+        clock = Some (codes "c");
+      };
+      listing = plain_list (codes "block" ∷ codes "stmt" ∷ []);
       waves = Some (codes "w");
     }))
 unfolding clap_on_literals read_by find_arguments
@@ -124,10 +113,10 @@ a_dashed_word_is_no_value = refl
 behind_two_dashes_all_words_are_positional
     : asked (sim_words (codes "--" ∷ codes "--clock" ∷ codes "-" ∷ []))
     ≡ Ok (sim (record {
-      design = codes "m.v";
-      top = codes "m";
-      traces = codes "--clock" ∷ codes "-" ∷ [];
-      clock = None;
+      sources = record {
+        texts = record { design = codes "m.v"; top = codes "m"; traces = codes "--clock" ∷ codes "-" ∷ [] };
+        clock = None;
+      };
     }))
 unfolding clap_on_literals read_by sim_arguments
 behind_two_dashes_all_words_are_positional = refl

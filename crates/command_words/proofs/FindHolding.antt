@@ -6,34 +6,37 @@ use Rattle.std.specs.Str.{bytes_eq}
 use Rattle.std.proofs.lemmas.Bool.{and_parts}
 use Rattle.word_values.specs.Numbers.{AreNumbers}
 use Rattle.word_values.specs.Values.{are_kinds, begins_with, is_file_name, option_all}
-use Rattle.word_values.proofs.Holding.{apart, kinds-hold, no_one-All, none-begins}
-use Rattle.command_words.specs.Find.{FindAsked, IsFindAsked, IsWavePrefix, are_find_names, are_written_names, is_own, is_wave_prefix, numbers_of, other_names, sources_of}
+use Rattle.word_values.proofs.Holding.{apart, no_one-All, none-begins}
+use Rattle.requests.specs.Asked.{FindAsked}
+use Rattle.command_words.specs.Listing.{numbers_of}
+use Rattle.command_words.specs.Find.{IsFindAsked, IsWavePrefix, are_find_names, are_written_names, is_own, is_wave_prefix, other_names}
 use Rattle.command_words.specs.Sim.{are_sim_names}
+use Rattle.command_words.proofs.ListingHolding.{listing-holds}
 use Rattle.command_words.proofs.SimHolding.{sim-holds}
 
 -- ---- names
 record AreWritten (asked : FindAsked) : Type 0 where
-  pub log : is_file_name asked.log ≡ true
-  pub report : is_file_name asked.report ≡ true
-  pub apart_names : asked.log ≢ asked.report
-  pub own_log : All (λ name. name ≢ asked.log) (asked.design ∷ asked.traces)
-  pub own_report : All (λ name. name ≢ asked.report) (asked.design ∷ asked.traces)
+  pub log : is_file_name asked.listing.log ≡ true
+  pub report : is_file_name asked.listing.report ≡ true
+  pub apart_names : asked.listing.log ≢ asked.listing.report
+  pub own_log : All (λ name. name ≢ asked.listing.log) (asked.sources.texts.design ∷ asked.sources.texts.traces)
+  pub own_report : All (λ name. name ≢ asked.listing.report) (asked.sources.texts.design ∷ asked.sources.texts.traces)
 
 written-hold : (asked : FindAsked) → are_written_names asked ≡ true → AreWritten asked
 written-hold asked names =
-    let log = is_file_name asked.log in
-    let report = is_file_name asked.report in
-    let differ = not (bytes_eq asked.log asked.report) in
-    let last = and_parts (log && report && differ && is_own asked asked.log) (is_own asked asked.report) names in
-    let own = and_parts (log && report && differ) (is_own asked asked.log) last.0 in
+    let log = is_file_name asked.listing.log in
+    let report = is_file_name asked.listing.report in
+    let differ = not (bytes_eq asked.listing.log asked.listing.report) in
+    let last = and_parts (log && report && differ && is_own asked asked.listing.log) (is_own asked asked.listing.report) names in
+    let own = and_parts (log && report && differ) (is_own asked asked.listing.log) last.0 in
     let two = and_parts (log && report) differ own.0 in
     let first = and_parts log report two.0 in
     record {
       log = first.0;
       report = first.1;
-      apart_names = apart asked.log asked.report two.1;
-      own_log = no_one-All (asked.design ∷ asked.traces) asked.log own.1;
-      own_report = no_one-All (asked.design ∷ asked.traces) asked.report last.1;
+      apart_names = apart asked.listing.log asked.listing.report two.1;
+      own_log = no_one-All (asked.sources.texts.design ∷ asked.sources.texts.traces) asked.listing.log own.1;
+      own_report = no_one-All (asked.sources.texts.design ∷ asked.sources.texts.traces) asked.listing.report last.1;
     }
 
 waves-hold : (asked : FindAsked) (waves : Option (List ℕ)) → option_all (is_wave_prefix asked) waves ≡ true
@@ -44,24 +47,16 @@ waves-hold asked (Some prefix) names =
     record { is_name = both.0; own = none-begins prefix (other_names asked) both.1 }
 
 -- ---- a list of sets
-pub find-holds : (known : List (List ℕ)) (asked : FindAsked) → are_find_names asked ≡ true → are_kinds known asked.suspects ≡ true
-    → asked.suspects ≢ [] → AreNumbers (numbers_of asked) → IsFindAsked known asked
+pub find-holds : (known : List (List ℕ)) (asked : FindAsked) → are_find_names asked ≡ true → are_kinds known asked.listing.suspects ≡ true
+    → asked.listing.suspects ≢ [] → AreNumbers (numbers_of asked.listing) → IsFindAsked known asked
 find-holds known asked names kinds some within =
     let waves = option_all (is_wave_prefix asked) asked.waves in
-    let both = and_parts (are_sim_names (sources_of asked) && are_written_names asked) waves names in
-    let first = and_parts (are_sim_names (sources_of asked)) (are_written_names asked) both.0 in
+    let both = and_parts (are_sim_names asked.sources && are_written_names asked) waves names in
+    let first = and_parts (are_sim_names asked.sources) (are_written_names asked) both.0 in
     let written = written-hold asked first.1 in
-    let held = kinds-hold known asked.suspects kinds in
     record {
-      sources = sim-holds (sources_of asked) first.0;
-      size = within.size;
-      budget = within.budget;
-      sets = within.sets;
-      workers = within.workers;
-      some_kinds = some;
-      kind_names = held.named;
-      known_kinds = held.known_kinds;
-      kinds_once = held.once;
+      sources = sim-holds asked.sources first.0;
+      listing = listing-holds known asked.listing kinds some within;
       log = written.log;
       report = written.report;
       apart = written.apart_names;

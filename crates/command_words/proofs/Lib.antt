@@ -4,3 +4,4 @@ pub mod SimHolding
 pub mod FindHolding
 mod Examples
 pub mod Commands
+pub mod ListingHolding

@@ -4,17 +4,10 @@ use Rattle.std.proofs.lemmas.Bool.{and_parts}
 use Rattle.word_values.specs.Sources.{are_source_names}
 use Rattle.word_values.specs.Values.{is_name, option_all}
 use Rattle.word_values.proofs.Holding.{sources-hold}
-use Rattle.command_words.specs.Sim.{IsSimAsked, SimAsked, are_sim_names, texts_of}
+use Rattle.requests.specs.Asked.{SourcesAsked}
+use Rattle.command_words.specs.Sim.{IsSimAsked, are_sim_names}
 
-pub sim-holds : (asked : SimAsked) → are_sim_names asked ≡ true → IsSimAsked asked
+pub sim-holds : (asked : SourcesAsked) → are_sim_names asked ≡ true → IsSimAsked asked
 sim-holds asked names =
-    let both = and_parts (are_source_names (texts_of asked)) (option_all is_name asked.clock) names in
-    let held = sources-hold (texts_of asked) both.0 in
-    record {
-      design = held.design;
-      top = held.top;
-      traces = held.traces;
-      clock = both.1;
-      some = held.some;
-      most = held.most;
-    }
+    let both = and_parts (are_source_names asked.texts) (option_all is_name asked.clock) names in
+    record { texts = sources-hold asked.texts both.0; clock = both.1 }

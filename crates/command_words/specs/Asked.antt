@@ -1,19 +1,14 @@
--- What is asked for, as plain data, and what holds of it.
+-- What holds of what is asked for.
 use Rattle.std.specs.Prelude.{ℕ, List}
-use Rattle.command_words.specs.Check.{CheckAsked, IsCheckAsked}
-use Rattle.command_words.specs.Find.{FindAsked, IsFindAsked}
-use Rattle.command_words.specs.Sim.{IsSimAsked, SimAsked}
-use Rattle.command_words.specs.Make.{IsMakeAsked, MakeAsked}
+use Rattle.requests.specs.Asked.{Asked, find, sim, check, make}
+use Rattle.command_words.specs.Check.{IsCheckAsked}
+use Rattle.command_words.specs.Find.{IsFindAsked}
+use Rattle.command_words.specs.Sim.{IsSimAsked}
+use Rattle.command_words.specs.Make.{IsMakeAsked}
 
-pub data Asked : Type 0 where
-  find : FindAsked → Asked
-  sim : SimAsked → Asked
-  check : CheckAsked → Asked
-  make : MakeAsked → Asked
-
--- what holds of it, where kinds of suspects of these names are known
+-- where kinds of suspects of these names are known
 abbrev pub IsAsked : List (List ℕ) → Asked → Type 0
 IsAsked known (find asked) = IsFindAsked known asked
-IsAsked known (sim asked) = IsSimAsked asked
+IsAsked known (sim asked) = IsSimAsked asked.sources
 IsAsked known (check asked) = IsCheckAsked asked
 IsAsked known (make asked) = IsMakeAsked known asked

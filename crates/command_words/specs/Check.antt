@@ -1,14 +1,14 @@
 -- What the words of `check` ask for: the values of its arguments, or the first thing that is wrong with them: the number of
 -- workers, then the names. Names may be equal, since nothing is written.
-use Rattle.std.specs.Prelude.{◌≡◌, ◌≤◌, true, ℕ, Bool, ◌&&◌, List, [], ◌∷◌, length, Option, Some, None, Result, Ok, Err, codes}
-use Rattle.std.specs.List.{list_all}
+use Rattle.std.specs.Prelude.{◌≡◌, true, ℕ, Bool, ◌&&◌, List, [], ◌∷◌, Option, Some, None, Result, Ok, Err, codes}
+use Rattle.requests.specs.Asked.{CheckAsked, TextsAsked}
 use Rattle.word_values.specs.declared.usage.Usage.{Usage}
 use Rattle.word_values.specs.declared.usage.Usage.TheVariants.{Words, Number}
 use Rattle.word_values.specs.Arguments.{Arguments, Row, first_of, values_of}
 use Rattle.word_values.specs.Numbers.{IsFrom, workers_in}
-use Rattle.word_values.specs.Sources.{Sources, are_source_names, sources_in}
+use Rattle.word_values.specs.Sources.{AreSources, are_source_names, sources_in}
 use Rattle.word_values.specs.Standing.{named, standing}
-use Rattle.word_values.specs.Values.{is_file_name, is_name}
+use Rattle.word_values.specs.Values.{is_file_name}
 
 -- `check DESIGN TOP REPORT LOG TRACE.. [--workers N]`
 unfoldable pub check_arguments : Arguments
@@ -19,33 +19,18 @@ check_arguments = record {
   options = codes "workers" ∷ [];
 }
 
--- the names of the design's text, of the top module, of the report, of the log and of the traces' texts; the number of workers
-pub record CheckAsked : Type 0 where
-  pub design : List ℕ
-  pub top : List ℕ
-  pub report : List ℕ
-  pub log : List ℕ
-  pub traces : List (List ℕ)
-  pub workers : ℕ
-
--- the texts of which the inputs are read
-abbrev pub texts_of : CheckAsked → Sources
-texts_of asked = record { design = asked.design; top = asked.top; traces = asked.traces }
-
 -- ---- what is asked
 -- the texts and the two files, where each is given
-abbrev pub check_numbered : Sources → List ℕ → List ℕ → Option ℕ → Result CheckAsked Usage
+abbrev pub check_numbered : TextsAsked → List ℕ → List ℕ → Option ℕ → Result CheckAsked Usage
 check_numbered texts report log None = Err Number
 check_numbered texts report log (Some workers) = Ok (record {
-  design = texts.design;
-  top = texts.top;
+  texts = texts;
   report = report;
   log = log;
-  traces = texts.traces;
   workers = workers;
 })
 
-abbrev pub check_of : Option Sources → Option (List ℕ) → Option (List ℕ) → Option ℕ → Result CheckAsked Usage
+abbrev pub check_of : Option TextsAsked → Option (List ℕ) → Option (List ℕ) → Option ℕ → Result CheckAsked Usage
 check_of (Some texts) (Some report) (Some log) workers = check_numbered texts report log workers
 check_of _ _ _ workers = Err Words
 
@@ -54,7 +39,7 @@ check_in rows = check_of (sources_in rows) (first_of (codes "report") rows) (fir
 
 -- the names are names, and there are 1 to 256 traces
 abbrev pub are_check_names : CheckAsked → Bool
-are_check_names asked = are_source_names (texts_of asked) && is_file_name asked.report && is_file_name asked.log
+are_check_names asked = are_source_names asked.texts && is_file_name asked.report && is_file_name asked.log
 
 -- the words of the command, itself the first
 abbrev pub check_asked : List (List ℕ) → Result CheckAsked Usage
@@ -62,11 +47,7 @@ check_asked words = named are_check_names (standing check_in (values_of check_ar
 
 -- ---- what holds of what is asked for
 pub record IsCheckAsked (asked : CheckAsked) : Type 0 where
-  pub design : is_file_name asked.design ≡ true
-  pub top : is_name asked.top ≡ true
+  pub texts : AreSources asked.texts
   pub report : is_file_name asked.report ≡ true
   pub log : is_file_name asked.log ≡ true
-  pub traces : list_all is_file_name asked.traces ≡ true
-  pub some : 1 ≤ length asked.traces
-  pub most : length asked.traces ≤ 256
   pub workers : IsFrom 1 64 asked.workers

@@ -1,11 +1,8 @@
+pub mod Listing
 pub mod Make
-pub mod MakeRequests
 pub mod Check
-pub mod CheckRequests
 pub mod Sim
 pub mod Find
-pub mod FindRequests
 pub mod Views
 pub mod Asked
 pub mod Words
-pub mod Requests

@@ -1,26 +1,19 @@
 -- What is asked for by values that aren't copied yet: for contracts in the crate alone.
-use Rattle.std.specs.Prelude.{map}
 use Rattle.std.specs.Option.{option_map}
-use Rattle.command_words.specs.declared.sim.SimValues.{SimValues}
+use Rattle.requests.specs.Asked.{CheckAsked, FindAsked, ListingAsked, MakeAsked, SourcesAsked}
+use Rattle.command_words.specs.declared.check.CheckValues.{CheckValues}
 use Rattle.command_words.specs.declared.find.FindValues.{FindValues}
+use Rattle.command_words.specs.declared.listing.ListingValues.{ListingValues}
+use Rattle.command_words.specs.declared.make.MakeValues.{MakeValues}
+use Rattle.command_words.specs.declared.sim.SimValues.{SimValues}
 use Rattle.word_values.specs.Values.{kinds_in}
-use Rattle.command_words.specs.Find.{FindAsked}
-use Rattle.command_words.specs.Sim.{SimAsked}
+use Rattle.word_values.specs.Views.{sources_view}
 
-abbrev pub sim_values : SimValues → SimAsked
-sim_values values = record {
-  design = values.texts.design.now;
-  top = values.texts.top.now;
-  traces = map (λ word. word.now) values.texts.traces.now;
-  clock = option_map (λ word. word.now) values.clock;
-}
+abbrev pub sim_values : SimValues → SourcesAsked
+sim_values values = record { texts = sources_view values.texts; clock = option_map (λ word. word.now) values.clock }
 
-abbrev pub find_values : FindValues → FindAsked
-find_values values = record {
-  design = values.sources.texts.design.now;
-  top = values.sources.texts.top.now;
-  traces = map (λ word. word.now) values.sources.texts.traces.now;
-  clock = option_map (λ word. word.now) values.sources.clock;
+abbrev pub listing_values : ListingValues → ListingAsked
+listing_values values = record {
   suspects = kinds_in values.suspects.now;
   size = values.numbers.size;
   budget = values.numbers.budget;
@@ -28,5 +21,27 @@ find_values values = record {
   workers = values.numbers.workers;
   log = values.log.now;
   report = values.report.now;
+}
+
+abbrev pub find_values : FindValues → FindAsked
+find_values values = record {
+  sources = sim_values values.sources;
+  listing = listing_values values.listing;
   waves = option_map (λ word. word.now) values.waves;
+}
+
+abbrev pub check_values : CheckValues → CheckAsked
+check_values values = record {
+  texts = sources_view values.texts;
+  report = values.report.now;
+  log = values.log.now;
+  workers = values.workers;
+}
+
+abbrev pub make_values : MakeValues → MakeAsked
+make_values values = record {
+  number = values.number;
+  design = values.design.now;
+  trace = values.trace.now;
+  listing = listing_values values.listing;
 }

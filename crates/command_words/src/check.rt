@@ -5,31 +5,17 @@ ghost use Rattle.word_values.specs.Arguments.{IsPlain};
 ghost use Rattle.word_values.specs.Numbers.{IsFrom};
 ghost use Rattle.word_values.specs.Tables.{arguments_of};
 ghost use Rattle.command_words.specs.Check.{IsCheckAsked, are_check_names, check_arguments, check_asked, check_in};
-ghost use Rattle.command_words.specs.CheckRequests.{check_asked_of, check_values};
+ghost use Rattle.requests.specs.Views.{check_asked as check_asked_of};
+ghost use Rattle.command_words.specs.Views.{check_values};
 
-use loc_base::{Name, NoMemory};
+use crate::texts;
+use loc_base::NoMemory;
+use requests::CheckRequest;
 use std::alloc::Global;
 use word_values::{
-    Given, Sources, Table, Usage, WordsErr, are_source_names, copies_of, given_by, is_file_name,
-    name_of, sources_in, workers_in,
+    Given, Sources, Table, Usage, WordsErr, are_source_names, given_by, is_file_name, sources_in,
+    workers_in,
 };
-
-/// What `check` is asked for.
-#[derive(Drop)]
-pub struct CheckWords {
-    /// The name of the design's text.
-    pub design: String,
-    /// The module that is the top.
-    pub top: Name,
-    /// The name of the report.
-    pub report: String,
-    /// The name of the log.
-    pub log: String,
-    /// The names of the traces' texts.
-    pub traces: Vec<String>,
-    /// How many threads check the log.
-    pub workers: u32,
-}
 
 /// The values of the command's arguments.
 #[derive(Clone, Copy)]
@@ -85,23 +71,21 @@ fn are_names(values: &CheckValues) -> bool
     are_source_names(&values.texts) && is_file_name(values.report) && is_file_name(values.log)
 }
 
-fn copied(alloc: Global, values: &CheckValues) -> Result<CheckWords, NoMemory>
+fn copied(alloc: Global, values: &CheckValues) -> Result<CheckRequest, NoMemory>
     requires { are_check_names (check_values values.now) ≡ true }
     ensures { IfOk result (λ request. check_asked_of request ≡ check_values values.now) }
 {
-    Ok(CheckWords {
-        design: String::from_str(alloc, values.texts.design)?,
-        top: name_of(alloc, values.texts.top)?,
+    Ok(CheckRequest {
+        texts: texts::copied(alloc, &values.texts)?,
         report: String::from_str(alloc, values.report)?,
         log: String::from_str(alloc, values.log)?,
-        traces: copies_of(alloc, values.texts.traces)?,
         workers: values.workers,
     })
 }
 
 /// What the words of the command ask for, itself the first: `check DESIGN TOP REPORT LOG TRACE.. [--workers N]`, with 1 to 256
 /// traces and 1 to 64 workers (without the option 1).
-pub fn check_words(alloc: Global, words: &[String]) -> Result<CheckWords, WordsErr>
+pub fn check_words(alloc: Global, words: &[String]) -> Result<CheckRequest, WordsErr>
     ensures gives { Gives check_asked_of (check_asked (map string_bytes words.now)) result }
     ensures holds { IfOk result (λ words. IsCheckAsked (check_asked_of words)) }
 {

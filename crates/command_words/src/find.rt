@@ -8,55 +8,25 @@ ghost use Rattle.word_values.specs.Tables.{arguments_of};
 ghost use Rattle.word_values.specs.Values.{is_name, kinds_in, option_all};
 ghost use Rattle.word_values.specs.Views.{numbers_view};
 ghost use Rattle.command_words.specs.Find.{IsFindAsked, are_find_names, are_written_names, find_arguments, find_asked, find_in, is_own, is_wave_prefix};
-ghost use Rattle.command_words.specs.FindRequests.{find_asked_of};
+ghost use Rattle.requests.specs.Views.{find_asked as find_asked_of};
 ghost use Rattle.command_words.specs.Views.{find_values};
 
-use crate::sim::{self, SimValues, SimWords};
-use loc_base::{Name, NoMemory};
+use crate::listing::{self, ListingValues};
+use crate::sim::{self, SimValues};
+use loc_base::NoMemory;
+use requests::FindRequest;
 use std::alloc::Global;
 use word_values::{
-    Given, Numbers, Table, Usage, WordsErr, are_kinds, begins_with, given_by, is_file_name,
-    is_one_of, kinds_in, names_of, numbers_in, one_begins_with, text_if,
+    Given, Table, Usage, WordsErr, are_kinds, begins_with, given_by, is_file_name, is_one_of,
+    kinds_in, one_begins_with, text_if,
 };
-
-/// What `find` is asked for.
-#[derive(Drop)]
-pub struct FindWords {
-    /// The name of the design's text.
-    pub design: String,
-    /// The module that is the top.
-    pub top: Name,
-    /// The names of the traces' texts.
-    pub traces: Vec<String>,
-    /// The input of the top that is the clock.
-    pub clock: Option<Name>,
-    /// The kinds of suspects.
-    pub suspects: Vec<Name>,
-    /// The most suspects that a set may have.
-    pub size: u32,
-    /// The most steps that may be learned.
-    pub budget: u32,
-    /// The most sets that are listed.
-    pub sets: u32,
-    /// How many threads check the log.
-    pub workers: u32,
-    /// The name of the log.
-    pub log: String,
-    /// The name of the report.
-    pub report: String,
-    /// What the names of the sets' waves begin with, where they are wanted.
-    pub waves: Option<String>,
-}
 
 /// The values of the command's arguments.
 #[derive(Clone, Copy)]
 pub(crate) struct FindValues<'m, 'a> {
     /// What is read, as `sim` has it.
     pub(crate) sources: SimValues<'m, 'a>,
-    pub(crate) suspects: &'a str,
-    pub(crate) numbers: Numbers,
-    pub(crate) log: &'a str,
-    pub(crate) report: &'a str,
+    pub(crate) listing: ListingValues<'a>,
     pub(crate) waves: Option<&'a str>,
 }
 
@@ -78,18 +48,15 @@ fn find_table() -> Table<'static>
 /// The values, with those that stand where an option isn't given.
 fn values_in<'m, 'a>(given: &'m Given<'a>) -> Result<FindValues<'m, 'a>, Usage>
     ensures says { Says find_values (find_in given.entry.now) result }
-    ensures numbers { IfOk result (λ values. AreNumbers (numbers_view values.numbers)) }
+    ensures numbers { IfOk result (λ values. AreNumbers (numbers_view values.listing.numbers)) }
 {
     let sources = sim::values_in(given)?;
-    let Some(numbers) = numbers_in(given) else {
+    let Some(listing) = listing::values_in(given) else {
         return Err(Usage::Number);
     };
     Ok(FindValues {
         sources,
-        suspects: given.value_or("suspects", "stmt"),
-        numbers,
-        log: given.value_or("log", "localise.log"),
-        report: given.value_or("report", "localise.json"),
+        listing,
         waves: given.value("waves"),
     })
 }
@@ -105,11 +72,11 @@ fn is_own(values: &FindValues, name: &str) -> bool
 fn are_written_names(values: &FindValues) -> bool
     ensures { result ≡ are_written_names (find_values values.now) }
 {
-    is_file_name(values.log)
-        && is_file_name(values.report)
-        && values.log != values.report
-        && is_own(values, values.log)
-        && is_own(values, values.report)
+    is_file_name(values.listing.log)
+        && is_file_name(values.listing.report)
+        && values.listing.log != values.listing.report
+        && is_own(values, values.listing.log)
+        && is_own(values, values.listing.report)
 }
 
 /// Whether the names of waves may begin with it.
@@ -118,8 +85,8 @@ fn is_wave_prefix(values: &FindValues, prefix: &str) -> bool
 {
     is_file_name(prefix)
         && !begins_with(values.sources.texts.design, prefix)
-        && !begins_with(values.log, prefix)
-        && !begins_with(values.report, prefix)
+        && !begins_with(values.listing.log, prefix)
+        && !begins_with(values.listing.report, prefix)
         && !one_begins_with(values.sources.texts.traces, prefix)
 }
 
@@ -138,37 +105,22 @@ fn are_names(values: &FindValues) -> bool
     sim::are_names(&values.sources) && are_written_names(values) && is_wave_prefix_if(values)
 }
 
-fn copied(alloc: Global, values: &FindValues, suspects: &[&str]) -> Result<FindWords, NoMemory>
+fn copied(alloc: Global, values: &FindValues, suspects: &[&str]) -> Result<FindRequest, NoMemory>
     requires names { are_find_names (find_values values.now) ≡ true }
-    requires kinds { kinds_in values.now.suspects.now ≡ map (λ w. w.now) suspects.now }
+    requires kinds { kinds_in values.now.listing.suspects.now ≡ map (λ w. w.now) suspects.now }
     requires visible { list_all is_name (map (λ w. w.now) suspects.now) ≡ true }
     ensures { IfOk result (λ request. find_asked_of request ≡ find_values values.now) }
 {
-    let SimWords {
-        design,
-        top,
-        traces,
-        clock,
-    } = sim::copied(alloc, &values.sources)?;
-    Ok(FindWords {
-        design,
-        top,
-        traces,
-        clock,
-        suspects: names_of(alloc, suspects)?,
-        size: values.numbers.size,
-        budget: values.numbers.budget,
-        sets: values.numbers.sets,
-        workers: values.numbers.workers,
-        log: String::from_str(alloc, values.log)?,
-        report: String::from_str(alloc, values.report)?,
+    Ok(FindRequest {
+        reading: sim::copied(alloc, &values.sources)?,
+        listing: listing::copied(alloc, &values.listing, suspects)?,
         waves: text_if(alloc, values.waves)?,
     })
 }
 
 /// What the words of the command ask for, itself the first, where kinds of suspects of these names are known.
 #[tactic(auto, using(word_values::proofs::KindNames::kind_rules))]
-pub fn find_words(alloc: Global, words: &[String], known: &[&str]) -> Result<FindWords, WordsErr>
+pub fn find_words(alloc: Global, words: &[String], known: &[&str]) -> Result<FindRequest, WordsErr>
     ensures gives { Gives find_asked_of (find_asked (map (λ w. w.now) known.now) (map string_bytes words.now)) result }
     ensures holds { IfOk result (λ words. IsFindAsked (map (λ w. w.now) known.now) (find_asked_of words)) }
 {
@@ -179,7 +131,7 @@ pub fn find_words(alloc: Global, words: &[String], known: &[&str]) -> Result<Fin
     if !are_names(&values) {
         return Err(WordsErr::Usage(Usage::Name));
     }
-    let suspects = kinds_in(alloc, values.suspects)?;
+    let suspects = kinds_in(alloc, values.listing.suspects)?;
     if !are_kinds(&suspects, known) {
         return Err(WordsErr::Usage(Usage::Kind));
     }

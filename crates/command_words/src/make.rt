@@ -8,39 +8,17 @@ ghost use Rattle.word_values.specs.Tables.{arguments_of};
 ghost use Rattle.word_values.specs.Values.{is_name, kinds_in};
 ghost use Rattle.word_values.specs.Views.{numbers_view};
 ghost use Rattle.command_words.specs.Make.{IsMakeAsked, are_make_names, make_arguments, make_asked, make_in};
-ghost use Rattle.command_words.specs.MakeRequests.{make_asked_of, make_values};
+ghost use Rattle.requests.specs.Views.{make_asked as make_asked_of};
+ghost use Rattle.command_words.specs.Views.{make_values};
 
-use loc_base::{Name, NoMemory};
+use crate::listing::{self, ListingValues};
+use loc_base::NoMemory;
+use requests::MakeRequest;
 use std::alloc::Global;
 use word_values::{
-    Given, Numbers, Table, Usage, WordsErr, are_file_names, are_kinds, given_by, is_once, kinds_in,
-    names_of, number_from, numbers_in,
+    Given, Table, Usage, WordsErr, are_file_names, are_kinds, given_by, is_once, kinds_in,
+    number_from,
 };
-
-/// What `make` is asked for.
-#[derive(Drop)]
-pub struct MakeWords {
-    /// The number of the input that is made.
-    pub number: u32,
-    /// The name of the design's text.
-    pub design: String,
-    /// The name of the trace's text.
-    pub trace: String,
-    /// The kinds of suspects.
-    pub suspects: Vec<Name>,
-    /// The most suspects that a set may have.
-    pub size: u32,
-    /// The most steps that may be learned.
-    pub budget: u32,
-    /// The most sets that are listed.
-    pub sets: u32,
-    /// How many threads check the log.
-    pub workers: u32,
-    /// The name of the log.
-    pub log: String,
-    /// The name of the report.
-    pub report: String,
-}
 
 /// The values of the command's arguments.
 #[derive(Clone, Copy)]
@@ -48,10 +26,7 @@ pub(crate) struct MakeValues<'a> {
     pub(crate) number: u32,
     pub(crate) design: &'a str,
     pub(crate) trace: &'a str,
-    pub(crate) suspects: &'a str,
-    pub(crate) numbers: Numbers,
-    pub(crate) log: &'a str,
-    pub(crate) report: &'a str,
+    pub(crate) listing: ListingValues<'a>,
 }
 
 #[tactic(auto, unfolding(crate::specs::Make::make_arguments))]
@@ -73,7 +48,7 @@ fn make_table() -> Table<'static>
 fn values_in<'a>(given: &Given<'a>) -> Result<MakeValues<'a>, Usage>
     ensures says { Says make_values (make_in given.entry.now) result }
     ensures number { IfOk result (λ values. values.number ≤ 9999) }
-    ensures numbers { IfOk result (λ values. AreNumbers (numbers_view values.numbers)) }
+    ensures numbers { IfOk result (λ values. AreNumbers (numbers_view values.listing.numbers)) }
 {
     let Some(word) = given.value("number") else {
         return Err(Usage::Words);
@@ -81,17 +56,14 @@ fn values_in<'a>(given: &Given<'a>) -> Result<MakeValues<'a>, Usage>
     let Some(number) = number_from(word, 0, 9999) else {
         return Err(Usage::Number);
     };
-    let Some(numbers) = numbers_in(given) else {
+    let Some(listing) = listing::values_in(given) else {
         return Err(Usage::Number);
     };
     Ok(MakeValues {
         number,
         design: given.value_or("design", "made.v"),
         trace: given.value_or("trace", "made.vcd"),
-        suspects: given.value_or("suspects", "stmt"),
-        numbers,
-        log: given.value_or("log", "localise.log"),
-        report: given.value_or("report", "localise.json"),
+        listing,
     })
 }
 
@@ -99,26 +71,25 @@ fn values_in<'a>(given: &Given<'a>) -> Result<MakeValues<'a>, Usage>
 fn are_names(values: &MakeValues) -> bool
     ensures { result ≡ are_make_names (make_values values.now) }
 {
-    let names = [values.log, values.report, values.design, values.trace];
+    let names = [
+        values.listing.log,
+        values.listing.report,
+        values.design,
+        values.trace,
+    ];
     are_file_names(&names) && is_once(&names)
 }
 
-fn copied(alloc: Global, values: &MakeValues, suspects: &[&str]) -> Result<MakeWords, NoMemory>
-    requires kinds { kinds_in values.now.suspects.now ≡ map (λ w. w.now) suspects.now }
+fn copied(alloc: Global, values: &MakeValues, suspects: &[&str]) -> Result<MakeRequest, NoMemory>
+    requires kinds { kinds_in values.now.listing.suspects.now ≡ map (λ w. w.now) suspects.now }
     requires visible { list_all is_name (map (λ w. w.now) suspects.now) ≡ true }
     ensures { IfOk result (λ request. make_asked_of request ≡ make_values values.now) }
 {
-    Ok(MakeWords {
+    Ok(MakeRequest {
         number: values.number,
         design: String::from_str(alloc, values.design)?,
         trace: String::from_str(alloc, values.trace)?,
-        suspects: names_of(alloc, suspects)?,
-        size: values.numbers.size,
-        budget: values.numbers.budget,
-        sets: values.numbers.sets,
-        workers: values.numbers.workers,
-        log: String::from_str(alloc, values.log)?,
-        report: String::from_str(alloc, values.report)?,
+        listing: listing::copied(alloc, &values.listing, suspects)?,
     })
 }
 
@@ -127,7 +98,7 @@ fn copied(alloc: Global, values: &MakeValues, suspects: &[&str]) -> Result<MakeW
 /// number of 0 to 9999; the design's text is `made.v` and the trace's `made.vcd` where the options aren't given, and the others
 /// are as for `find`. The four names differ.
 #[tactic(auto, using(word_values::proofs::KindNames::kind_rules))]
-pub fn make_words(alloc: Global, words: &[String], known: &[&str]) -> Result<MakeWords, WordsErr>
+pub fn make_words(alloc: Global, words: &[String], known: &[&str]) -> Result<MakeRequest, WordsErr>
     ensures gives { Gives make_asked_of (make_asked (map (λ w. w.now) known.now) (map string_bytes words.now)) result }
     ensures holds { IfOk result (λ words. IsMakeAsked (map (λ w. w.now) known.now) (make_asked_of words)) }
 {
@@ -138,7 +109,7 @@ pub fn make_words(alloc: Global, words: &[String], known: &[&str]) -> Result<Mak
     if !are_names(&values) {
         return Err(WordsErr::Usage(Usage::Name));
     }
-    let suspects = kinds_in(alloc, values.suspects)?;
+    let suspects = kinds_in(alloc, values.listing.suspects)?;
     if !are_kinds(&suspects, known) {
         return Err(WordsErr::Usage(Usage::Kind));
     }

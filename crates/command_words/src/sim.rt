@@ -3,29 +3,18 @@ ghost use Rattle.std.specs.Prelude.{◌≡◌, IfOk, true, map, string_bytes};
 ghost use Rattle.word_values.specs.Answers.{Gives, Says};
 ghost use Rattle.word_values.specs.Arguments.{IsPlain};
 ghost use Rattle.word_values.specs.Tables.{arguments_of};
-ghost use Rattle.command_words.specs.FindRequests.{sim_asked_of};
+ghost use Rattle.requests.specs.Views.{reading_asked};
 ghost use Rattle.command_words.specs.Sim.{IsSimAsked, are_sim_names, sim_arguments, sim_asked, sim_in};
 ghost use Rattle.command_words.specs.Views.{sim_values};
 
-use loc_base::{Name, NoMemory};
+use crate::texts;
+use loc_base::NoMemory;
+use requests::Reading;
 use std::alloc::Global;
 use word_values::{
-    Given, Sources, Table, Usage, WordsErr, are_source_names, copies_of, given_by, is_name_if,
-    name_if, name_of, sources_in,
+    Given, Sources, Table, Usage, WordsErr, are_source_names, given_by, is_name_if, name_if,
+    sources_in,
 };
-
-/// What `sim` is asked for.
-#[derive(Drop)]
-pub struct SimWords {
-    /// The name of the design's text.
-    pub design: String,
-    /// The module that is the top.
-    pub top: Name,
-    /// The names of the traces' texts.
-    pub traces: Vec<String>,
-    /// The input of the top that is the clock.
-    pub clock: Option<Name>,
-}
 
 /// The values of the command's arguments.
 #[derive(Clone, Copy)]
@@ -67,22 +56,21 @@ pub(crate) fn are_names(values: &SimValues) -> bool
     are_source_names(&values.texts) && is_name_if(values.clock)
 }
 
-pub(crate) fn copied(alloc: Global, values: &SimValues) -> Result<SimWords, NoMemory>
+/// A copy of the values.
+pub(crate) fn copied(alloc: Global, values: &SimValues) -> Result<Reading, NoMemory>
     requires { are_sim_names (sim_values values.now) ≡ true }
-    ensures { IfOk result (λ request. sim_asked_of request ≡ sim_values values.now) }
+    ensures { IfOk result (λ reading. reading_asked reading ≡ sim_values values.now) }
 {
-    Ok(SimWords {
-        design: String::from_str(alloc, values.texts.design)?,
-        top: name_of(alloc, values.texts.top)?,
-        traces: copies_of(alloc, values.texts.traces)?,
+    Ok(Reading {
+        texts: texts::copied(alloc, &values.texts)?,
         clock: name_if(alloc, values.clock)?,
     })
 }
 
 /// What the words of the command ask for, itself the first.
-pub fn sim_words(alloc: Global, words: &[String]) -> Result<SimWords, WordsErr>
-    ensures gives { Gives sim_asked_of (sim_asked (map string_bytes words.now)) result }
-    ensures holds { IfOk result (λ words. IsSimAsked (sim_asked_of words)) }
+pub fn sim_words(alloc: Global, words: &[String]) -> Result<Reading, WordsErr>
+    ensures gives { Gives reading_asked (sim_asked (map string_bytes words.now)) result }
+    ensures holds { IfOk result (λ reading. IsSimAsked (reading_asked reading)) }
 {
     let Some(given) = given_by(alloc, sim_table(), words)? else {
         return Err(WordsErr::Usage(Usage::Words));

@@ -3,13 +3,13 @@ ghost use Rattle.std.specs.Prelude.{◌≡◌, IfOk, map, string_bytes};
 ghost use Rattle.word_values.specs.Answers.{Gives};
 ghost use Rattle.command_words.specs.Asked.{IsAsked};
 ghost use Rattle.command_words.specs.Words.{asked};
-ghost use Rattle.command_words.specs.Requests.{asked_of};
+ghost use Rattle.requests.specs.Views.{asked_of};
 
 use crate::check::check_words;
 use crate::find::find_words;
 use crate::make::make_words;
-use crate::requests::Request;
 use crate::sim::sim_words;
+use requests::{Request, SimRequest};
 use std::alloc::Global;
 use word_values::{Usage, WordsErr};
 
@@ -37,7 +37,9 @@ pub fn request(alloc: Global, words: &[String], known: &[&str]) -> Result<Reques
     };
     match command.as_str() {
         "find" => Ok(Request::Find(find_words(alloc, words, known)?)),
-        "sim" => Ok(Request::Sim(sim_words(alloc, words)?)),
+        "sim" => Ok(Request::Sim(SimRequest {
+            reading: sim_words(alloc, words)?,
+        })),
         "check" => Ok(Request::Check(check_words(alloc, words)?)),
         "make" => Ok(Request::Make(make_words(alloc, words, known)?)),
         _ => Err(WordsErr::Usage(Usage::Command)),

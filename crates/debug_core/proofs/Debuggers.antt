@@ -4,7 +4,7 @@ use Rattle.std.proofs.Common.{refl, ap, sym, ◌∙◌, subst, arith}
 use Rattle.std.specs.Prelude.{All, IsTrue, cond, count_by, filter, nat_lt}
 use Rattle.std.proofs.lemmas.Bool.{le-ltb, ltb-true}
 use Rattle.std.proofs.lemmas.List.{length-map}
-use Rattle.std.proofs.lemmas.List.Elements.{All-cons, All-head, All-tail}
+use Rattle.std.proofs.lemmas.List.Elements.{All-cons, All-head, All-nil, All-tail}
 use Rattle.design_core.specs.Works.{Works}
 use Rattle.clause_base.specs.declared.form.Form.{Form}
 use Rattle.clause_base.specs.declared.literal.Lit.{Lit}
@@ -21,7 +21,8 @@ use Rattle.set_enum.specs.EnumState.{EnumState, IsEnum, begun, listed_over}
 use Rattle.set_enum.specs.Sets.{IsBlock, NoneBelow, block_of}
 use Rattle.debug_core.specs.Listed.{Encodes, EncodesListed, Listed}
 use Rattle.debug_core.proofs.Fronts.{empty-front, whole}
-use Rattle.debug_core.specs.Debugging.{Begins, IsDebugger}
+use Rattle.debug_core.proofs.Certified.{each-none, shows-none}
+use Rattle.debug_core.specs.Debugging.{Begins, IsDebugger, IsKept}
 use Rattle.debug_core.specs.Problems.{Problem, suspect_count, suspects_of}
 use Rattle.debug_core.specs.Standing.{IsEncodingOf, IsStanding, members_of, state_of}
 use Rattle.debug_core.proofs.Encoded.{counter, encodes, within}
@@ -65,7 +66,8 @@ listed_of p clauses listed = record {
   listed = listed;
 }
 
-module _ (p : Problem) (made : Form) (u : Unrolling) (e : EnumState) (is : IsStanding p made u e) where
+module _ (p : Problem) (made : Form) (u : Unrolling) (e : EnumState) (certificate : List Step) (finished : Bool)
+    (is : IsStanding p made u e certificate finished) where
   abbrev n : ℕ
   n = suspect_count p
 
@@ -126,7 +128,7 @@ module _ (p : Problem) (made : Form) (u : Unrolling) (e : EnumState) (is : IsSta
       (subst (λ m. IsClosing (bound_of m e.k e.k) e.log) is.over.suspects (is.over.holds.closing (all-closed ended)))
 
   -- what holds of each debugger
-  pub is-debugger : IsDebugger (state_of p made e)
+  pub is-debugger : IsDebugger (state_of p made e certificate finished)
   is-debugger = record {
     problem = is.encoding.can;
     form = is.encoding.form;
@@ -139,27 +141,33 @@ module _ (p : Problem) (made : Form) (u : Unrolling) (e : EnumState) (is : IsSta
     chainless = is.over.holds.chainless;
     fresh = is.searched.fresh;
     few_learned = few-learned;
-    few_derived = omega (arith, is.searched.few, is.over.holds.sizes, is.over.size);
+    few_derived = λ unfinished. omega (arith, is.searched.few unfinished, is.over.holds.sizes, is.over.size);
     ends = is.searched.ends;
     front = is.searched.front;
     whole = λ ended. whole (listed_of p made.clauses listed) encodes-listed is.searched.front (none-left ended);
     closing = closing;
+    certified = is.certified;
   }
 
 -- a debugger of a problem, before any search
 module _ (p : Problem) (made : Form) (u : Unrolling) (n k : ℕ) (is : IsEncodingOf p made u) (many : n ≡ suspect_count p) (size : k ≡ p.k)
     (holds : IsEnum (begun made.vars made.clauses n k)) where
-  pub begun-standing : IsStanding p made u (begun made.vars made.clauses n k)
+  pub begun-standing : IsStanding p made u (begun made.vars made.clauses n k) [] false
   begun-standing = record {
     encoding = is;
     over = record { vars = refl; form = refl; suspects = many; size = size; holds = holds };
     searched = record {
       fresh = λ place low within kind. absurd (omega (arith, within));
-      few = omega arith;
-      ends = λ place within kind. absurd (omega (arith, within));
+      few = λ unfinished. omega arith;
+      ends = λ unfinished place within kind. absurd (omega (arith, within));
       front = empty-front (listed_of p made.clauses []);
+    };
+    certified = record {
+      kept = All-nil (IsKept made.vars made.clauses []);
+      shows = shows-none (suspect_count p) p.k [];
+      each = each-none (suspect_count p) p.k [];
     };
   }
 
-  pub begun-begins : Begins p (state_of p made (begun made.vars made.clauses n k))
-  begun-begins = record { problem = refl; no_step = refl; no_set = refl; goes_on = le-ltb p.k 0 (omega arith) }
+  pub begun-begins : Begins p (state_of p made (begun made.vars made.clauses n k) [] false)
+  begun-begins = record { problem = refl; no_step = refl; no_set = refl; goes_on = le-ltb p.k 0 (omega arith); no_certificate = refl; unfinished = refl }

@@ -9,3 +9,7 @@ pub mod Debuggers
 pub mod Steps
 pub mod Rooms
 mod FewCycles
+pub mod Certified
+pub mod Finishing
+pub mod Counting
+pub mod Given

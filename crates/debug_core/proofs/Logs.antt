@@ -74,6 +74,14 @@ module _ (old : List Step) (s : Step) where
       apart : Block ≡ Learned → ⊥
       apart same = cc
 
+  -- nor is a derived one learned
+  pub derived-fresh : (form : List (List Lit)) → s.kind ≡ Derived → LearnedAreFresh form new (length old)
+  derived-fresh form is place low within kind =
+      absurd (apart (sym is ∙ (ap (λ (x : Step). x.kind) (sym (last-is place low within)) ∙ kind)))
+    where
+      apart : Derived ≡ Learned → ⊥
+      apart same = cc
+
   pub block-derived : (P : List Lit → Type 0) → s.kind ≡ Block → DerivedAre P new (length old)
   block-derived P is place low within kind =
       absurd (apart (sym is ∙ (ap (λ (x : Step). x.kind) (sym (last-is place low within)) ∙ kind)))

@@ -1,5 +1,5 @@
 -- How long the log of a debugger is, that there is room for the next call, and that its blocks are negations of ascending variables.
-use Rattle.std.proofs.Common.{◌≡◌, ℕ, ◌+◌, ◌^◌, ◌<◌, ◌≤◌, true, cond, List, [], ◌∷◌, length, map, refl, ap, sym, subst, arith}
+use Rattle.std.proofs.Common.{◌≡◌, ℕ, ◌+◌, ◌^◌, ◌<◌, ◌≤◌, true, false, cond, List, [], ◌∷◌, length, map, refl, ap, sym, subst, arith}
 use Rattle.std.specs.Prelude.{All, count_by}
 use Rattle.std.specs.List.Sorted.{IsStrictlyIncreasing}
 use Rattle.std.proofs.lemmas.List.{length-map}
@@ -57,25 +57,25 @@ module _ (s : DebugState) (is : IsDebugger s) where
   pub few-clauses : length s.form ≤ 64000000
   few-clauses = omega (arith, clauses-few s.form, is.form.few_literals)
 
-  -- the log has its learned steps, at most nine derived ones, and the block of each set
-  pub few-steps : length s.log ≤ count_by is_learned s.log + 9 + length s.listed
-  few-steps = omega (
+  -- while it has no step of a certificate, the log has its learned steps, at most nine derived ones, and the block of each set
+  pub few-steps : s.finished ≡ false → length s.log ≤ count_by is_learned s.log + 9 + length s.listed
+  few-steps unfinished = omega (
     arith,
     kinds s.log,
     blocks_counted s.log,
     ap length is.blocks,
     length-map s.listed block_of,
-    is.few_derived,
+    is.few_derived unfinished,
     is.problem.size,
   )
 
   -- the next call finds room, where learned steps, units and sets are few
-  pub has-room : (budget : ℕ) → count_by is_learned s.log + budget + length s.listed ≤ 4000000000 → HasRoom s budget
-  has-room budget few = omega (arith, few, few-clauses, few-steps, is.few_suspects, is.form.few_variables)
+  pub has-room : s.finished ≡ false → (budget : ℕ) → count_by is_learned s.log + budget + length s.listed ≤ 4000000000 → HasRoom s budget
+  has-room unfinished budget few = omega (arith, few, few-clauses, few-steps unfinished, is.few_suspects, is.form.few_variables)
 
   -- form and log together have a number for each clause
-  pub few-numbers : count_by is_learned s.log + length s.listed ≤ 4000000000 → length s.form + length s.log < 2 ^ 32
-  few-numbers few = omega (arith, few, few-clauses, few-steps)
+  pub few-numbers : s.finished ≡ false → count_by is_learned s.log + length s.listed ≤ 4000000000 → length s.form + length s.log < 2 ^ 32
+  few-numbers unfinished few = omega (arith, few, few-clauses, few-steps unfinished)
 
   pub plain-blocks : All IsPlain (map block_of s.listed)
   plain-blocks = plain s.problem s.listed is.front.entries

@@ -1,10 +1,15 @@
 -- Sets of suspects that are listed from a form: its clauses encode which sets work, and each set that was listed is blocked.
-use Rattle.std.specs.Prelude.{ℕ, ◌≡◌, ◌≤◌, Bool, List, ◌++◌, length, map}
+use Rattle.std.specs.Prelude.{ℕ, ◌≡◌, ◌≤◌, Bool, IsTrue, List, ◌++◌, length, map, All, AllPairs, Contains}
+use Rattle.loc_base.specs.Sets.{is_before}
 use Rattle.design_core.specs.declared.design.Design.{Design}
 use Rattle.design_core.specs.declared.trace.Trace.{Trace}
-use Rattle.design_core.specs.Works.{Groups, Works}
+use Rattle.design_core.specs.Works.{Groups, IsSet, IsWithin, Works}
 use Rattle.clause_base.specs.declared.literal.Lit.{Lit}
+use Rattle.clause_base.specs.declared.log.Step.{Step}
+use Rattle.clause_base.specs.Acceptance.{Follows}
 use Rattle.clause_base.specs.Satisfaction.{Satisfies}
+use Rattle.card_counter.specs.InForm.{HasCounter}
+use Rattle.card_counter.specs.Shows.{Shows, last_of}
 use Rattle.clause_form.specs.Clauses.{form_clauses}
 use Rattle.form_laws.specs.Encodes.{unrolling_of}
 use Rattle.form_laws.specs.Designs.{OfDesign}
@@ -49,3 +54,24 @@ with_blocks of = of.clauses ++ map block_of of.listed
 pub record ListedNext : Type 0 where
   pub before : Listed
   pub set : List ℕ
+
+-- the sets have at most k suspects each; they work, stand in order, and none is within another
+pub record AreGiven (of : Listed) : Type 0 where
+  pub suspects : All (IsSet of.groups) of.listed
+  pub sizes : All (λ set. length set ≤ of.k) of.listed
+  pub works : All (Works of.design of.traces of.groups) of.listed
+  pub ordered : AllPairs (λ one other. IsTrue (is_before one other)) of.listed
+  pub apart : (one other : List ℕ) → Contains of.listed one → Contains of.listed other → IsWithin one other → one ≡ other
+
+-- a list with the number of its clauses' variables and a log
+pub record LoggedList : Type 0 where
+  pub list : Listed
+  pub vars : ℕ
+  pub log : List Step
+
+-- the clauses have the suspects' counter; and the log follows from them and the blocks of the sets, and shows that no set is missing before
+-- the last one
+pub record IsShownFront (of : LoggedList) : Type 0 where
+  pub counter : HasCounter (length of.list.groups) of.list.k of.vars of.list.clauses
+  pub follows : Follows of.list.clauses (map block_of of.list.listed) of.log
+  pub shows : Shows (length of.list.groups) of.list.k (last_of of.list.listed) of.log

@@ -1,11 +1,12 @@
 -- What a debugger holds between two calls; only private contracts cite it.
-use Rattle.std.specs.Prelude.{ℕ, ◌≡◌, ◌≤◌, ◌<◌, Bool, nat_lt, List, length, map, count_by, Result, Ok, Err}
+use Rattle.std.specs.Prelude.{ℕ, ◌≡◌, ◌≤◌, ◌<◌, Bool, false, nat_lt, List, length, map, drop, count_by, Result, Ok, Err}
 use Rattle.loc_base.specs.declared.memory.NoMemory.{NoMemory}
 use Rattle.gate_base.specs.Nodes.{counted}
 use Rattle.design_core.specs.declared.values.Values.{Values}
 use Rattle.design_core.specs.Explained.{AreValuesOf, Explains}
 use Rattle.clause_base.specs.declared.form.Form.{Form}
 use Rattle.clause_base.specs.declared.literal.Lit.{Lit}
+use Rattle.clause_base.specs.declared.log.Step.{Step}
 use Rattle.clause_base.specs.declared.log.StepKind.TheVariants.{Derived}
 use Rattle.clause_base.specs.Satisfaction.{Satisfies}
 use Rattle.clause_base.specs.Counted.{EndsASize}
@@ -22,9 +23,10 @@ use Rattle.sat_core.specs.SolverState.{assignment_of, blocks_of}
 use Rattle.set_enum.specs.Bounds.{bounds_of}
 use Rattle.set_enum.specs.EnumState.{EnumState, IsEnum}
 use Rattle.debug_core.specs.declared.encoding.Encoding.{Encoding}
+use Rattle.debug_core.specs.declared.debugger.Search.{Search}
 use Rattle.debug_core.specs.declared.found.Found.{Found}
 use Rattle.debug_core.specs.Problems.{Problem, IsFormFor, IsProblem, problem_of, suspect_count, suspects_of, unrolling_for}
-use Rattle.debug_core.specs.Debugging.{DebugState, FindsNothing, Gives, IsDebugger, IsFrontOf, Searches, StaysEnded}
+use Rattle.debug_core.specs.Debugging.{DebugState, FindsNothing, Gives, IsCertified, IsDebugger, IsFrontOf, Searches, StaysEnded}
 
 -- an unrolling of the circuit of the net of a problem's design, within the numbers of nodes and of variables
 pub record IsUnrollingFor (p : Problem) (u : Unrolling) : Type 0 where
@@ -65,16 +67,22 @@ ExplainModels e model members values =
 abbrev pub members_of : List Lit → List ℕ
 members_of clause = map (λ (l : Lit). l.var) clause
 
--- what contracts see of a debugger, by its problem, its form and its enumerator
-abbrev pub state_of : Problem → Form → EnumState → DebugState
-state_of p form e = record {
+-- what contracts see of a debugger, by its problem, its form, its enumerator, and what is kept of a certificate
+abbrev pub state_of : Problem → Form → EnumState → List Step → Bool → DebugState
+state_of p form e certificate finished = record {
   problem = p;
   vars = form.vars;
   form = form.clauses;
   log = e.log;
   listed = map members_of (blocks_of e.log);
   ended = nat_lt p.k e.size;
+  certificate = certificate;
+  finished = finished;
 }
+
+-- the same by its search
+abbrev pub state_in : Problem → Form → Search → DebugState
+state_in p form s = state_of p form s.enumerator (drop s.appended s.certificate) s.finished
 
 -- the enumerator is of the form, whose first variables are the suspects'
 pub record IsOverForm (p : Problem) (made : Form) (e : EnumState) : Type 0 where
@@ -84,19 +92,24 @@ pub record IsOverForm (p : Problem) (made : Form) (e : EnumState) : Type 0 where
   pub size : e.k ≡ p.k
   pub holds : IsEnum e
 
--- what has been searched: the learned steps are fresh, each derived step closed a size, and the sets are a front
-pub record IsSearched (p : Problem) (made : Form) (e : EnumState) : Type 0 where
+-- what has been searched: the learned steps are fresh, each derived step closed a size unless it is of a certificate, and the sets are a front
+pub record IsSearched (p : Problem) (made : Form) (e : EnumState) (finished : Bool) : Type 0 where
   pub fresh : LearnedAreFresh made.clauses e.log 0
-  pub few : count_by is_derived e.log ≤ e.size
-  pub ends : (place : ℕ) → place < length e.log → (step_at e.log place).kind ≡ Derived
+  pub few : finished ≡ false → count_by is_derived e.log ≤ e.size
+  pub ends : finished ≡ false → (place : ℕ) → place < length e.log → (step_at e.log place).kind ≡ Derived
       → EndsASize (bounds_of (suspect_count p) p.k) (step_at e.log place).clause
   pub front : IsFrontOf p (map members_of (blocks_of e.log))
 
 -- a debugger between two calls
-pub record IsStanding (p : Problem) (made : Form) (u : Unrolling) (e : EnumState) : Type 0 where
+pub record IsStanding (p : Problem) (made : Form) (u : Unrolling) (e : EnumState) (certificate : List Step) (finished : Bool) : Type 0 where
   pub encoding : IsEncodingOf p made u
   pub over : IsOverForm p made e
-  pub searched : IsSearched p made e
+  pub searched : IsSearched p made e finished
+  pub certified : IsCertified (state_of p made e certificate finished)
+
+-- the same of its search
+abbrev pub Stands : Problem → Form → Unrolling → Search → Type 0
+Stands p made u s = IsStanding p made u s.enumerator (drop s.appended s.certificate) s.finished
 
 -- what an answer says, or want of memory
 abbrev pub Answers : DebugState → DebugState → ℕ → Result Found NoMemory → Type 0
@@ -110,6 +123,6 @@ pub record Advances (old new : DebugState) (budget left : ℕ) (result : Result 
   pub answers : Answers old new left result
   pub ended : StaysEnded old new result
 
--- the same, by the states of the enumerator before and after it
-abbrev pub Leaves : Problem → Form → EnumState → EnumState → ℕ → ℕ → Result Found NoMemory → Type 0
-Leaves p made old new budget left result = Advances (state_of p made old) (state_of p made new) budget left result
+-- the same, by the searches before and after it
+abbrev pub Leaves : Problem → Form → Search → Search → ℕ → ℕ → Result Found NoMemory → Type 0
+Leaves p made old new budget left result = Advances (state_in p made old) (state_in p made new) budget left result

@@ -1,7 +1,8 @@
-ghost use Rattle.std.specs.Prelude.{◌≡◌, ◌↔◌, IsTrue, IfErr, IfOk, OnErr};
-ghost use Rattle.debug_core.specs.Problems.{IsProblem, IsRefused, problem_of};
-ghost use Rattle.debug_core.specs.Debugging.{Begins, FindsNothing, Gives, HasRoom, IsDebugger, Searches, StaysEnded};
-ghost use Rattle.debug_core.specs.Standing.{IsStanding, Leaves, problem_in, state_of};
+ghost use Rattle.std.specs.Prelude.{◌≡◌, ◌↔◌, ◌<◌, false, length, IsTrue, IfErr, IfOk, OnErr, OnOk};
+ghost use Rattle.card_counter.specs.Shows.{Shows, last_of};
+ghost use Rattle.debug_core.specs.Problems.{IsProblem, IsRefused, problem_of, suspect_count};
+ghost use Rattle.debug_core.specs.Debugging.{Begins, FindsNothing, FinishedSome, Gives, HasCountedLog, HasRoom, IsDebugger, Searches, StaysEnded, with_appended};
+ghost use Rattle.debug_core.specs.Standing.{Leaves, Stands, problem_in, state_in};
 
 use crate::encoding::Encoding;
 use crate::error::DebugErr;
@@ -21,7 +22,28 @@ use std::marker::Model;
 pub struct Debugger<'a> {
     alloc: Global,
     encoding: Encoding<'a>,
-    enumerator: Enumerator,
+    search: Search,
+}
+
+/// A search for sets, and the certificate of the last one, as it was before the set was blocked.
+pub(crate) struct Search {
+    pub(crate) enumerator: Enumerator,
+    pub(crate) certificate: Log,
+    /// How many of the certificate's steps the log has.
+    pub(crate) appended: usize,
+    /// Whether the log has a step of any certificate.
+    pub(crate) finished: bool,
+}
+
+impl Drop for Search {
+    fn drop(self) {
+        let Search {
+            enumerator: _,
+            certificate: _,
+            appended: _,
+            finished: _,
+        } = self;
+    }
 }
 
 impl<'a> Model for Debugger<'a> {
@@ -29,15 +51,15 @@ impl<'a> Model for Debugger<'a> {
     ghost use Rattle.design_core.specs.contracts.expression.Node as node;
     ghost use Rattle.design_core.specs.contracts.statement.Stmt as stmt;
     ghost use Rattle.debug_core.specs.Debugging.{DebugState};
-    ghost use Rattle.debug_core.specs.Standing.{IsStanding, problem_in, state_of};
+    ghost use Rattle.debug_core.specs.Standing.{Stands, problem_in, state_in};
 
     ghost Value = { DebugState };
 
     ghost coded = { Prim.hlevel (codes, node.the_row.coded, stmt.the_row.coded) };
 
-    ghost view = { λ d. state_of (problem_in d.encoding) d.encoding.form d.enumerator };
+    ghost view = { λ d. state_in (problem_in d.encoding) d.encoding.form d.search };
 
-    ghost invariant = { λ d. IsStanding (problem_in d.encoding) d.encoding.form d.encoding.unrolled d.enumerator };
+    ghost invariant = { λ d. Stands (problem_in d.encoding) d.encoding.form d.encoding.unrolled d.search };
 }
 
 impl Drop for Debugger<'_> {
@@ -45,7 +67,7 @@ impl Drop for Debugger<'_> {
         let Debugger {
             alloc: _,
             encoding: _,
-            enumerator: _,
+            search: _,
         } = self;
     }
 }
@@ -63,10 +85,16 @@ impl<'a> Debugger<'a> {
         let encoding = Encoding::new(alloc, question)?;
         let suspects = question.groups.len() as u32;
         let enumerator = Enumerator::new(alloc, &encoding.form, suspects, question.k)?;
+        let search = Search {
+            enumerator,
+            certificate: Log::new(alloc),
+            appended: 0,
+            finished: false,
+        };
         Ok(Debugger {
             alloc,
             encoding,
-            enumerator,
+            search,
         })
     }
 
@@ -81,7 +109,55 @@ impl<'a> Debugger<'a> {
         ensures err { OnErr result (FindsNothing self.old self.new) }
         ensures ended { StaysEnded self.old self.new result }
     {
-        advance(self.alloc, &self.encoding, &mut self.enumerator, budget)
+        advance(self.alloc, &self.encoding, &mut self.search, budget)
+    }
+
+    /// The steps that `finish` would append now: with them the log shows that no set is missing before the last one that was listed.
+    pub fn certificate(&self) -> Result<Log, NoMemory>
+        ensures { IfOk result (λ steps. steps ≡ self.now.certificate) }
+    {
+        let kept = &self.search.certificate;
+        let first = self.search.appended;
+        let mut steps = Log::new(self.alloc);
+        for place in first..kept.len() {
+            steps.push(kept.kind(place), kept.clause(place), kept.chain(place))?;
+        }
+        Ok(steps)
+    }
+
+    /// Appends the steps of the last set's certificate, none where no set was listed. After `NoMemory` the first of them are appended, some
+    /// or none, and it may be called again.
+    pub fn finish(&mut self) -> Result<(), NoMemory>
+        requires { self.old.ended ≡ false }
+        ensures holds { IsDebugger self.new }
+        ensures ok { OnOk result (self.new ≡ with_appended self.old (length self.old.certificate)) }
+        ensures err { OnErr result (FinishedSome self.old self.new) }
+        ensures shows { OnOk result (Shows (suspect_count self.new.problem) self.new.problem.k (last_of self.new.listed) self.new.log) }
+        ensures counted { OnOk result (self.old.finished ≡ false → HasCountedLog self.new) }
+    {
+        for _ in self.search.appended..self.search.certificate.len() {
+            self.append_step()?;
+        }
+        Ok(())
+    }
+
+    /// Appends the next step of the certificate. Unchanged after `NoMemory`.
+    fn append_step(&mut self) -> Result<(), NoMemory>
+        requires goes_on { self.old.ended ≡ false }
+        requires some { 0 < length self.old.certificate }
+        ensures holds { IsDebugger self.new }
+        ensures ok { OnOk result (self.new ≡ with_appended self.old 1) }
+        ensures err { OnErr result (self.new ≡ self.old) }
+    {
+        let search = &mut self.search;
+        // So many steps have places of 64 bits.
+        let _steps = search.certificate.len();
+        search
+            .enumerator
+            .take_over(&search.certificate, search.appended)?;
+        search.appended += 1;
+        search.finished = true;
+        Ok(())
     }
 
     /// Whether `next` may be called with this budget: the clauses of the form, the steps of the log, the units, the suspects and
@@ -90,7 +166,7 @@ impl<'a> Debugger<'a> {
         ensures { IsTrue result ↔ HasRoom self.now budget.now }
     {
         let clauses = self.encoding.form.clauses.len() as u128;
-        let steps = self.enumerator.log().len() as u128;
+        let steps = self.search.enumerator.log().len() as u128;
         let suspects = self.encoding.question.groups.len() as u128;
         clauses + steps + u128::from(budget.left()) + suspects + 16 < 1 << 32
     }
@@ -108,27 +184,30 @@ impl<'a> Debugger<'a> {
         ensures value { result.now ≡ self.now.log }
         ensures holds { IsDebugger self.now }
     {
-        self.enumerator.log()
+        self.search.enumerator.log()
     }
 }
 
-/// The next set of an enumerator of the form, with its values. It is blocked once its values are there, so that want of memory
-/// loses none.
+/// The next set of a search of the form, with its values. It is blocked once its values and its certificate are there, so that want of
+/// memory loses none.
 fn advance(
     alloc: Global,
     encoding: &Encoding<'_>,
-    enumerator: &mut Enumerator,
+    search: &mut Search,
     budget: &mut Budget,
 ) -> Result<Found, NoMemory>
-    requires standing { IsStanding (problem_in encoding.now) encoding.now.form encoding.now.unrolled enumerator.old }
-    requires room { HasRoom (state_of (problem_in encoding.now) encoding.now.form enumerator.old) budget.old }
-    ensures standing { IsStanding (problem_in encoding.now) encoding.now.form encoding.now.unrolled enumerator.new }
-    ensures leaves { Leaves (problem_in encoding.now) encoding.now.form enumerator.old enumerator.new budget.old budget.new result }
+    requires standing { Stands (problem_in encoding.now) encoding.now.form encoding.now.unrolled search.old }
+    requires room { HasRoom (state_in (problem_in encoding.now) encoding.now.form search.old) budget.old }
+    ensures standing { Stands (problem_in encoding.now) encoding.now.form encoding.now.unrolled search.new }
+    ensures leaves { Leaves (problem_in encoding.now) encoding.now.form search.old search.new budget.old budget.new result }
 {
-    match enumerator.next(budget)? {
+    match search.enumerator.next(budget)? {
         Next::Set { members } => {
-            let values = encoding.values(alloc, enumerator.model(), members.as_slice())?;
-            enumerator.block()?;
+            let values = encoding.values(alloc, search.enumerator.model(), members.as_slice())?;
+            let certificate = search.enumerator.certificate()?;
+            search.enumerator.block()?;
+            search.certificate = certificate;
+            search.appended = 0;
             Ok(Found::Set(SetWithValues { members, values }))
         }
         Next::Closed => Ok(Found::End),

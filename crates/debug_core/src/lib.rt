@@ -19,5 +19,8 @@ pub use encoding::plan_of;
 pub use error::DebugErr;
 pub use fits::have_few_cycles;
 pub use found::Found;
-pub use list_laws::{first_is_next, form_encodes_list, none_left_is_whole};
+pub use list_laws::{
+    enumerator_certifies, first_is_next, form_encodes_list, none_left_is_whole,
+    shown_is_listed_front,
+};
 pub use question::Question;

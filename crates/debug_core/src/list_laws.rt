@@ -1,11 +1,15 @@
 //! What the sets that a form's assignments select have to do with the list of a design's minimal sets. Each law is the contract of a
 //! function that does nothing, over values that no code holds.
 
-ghost use Rattle.std.specs.Prelude.{◌+◌, ◌++◌, [], ◌∷◌, length};
+ghost use Rattle.std.specs.Prelude.{ℕ, List, ◌+◌, ◌++◌, [], ◌∷◌, length};
+ghost use Rattle.clause_base.specs.declared.log.Step.{Step};
 ghost use Rattle.design_core.specs.Listing.{IsFront, IsList};
 ghost use Rattle.form_laws.specs.Designs.{IsOfDesign, OfDesign};
+ghost use Rattle.front_cert.specs.Certificates.{IsCertificate as IsCertificateAfter};
+ghost use Rattle.set_enum.specs.Certificate.{IsCertificate};
+ghost use Rattle.set_enum.specs.EnumState.{EnumState};
 ghost use Rattle.set_enum.specs.Sets.{IsFirst, NoneBelow};
-ghost use Rattle.debug_core.specs.Listed.{EncodesForm, EncodesListed, Listed, ListedNext, with_blocks};
+ghost use Rattle.debug_core.specs.Listed.{AreGiven, EncodesForm, EncodesListed, IsShownFront, Listed, ListedNext, LoggedList, with_blocks};
 
 /// The form of a design's circuit encodes the sets of at most k suspects that work in the design.
 pub fn form_encodes_list()
@@ -30,4 +34,20 @@ pub fn none_left_is_whole()
     requires front { IsFront of.design of.traces of.groups of.k of.listed }
     requires none { NoneBelow (length of.groups) (of.k + 1) (with_blocks of) }
     ensures { IsList of.design of.traces of.groups of.k of.listed }
+{}
+
+/// Sets that work, stand in order and hold none within another are a front where a log that follows from the clauses and their blocks shows
+/// that none is missing before the last one.
+pub fn shown_is_listed_front()
+    ghost of: { LoggedList }
+    requires encodes { EncodesListed of.list }
+    requires given { AreGiven of.list }
+    requires shown { IsShownFront of }
+    ensures { IsFront of.list.design of.list.traces of.list.groups of.list.k of.list.listed }
+{}
+
+/// What an enumerator gives as the certificate of a set may stand behind its log, also once that has grown.
+pub fn enumerator_certifies()
+    ensures { (s : EnumState) (members : List ℕ) (steps : List Step) → IsCertificate s members steps
+        → IsCertificateAfter s.n s.k s.form members s.log steps }
 {}

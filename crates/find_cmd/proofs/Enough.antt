@@ -7,10 +7,9 @@ use Rattle.debug_core.specs.Problems.{IsFormFor, Problem}
 use Rattle.front_end.specs.Means.{Meaning, Refusing}
 use Rattle.load_problem.specs.Means.{Means, Suspecting}
 use Rattle.load_problem.specs.Refusals.{IsReady}
-use Rattle.list_writer.specs.Asked.{Asked as Listing}
 use Rattle.list_writer.specs.Due.{IsListed}
 use Rattle.list_writer.proofs.Whole.{enough-whole}
-use Rattle.find_cmd.specs.Asked.{Asked, wanted_of}
+use Rattle.requests.specs.Asked.{FindAsked, wanted_for}
 use Rattle.find_cmd.specs.Finding.{OfInputs, finding, listing_of, outputs_of}
 
 -- the list of a problem, shorter than what was asked for
@@ -19,17 +18,17 @@ pub record HasShortList (p : Problem) (sets : ℕ) : Type 0 where
   pub is_list : IsListOf p list
   pub short : length list < sets
 
-pub whole-or-memory : (M : Meaning) (R : Refusing) (S : Suspecting) (asked : Asked) (run : Run) (status : ℕ)
-    → Keeps (finding M R S asked) run status → run.told ≡ true → IsReady M S (wanted_of asked) run.texts → ¬ OneRose run.counts
-    → ((p : Problem) → Means M S (wanted_of asked) run.texts p → HasShortList p asked.sets)
-    → ((p : Problem) → Means M S (wanted_of asked) run.texts p → (vars : ℕ) (form : List (List Lit)) → IsFormFor p vars form
-    → 3 ^ vars ≤ asked.budget)
+pub whole-or-memory : (M : Meaning) (R : Refusing) (S : Suspecting) (asked : FindAsked) (run : Run) (status : ℕ)
+    → Keeps (finding M R S asked) run status → run.told ≡ true → IsReady M S (wanted_for asked) run.texts → ¬ OneRose run.counts
+    → ((p : Problem) → Means M S (wanted_for asked) run.texts p → HasShortList p asked.listing.sets)
+    → ((p : Problem) → Means M S (wanted_for asked) run.texts p → (vars : ℕ) (form : List (List Lit)) → IsFormFor p vars form
+    → 3 ^ vars ≤ asked.listing.budget)
     → (status ≡ 0) ⊎ (status ≡ 7)
 whole-or-memory M R S asked run status keeps told ready none sets budget = at (keeps.complete told ready none)
   where
     listed : OfInputs M S asked run.texts (λ listing. IsListed listing (outputs_of run) status) → status ≡ 0
     listed of =
-        let short : HasShortList of.problem asked.sets = sets of.problem of.means in
+        let short : HasShortList of.problem asked.listing.sets = sets of.problem of.means in
         enough-whole (record {
           asked = listing_of asked of.problem of.inputs;
           outputs = outputs_of run;

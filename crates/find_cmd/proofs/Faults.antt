@@ -4,9 +4,9 @@ use Rattle.debug_core.specs.declared.error.DebugErr.{DebugErr}
 use Rattle.debug_core.specs.declared.error.DebugErr.TheVariants.{Nodes, Vars, Literals, NoMemory}
 use Rattle.report_doc.specs.declared.types.Ending.TheVariants.{Complete, Budget, Sets, Earlier}
 use Rattle.load_problem.specs.declared.inputs.Inputs.{Inputs}
-use Rattle.load_problem.specs.declared.refusal.Refusal.{Refusal}
-use Rattle.load_problem.specs.declared.refusal.Refusal.TheVariants.{Line, Memory as Wanting}
-use Rattle.load_problem.specs.Ends.{PrintCounts, Says, status_of}
+use Rattle.refusal.specs.declared.last_line.LastLine.{LastLine}
+use Rattle.refusal.specs.declared.last_line.LastLine.TheVariants.{Line, Memory as Wanting}
+use Rattle.refusal.specs.Ends.{PrintCounts, Says, status_of}
 use Rattle.load_problem.specs.Refusals.{problem_line, problem_status}
 use Rattle.list_writer.specs.declared.outcome.Outcome.{Outcome}
 use Rattle.list_writer.specs.declared.outcome.Outcome.TheVariants.{Ended, Failed, Memory}
@@ -20,7 +20,7 @@ printed-five whole old new status (inr (inl is, same)) five = sym is ∙ five
 printed-five whole old new status (inr (inr seven, same)) five = absurd (omega (arith, seven, five))
 
 -- it is that of a refusal that was read
-pub unread-fault : (read : Result Inputs Refusal) (refusal : Refusal) (old new status : ℕ) → read ≡ Err refusal
+pub unread-fault : (read : Result Inputs LastLine) (refusal : LastLine) (old new status : ℕ) → read ≡ Err refusal
     → PrintCounts (status_of refusal) old new status → status ≡ 5 → IsReadFault read
 unread-fault read refusal old new status is counts five =
     subst IsReadFault (sym is) (printed-five (status_of refusal) old new status counts five)
@@ -32,12 +32,12 @@ problem-other Vars e = omega (arith, e)
 problem-other Literals e = omega (arith, e)
 problem-other NoMemory e = omega (arith, e)
 
-refusal-other : (fault : DebugErr) (refusal : Refusal) → Says refusal (problem_status fault) (problem_line fault)
+pub refusal-other : (fault : DebugErr) (refusal : LastLine) → Says refusal (problem_status fault) (problem_line fault)
     → status_of refusal ≡ 5 → ⊥
 refusal-other fault (Line status line) says five = problem-other fault (sym says.0 ∙ five)
 refusal-other fault Wanting says five = omega (arith, five)
 
-pub unformed-fault : (read : Result Inputs Refusal) (fault : DebugErr) (refusal : Refusal) (old new status : ℕ)
+pub unformed-fault : (read : Result Inputs LastLine) (fault : DebugErr) (refusal : LastLine) (old new status : ℕ)
     → Says refusal (problem_status fault) (problem_line fault) → PrintCounts (status_of refusal) old new status → status ≡ 5
     → IsReadFault read
 unformed-fault read fault refusal old new status says counts five =
@@ -52,6 +52,6 @@ outcome-other (Ended Earlier) e = omega (arith, e)
 outcome-other Failed e = omega (arith, e)
 outcome-other Memory e = omega (arith, e)
 
-pub listed-fault : (read : Result Inputs Refusal) (o : Outcome) (status : ℕ) → status ≡ outcome_status o → status ≡ 5
+pub listed-fault : (read : Result Inputs LastLine) (o : Outcome) (status : ℕ) → status ≡ outcome_status o → status ≡ 5
     → IsReadFault read
 listed-fault read o status is five = absurd (outcome-other o (sym is ∙ five))

@@ -7,7 +7,7 @@ use Rattle.std.proofs.lemmas.Slice.Zip.{AllZip-long}
 use Rattle.command_contract.proofs.Counting.{write-rose}
 use Rattle.command_contract.proofs.Statuses.{input-range, input-refusal}
 use Rattle.loc_base.specs.declared.digest.Digest.{Digest}
-use Rattle.front_end.specs.Means.{Meaning, Refusing}
+use Rattle.front_end.specs.Means.{Meaning}
 use Rattle.debug_core.specs.Problems.{Problem}
 use Rattle.report_doc.specs.declared.types.Ending.{Ending}
 use Rattle.report_doc.specs.declared.types.Ending.TheVariants.{Complete, Budget, Sets, Earlier}
@@ -19,17 +19,17 @@ use Rattle.list_writer.specs.Asked.{Asked as Listing}
 use Rattle.list_writer.specs.Due.{IsCut, IsListed, IsStopped}
 use Rattle.list_writer.specs.Outcomes.{Leaves, OutcomeCause, status_of}
 use Rattle.load_problem.specs.Means.{IsDigestOf, Means, Suspecting}
-use Rattle.find_cmd.specs.Asked.{Asked, wanted_of}
-use Rattle.find_cmd.specs.Finding.{OfInputs, finding, listing_of, outputs_of}
+use Rattle.requests.specs.Asked.{FindAsked, wanted_for}
+use Rattle.find_cmd.specs.Finding.{Causing, OfInputs, finding_by, listing_of, outputs_of}
 
 -- what is known of a run that ends by a listing
-pub record IsListing (M : Meaning) (S : Suspecting) (asked : Asked) (run : Run)
+pub record IsListing (M : Meaning) (S : Suspecting) (asked : FindAsked) (run : Run)
     (problem : Problem) (inputs : Digest) (o : Outcome) : Type 0 where
-  pub means : run.told ≡ true → Means M S (wanted_of asked) run.texts problem
-  pub digest : run.told ≡ true → IsDigestOf (wanted_of asked) run.texts inputs
+  pub means : run.told ≡ true → Means M S (wanted_for asked) run.texts problem
+  pub digest : run.told ≡ true → IsDigestOf (wanted_for asked) run.texts inputs
   pub leaves : run.told ≡ true → Leaves (listing_of asked problem inputs) (outputs_of run) o
-  pub others : run.told ≡ true → (name : List ℕ) → name ≢ asked.log → name ≢ asked.report
-      → ¬ IsWave asked.waves asked.sets (length problem.traces) name → run.now_written name ≡ run.written name
+  pub others : run.told ≡ true → (name : List ℕ) → name ≢ asked.listing.log → name ≢ asked.listing.report
+      → ¬ IsWave asked.waves asked.listing.sets (length problem.traces) name → run.now_written name ≡ run.written name
   pub cause : OutcomeCause run.counts o
 
 -- the status of an ending is 0 or 1
@@ -43,11 +43,11 @@ at-most-one : (n : ℕ) → (n ≡ 0) ⊎ (n ≡ 1) → n ≤ 1
 at-most-one n (inl e) = omega (arith, e)
 at-most-one n (inr e) = omega (arith, e)
 
-module _ (M : Meaning) (R : Refusing) (S : Suspecting) (asked : Asked) (run : Run) (problem : Problem) (inputs : Digest) where
+module _ (M : Meaning) (S : Suspecting) (asked : FindAsked) (IsDue : Causing) (run : Run) (problem : Problem) (inputs : Digest) where
   abbrev Is : Outcome → Type 0
   Is = IsListing M S asked run problem inputs
 
-  list-status : (o : Outcome) → IsStatus (finding M R S asked) (status_of o)
+  list-status : (o : Outcome) → IsStatus (finding_by M S asked IsDue) (status_of o)
   list-status (Ended ending) = inl (ending-range ending)
   list-status Failed = inr (inr (inl refl))
   list-status Memory = inr (inr (inr refl))
@@ -60,7 +60,7 @@ module _ (M : Meaning) (R : Refusing) (S : Suspecting) (asked : Asked) (run : Ru
 
   list-causes : (o : Outcome)
       → OutcomeCause run.counts o
-      → Causes (finding M R S asked) run.counts (status_of o)
+      → Causes (finding_by M S asked IsDue) run.counts (status_of o)
   list-causes (Ended ending) none =
       let low = at-most-one _ (ending-range ending) in
       record {
@@ -87,25 +87,25 @@ module _ (M : Meaning) (R : Refusing) (S : Suspecting) (asked : Asked) (run : Ru
 
   -- ---- what it leaves
   -- the listing of the problem that the texts mean
-  of-inputs : (P : Listing → Type 0) → Means M S (wanted_of asked) run.texts problem → IsDigestOf (wanted_of asked) run.texts inputs
+  of-inputs : (P : Listing → Type 0) → Means M S (wanted_for asked) run.texts problem → IsDigestOf (wanted_for asked) run.texts inputs
       → P (listing_of asked problem inputs) → OfInputs M S asked run.texts P
   of-inputs P means digest is = record { problem = problem; means = means; inputs = inputs; digest = digest; is = is }
 
-  list-answered : (o : Outcome) → Means M S (wanted_of asked) run.texts problem → IsDigestOf (wanted_of asked) run.texts inputs
+  list-answered : (o : Outcome) → Means M S (wanted_for asked) run.texts problem → IsDigestOf (wanted_for asked) run.texts inputs
       → Leaves (listing_of asked problem inputs) (outputs_of run) o → (status_of o ≡ 0) ⊎ (status_of o ≡ 1)
       → OfInputs M S asked run.texts (λ listing. IsListed listing (outputs_of run) (status_of o))
   list-answered (Ended ending) means digest leaves is = of-inputs _ means digest leaves.listed
   list-answered Failed means digest leaves is = absurd (omega (arith, at-most-one 6 is))
   list-answered Memory means digest leaves is = absurd (omega (arith, at-most-one 7 is))
 
-  list-stopped : (o : Outcome) → Means M S (wanted_of asked) run.texts problem → IsDigestOf (wanted_of asked) run.texts inputs
+  list-stopped : (o : Outcome) → Means M S (wanted_for asked) run.texts problem → IsDigestOf (wanted_for asked) run.texts inputs
       → Leaves (listing_of asked problem inputs) (outputs_of run) o → status_of o ≡ 6
       → OfInputs M S asked run.texts (λ listing. IsStopped listing (outputs_of run))
   list-stopped (Ended ending) means digest leaves e = absurd (omega (arith, e, at-most-one _ (ending-range ending)))
   list-stopped Failed means digest leaves e = of-inputs _ means digest leaves
   list-stopped Memory means digest leaves e = absurd (omega (arith, e))
 
-  list-cut : (o : Outcome) → Means M S (wanted_of asked) run.texts problem → IsDigestOf (wanted_of asked) run.texts inputs
+  list-cut : (o : Outcome) → Means M S (wanted_for asked) run.texts problem → IsDigestOf (wanted_for asked) run.texts inputs
       → Leaves (listing_of asked problem inputs) (outputs_of run) o → status_of o ≡ 7
       → OfInputs M S asked run.texts (λ listing. IsCut listing (outputs_of run))
   list-cut (Ended ending) means digest leaves e = absurd (omega (arith, e, at-most-one _ (ending-range ending)))
@@ -127,7 +127,7 @@ module _ (M : Meaning) (R : Refusing) (S : Suspecting) (asked : Asked) (run : Ru
   list-complete Memory cause none = inr refl
 
   -- ---- all of them
-  pub listed-keeps : (o : Outcome) → Is o → Keeps (finding M R S asked) run (status_of o)
+  pub listed-keeps : (o : Outcome) → Is o → Keeps (finding_by M S asked IsDue) run (status_of o)
   listed-keeps o is = record {
     is_status = list-status o;
     refusals = input-refusal;
@@ -143,16 +143,18 @@ module _ (M : Meaning) (R : Refusing) (S : Suspecting) (asked : Asked) (run : Ru
     );
     others = λ told name may.
         is.others told name (λ e. may (inl e)) (λ e. may (inr (inl e))) (λ e. may (inr (inr (subst
-        (λ n. IsWave asked.waves asked.sets n name) (AllZip-long _ asked.traces problem.traces (is.means told).traces) e))));
+        (λ n. IsWave asked.waves asked.listing.sets n name)
+        (AllZip-long _ asked.sources.texts.traces problem.traces (is.means told).traces) e))));
     causes = list-causes o is.cause;
     complete = λ told ready none. list-complete o is.cause none;
   }
 
 -- by what the listing's contract says: it begins where the reading ended
-pub listing-keeps : (M : Meaning) (R : Refusing) (S : Suspecting) (asked : Asked) (run : Run) (problem : Problem) (inputs : Digest)
+pub listing-keeps : (M : Meaning) (S : Suspecting) (asked : FindAsked) (IsDue : Causing) (run : Run) (problem : Problem) (inputs : Digest)
     (listing : Listing) (written : Texts) (shelf : FaultCounts) (o : Outcome) (status : ℕ)
     → listing ≡ listing_of asked problem inputs → written ≡ run.written → shelf ≡ run.counts.shelf → status ≡ status_of o
-    → (run.told ≡ true → Means M S (wanted_of asked) run.texts problem) → (run.told ≡ true → IsDigestOf (wanted_of asked) run.texts inputs)
+    → (run.told ≡ true → Means M S (wanted_for asked) run.texts problem)
+    → (run.told ≡ true → IsDigestOf (wanted_for asked) run.texts inputs)
     → (run.told ≡ true → Leaves listing (record {
       written = written;
       now_written = run.now_written;
@@ -162,10 +164,10 @@ pub listing-keeps : (M : Meaning) (R : Refusing) (S : Suspecting) (asked : Asked
     → (run.told ≡ true → (name : List ℕ) → name ≢ listing.log → name ≢ listing.report
     → ¬ IsWave listing.waves listing.sets (length listing.problem.traces) name → run.now_written name ≡ written name)
     → OutcomeCause (counts_of shelf run.counts.now_shelf run.counts.sink run.counts.now_sink) o
-    → Keeps (finding M R S asked) run status
-listing-keeps M R S asked run problem inputs listing written shelf o status is same kept ended means digest leaves others cause =
-    subst (Keeps (finding M R S asked) run) (sym ended)
-    (listed-keeps M R S asked run problem inputs o
+    → Keeps (finding_by M S asked IsDue) run status
+listing-keeps M S asked IsDue run problem inputs listing written shelf o status is same kept ended means digest leaves others cause =
+    subst (Keeps (finding_by M S asked IsDue) run) (sym ended)
+    (listed-keeps M S asked IsDue run problem inputs o
     (record {
       means = means;
       digest = digest;

@@ -7,55 +7,63 @@ use Rattle.command_contract.specs.Contract.{Case, IsInputRefusal, NoneRose, Noth
 use Rattle.front_end.specs.Means.{Meaning, Refusing}
 use Rattle.write_order.specs.Writes.{Outputs}
 use Rattle.debug_core.specs.Problems.{Problem}
-use Rattle.load_problem.specs.Lines.{LineCut, LineStops}
+use Rattle.refusal.specs.Stops.{LineCut, LineStops}
 use Rattle.load_problem.specs.Means.{IsDigestOf, Means, Suspecting}
 use Rattle.load_problem.specs.Refusals.{IsReady, Refused}
 use Rattle.list_writer.specs.Asked.{Asked as Listing}
 use Rattle.set_waves.specs.Names.{IsWave}
 use Rattle.list_writer.specs.Due.{IsCut, IsListed, IsStopped}
-use Rattle.find_cmd.specs.Asked.{Asked, wanted_of}
+use Rattle.requests.specs.Asked.{FindAsked, wanted_for}
 
 -- what stands on the outputs
 abbrev pub outputs_of : Run → Outputs
 outputs_of run = record { written = run.written; now_written = run.now_written; printed = run.printed; now_printed = run.now_printed }
 
 -- the listing of a problem, with the digest of the inputs
-abbrev pub listing_of : Asked → Problem → Digest → Listing
+abbrev pub listing_of : FindAsked → Problem → Digest → Listing
 listing_of asked p inputs = record {
   problem = p;
-  budget = asked.budget;
-  sets = asked.sets;
-  log = asked.log;
-  report = asked.report;
+  budget = asked.listing.budget;
+  sets = asked.listing.sets;
+  log = asked.listing.log;
+  report = asked.listing.report;
   waves = asked.waves;
   inputs = inputs;
-  top = asked.top;
-  clock = asked.clock;
-  kinds = asked.suspects;
+  top = asked.sources.texts.top;
+  clock = asked.sources.clock;
+  kinds = asked.listing.suspects;
 }
 
 -- the texts mean a problem, of whose listing this is so
-pub record OfInputs (M : Meaning) (S : Suspecting) (asked : Asked) (texts : Texts) (P : Listing → Type 0) : Type 0 where
+pub record OfInputs (M : Meaning) (S : Suspecting) (asked : FindAsked) (texts : Texts) (P : Listing → Type 0) : Type 0 where
   pub problem : Problem
-  pub means : Means M S (wanted_of asked) texts problem
+  pub means : Means M S (wanted_for asked) texts problem
   pub inputs : Digest
-  pub digest : IsDigestOf (wanted_of asked) texts inputs
+  pub digest : IsDigestOf (wanted_for asked) texts inputs
   pub is : P (listing_of asked problem inputs)
 
 -- ---- the case
--- its answers are 0 and 1, and it may write the log, the report and waves
-abbrev pub finding : Meaning → Refusing → Suspecting → Asked → Case
-finding M R S asked = record {
+-- for which causes texts are refused, with a status and a line
+abbrev pub Causing : Type 1
+Causing = Texts → ℕ → List ℕ → Type 0
+
+-- a list, refused for some causes: its answers are 0 and 1, and it may write the log, the report and waves
+abbrev pub finding_by : Meaning → Suspecting → FindAsked → Causing → Case
+finding_by M S asked IsDue = record {
   MayAnswer = λ status. (status ≡ 0) ⊎ (status ≡ 1);
   MayRefuse = IsInputRefusal;
   Answered = λ run status. OfInputs M S asked run.texts (λ listing. IsListed listing (outputs_of run) status);
-  Refused = λ run. Refused M R S (wanted_of asked) run.texts;
+  Refused = λ run. IsDue run.texts;
   Stands = NothingWritten;
   Stopped = λ run. WriteFailed run.counts
-      × (OfInputs M S asked run.texts (λ listing. IsStopped listing (outputs_of run))
-      ⊎ LineStops (Refused M R S (wanted_of asked) run.texts) run);
+      × (OfInputs M S asked run.texts (λ listing. IsStopped listing (outputs_of run)) ⊎ LineStops (IsDue run.texts) run);
   Cut = λ run. (NoneRose run.counts × OfInputs M S asked run.texts (λ listing. IsCut listing (outputs_of run))) ⊎ LineCut run;
   Writes = λ name.
-      (name ≡ asked.log) ⊎ ((name ≡ asked.report) ⊎ IsWave asked.waves asked.sets (length asked.traces) name);
-  Ready = λ run. IsReady M S (wanted_of asked) run.texts;
+      (name ≡ asked.listing.log)
+      ⊎ ((name ≡ asked.listing.report) ⊎ IsWave asked.waves asked.listing.sets (length asked.sources.texts.traces) name);
+  Ready = λ run. IsReady M S (wanted_for asked) run.texts;
 }
+
+-- refused for the causes that the texts have
+abbrev pub finding : Meaning → Refusing → Suspecting → FindAsked → Case
+finding M R S asked = finding_by M S asked (Refused M R S (wanted_for asked))

@@ -1,4 +1,4 @@
 pub mod Asked
-pub mod Requests
 pub mod Finding
 pub mod Reading
+pub mod Views

@@ -4,8 +4,6 @@
 mod job;
 mod request;
 mod run;
-mod tools;
 
-pub use request::Request;
+pub use request::ListRequest;
 pub use run::{find, list_read};
-pub use tools::Tools;

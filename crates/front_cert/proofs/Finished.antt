@@ -27,7 +27,7 @@ same-clauses clauses more (number ∷ chain) numbers =
     (same-clauses clauses more chain (All-tail (λ (m : ℕ). (1 ≤ m) × (m ≤ length clauses)) number chain numbers))
 
 -- a chain that is accepted after clauses is accepted after more
-chain-more : (clauses more : List (List Lit)) (chain : List ℕ) (clause : List Lit) → IsAcceptedChain clauses chain clause → IsAcceptedChain (clauses ++ more) chain clause
+pub chain-more : (clauses more : List (List Lit)) (chain : List ℕ) (clause : List Lit) → IsAcceptedChain clauses chain clause → IsAcceptedChain (clauses ++ more) chain clause
 chain-more clauses more chain clause accepted = (
   λ place default inside.
       let number = accepted.0 place default inside in
@@ -36,7 +36,7 @@ chain-more clauses more chain clause accepted = (
 )
 
 -- the clauses of a log that has grown
-clauses-grown : (form : List (List Lit)) (log more : List Step) → clauses_of form (log ++ more) ≡ clauses_of form log ++ map (λ (s : Step). s.clause) more
+pub clauses-grown : (form : List (List Lit)) (log more : List Step) → clauses_of form (log ++ more) ≡ clauses_of form log ++ map (λ (s : Step). s.clause) more
 clauses-grown form log more =
     ap (λ (cs : List (List Lit)). form ++ cs) (map-append (λ (s : Step). s.clause) log more)
     ∙ sym (append_assoc form (map (λ (s : Step). s.clause) log) (map (λ (s : Step). s.clause) more))
@@ -45,7 +45,7 @@ accepted-as : (kind : StepKind) (form blocks : List (List Lit)) (earlier : List 
     → IsAcceptedAs kind form blocks earlier step
 accepted-as kind form blocks earlier step derived chain = subst (λ (k : StepKind). IsAcceptedAs k form blocks earlier step) (sym derived) chain
 
-derived-later : (form blocks : List (List Lit)) (log more : List Step) (step : Step) → IsDerivedAfter form log step → IsAcceptedStep form blocks (log ++ more) step
+pub derived-later : (form blocks : List (List Lit)) (log more : List Step) (step : Step) → IsDerivedAfter form log step → IsAcceptedStep form blocks (log ++ more) step
 derived-later form blocks log more step derived =
     accepted-as step.kind form blocks (log ++ more) step derived.kind
     (subst (λ (cs : List (List Lit)). IsAcceptedChain cs step.chain step.clause) (sym (clauses-grown form log more))
@@ -82,11 +82,11 @@ same-blocks form log front steps derived =
     omega (arith, split, none)
 
 -- what a part of a log shows it shows
-size-grown : (n k : ℕ) (log more : List Step) (size : ℕ) → ShowsSize n k size log → ShowsSize n k size (log ++ more)
+pub size-grown : (n k : ℕ) (log more : List Step) (size : ℕ) → ShowsSize n k size log → ShowsSize n k size (log ++ more)
 size-grown n k log more zero shows = tt
 size-grown n k log more (suc j) shows = record { step = shows.step; in_log = Contains-append_left log more shows.step shows.in_log; clause = shows.clause }
 
-without-behind : (n k : ℕ) (members : List ℕ) (log steps : List Step) (x : ℕ) → ShowsWithout n k members steps x → ShowsWithout n k members (log ++ steps) x
+pub without-behind : (n k : ℕ) (members : List ℕ) (log steps : List Step) (x : ℕ) → ShowsWithout n k members steps x → ShowsWithout n k members (log ++ steps) x
 without-behind n k members log steps x shows = record { step = shows.step; in_log = Contains-append_right log steps shows.step shows.in_log; clause = shows.clause }
 
 pub finished : (of : Certified) → IsAccepted of.form of.blocks (of.log ++ of.more) → IsCertificate of.n of.k of.form of.members of.log of.steps → IsFinished of

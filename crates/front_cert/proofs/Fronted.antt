@@ -23,7 +23,7 @@ use Rattle.front_cert.proofs.Choosing.{AllTrue, block-selectors, met-or-true, se
 use Rattle.front_cert.proofs.Left.{none-before}
 
 -- the last set of a list
-last-at : (sets : List (List ℕ)) → 0 < length sets → last_of sets ≡ get_or sets (length sets - 1) []
+pub last-at : (sets : List (List ℕ)) → 0 < length sets → last_of sets ≡ get_or sets (length sets - 1) []
 last-at sets some =
     ap (λ (o : Option (List ℕ)). option_map_or (λ (set : List ℕ). set) o [])
     (slice_get-at sets (length sets - 1) (get_or sets (length sets - 1) []) (omega (arith, some)) (get_or_default sets (length sets - 1) [] (get_or sets (length sets - 1) []) (omega (arith, some))))
@@ -32,7 +32,7 @@ some-member : (sets : List (List ℕ)) (set : List ℕ) → Contains sets set �
 some-member sets set member = let within = member.1 in omega (arith, within)
 
 -- what holds of each listed set holds of the last
-last-has : (P : List ℕ → Type 0) (sets : List (List ℕ)) → 0 < length sets → All P sets → P (last_of sets)
+pub last-has : (P : List ℕ → Type 0) (sets : List (List ℕ)) → 0 < length sets → All P sets → P (last_of sets)
 last-has P sets some all = subst P (sym (last-at sets some)) (all (length sets - 1) [] (omega (arith, some)))
 
 blocks-apart : (n k : ℕ) (groups : Groups) (listed : List (List ℕ)) → length groups ≡ n → All (IsSet groups) listed → All (NamesNoCounter n k) (map block listed)

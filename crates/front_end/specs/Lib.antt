@@ -1,2 +1,2 @@
+pub mod By
 pub mod Means
-pub mod Refusals

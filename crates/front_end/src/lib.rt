@@ -1,6 +1,8 @@
 //! What a front end is: it reads the text of a design, and answers the design with an order of its drivers, or why there is none.
 #![tactic(auto)]
 
+mod read_by;
 mod reader;
 
-pub use reader::{DesignErr, FrontEnd, Ordered};
+pub use read_by::ReadBy;
+pub use reader::{FrontEnd, Ordered};

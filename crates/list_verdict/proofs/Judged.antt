@@ -25,11 +25,12 @@ use Rattle.design_core.proofs.RunLaws.{run-unique}
 use Rattle.list_verdict.specs.declared.verdict.Verdict.{Verdict}
 use Rattle.list_verdict.specs.declared.verdict.Verdict.TheVariants as verdict
 use Rattle.list_verdict.specs.Claims.{Claim}
-use Rattle.list_verdict.specs.Conditions.{AreInOrder, AreRight, Closes, IsAcceptedLog, IsFirstOutOfOrder, IsFirstRefusedStep, IsFirstToMiss, NoneHolds, blocks_for}
+use Rattle.list_verdict.specs.Conditions.{AreInOrder, AreRight, Closes, IsAcceptedLog, IsFirstOutOfOrder, IsFirstRefusedStep, IsFirstToMiss, NoneHolds, ShowsLast, blocks_for}
 use Rattle.list_verdict.specs.Judging.{AreFound, FirstToHold, Judges, LogSays, Orders, ValuesSay}
 use Rattle.list_verdict.specs.declared.holding.Holding.{Holding}
-use Rattle.list_verdict.specs.Verdicts.{IsVerdict, IsWhole, IsWholeListIf}
+use Rattle.list_verdict.specs.Verdicts.{IsFrontListIf, IsFrontShown, IsVerdict, IsWhole, IsWholeListIf}
 use Rattle.list_verdict.proofs.Asked.{simulable, suspects-long}
+use Rattle.list_verdict.proofs.Fronted.{front-list}
 use Rattle.list_verdict.proofs.Logs.{block-within}
 use Rattle.list_verdict.proofs.Ordered.{got-itself, set-at}
 use Rattle.list_verdict.proofs.Replayed.{all-right, first-misses, miss-within}
@@ -66,39 +67,63 @@ none-some x e = cc
 some-none : {X : Type 0} (x : X) → Some x ≡ None → ⊥
 some-none x e = cc
 
-step-if : (c : Claim) (number : ℕ) → IsWholeListIf c (verdict.Step number)
-step-if c number same = cc
+-- an answer that says that the list is neither whole nor a front
+abbrev IsNeither : Verdict → Type 0
+IsNeither v = (¬ (v ≡ verdict.Whole)) × (¬ (v ≡ verdict.Front))
 
-open-if : (c : Claim) → IsWholeListIf c verdict.Open
-open-if c same = cc
+step-neither : (number : ℕ) → IsNeither (verdict.Step number)
+step-neither number = (λ same. cc, λ same. cc)
 
-replay-if : (c : Claim) (set : ℕ) (miss : Miss) → IsWholeListIf c (verdict.Replay set miss)
-replay-if c set miss same = cc
+open-neither : IsNeither verdict.Open
+open-neither = (λ same. cc, λ same. cc)
 
-contains-if : (c : Claim) (set other : ℕ) → IsWholeListIf c (verdict.Contains set other)
-contains-if c set other same = cc
+replay-neither : (set : ℕ) (miss : Miss) → IsNeither (verdict.Replay set miss)
+replay-neither set miss = (λ same. cc, λ same. cc)
+
+contains-neither : (set other : ℕ) → IsNeither (verdict.Contains set other)
+contains-neither set other = (λ same. cc, λ same. cc)
+
+whole-front : verdict.Whole ≡ verdict.Front → ⊥
+whole-front same = cc
+
+judges : (c : Claim) (v : Verdict) → IsVerdict c v → IsNeither v → Judges c v
+judges c v is neither = record { verdict_is = is; list = λ same. absurd (neither.0 same); front = λ same. absurd (neither.1 same) }
 
 pub step-of : (c : Claim) (o : Option BadStep) (bad : BadStep) → o ≡ Some bad → LogSays c o → AreInOrder c → NoneHolds c.sets → AreRight c
     → Judges c (verdict.Step bad.n)
 step-of c None bad is says in_order none right = absurd (none-some bad is)
-step-of c (Some found) bad is says in_order none right = record {
-  verdict_is = (in_order, none, right, subst (λ (b : BadStep). IsFirstRefusedStep c b.n) (some-same found bad is) says);
-  list = step-if c bad.n;
-}
+step-of c (Some found) bad is says in_order none right =
+    judges c (verdict.Step bad.n)
+    (in_order, none, right, subst (λ (b : BadStep). IsFirstRefusedStep c b.n) (some-same found bad is) says)
+    (step-neither bad.n)
 
-pub open-of : (c : Claim) (o : Option BadStep) → o ≡ None → LogSays c o → AreInOrder c → NoneHolds c.sets → AreRight c → ¬ Closes c
-    → Judges c verdict.Open
-open-of c (Some found) is says in_order none right unclosed = absurd (some-none found is)
-open-of c None is says in_order none right unclosed =
-    record { verdict_is = (in_order, none, right, says.0, unclosed); list = open-if c }
+pub accepted-of : (c : Claim) (o : Option BadStep) → o ≡ None → LogSays c o → IsAcceptedLog c
+accepted-of c (Some found) is says = absurd (some-none found is)
+accepted-of c None is says = says.0
 
-pub whole-of : (c : Claim) (vars : ℕ) (o : Option BadStep) → o ≡ None → LogSays c o → IsProblem c.problem → IsFormFor c.problem vars c.form
-    → AreInOrder c → NoneHolds c.sets → AreRight c → Closes c → Judges c verdict.Whole
-whole-of c vars (Some found) is says can form in_order none right closes = absurd (some-none found is)
-whole-of c vars None is says can form in_order none right closes =
-    let whole : IsWhole c =
-    record { in_order = in_order; none_holds = none; right = right; accepted = says.0; closes = closes } in
-    record { verdict_is = whole; list = λ same. whole-list c vars can form says.1 whole }
+pub follows-of : (c : Claim) (o : Option BadStep) → o ≡ None → LogSays c o → Follows c.form (blocks_for c.sets) c.log
+follows-of c (Some found) is says = absurd (some-none found is)
+follows-of c None is says = says.1
+
+pub open-of : (c : Claim) → IsAcceptedLog c → AreInOrder c → NoneHolds c.sets → AreRight c → ¬ Closes c → ¬ ShowsLast c → Judges c verdict.Open
+open-of c accepted in_order none right unclosed unshown =
+    judges c verdict.Open (in_order, none, right, accepted, unclosed, unshown) open-neither
+
+module _ (c : Claim) (vars : ℕ) (can : IsProblem c.problem) (form : IsFormFor c.problem vars c.form)
+    (follows : Follows c.form (blocks_for c.sets) c.log) (accepted : IsAcceptedLog c) (in_order : AreInOrder c) (none : NoneHolds c.sets)
+    (right : AreRight c) where
+  pub whole-of : Closes c → Judges c verdict.Whole
+  whole-of closes =
+      let whole : IsWhole c =
+      record { in_order = in_order; none_holds = none; right = right; accepted = accepted; closes = closes } in
+      record { verdict_is = whole; list = λ same. whole-list c vars can form follows whole; front = λ same. absurd (whole-front same) }
+
+  pub front-of : ¬ Closes c → ShowsLast c → Judges c verdict.Front
+  front-of unclosed shows = record {
+    verdict_is = (in_order, none, right, accepted, unclosed, shows);
+    list = λ same. absurd (whole-front (sym same));
+    front = λ same. front-list c vars can form follows in_order none right shows;
+  }
 
 pub replay-of : (c : Claim) (o : Option (ℕ × Miss)) (place set : ℕ) (miss : Miss) → o ≡ Some (place, miss) → ValuesSay c o → set ≡ place + 1
     → AreInOrder c → NoneHolds c.sets → Judges c (verdict.Replay set miss)
@@ -106,15 +131,12 @@ replay-of c None place set miss is says next in_order none = absurd (none-some (
 replay-of c (Some (p, m)) place set miss is says next in_order none =
     let one : ℕ × Miss = (p, m) in
     let other : ℕ × Miss = (place, miss) in
-    record {
-      verdict_is = (
-        in_order,
-        none,
-        subst (λ n. IsFirstToMiss c n miss) (sym next)
-            (subst (λ (x : ℕ × Miss). IsFirstToMiss c (x.0 + 1) x.1) (some-same one other is) says.1),
-      );
-      list = replay-if c set miss;
-    }
+    judges c (verdict.Replay set miss) (
+      in_order,
+      none,
+      subst (λ n. IsFirstToMiss c n miss) (sym next)
+          (subst (λ (x : ℕ × Miss). IsFirstToMiss c (x.0 + 1) x.1) (some-same one other is) says.1),
+    ) (replay-neither set miss)
 
 pub right-of : (c : Claim) (o : Option (ℕ × Miss)) → o ≡ None → ValuesSay c o → AreRight c
 right-of c (Some found) is says = absurd (some-none found is)
@@ -129,10 +151,14 @@ place-of c (Some (p, m)) place miss is says =
 
 pub contains-of : (c : Claim) (holding : Holding) → AreInOrder c → FirstToHold c.sets (Some holding)
     → Judges c (verdict.Contains holding.set holding.other)
-contains-of c holding in_order first = record { verdict_is = (in_order, first); list = contains-if c holding.set holding.other }
+contains-of c holding in_order first =
+    judges c (verdict.Contains holding.set holding.other) (in_order, first) (contains-neither holding.set holding.other)
 
 pub order-if : (c : Claim) (set : ℕ) → IsWholeListIf c (verdict.Order set)
 order-if c set same = cc
+
+pub order-front-if : (c : Claim) (set : ℕ) → IsFrontListIf c (verdict.Order set)
+order-front-if c set same = cc
 
 pub judged-verdict : (c : Claim) (r : Result Verdict NoMemory) → IfOk r (Judges c) → IfOk r (IsVerdict c)
 judged-verdict c (Ok v) is = is.verdict_is
@@ -141,6 +167,10 @@ judged-verdict c (Err e) is = tt
 pub judged-list : (c : Claim) (r : Result Verdict NoMemory) → IfOk r (Judges c) → IfOk r (IsWholeListIf c)
 judged-list c (Ok v) is = is.list
 judged-list c (Err e) is = tt
+
+pub judged-front : (c : Claim) (r : Result Verdict NoMemory) → IfOk r (Judges c) → IfOk r (IsFrontListIf c)
+judged-front c (Ok v) is = is.front
+judged-front c (Err e) is = tt
 
 -- what is known of the sets, by the answer
 in-out : (v : Vec SetWithValues Global) (set : ℕ) → order.In v ≡ order.OutOf set → ⊥
@@ -170,11 +200,11 @@ pub out-of : (c : Claim) (o : Order) (set : ℕ) → o ≡ order.OutOf set → O
 out-of c (order.In v) set is says = absurd (in-out v set is)
 out-of c (order.OutOf found) set is says = subst (IsFirstOutOfOrder c) (out-same found set is) says
 
-pub ruleset judge_rules = (judged-verdict, judged-list, order-if, in-order-of, found-of, out-of)
+pub ruleset judge_rules = (judged-verdict, judged-list, judged-front, order-if, order-front-if, in-order-of, found-of, out-of)
 
 pub ruleset values_rules = (replay-of, right-of, place-of)
 
-pub ruleset log_rules = (step-of, open-of, whole-of)
+pub ruleset log_rules = (step-of, accepted-of, follows-of)
 
 -- ---- where all conditions hold, the answer is that they do
 -- where the values miss, not every trace is right
@@ -209,4 +239,16 @@ only-whole c (verdict.Contains set other) can whole (in_order, first) = absurd (
 only-whole c (verdict.Replay set miss) can whole (in_order, none, first) =
     absurd (misses-not c can first.values miss first.misses (whole.right set first.set first.is_set first.values first.are_its))
 only-whole c (verdict.Step number) can whole (in_order, none, right, refused) = absurd (accepted-not c number refused whole.accepted)
-only-whole c verdict.Open can whole (in_order, none, right, accepted, unclosed) = absurd (unclosed whole.closes)
+only-whole c verdict.Front can whole (in_order, none, right, accepted, unclosed, shows) = absurd (unclosed whole.closes)
+only-whole c verdict.Open can whole (in_order, none, right, accepted, unclosed, unshown) = absurd (unclosed whole.closes)
+
+-- where the log shows a front, the answer is that, or that the list is whole
+pub only-front : (c : Claim) (v : Verdict) → IsProblem c.problem → IsFrontShown c → IsVerdict c v → (v ≡ verdict.Whole) ⊎ (v ≡ verdict.Front)
+only-front c verdict.Whole can shown is = inl refl
+only-front c verdict.Front can shown is = inr refl
+only-front c (verdict.Order set) can shown is = absurd (is.fails (shown.in_order set is.set is.is_set))
+only-front c (verdict.Contains set other) can shown (in_order, first) = absurd (shown.none_holds set other first.holds)
+only-front c (verdict.Replay set miss) can shown (in_order, none, first) =
+    absurd (misses-not c can first.values miss first.misses (shown.right set first.set first.is_set first.values first.are_its))
+only-front c (verdict.Step number) can shown (in_order, none, right, refused) = absurd (accepted-not c number refused shown.accepted)
+only-front c verdict.Open can shown (in_order, none, right, accepted, unclosed, unshown) = absurd (unshown shown.shows)

@@ -7,5 +7,7 @@ pub mod NamedForms
 pub mod Asked
 pub mod Replayed
 pub mod Closing
+pub mod SetsOf
 pub mod Whole
+pub mod Fronted
 pub mod Judged

@@ -12,7 +12,7 @@ use Rattle.design_core.specs.declared.values.Values.{Values}
 use Rattle.loc_base.specs.Sets.{is_before}
 use Rattle.suspect_map.specs.declared.group.Group.{Group}
 use Rattle.report_doc.specs.declared.types.ReportSet.{ReportSet}
-use Rattle.report_values.specs.Written.{HasValues, IsWritten}
+use Rattle.report_sets.specs.Written.{HasValues, IsWritten}
 use Rattle.debug_core.specs.Problems.{Problem, suspect_count, suspects_of}
 use Rattle.list_verdict.specs.Claims.{Claim, IsSetAt}
 use Rattle.list_verdict.specs.Conditions.{AreInOrder, ComesAfter, IsFirstOutOfOrder, IsInOrder}

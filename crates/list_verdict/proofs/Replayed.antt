@@ -8,8 +8,8 @@ use Rattle.design_core.specs.declared.values.Values.{Values}
 use Rattle.cycle_sim.specs.declared.miss.Miss.{Miss}
 use Rattle.cycle_sim.specs.Misses.{AllMeet, AreValuesFor, FirstToMiss, MeetAll}
 use Rattle.report_doc.specs.declared.types.ReportSet.{ReportSet}
-use Rattle.report_values.proofs.Saying.{meets-same}
-use Rattle.report_values.proofs.Writing.{places-within}
+use Rattle.report_sets.proofs.Saying.{meets-same}
+use Rattle.report_sets.proofs.Writing.{places-within}
 use Rattle.debug_core.specs.Problems.{IsProblem, suspects_of}
 use Rattle.list_verdict.specs.Claims.{AreItsValues, Claim, IsSetAt}
 use Rattle.list_verdict.specs.Conditions.{AreRight, IsFirstToMiss, IsRightSet}

@@ -12,8 +12,6 @@ use Rattle.clause_base.specs.Satisfaction.{Satisfies}
 use Rattle.clause_base.specs.Acceptance.{Follows}
 use Rattle.clause_base.proofs.Accepted.{log_holds}
 use Rattle.card_counter.proofs.Said.{satisfies-both}
-use Rattle.design_core.specs.Explained.{choices_in}
-use Rattle.loc_base.specs.Sets.{is_before}
 use Rattle.design_core.specs.Listing.{IsEntry}
 use Rattle.design_core.specs.Works.{IsSet, IsWithin, Works}
 use Rattle.set_enum.specs.Sets.{IsSetOf, NoneBelow, block_of}
@@ -21,19 +19,14 @@ use Rattle.debug_core.specs.Listed.{Encodes, IsSelected}
 use Rattle.debug_core.proofs.Blocked.{Unmet, met-or-unmet, unmet-within}
 use Rattle.debug_core.proofs.Selected.{within-few, within-fewer, within-same}
 use Rattle.report_doc.specs.declared.types.ReportSet.{ReportSet}
-use Rattle.report_values.proofs.Saying.{written-explains}
 use Rattle.debug_core.specs.Problems.{IsFormFor, IsProblem, Problem, suspect_count, suspects_of}
 use Rattle.list_verdict.specs.Claims.{Claim}
-use Rattle.list_verdict.specs.Conditions.{IsInOrder, blocks_for}
-use Rattle.list_verdict.specs.Verdicts.{IsExplained, IsWhole, IsWholeList, members_of}
+use Rattle.list_verdict.specs.Conditions.{IsAcceptedLog, IsInOrder, blocks_for}
+use Rattle.list_verdict.specs.Verdicts.{IsWhole, IsWholeList, members_of}
 use Rattle.list_verdict.proofs.Asked.{form-counter, form-encodes, suspects-long}
 use Rattle.list_verdict.proofs.Closing.{none-below}
-use Rattle.list_verdict.proofs.Ordered.{ascending, got-itself, set-at}
-
--- the blocks by the members
-blocks-members : (sets : List ReportSet) → blocks_for sets ≡ map block_of (members_of sets)
-blocks-members [] = refl
-blocks-members (set ∷ sets) = ap (λ (rest : List (List Lit)). block_of set.members ∷ rest) (blocks-members sets)
+use Rattle.list_verdict.proofs.SetsOf.{IsListedAs, all-explained, blocks-members, in-order as set-in-order, listed-of, ordered, works as set-works}
+use Rattle.list_verdict.proofs.Ordered.{got-itself, set-at}
 
 module _ (c : Claim) (vars : ℕ) (can : IsProblem c.problem) (form : IsFormFor c.problem vars c.form)
     (follows : Follows c.form (blocks_for c.sets) c.log) (whole : IsWhole c) where
@@ -58,48 +51,11 @@ module _ (c : Claim) (vars : ℕ) (can : IsProblem c.problem) (form : IsFormFor 
   encodes : Encodes n p.k c.form Work
   encodes = form-encodes p (record { vars = vars; clauses = c.form }) can form
 
-  -- a set of the list, by its members
-  pub record Listed (members : List ℕ) : Type 0 where
-    pub place : ℕ
-    pub set : ReportSet
-    pub there : slice_get c.sets place ≡ Some set
-    pub is : set.members ≡ members
-
-  listed-of : (members : List ℕ) → Contains sets members → Listed members
-  listed-of members member =
-      let (k, at) = Contains-place sets members member in
-      let (place, set, there, is) = found c.sets k members at in
-      record { place = place; set = set; there = there; is = is }
-    where
-      found : (list : List ReportSet) (k : ℕ) (ms : List ℕ) → slice_get (members_of list) k ≡ Some ms
-          → (place : ℕ) × (set : ReportSet) × (slice_get list place ≡ Some set) × (set.members ≡ ms)
-      found [] k ms at = cc
-      found (set ∷ list) zero ms at = (zero, set, refl, inner at)
-        where
-          inner : Some set.members ≡ Some ms → set.members ≡ ms
-          inner e = cc
-      found (set ∷ list) (suc k) ms at =
-          let (place, other, there, is) = found list k ms at in (suc place, other, there, is)
-
   in-order : (place : ℕ) (set : ReportSet) → slice_get c.sets place ≡ Some set → IsInOrder c (place + 1) set
-  in-order place set there = whole.in_order (place + 1) set (set-at c.sets place set there)
-
-  -- the values of a set explain the traces
-  explained : (place : ℕ) (set : ReportSet) → slice_get c.sets place ≡ Some set → IsExplained c set
-  explained place set there =
-      let (values, written) = (in-order place set there).values in
-      record {
-        values = values;
-        are_its = written;
-        explains = written-explains p.design p.traces groups set values written
-            (whole.right (place + 1) set (set-at c.sets place set there) values written);
-      }
+  in-order = set-in-order c whole.in_order
 
   works : (place : ℕ) (set : ReportSet) → slice_get c.sets place ≡ Some set → Work set.members
-  works place set there trace member =
-      let e = explained place set there in
-      let (j, at) = Contains-place p.traces trace member in
-      (choices_in p.traces e.values j, e.explains.widths j trace at, e.explains.meets j trace at)
+  works = set-works c whole.in_order whole.right
 
   set-of : (set : List ℕ) → IsSet groups set → IsSetOf n set
   set-of set is = record {
@@ -134,7 +90,7 @@ module _ (c : Claim) (vars : ℕ) (can : IsProblem c.problem) (form : IsFormFor 
           let many = none-left chosen.assignment (satisfies-both chosen.assignment c.form (map block_of sets) chosen.satisfies all) in
           absurd (omega (arith, many, ap length chosen.selects, small))
       at (inr u) =
-          let l : Listed u.set = listed-of u.set u.listed_there in
+          let l : IsListedAs c u.set = listed-of c u.set u.listed_there in
           record {
             members = u.set;
             listed = u.listed_there;
@@ -156,8 +112,8 @@ module _ (c : Claim) (vars : ℕ) (can : IsProblem c.problem) (form : IsFormFor 
       i : Inner inner
       i = inner-of inner is (omega (arith, fewer, o.size)) working
 
-      l : Listed i.members
-      l = listed-of i.members i.listed
+      l : IsListedAs c i.members
+      l = listed-of c i.members i.listed
 
       deep : IsWithin l.set.members inner
       deep = subst (λ ms. IsWithin ms inner) (sym l.is) i.within
@@ -188,31 +144,14 @@ module _ (c : Claim) (vars : ℕ) (can : IsProblem c.problem) (form : IsFormFor 
   entries : All Entry sets
   entries = All-map Entry (λ (set : ReportSet). set.members) c.sets (λ k d low. entry k (get_or c.sets k d) (got-itself c.sets k d low))
 
-  ordered : AllPairs (λ one other. IsTrue (is_before one other)) sets
-  ordered i j d less low =
-      let long : length sets ≡ length c.sets = length-map c.sets (λ (set : ReportSet). set.members) in
-      let (one, here) = slice_get-some c.sets i (omega (arith, less, low, long)) in
-      let (other, there) = slice_get-some c.sets j (omega (arith, low, long)) in
-      subst (λ ms. IsTrue (is_before ms (get_or sets j d))) (sym (member c.sets i one here))
-      (subst (λ ms. IsTrue (is_before one.members ms)) (sym (member c.sets j other there))
-      ((ascending c whole.in_order).before i j one other less here there))
-    where
-      member : (list : List ReportSet) (k : ℕ) (set : ReportSet) → slice_get list k ≡ Some set → get_or (members_of list) k d ≡ set.members
-      member [] k set at = cc
-      member (x ∷ list) zero set at = ap (λ (s : ReportSet). s.members) (inner at)
-        where
-          inner : Some x ≡ Some set → x ≡ set
-          inner e = cc
-      member (x ∷ list) (suc k) set at = member list k set at
-
   complete : (set : List ℕ) → Entry set → Contains sets set
   complete set e = at (cases_lt (length i.members) (length set))
     where
       i : Inner set
       i = inner-of set e.suspects e.size e.minimal.works
 
-      l : Listed i.members
-      l = listed-of i.members i.listed
+      l : IsListedAs c i.members
+      l = listed-of c i.members i.listed
 
       suspects : IsSet groups i.members
       suspects = subst (IsSet groups) l.is (in-order l.place l.set l.there).suspects
@@ -228,12 +167,12 @@ module _ (c : Claim) (vars : ℕ) (can : IsProblem c.problem) (form : IsFormFor 
 
   pub whole-list : IsWholeList c
   whole-list = record {
-    list = record { entries = entries; ordered = ordered; complete = complete };
-    explained = λ k d low. explained k (get_or c.sets k d) (got-itself c.sets k d low);
+    list = record { entries = entries; ordered = ordered c whole.in_order; complete = complete };
+    explained = all-explained c whole.in_order whole.right;
   }
 
--- the log of a list that is whole follows from its form and its blocks, where each clause is of distinct variables
-pub log-follows : (c : Claim) → AllDistinct c.form → AllDistinct (map (λ (s : Step). s.clause) c.log) → IsWhole c
+-- the log of a list follows from its form and its blocks, where each clause is of distinct variables
+pub log-follows : (c : Claim) → AllDistinct c.form → AllDistinct (map (λ (s : Step). s.clause) c.log) → IsAcceptedLog c
     → Follows c.form (blocks_for c.sets) c.log
-log-follows c of_form of_log whole a in_form in_blocks =
-    log_holds a c.form (blocks_for c.sets) c.log of_form of_log whole.accepted.each_step in_form in_blocks
+log-follows c of_form of_log accepted a in_form in_blocks =
+    log_holds a c.form (blocks_for c.sets) c.log of_form of_log accepted.each_step in_form in_blocks

@@ -4,7 +4,7 @@ use Rattle.design_core.specs.declared.values.Values.{Values}
 use Rattle.clause_base.specs.declared.literal.Lit.{Lit}
 use Rattle.clause_base.specs.declared.log.Step.{Step}
 use Rattle.report_doc.specs.declared.types.ReportSet.{ReportSet}
-use Rattle.report_values.specs.Written.{IsWritten}
+use Rattle.report_sets.specs.Written.{IsWritten}
 use Rattle.debug_core.specs.Problems.{Problem, IsFormFor, IsProblem, problem_of, suspects_of}
 use Rattle.list_verdict.specs.declared.verdict.Listed.{Listed}
 

@@ -1,5 +1,6 @@
 -- The five conditions on a list: the sets are in order, none holds another, each makes the traces right, the log is accepted, and
--- it closes the list. For each, what it is to hold, and which set or step is named where it doesn't: the first.
+-- it closes the list. For each, what it is to hold, and which set or step is named where it doesn't: the first. And in the place of the last
+-- one: that the log shows the list to be a front.
 use Rattle.std.specs.Prelude.{ℕ, ◌≢◌, ◌-◌, ◌<◌, ◌≤◌, IsTrue, List, length, map}
 use Rattle.design_core.specs.declared.values.Values.{Values}
 use Rattle.loc_base.specs.Sets.{is_before}
@@ -7,12 +8,13 @@ use Rattle.design_core.specs.Works.{IsSet, IsWithin}
 use Rattle.clause_base.specs.declared.literal.Lit.{Lit}
 use Rattle.clause_base.specs.Acceptance.{IsAccepted, IsLeastRefused}
 use Rattle.clause_base.specs.Progress.{IsClosing}
+use Rattle.card_counter.specs.Shows.{Shows, last_of}
 use Rattle.cycle_sim.specs.declared.miss.Miss.{Miss}
 use Rattle.cycle_sim.specs.Misses.{IsLeastMiss, MeetAll}
 use Rattle.set_enum.specs.Bounds.{bound_of}
 use Rattle.set_enum.specs.Sets.{block_of}
 use Rattle.report_doc.specs.declared.types.ReportSet.{ReportSet}
-use Rattle.report_values.specs.Written.{HasValues}
+use Rattle.report_sets.specs.Written.{HasValues}
 use Rattle.debug_core.specs.Problems.{suspect_count, suspects_of}
 use Rattle.list_verdict.specs.Claims.{AreItsValues, Claim, IsSetAt}
 
@@ -95,3 +97,7 @@ IsFirstRefusedStep c number = IsLeastRefused c.form (blocks_for c.sets) c.log nu
 -- the log's last step is derived, and its clause is empty or says alone that more than k suspects are chosen
 abbrev pub Closes : Claim → Type 0
 Closes c = IsClosing (bound_of (suspect_count c.problem) c.problem.k c.problem.k) c.log
+
+-- the log shows that no set is missing before the list's last one; where there is no set, there is nothing to show
+abbrev pub ShowsLast : Claim → Type 0
+ShowsLast c = Shows (suspect_count c.problem) c.problem.k (last_of (map (λ set. set.members) c.sets)) c.log

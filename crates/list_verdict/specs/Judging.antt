@@ -5,7 +5,7 @@ use Rattle.design_core.specs.declared.values.SetWithValues.{SetWithValues}
 use Rattle.loc_base.specs.Sets.{is_before}
 use Rattle.design_core.specs.Works.{IsSet, IsWithin}
 use Rattle.report_doc.specs.declared.types.ReportSet.{ReportSet}
-use Rattle.report_values.specs.Written.{HasValues}
+use Rattle.report_sets.specs.Written.{HasValues}
 use Rattle.debug_core.specs.Problems.{Problem, suspects_of}
 use Rattle.list_verdict.specs.declared.holding.Holding.{Holding}
 use Rattle.list_verdict.specs.declared.order.Order.{Order}
@@ -21,7 +21,7 @@ use Rattle.cycle_sim.specs.declared.miss.Miss.{Miss}
 use Rattle.proof_check.specs.declared.claim.BadStep.{BadStep}
 use Rattle.list_verdict.specs.declared.verdict.Verdict.{Verdict}
 use Rattle.list_verdict.specs.Conditions.{AreInOrder, AreRight, Holds, IsAcceptedLog, IsFirstOutOfOrder, IsFirstRefusedStep, IsFirstToHold, IsFirstToMiss, IsInOrder, NoneHolds, blocks_for}
-use Rattle.list_verdict.specs.Verdicts.{IsVerdict, IsWholeListIf}
+use Rattle.list_verdict.specs.Verdicts.{IsFrontListIf, IsVerdict, IsWholeListIf}
 
 -- ---- order
 -- members that may be a set's: numbers of suspects, ascending, at most k
@@ -103,7 +103,8 @@ pub record IsNamedForm (plan : Planned) (log : List Step) (made : Form) : Type 0
   pub agree : AgreeFor log made.clauses plan.clauses
   pub within : AreWithin plan.vars plan.clauses → AreWithin made.vars made.clauses
 
--- an answer, and what it says where it is that the list is whole
+-- an answer, and what it says where it is that the list is whole, or a front
 pub record Judges (c : Claim) (verdict : Verdict) : Type 0 where
   pub verdict_is : IsVerdict c verdict
   pub list : IsWholeListIf c verdict
+  pub front : IsFrontListIf c verdict

@@ -1,21 +1,23 @@
-//! The judgement on a list: the five conditions, one after another.
+//! The judgement on a list: the five conditions, one after another, and in the place of the last one whether it is a front.
 
 ghost use Rattle.std.specs.Prelude.{◌<◌, ◌≤◌, ◌↔◌, IfOk, IsTrue, length};
+ghost use Rattle.clause_base.specs.Acceptance.{Follows};
 ghost use Rattle.list_verdict.specs.Claims.{CanBeJudged, claim_of};
-ghost use Rattle.list_verdict.specs.Conditions.{AreInOrder, AreRight, Closes, NoneHolds};
+ghost use Rattle.list_verdict.specs.Conditions.{AreInOrder, AreRight, Closes, IsAcceptedLog, NoneHolds, blocks_for};
 ghost use Rattle.list_verdict.specs.Judging.{AreFound, IsNamedForm, Judges, LogSays, ValuesSay};
-ghost use Rattle.list_verdict.specs.Verdicts.{IsVerdict, IsWholeListIf};
+ghost use Rattle.list_verdict.specs.Verdicts.{IsFrontListIf, IsVerdict, IsWholeListIf};
 
 use crate::holding::first_to_hold;
 use crate::log::{blocks_of, closes};
 use crate::order::{Order, ordered};
+use crate::shown::shows_last;
 use crate::verdict::{Listed, Verdict};
 use clause_base::Form;
 use cycle_sim::Miss;
 use design_core::SetWithValues;
 use loc_base::{Gate, NoMemory, Workers};
-use parallel_replay::replay_all;
-use proof_check::{BadStep, check_log_parallel, named};
+use parallel_replay::{Trial, replay_all};
+use proof_check::{BadStep, Claim, check_log_parallel, named};
 use std::alloc::Global;
 use std::thread::Threads;
 
@@ -47,15 +49,12 @@ fn first_refused<R: Threads + Sync, G: Gate + Sync>(
     // With the number of clauses and steps comes that no clause has a variable twice.
     let _clauses = form.clauses.len();
     let _steps = listed.log.len();
-    check_log_parallel(
-        workers.runtime,
-        alloc,
-        &form,
-        &blocks,
-        listed.log,
-        workers.count,
-        workers.gate,
-    )
+    let claim = Claim {
+        form: &form,
+        blocks: &blocks,
+        log: listed.log,
+    };
+    check_log_parallel(alloc, workers, &claim)
 }
 
 /// The first set with whose values a trace isn't right, by its place from 0, with its least miss.
@@ -72,16 +71,12 @@ fn first_missing<R: Threads + Sync, G: Gate + Sync>(
     ensures { IfOk result (ValuesSay (claim_of listed.now)) }
 {
     let question = listed.question;
-    replay_all(
-        workers.runtime,
-        alloc,
-        question.design,
-        question.order,
-        question.traces,
-        found,
-        workers.count,
-        workers.gate,
-    )
+    let trial = Trial {
+        design: question.design,
+        order: question.order,
+        traces: question.traces,
+    };
+    replay_all(alloc, workers, &trial, found)
 }
 
 /// Whether the log closes the list of what was asked.
@@ -92,6 +87,32 @@ fn closes_list(listed: &Listed<'_>) -> bool
 {
     let suspects = listed.question.groups.len() as u32;
     closes(listed.log, suspects, listed.question.k)
+}
+
+/// What an accepted log shows of sets that are in order, hold none of each other, and make the traces right.
+fn judge_end<R: Threads + Sync, G: Gate + Sync>(
+    alloc: Global,
+    workers: &Workers<'_, R, G>,
+    listed: &Listed<'_>,
+) -> Result<Verdict, NoMemory>
+    requires can { CanBeJudged listed.now }
+    requires some { 0 < workers.now.count }
+    requires most { workers.now.count ≤ 64 }
+    requires in_order { AreInOrder (claim_of listed.now) }
+    requires none_holds { NoneHolds listed.now.sets.now }
+    requires right { AreRight (claim_of listed.now) }
+    requires accepted { IsAcceptedLog (claim_of listed.now) }
+    requires follows { Follows (claim_of listed.now).form (blocks_for listed.now.sets.now) listed.now.log.now }
+    ensures { IfOk result (Judges (claim_of listed.now)) }
+{
+    if closes_list(listed) {
+        return Ok(Verdict::Whole);
+    }
+    let shown = shows_last(alloc, workers, listed)?;
+    if shown {
+        return Ok(Verdict::Front);
+    }
+    Ok(Verdict::Open)
 }
 
 /// What the log says of sets that are in order, hold none of each other, and make the traces right.
@@ -111,13 +132,7 @@ fn judge_log<R: Threads + Sync, G: Gate + Sync>(
 {
     match first_refused(alloc, workers, listed)? {
         Some(bad) => Ok(Verdict::Step { number: bad.n }),
-        None => {
-            if closes_list(listed) {
-                Ok(Verdict::Whole)
-            } else {
-                Ok(Verdict::Open)
-            }
-        }
+        None => judge_end(alloc, workers, listed),
     }
 }
 
@@ -169,8 +184,8 @@ fn judge_found<R: Threads + Sync, G: Gate + Sync>(
     }
 }
 
-/// Whether the sets are the whole list of what was asked, by their values and their log: else the first condition that fails. The
-/// answer is the same for every number of workers and every gate.
+/// Whether the sets are the whole list of what was asked, by their values and their log, or a front of it: else the first condition that
+/// fails. The answer is the same for every number of workers and every gate.
 #[tactic(auto, using(crate::proofs::Judged::judge_rules))]
 pub fn judge<R: Threads + Sync, G: Gate + Sync>(
     alloc: Global,
@@ -182,6 +197,7 @@ pub fn judge<R: Threads + Sync, G: Gate + Sync>(
     requires most { workers.now.count ≤ 64 }
     ensures verdict { IfOk result (IsVerdict (claim_of listed.now)) }
     ensures list { IfOk result (IsWholeListIf (claim_of listed.now)) }
+    ensures front { IfOk result (IsFrontListIf (claim_of listed.now)) }
 {
     match ordered(alloc, listed)? {
         Order::In { found } => judge_found(alloc, workers, listed, &found),

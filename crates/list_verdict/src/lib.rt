@@ -1,6 +1,7 @@
 //! A second party's judgement on a list of sets that can explain traces: whether it is the whole list, by the values of the sets and by
 //! a log. Five conditions are looked at in order, and the first that fails is named: the sets are in order, none holds another, each
-//! makes the traces right, the log is accepted, and it closes the list.
+//! makes the traces right, the log is accepted, and it closes the list. Where only the last one fails, it is asked whether the log shows
+//! that the list is a front.
 #![tactic(auto)]
 
 mod holding;
@@ -9,8 +10,9 @@ mod laws;
 mod log;
 mod members;
 mod order;
+mod shown;
 mod verdict;
 
 pub use judgement::judge;
-pub use laws::{whole_is_judged, whole_is_list};
+pub use laws::{shown_is_front_list, shown_is_judged, whole_is_judged, whole_is_list};
 pub use verdict::{Listed, Verdict};

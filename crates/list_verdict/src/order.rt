@@ -12,7 +12,7 @@ use crate::verdict::Listed;
 use design_core::SetWithValues;
 use loc_base::{Items, NoMemory};
 use report_doc::types::ReportSet;
-use report_values::{Scene, values_of};
+use report_sets::{Scene, values_of};
 use std::alloc::Global;
 
 /// Whether the sets are in order: their values, or the first of them that isn't.

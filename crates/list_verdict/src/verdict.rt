@@ -3,8 +3,8 @@ use cycle_sim::Miss;
 use debug_core::{FormPlan, Question};
 use report_doc::types::ReportSet;
 
-/// What is judged of a list: the first condition that fails, with the first set or step by which it does. Sets and steps are
-/// counted from 1.
+/// What is judged of a list: that it is whole, or a front; or the first condition that fails, with the first set or step by which it does.
+/// Sets and steps are counted from 1.
 #[derive(Clone, Copy, Debug, PartialEq, Eq)]
 pub enum Verdict {
     /// Each condition holds: the sets are the whole list.
@@ -18,7 +18,10 @@ pub enum Verdict {
     Replay { set: u32, miss: Miss },
     /// The step is refused; or, one behind the last, the log lacks the block of a set.
     Step { number: u32 },
-    /// The log is accepted, and its last step doesn't close the list.
+    /// The log is accepted; its last step doesn't close the list, but it shows that no set is missing before the last one: the sets are
+    /// the first of the list.
+    Front,
+    /// The log is accepted, and shows neither.
     Open,
 }
 

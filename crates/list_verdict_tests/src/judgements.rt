@@ -145,14 +145,14 @@ fn members_that_are_no_set_are_out_of_order(rt: HostRuntime) -> Result<(), Fail>
 }
 
 #[test]
-fn a_log_without_its_last_step_leaves_the_list_unclosed(rt: HostRuntime) -> Result<(), Fail> {
+fn a_log_without_its_last_step_shows_a_front(rt: HostRuntime) -> Result<(), Fail> {
     let alloc = rt.alloc();
     let mut sets = Vec::new(alloc);
     sets.push(set(alloc, &[1], &[NET])?)?;
     sets.push(set(alloc, &[2], &[OUTPUT])?)?;
     assert_eq!(rt;
         judgement(&rt, alloc, &sets, Change::WithoutLast, 7)?,
-        Verdict::Open
+        Verdict::Front
     );
     Ok(())
 }

@@ -18,26 +18,28 @@ use Rattle.proof_check.specs.Text.{IsDigest, IsLogText}
 use Rattle.log_portions.proofs.Writable.{written}
 use Rattle.report_doc.specs.declared.types.Ending.{Ending}
 use Rattle.report_doc.specs.declared.types.Ending.TheVariants.{Complete, Budget, Sets, Earlier}
-use Rattle.found_report.specs.Found.{HasRows}
+use Rattle.report_sets.specs.Found.{HasRows}
 use Rattle.report_doc.specs.Lines.{AreWithin}
 use Rattle.report_doc.specs.Shape.{AreKinds}
 use Rattle.debug_core.specs.Debugging.{DebugState}
-use Rattle.debug_core.specs.Problems.{Problem, suspects_of}
+use Rattle.card_counter.specs.Shows.{Shows, last_of}
+use Rattle.debug_core.specs.Problems.{Problem, suspect_count, suspects_of}
 use Rattle.suspect_map.specs.declared.group.Group.{Group}
 use Rattle.suspect_map.specs.Groups.{AreWithin as GroupsWithin}
 use Rattle.set_waves.specs.Waved.{AreRuns, CanBeWaved, HaveValues, Runs}
 use Rattle.set_waves.proofs.Given.{places-within, some-runs}
 use Rattle.list_writer.specs.Texts.{waved_for}
-use Rattle.debug_core.proofs.Rooms.{few-numbers, few-steps, plain-blocks}
+use Rattle.debug_core.proofs.Rooms.{few-clauses, plain-blocks}
 use Rattle.list_writer.specs.Asked.{Asked}
 use Rattle.list_writer.specs.Found.{EndsAs, IsCountedFor, IsEnded, IsShown, Portion, found_of, log_of, sets_of}
-use Rattle.list_writer.specs.Going.{HasEnded}
+use Rattle.list_writer.specs.Going.{HasEnded, ShowsFront}
+use Rattle.list_writer.specs.Lines.{ending_status}
 use Rattle.design_core.specs.declared.trace.Trace.{Trace}
 use Rattle.design_core.specs.Explained.{cycles_before}
 use Rattle.unroller.specs.Unrolls.{cycles_of}
 use Rattle.list_writer.specs.Reporting.{AreReportable, CanBeReported}
 use Rattle.list_writer.specs.Checks.{AreSets, CanBeChecked, blocks_for}
-use Rattle.list_writer.proofs.Steps.{blocks-in, chainless, derived-counted, of-steps, sets-blocks}
+use Rattle.list_writer.proofs.Steps.{blocks-in, chainless, of-steps, sets-blocks}
 
 -- the cycles of all traces
 cycles-all : (traces : List Trace) → cycles_before traces (length traces) ≡ cycles_of traces
@@ -64,30 +66,16 @@ module _ (asked : Asked) (s : DebugState) (found : List SetWithValues) (steps : 
   accepted : IsAccepted s.form (map block_of (sets_of portions)) s.log
   accepted = subst (λ (sets : List (List ℕ)). IsAccepted s.form (map block_of sets) s.log) is.listed is.holds.accepted
 
-  -- the derived steps of a debugger's log end sizes, and none of them shows anything absent
-  counted-log : (p : Problem) → s.problem ≡ p → (sets : List (List ℕ)) → IsCountedFor p s.form sets s.log
-  counted-log p same sets =
-      subst (λ (q : Problem). IsCountedFor q s.form sets s.log) same (
-        length s.log,
-        (λ (place : ℕ). 0),
-        record {
-          fresh = is.holds.fresh;
-          from_before = omega arith;
-          tail_within = omega arith;
-          ends = λ place low before kind. is.holds.ends place before kind;
-          few_ends = omega (
-            arith,
-            ap (count_by (λ (step : Step). is_derived_kind step.kind)) (take_all (length s.log) s.log (omega arith)),
-            derived-counted s.log,
-            is.holds.few_derived,
-          );
-          few_shown = omega arith;
-          derived = λ place low within. absurd (omega (arith, low, within));
-          shown = λ place low within. absurd (omega (arith, low, within));
-          passed_over = λ place low within. absurd (omega (arith, low, within));
-          apart = λ i j low below within same. absurd (omega (arith, low, below, within));
-        },
-      )
+  counted-log : IsCountedFor asked.problem s.form (sets_of portions) s.log
+  counted-log =
+      subst (λ (p : Problem). IsCountedFor p s.form (sets_of portions) s.log) is.problem
+      (subst (λ (sets : List (List ℕ)). IsCountedFor s.problem s.form sets s.log) is.listed is.counted)
+
+  shows-log : ShowsFront s ending → ending_status ending ≡ 1
+      → Shows (suspect_count asked.problem) asked.problem.k (last_of (sets_of portions)) s.log
+  shows-log shown front =
+      subst (λ (p : Problem). Shows (suspect_count p) p.k (last_of (sets_of portions)) s.log) is.problem
+      (subst (λ (sets : List (List ℕ)). Shows (suspect_count s.problem) s.problem.k (last_of sets) s.log) is.listed (shown front))
 
   few-listed : length s.listed ≡ length found
   few-listed = ap length is.listed ∙ length-map portions (λ portion. portion.set.members)
@@ -100,16 +88,21 @@ module _ (asked : Asked) (s : DebugState) (found : List SetWithValues) (steps : 
     few-here : count_by is_learned s.log + length s.listed ≤ 4000000000
     few-here = omega (arith, few, few_found, few-listed, is.within_budget)
 
+    -- form and log together have a number for each clause
+    few-numbers : length s.form + length s.log < 2 ^ 32
+    few-numbers = omega (arith, is.few, few-here, few-clauses s is.holds, is.holds.few_suspects, is.holds.form.few_variables)
+
     -- its report aside, it is a listing that ended, where the digest is one
-    pub is-ended : IsDigest asked.inputs → IsEnded asked s.form portions (drop steps s.log) ending
-    is-ended digest = record {
+    pub is-ended : IsDigest asked.inputs → ShowsFront s ending → IsEnded asked s.form portions (drop steps s.log) ending
+    is-ended digest shown = record {
       found = is.so_far;
       no_block = is.no_block;
       accepted = subst (IsAccepted s.form (map block_of (sets_of portions))) (sym is.joined) accepted;
-      counted = subst (IsCountedFor asked.problem s.form (sets_of portions)) (sym is.joined) (counted-log asked.problem is.problem
-          (sets_of portions));
+      counted = subst (IsCountedFor asked.problem s.form (sets_of portions)) (sym is.joined) counted-log;
       within_budget = omega (arith, ap (count_by is_learned) is.joined, is.within_budget);
       ends = subst (λ (log : List Step). EndsAs asked (sets_of portions) log ending) (sym is.joined) is.ends;
+      shows = subst (λ (log : List Step). ending_status ending ≡ 1
+          → Shows (suspect_count asked.problem) asked.problem.k (last_of (sets_of portions)) log) (sym is.joined) (shows-log shown);
       readable = subst (λ (log : List Step). IsLogText (record { inputs = asked.inputs; log = log })) (sym is.joined) (record {
         digest = digest;
         steps = written (record { vars = s.vars; form = s.form; blocks = map block_of s.listed; log = s.log }) (record {
@@ -118,7 +111,7 @@ module _ (asked : Asked) (s : DebugState) (found : List SetWithValues) (steps : 
           chainless = chainless s.log is.holds.chainless;
           within = is.holds.log_within;
           few_variables = is.holds.form.few_variables;
-          few_clauses = few-numbers s is.holds few-here;
+          few_clauses = few-numbers;
         });
         distinct = of-steps (λ clause. IsTrue (has_distinct_variables clause)) s.log is.holds.distinct;
       });
@@ -137,7 +130,7 @@ module _ (asked : Asked) (s : DebugState) (found : List SetWithValues) (steps : 
           (ap (map block_of) is.listed ∙ sets-blocks portions ∙ ap blocks_for (sym is.found_are)) is.holds.accepted;
       form_within = is.holds.form_within;
       within = of-blocks (IsWithin s.vars) is.holds.log_within;
-      few = omega (arith, few-steps s is.holds, few-here);
+      few = omega (arith, is.few, few-here, is.holds.few_suspects, is.holds.form.few_variables);
     }
       where
         unmapped : (sets : List SetWithValues) → All (λ clause. IsTrue (has_distinct_variables clause)) (blocks_for sets) → AreSets sets

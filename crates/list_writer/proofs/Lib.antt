@@ -2,8 +2,10 @@ mod Examples
 pub mod Putting
 pub mod Pairs
 pub mod Steps
+pub mod SoFar
 pub mod Turning
 pub mod Ended
+pub mod Finished
 pub mod Silent
 pub mod Runs
 pub mod Others

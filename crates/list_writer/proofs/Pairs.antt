@@ -11,7 +11,7 @@ use Rattle.debug_core.specs.Debugging.{FindsSet, IsDebugger, Searches}
 use Rattle.list_writer.specs.declared.stop.Stop.{Stop}
 use Rattle.list_writer.specs.declared.stop.Stop.TheVariants as stop
 use Rattle.list_writer.specs.Due.{set_writes}
-use Rattle.list_writer.specs.Going.{IsTurn, Turn, portion_of, writing}
+use Rattle.list_writer.specs.Going.{IsTurn, Turn, portion_of, takes, writing}
 use Rattle.list_writer.specs.Stops.{stopped}
 use Rattle.write_order.specs.Writes.{AreBegun, AreDone, Leaves, Outputs, Write, put_piece}
 use Rattle.write_order.proofs.Carried.{begun-within, stops-within}
@@ -66,13 +66,13 @@ module _ (t : Turn) (set : SetWithValues) (holds : IsDebugger t.new) (searches :
       record {
         holds = holds;
         searches = searches;
-        answer = record {
+        answer = takes (record {
           set = set;
           finds = finds;
           kept = kept;
           steps_are = steps;
           done = left;
-        };
+        });
       }
   set-taken (Err Failed) x is kept steps left = absurd (cc)
   set-taken (Err NoMemory) x is kept steps left = absurd (cc)

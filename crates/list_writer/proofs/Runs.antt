@@ -17,7 +17,9 @@ use Rattle.report_doc.specs.Shape.{IsReport}
 use Rattle.set_enum.specs.Sets.{block_of}
 use Rattle.write_order.specs.declared.write.WriteErr.{WriteErr}
 use Rattle.write_order.specs.declared.write.WriteErr.TheVariants as write
-use Rattle.write_order.specs.Writes.{AreBegun, AreDone, Leaves, Outputs, StopsIn, Write, begin_text, print_piece, put_piece}
+use Rattle.command_contract.specs.Contract.{Counts, NoneRose}
+use Rattle.io_ports.specs.Faults.{FaultCounts}
+use Rattle.write_order.specs.Writes.{AreBegun, AreDone, Leaves, Outputs, StopsIn, Write, WriteCause, begin_text, print_piece, put_piece}
 use Rattle.write_order.proofs.Carried.{done-then, stops-then, stops-within}
 use Rattle.debug_core.specs.Debugging.{Begins, DebugState, IsDebugger, IsFrontOf}
 use Rattle.debug_core.specs.Problems.{IsFormFor, Problem}
@@ -31,13 +33,13 @@ use Rattle.list_writer.specs.Lines.{ending_line, memory_line}
 use Rattle.list_writer.specs.Due.{IsCut, IsListedTo, IsStopped, ended, going_on}
 use Rattle.list_writer.specs.Due.{opening, prints, sets_in, so_far, texts, wanting, whole}
 use Rattle.list_writer.specs.Going.{AreCut, HasEnded, IsSearched, RunLeaves, SearchCut, SearchEnds}
-use Rattle.list_writer.specs.Going.{SearchFails, Searched, StopsShort, TellsMemory}
+use Rattle.list_writer.specs.Going.{SearchFails, Searched, StopCauses, StopsShort, TellsMemory, WriteCauses}
 use Rattle.list_writer.specs.Going.{closing_writes, outputs, searched_of, sets_writes}
 use Rattle.list_writer.specs.Outcomes.{Leaves as Ends}
 use Rattle.list_writer.specs.Stops.{stopped}
 use Rattle.list_writer.specs.Texts.{report_for, waved_for}
 use Rattle.list_writer.proofs.Silent.{AreSilent, silent-print, waves-silent}
-use Rattle.list_writer.proofs.Turning.{prints-sets}
+use Rattle.list_writer.proofs.SoFar.{prints-sets}
 use Rattle.set_waves.specs.Waved.{AreRuns, Runs}
 
 abbrev Texts : Type 0
@@ -378,6 +380,27 @@ pub stopped-on_ok : (P : Type 0) (r : Result (Unit {0}) WriteErr) (sets : Option
 stopped-on_ok P (Ok y) sets x same is = is
 stopped-on_ok P (Err write.Failed) sets x same is = absurd (cc)
 stopped-on_ok P (Err write.NoMemory) sets x same is = absurd (cc)
+
+-- the counts of faults
+pub stopped-same : (old new : FaultCounts) (r : Result (Unit {0}) WriteErr) (sets : Option ℕ) (x : Unit {0}) → stopped r sets ≡ Ok x
+    → WriteCause old new r → new ≡ old
+stopped-same old new (Ok y) sets x same cause = cause
+stopped-same old new (Err write.Failed) sets x same cause = absurd (cc)
+stopped-same old new (Err write.NoMemory) sets x same cause = absurd (cc)
+
+pub stopped-none : (counts : Counts) (r : Result (Unit {0}) WriteErr) (sets : Option ℕ) (x : Unit {0}) → stopped r sets ≡ Ok x
+    → WriteCauses counts r → NoneRose counts
+stopped-none counts (Ok y) sets x same causes = causes
+stopped-none counts (Err write.Failed) sets x same causes = absurd (cc)
+stopped-none counts (Err write.NoMemory) sets x same causes = absurd (cc)
+
+pub stopped-causes : (counts : Counts) (r : Result (Unit {0}) WriteErr) (sets : Option ℕ) (why : Stop) → stopped r sets ≡ Err why
+    → WriteCauses counts r → StopCauses {X = Unit {0}} counts (Err why)
+stopped-causes counts (Ok y) sets why same causes = absurd (cc)
+stopped-causes counts (Err write.Failed) sets Failed same causes = causes
+stopped-causes counts (Err write.Failed) sets (Memory n) same causes = absurd (cc)
+stopped-causes counts (Err write.NoMemory) sets Failed same causes = absurd (cc)
+stopped-causes counts (Err write.NoMemory) sets (Memory n) same causes = causes
 
 module _ (asked : Asked) (s : DebugState) (holds : IsDebugger s) (begins : Begins asked.problem s) where
   pub begin-stopped : (o : Outputs) (r : Result (Unit {0}) WriteErr) (why : Stop) → stopped r None ≡ Err why

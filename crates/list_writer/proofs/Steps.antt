@@ -36,21 +36,6 @@ blocks_of-append one next =
     ap (map (λ (step : Step). step.clause)) (filter-append is_block one next)
     ∙ map-append (λ (step : Step). step.clause) (filter is_block one) (filter is_block next)
 
-same-derived : (kind : StepKind) → is_derived_kind kind ≡ is_derived_there kind
-same-derived Block = refl
-same-derived Learned = refl
-same-derived Derived = refl
-
-pub derived-counted : (log : List Step) → count_by (λ (step : Step). is_derived_kind step.kind) log ≡ count_by is_derived log
-derived-counted [] = refl
-derived-counted (s ∷ log) = omega (
-  arith,
-  sum_by-cons (λ (x : Step). cond (is_derived_kind x.kind) 1 0) s log,
-  sum_by-cons (λ (x : Step). cond (is_derived x) 1 0) s log,
-  ap {B = ℕ} (λ b. cond b 1 0) (same-derived s.kind),
-  derived-counted log,
-)
-
 no-chain : (kind : StepKind) (step : Step) → HasNoChainThere kind step → HasNoChain kind step
 no-chain Block step none = none
 no-chain Learned step none = none

@@ -1,6 +1,5 @@
 -- What is found of a problem's list, with the log that shows it: so far, and when the listing has ended.
-use Rattle.std.specs.Prelude.{ℕ, ◌≡◌, ◌+◌, ◌-◌, ◌<◌, ◌≤◌, List, [], ◌∷◌, ◌++◌, All, length, map, count_by, slice_get}
-use Rattle.std.specs.Option.{option_map_or}
+use Rattle.std.specs.Prelude.{ℕ, ◌≡◌, ◌+◌, ◌<◌, ◌≤◌, List, [], ◌∷◌, ◌++◌, All, length, map, count_by}
 use Rattle.std.specs.List.{flat_map}
 use Rattle.design_core.specs.declared.values.SetWithValues.{SetWithValues}
 use Rattle.design_core.specs.Explained.{AreValuesOf, Explains}
@@ -16,9 +15,11 @@ use Rattle.set_enum.specs.Bounds.{bound_of, bounds_of}
 use Rattle.set_enum.specs.Sets.{block_of}
 use Rattle.report_doc.specs.declared.types.Ending.{Ending}
 use Rattle.report_doc.specs.declared.types.Ending.TheVariants.{Complete, Budget, Sets, Earlier}
+use Rattle.card_counter.specs.Shows.{Shows, last_of}
 use Rattle.debug_core.specs.Problems.{Problem, suspect_count, suspects_of}
 use Rattle.debug_core.specs.Debugging.{IsFrontOf, IsListOf}
 use Rattle.list_writer.specs.Asked.{Asked}
+use Rattle.list_writer.specs.Lines.{ending_status}
 
 -- ---- a set
 -- a set that was found, with the steps that the log grew by from the set before it on
@@ -54,10 +55,6 @@ pub record AreFound (p : Problem) (form : List (List Lit)) (portions : List Port
   pub accepted : IsAccepted form (map block_of (sets_of portions)) (log_of portions)
 
 -- ---- at the end
--- the members of the last set, none where there is no set
-abbrev pub last_of : List (List ℕ) → List ℕ
-last_of sets = option_map_or (λ set. set) (slice_get sets (length sets - 1)) []
-
 -- the learned steps of a log of the problem are fresh, and its derived steps are few
 abbrev pub IsCountedFor : Problem → List (List Lit) → List (List ℕ) → List Step → Type 0
 IsCountedFor p form sets log =
@@ -83,5 +80,8 @@ pub record IsEnded (asked : Asked) (form : List (List Lit)) (portions : List Por
   pub counted : IsCountedFor asked.problem form (sets_of portions) (log_of portions ++ rest)
   pub within_budget : count_by is_learned (log_of portions ++ rest) ≤ asked.budget
   pub ends : EndsAs asked (sets_of portions) (log_of portions ++ rest) ending
+  -- where the list isn't whole, the log shows that no set is missing before the last one
+  pub shows : ending_status ending ≡ 1
+      → Shows (suspect_count asked.problem) asked.problem.k (last_of (sets_of portions)) (log_of portions ++ rest)
   -- the text of the log stands for this log alone
   pub readable : IsLogText (record { inputs = asked.inputs; log = log_of portions ++ rest })

@@ -1,5 +1,5 @@
 -- Private, for the functions inside this crate: what is known while sets are listed.
-use Rattle.std.specs.Prelude.{ℕ, ◌≡◌, ◌+◌, ◌≤◌, ◌⊎◌, Bool, true, false, List, [], ◌∷◌, ◌++◌, All, length, take, drop, count_by}
+use Rattle.std.specs.Prelude.{ℕ, ◌≡◌, ◌+◌, ◌<◌, ◌≤◌, ◌⊎◌, Bool, true, false, List, [], ◌∷◌, ◌++◌, All, length, take, drop, count_by}
 use Rattle.std.specs.Prelude.{Option, Some, None, Result, Ok, Err}
 use Rattle.std.specs.List.{flat_map}
 use Rattle.design_core.specs.declared.values.SetWithValues.{SetWithValues}
@@ -15,15 +15,18 @@ use Rattle.write_order.specs.declared.write.WriteErr.TheVariants as write
 use Rattle.report_doc.specs.declared.types.Ending.{Ending}
 use Rattle.report_doc.specs.declared.types.Ending.TheVariants.{Complete, Budget, Sets, Earlier}
 use Rattle.command_contract.specs.Contract.{Counts, NoneRose, WriteFailed}
-use Rattle.debug_core.specs.Problems.{IsFormFor}
-use Rattle.debug_core.specs.Debugging.{DebugState, FindsEnd, FindsNothing, FindsSet, IsDebugger, Searches}
+use Rattle.debug_core.specs.declared.found.Found.{Found}
+use Rattle.debug_core.specs.declared.found.Found.TheVariants as answer
+use Rattle.card_counter.specs.Shows.{Shows, last_of}
+use Rattle.debug_core.specs.Problems.{IsFormFor, suspect_count}
+use Rattle.debug_core.specs.Debugging.{DebugState, FindsEnd, FindsNothing, FindsSet, HasCountedLog, IsDebugger, Searches}
 use Rattle.list_writer.specs.declared.stop.Stop.{Stop}
 use Rattle.list_writer.specs.declared.stop.Stop.TheVariants.{Failed, Memory}
 use Rattle.list_writer.specs.declared.outcome.Outcome.{Outcome}
 use Rattle.list_writer.specs.declared.outcome.Outcome.TheVariants as outcome
 use Rattle.list_writer.specs.Asked.{Asked}
-use Rattle.list_writer.specs.Found.{AreFound, EndsAs, HasItsBlock, IsShown, Portion, found_of, log_of, sets_of}
-use Rattle.list_writer.specs.Lines.{ending_line, memory_line}
+use Rattle.list_writer.specs.Found.{AreFound, EndsAs, IsShown, Portion, found_of, log_of, sets_of}
+use Rattle.list_writer.specs.Lines.{ending_line, ending_status, memory_line}
 use Rattle.list_writer.specs.Texts.{report_of, waves}
 use Rattle.set_waves.specs.Waved.{Runs}
 use Rattle.list_writer.specs.Due.{IsBody, IsListedTo, IsStopped, prints, set_writes, sets_in}
@@ -59,18 +62,20 @@ closing_writes asked found rest ending runs =
     ∷ (waves asked found runs ++ print_piece (ending_line ending (length found)) ∷ [])
 
 -- ---- between two sets
--- all that the search put into its log is written, and so are the lines of all sets that were found
+-- the log is written up to a place, with no block behind it, and so are the lines of all sets that were found
 pub record IsGoing (asked : Asked) (s : DebugState) (found : List SetWithValues) (steps left : ℕ) (portions : List Portion) : Type 0 where
   pub holds : IsDebugger s
   pub problem : s.problem ≡ asked.problem
   pub found_are : found ≡ found_of portions
   pub listed : s.listed ≡ sets_of portions
-  pub written : s.log ≡ log_of portions
-  pub steps_are : steps ≡ length s.log
+  pub within : steps ≤ length s.log
+  pub written : take steps s.log ≡ log_of portions
+  pub no_block : blocks_of (drop steps s.log) ≡ []
   pub shown : All (IsShown asked.problem) found
-  pub blocks : All HasItsBlock portions
+  pub so_far : AreFound asked.problem s.form portions
   pub units : count_by is_learned s.log + left ≡ asked.budget
   pub goes_on : s.ended ≡ false
+  pub unfinished : s.finished ≡ false
 
 -- sets that were found, and their writes
 pub record SearchGoes (asked : Asked) (s : DebugState) (found : List SetWithValues) (steps left : ℕ) (o : Outputs)
@@ -93,6 +98,12 @@ pub record Turn : Type 0 where
   pub now_left : ℕ
   pub o : Outputs
   pub told : Bool
+
+-- what an answer to a slice of the budget says, where so many units were left before it and so many are behind it
+abbrev pub GivesInSlice : DebugState → DebugState → ℕ → ℕ → Found → Type 0
+GivesInSlice old new left now_left (answer.Set set) = FindsSet old new set
+GivesInSlice old new left now_left answer.End = FindsEnd old new
+GivesInSlice old new left now_left answer.Spent = FindsNothing old new × (0 < now_left → now_left < left)
 
 -- what is kept between two turns: the sets, how many steps are written, and the units that are left
 pub record Kept : Type 0 where
@@ -133,6 +144,16 @@ pub record Rests (t : Turn) : Type 0 where
   pub steps_are : t.now_steps ≡ t.steps
   pub done : t.told ≡ true → AreDone [] t.o
 
+-- a slice of the budget is spent, and units are left beside it: nothing was found, and what the log grew by isn't written yet
+pub record WaitsTurn (t : Turn) : Type 0 where
+  pub finds : FindsNothing t.old t.new
+  pub fewer : t.now_left < t.left
+  pub rests : Rests t
+
+pub data GoesOn (t : Turn) : Type 0 where
+  takes : TakesSet t → GoesOn t
+  waits : WaitsTurn t → GoesOn t
+
 abbrev pub EndsTurn : Turn → Ending → Type 0
 EndsTurn t Complete = FindsEnd t.old t.new × Rests t
 EndsTurn t Budget = (t.now_left ≡ 0) × FindsNothing t.old t.new × Rests t
@@ -152,7 +173,7 @@ pub data CutsTurn (t : Turn) : Type 0 where
       → CutsTurn t
 
 abbrev pub Turns : Turn → Result (Option Ending) Stop → Type 0
-Turns t (Ok None) = TakesSet t
+Turns t (Ok None) = GoesOn t
 Turns t (Ok (Some ending)) = EndsTurn t ending
 Turns t (Err Failed) = FailsTurn t
 Turns t (Err (Memory sets)) = (sets ≡ Some (length t.found)) × CutsTurn t
@@ -172,10 +193,18 @@ pub record HasEnded (asked : Asked) (s : DebugState) (found : List SetWithValues
   pub listed : s.listed ≡ sets_of portions
   pub shown : All (IsShown asked.problem) found
   pub so_far : AreFound asked.problem s.form portions
+  pub within : steps ≤ length s.log
   pub joined : log_of portions ++ drop steps s.log ≡ s.log
   pub no_block : blocks_of (drop steps s.log) ≡ []
+  -- few steps of it are derived ones
+  pub counted : HasCountedLog s
+  pub few : length s.log ≤ count_by is_learned s.log + 9 + length s.listed + suspect_count s.problem
   pub within_budget : count_by is_learned s.log ≤ asked.budget
   pub ends : EndsAs asked (sets_of portions) s.log ending
+
+-- the log of a list that isn't whole shows that no set is missing before the last one
+abbrev pub ShowsFront : DebugState → Ending → Type 0
+ShowsFront s ending = ending_status ending ≡ 1 → Shows (suspect_count s.problem) s.problem.k (last_of s.listed) s.log
 
 -- what a search of sets knows at its end, and what it wrote
 pub record Searched : Type 0 where

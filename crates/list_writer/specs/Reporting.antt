@@ -2,7 +2,7 @@
 use Rattle.std.specs.Prelude.{◌≤◌, List, All}
 use Rattle.design_core.specs.declared.trace.Trace.{Trace}
 use Rattle.design_core.specs.declared.values.SetWithValues.{SetWithValues}
-use Rattle.found_report.specs.Found.{HasRows}
+use Rattle.report_sets.specs.Found.{HasRows}
 use Rattle.report_doc.specs.Lines.{AreWithin}
 use Rattle.report_doc.specs.Shape.{AreKinds}
 use Rattle.list_writer.specs.Asked.{Asked}

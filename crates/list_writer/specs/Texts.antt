@@ -5,7 +5,7 @@ use Rattle.report_doc.specs.declared.types.Ending.{Ending}
 use Rattle.report_doc.specs.declared.types.Report.{Report}
 use Rattle.report_doc.specs.Document.{text_of}
 use Rattle.report_doc.specs.Lines.{set_lines}
-use Rattle.found_report.specs.Found.{set_of, suspect_of}
+use Rattle.report_sets.specs.Found.{set_of, suspect_of}
 use Rattle.write_order.specs.Writes.{Write}
 use Rattle.set_waves.specs.Waved.{Runs, Waved}
 use Rattle.set_waves.specs.Writes.{waves_of}

@@ -5,12 +5,11 @@ ghost use Rattle.set_enum.specs.Sets.{block_of};
 ghost use Rattle.list_writer.specs.Checks.{AreSets, CanBeChecked, blocks_for};
 ghost use Rattle.list_writer.specs.Jobs.{IsUpTo};
 
-use crate::job::Tools;
 use crate::search::Search;
 use clause_base::{Clause, Lit};
 use design_core::SetWithValues;
-use loc_base::{Gate, NoMemory};
-use proof_check::check_log_parallel;
+use loc_base::{Gate, NoMemory, Workers};
+use proof_check::{Claim, check_log_parallel};
 use std::alloc::Global;
 use std::thread::Threads;
 
@@ -44,26 +43,21 @@ fn blocks_of(alloc: Global, found: &[SetWithValues]) -> Result<Vec<Clause>, NoMe
 /// Checks the log after the form, with the blocks of the sets that were found. It is accepted, so that nothing but want of memory
 /// is answered.
 pub(crate) fn check_log<R: Threads + Sync, G: Gate + Sync, D: Search>(
-    tools: &Tools<R, G>,
+    alloc: Global,
+    workers: &Workers<R, G>,
     search: &D,
     found: &[SetWithValues],
 ) -> Result<(), NoMemory>
-    requires workers { IsUpTo 64 tools.now.workers }
+    requires workers { IsUpTo 64 workers.now.count }
     requires can { CanBeChecked (D.state search.now) found.now }
 {
-    let blocks = blocks_of(tools.alloc, found)?;
-    let form = search.form();
-    let log = search.log();
-    let refused = check_log_parallel(
-        tools.runtime,
-        tools.alloc,
-        form,
-        &blocks,
-        log,
-        tools.workers,
-        tools.gate,
-    )?;
-    match refused {
+    let blocks = blocks_of(alloc, found)?;
+    let claim = Claim {
+        form: search.form(),
+        blocks: &blocks,
+        log: search.log(),
+    };
+    match check_log_parallel(alloc, workers, &claim)? {
         None => Ok(()),
         Some(_) => unreachable!(),
     }

@@ -1,6 +1,5 @@
 use debug_core::Question;
 use loc_base::{Digest, Name};
-use std::alloc::Global;
 
 /// What a listing is asked.
 #[derive(Clone, Copy)]
@@ -29,13 +28,4 @@ pub struct Job<'a> {
 pub struct Task<'a, D> {
     pub job: Job<'a>,
     pub search: D,
-}
-
-/// What a listing works with. So many workers, from 1 to 64, check the log; each passes the gate.
-#[derive(Drop)]
-pub struct Tools<'a, R, G> {
-    pub alloc: Global,
-    pub runtime: &'a R,
-    pub gate: &'a G,
-    pub workers: u32,
 }

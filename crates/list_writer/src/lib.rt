@@ -8,13 +8,15 @@ mod laws;
 mod lines;
 mod listing;
 mod outcome;
+mod progress;
 mod report;
 mod search;
+mod slice;
 mod stop;
 mod waving;
 mod writes;
 
-pub use job::{Job, Task, Tools};
+pub use job::{Job, Task};
 pub use laws::{enough_is_whole, listed_texts};
 pub use listing::list;
 pub use outcome::Outcome;

@@ -1,12 +1,13 @@
 //! The listing: sets are searched for, and each is written as it is found.
-ghost use Rattle.std.specs.Prelude.{◌≡◌, ◌≢◌, ◌<◌, ◌≤◌, ◌∷◌, [], ◌++◌, ◌&&◌, All, IsSome, List, OnOk, Option, drop, length, true, ℕ};
-ghost use Rattle.command_contract.specs.Contract.{counts_of};
+ghost use Rattle.std.specs.Prelude.{◌≡◌, ◌≢◌, ◌<◌, ◌≤◌, ◌∷◌, [], ◌++◌, ◌&&◌, ◌↔◌, All, Bool, IfOk, IsSome, IsTrue, List, OnOk, Option, drop, false, length, true, ℕ};
+ghost use Rattle.command_contract.specs.Contract.{Counts, NoneRose, counts_of};
 ghost use Rattle.debug_core.specs.Debugging.{Begins, HasRoom, IsDebugger};
 ghost use Rattle.report_doc.specs.Lines.{AreWithin, IsMemberOf};
 ghost use Rattle.report_doc.specs.Shape.{IsReport};
-ghost use Rattle.write_order.specs.Writes.{Leaves, WriteCause, on_shelf, on_sink};
+ghost use Rattle.write_order.specs.Writes.{Leaves, Outputs, WriteCause, on_shelf, on_sink};
 ghost use Rattle.list_writer.specs.Due.{set_writes};
-ghost use Rattle.list_writer.specs.Going.{IsTurn, IsSearched, MemoryCause, RunLeaves, StopCauses, TellsMemory};
+ghost use Rattle.list_writer.specs.Going.{IsTurn, IsSearched, MemoryCause, RunLeaves, SearchEnds, ShowsFront, StopCauses, TellsMemory};
+ghost use Rattle.list_writer.specs.Lines.{ending_status};
 ghost use Rattle.list_writer.specs.Going.{WriteCauses, closing_writes, outputs, report_writes, searched_of, turn_of};
 ghost use Rattle.list_writer.specs.Jobs.{IsJob, IsUpTo, asked_of};
 ghost use Rattle.list_writer.specs.Outcomes.{Leaves as Ends, OutcomeCause};
@@ -17,10 +18,12 @@ ghost use Rattle.set_waves.specs.Names.{IsWave};
 ghost use Rattle.set_waves.specs.Waved.{AreRuns, CanBeWaved, HaveValues, Runs};
 
 use crate::checking::check_log;
-use crate::job::{Job, Task, Tools};
+use crate::job::{Job, Task};
 use crate::outcome::Outcome;
+use crate::progress::Sizes;
 use crate::report::text_of_report;
 use crate::search::Search;
+use crate::slice::next_in_slice;
 use crate::stop::{Stop, stopped};
 use crate::waving::waves_under;
 use crate::writes::{
@@ -29,15 +32,15 @@ use crate::writes::{
 use debug_core::Found;
 use design_core::SetWithValues;
 use io_ports::{Shelf, Sink};
-use loc_base::{Gate, NoMemory};
+use loc_base::{Gate, NoMemory, Workers};
+use refusal::{Note, Notes};
 use report_doc::types::Ending;
-use sat_core::Budget;
 use set_waves::put_waves;
 use std::alloc::Global;
 use std::thread::Threads;
 use write_order::{WriteErr, begin_text, put_piece};
 
-/// A listing that goes on: what is found so far, how many steps of the log are written, and what is left of the budget.
+/// A listing that goes on: what is found so far, how many steps of the log are written, and the units that are left of the budget.
 #[derive(Drop)]
 struct Listing<'a, D> {
     alloc: Global,
@@ -45,7 +48,7 @@ struct Listing<'a, D> {
     search: D,
     found: Vec<SetWithValues>,
     steps: usize,
-    budget: Budget,
+    left: u32,
 }
 
 impl<'a, D: Search + Drop> Listing<'a, D> {
@@ -61,7 +64,7 @@ impl<'a, D: Search + Drop> Listing<'a, D> {
         requires within { AreWithin (asked_of self.old.job).problem.design.places.items (asked_of self.old.job).problem.groups }
         ensures job { self.new.job ≡ self.old.job }
         ensures search { self.new.search ≡ self.old.search }
-        ensures budget { self.new.budget ≡ self.old.budget }
+        ensures units { self.new.left ≡ self.old.left }
         ensures kept { OnOk result (self.new.found.items ≡ self.old.found.items ++ set ∷ []) }
         ensures steps { OnOk result (self.new.steps ≡ length (D.state self.old.search).log) }
         ensures tells_shelf { S.tells shelf.new ≡ S.tells shelf.old }
@@ -90,13 +93,14 @@ impl<'a, D: Search + Drop> Listing<'a, D> {
         Ok(())
     }
 
-    /// Searches for the next set and writes it; an ending where there is none.
+    /// Searches for the next set and writes it; an ending where there is none. Where a slice of the budget is spent and others are left,
+    /// there is neither a set nor an ending.
     fn advance<S: Shelf, O: Sink>(
         &mut self,
         shelf: &mut S,
         out: &mut O,
     ) -> Result<Option<Ending>, Stop>
-        requires room { HasRoom (D.state self.old.search) self.old.budget }
+        requires room { HasRoom (D.state self.old.search) self.old.left }
         requires problem { (D.state self.old.search).problem ≡ (asked_of self.old.job).problem }
         requires begun { S.tells shelf.old ≡ true → IsSome (S.written shelf.old self.old.job.log.now) }
         ensures job { self.new.job ≡ self.old.job }
@@ -105,32 +109,47 @@ impl<'a, D: Search + Drop> Listing<'a, D> {
         ensures texts { S.texts shelf.new ≡ S.texts shelf.old }
         ensures begun { S.tells shelf.old ≡ true → OnOk result (IsSome (S.written shelf.new self.old.job.log.now)) }
         ensures turn { IsTurn (turn_of (asked_of self.old.job) (D.state self.old.search) (D.state self.new.search)
-            (record { found = self.old.found.items; steps = self.old.steps; left = self.old.budget })
-            (record { found = self.new.found.items; steps = self.new.steps; left = self.new.budget })
+            (record { found = self.old.found.items; steps = self.old.steps; left = self.old.left })
+            (record { found = self.new.found.items; steps = self.new.steps; left = self.new.left })
             (outputs (S.written shelf.old) (S.written shelf.new) (O.written out.old) (O.written out.new))
             (S.tells shelf.old && O.tells out.old)) result }
         ensures causes { StopCauses (counts_of (S.faults shelf.old) (S.faults shelf.new) (O.faults out.old) (O.faults out.new)) result }
     {
-        match self.search.next(&mut self.budget) {
+        match next_in_slice(&mut self.search, &mut self.left) {
             Ok(Found::Set(set)) => {
                 let count = self.found.len();
                 stopped(self.take(set, shelf, out), Some(count))?;
                 Ok(None)
             }
             Ok(Found::End) => Ok(Some(Ending::Complete)),
+            Ok(Found::Spent) if self.left > 0 => Ok(None),
             Ok(Found::Spent) => Ok(Some(Ending::Budget)),
             Err(NoMemory) => Err(Stop::Memory(Some(self.found.len()))),
         }
     }
 
+    /// Tells how far the search is.
+    fn tell_progress<N: Notes>(&self, sizes: &mut Sizes, notes: &mut N) {
+        notes.note(&Note::Progress {
+            size: sizes.size(self.search.log()),
+            sets: u32::try_from(self.found.len()).unwrap_or(u32::MAX),
+            steps: self.job.budget.saturating_sub(self.left),
+        });
+    }
+
     /// Searches until the list is whole, the budget is spent, or as many sets are found as were asked for.
-    fn search_on<S: Shelf, O: Sink>(&mut self, shelf: &mut S, out: &mut O) -> Result<Ending, Stop>
+    fn search_sets<S: Shelf, O: Sink, N: Notes>(
+        &mut self,
+        shelf: &mut S,
+        out: &mut O,
+        notes: &mut N,
+    ) -> Result<Ending, Stop>
         requires job { IsJob (asked_of self.old.job) }
         requires begins { Begins (asked_of self.old.job).problem (D.state self.old.search) }
         requires holds { IsDebugger (D.state self.old.search) }
         requires found { self.old.found.items ≡ [] }
         requires steps { self.old.steps ≡ 0 }
-        requires units { self.old.budget ≡ self.old.job.budget }
+        requires units { self.old.left ≡ self.old.job.budget }
         requires begun { S.tells shelf.old ≡ true → IsSome (S.written shelf.old self.old.job.log.now) }
         ensures job { self.new.job ≡ self.old.job }
         ensures tells_shelf { S.tells shelf.new ≡ S.tells shelf.old }
@@ -141,28 +160,82 @@ impl<'a, D: Search + Drop> Listing<'a, D> {
             self.new.found.items self.new.steps
             (outputs (S.written shelf.old) (S.written shelf.new) (O.written out.old) (O.written out.new))
             (S.tells shelf.old && O.tells out.old)) result }
+        ensures goes_on { IfOk result (λ ending. ending_status ending ≡ 1 → (D.state self.new.search).ended ≡ false) }
+        ensures unfinished { OnOk result ((D.state self.new.search).finished ≡ false) }
         ensures causes { StopCauses (counts_of (S.faults shelf.old) (S.faults shelf.new) (O.faults out.old) (O.faults out.new)) result }
     {
+        let mut sizes = Sizes::new();
         while self.found.len() < self.job.sets as usize {
             match self.advance(shelf, out)? {
-                None => {}
+                None => self.tell_progress(&mut sizes, notes),
                 Some(ending) => return Ok(ending),
             }
         }
         Ok(Ending::Sets)
     }
 
+    /// Appends to the log of a list that isn't whole what shows that no set is missing before the last one, and answers the ending.
+    fn finish(&mut self, ending: Ending) -> Result<Ending, Stop>
+        requires front { ending_status ending ≡ 1 }
+        requires goes_on { (D.state self.old.search).ended ≡ false }
+        requires unfinished { (D.state self.old.search).finished ≡ false }
+        ensures job { self.new.job ≡ self.old.job }
+        ensures left { (o : Outputs) (told : Bool)
+            → SearchEnds (searched_of (asked_of self.old.job) (D.state self.old.search) self.old.found.items self.old.steps o told) ending
+            → IsSearched (searched_of (asked_of self.old.job) (D.state self.new.search) self.new.found.items self.new.steps o told) result }
+        ensures shown { IfOk result (ShowsFront (D.state self.new.search)) }
+        ensures causes { (counts : Counts) → NoneRose counts → StopCauses counts result }
+    {
+        match self.search.finish() {
+            Ok(()) => Ok(ending),
+            Err(NoMemory) => Err(Stop::Memory(Some(self.found.len()))),
+        }
+    }
+
+    /// Searches for sets, and finishes the log where the list isn't whole by then.
+    fn search_on<S: Shelf, O: Sink, N: Notes>(
+        &mut self,
+        shelf: &mut S,
+        out: &mut O,
+        notes: &mut N,
+    ) -> Result<Ending, Stop>
+        requires job { IsJob (asked_of self.old.job) }
+        requires begins { Begins (asked_of self.old.job).problem (D.state self.old.search) }
+        requires holds { IsDebugger (D.state self.old.search) }
+        requires found { self.old.found.items ≡ [] }
+        requires steps { self.old.steps ≡ 0 }
+        requires units { self.old.left ≡ self.old.job.budget }
+        requires begun { S.tells shelf.old ≡ true → IsSome (S.written shelf.old self.old.job.log.now) }
+        ensures job { self.new.job ≡ self.old.job }
+        ensures tells_shelf { S.tells shelf.new ≡ S.tells shelf.old }
+        ensures tells_sink { O.tells out.new ≡ O.tells out.old }
+        ensures texts { S.texts shelf.new ≡ S.texts shelf.old }
+        ensures begun { S.tells shelf.old ≡ true → OnOk result (IsSome (S.written shelf.new self.old.job.log.now)) }
+        ensures left { IsSearched (searched_of (asked_of self.old.job) (D.state self.new.search)
+            self.new.found.items self.new.steps
+            (outputs (S.written shelf.old) (S.written shelf.new) (O.written out.old) (O.written out.new))
+            (S.tells shelf.old && O.tells out.old)) result }
+        ensures shown { IfOk result (ShowsFront (D.state self.new.search)) }
+        ensures causes { StopCauses (counts_of (S.faults shelf.old) (S.faults shelf.new) (O.faults out.old) (O.faults out.new)) result }
+    {
+        let ending = self.search_sets(shelf, out, notes)?;
+        if is_front(ending) {
+            return self.finish(ending);
+        }
+        Ok(ending)
+    }
+
     /// Checks the log of a list that is whole.
     fn check<R: Threads + Sync, G: Gate + Sync>(
         &self,
-        tools: &Tools<R, G>,
+        workers: &Workers<R, G>,
         ending: Ending,
     ) -> Result<(), NoMemory>
-        requires workers { IsUpTo 64 tools.now.workers }
+        requires workers { IsUpTo 64 workers.now.count }
         requires can { CanBeChecked (D.state self.now.search) self.now.found.items }
     {
         match ending {
-            Ending::Complete => check_log(tools, &self.search, &self.found),
+            Ending::Complete => check_log(self.alloc, workers, &self.search, &self.found),
             Ending::Budget | Ending::Sets | Ending::Earlier => Ok(()),
         }
     }
@@ -212,11 +285,12 @@ impl<'a, D: Search + Drop> Listing<'a, D> {
     }
 
     /// Writes what stands behind the search: the rest of the log, the report, the waves, and the last line.
-    fn close<S: Shelf, O: Sink>(
+    fn close<S: Shelf, O: Sink, N: Notes>(
         &self,
         ending: Ending,
         shelf: &mut S,
         out: &mut O,
+        notes: &mut N,
     ) -> Result<(), WriteErr>
         requires begun { S.tells shelf.old ≡ true → IsSome (S.written shelf.old self.now.job.log.now) }
         requires report { CanBeReported (asked_of self.now.job) self.now.found.items }
@@ -238,25 +312,30 @@ impl<'a, D: Search + Drop> Listing<'a, D> {
             before: self.steps,
         };
         put_steps(self.alloc, &self.job, &rest, shelf)?;
+        notes.note(&Note::Written { name: self.job.log });
         self.put_report(ending, shelf)?;
+        notes.note(&Note::Written {
+            name: self.job.report,
+        });
         self.put_waves(shelf)?;
         print_ending(self.alloc, ending, self.found.len(), out)
     }
 
     /// Lists the sets, and writes all that is due.
-    fn run<R: Threads + Sync, G: Gate + Sync, S: Shelf, O: Sink>(
+    fn run<R: Threads + Sync, G: Gate + Sync, S: Shelf, O: Sink, N: Notes>(
         &mut self,
-        tools: &Tools<R, G>,
+        workers: &Workers<R, G>,
         shelf: &mut S,
         out: &mut O,
+        notes: &mut N,
     ) -> Result<Ending, Stop>
-        requires workers { IsUpTo 64 tools.now.workers }
+        requires workers { IsUpTo 64 workers.now.count }
         requires job { IsJob (asked_of self.old.job) }
         requires begins { Begins (asked_of self.old.job).problem (D.state self.old.search) }
         requires holds { IsDebugger (D.state self.old.search) }
         requires found { self.old.found.items ≡ [] }
         requires steps { self.old.steps ≡ 0 }
-        requires units { self.old.budget ≡ self.old.job.budget }
+        requires units { self.old.left ≡ self.old.job.budget }
         ensures tells_shelf { S.tells shelf.new ≡ S.tells shelf.old }
         ensures tells_sink { O.tells out.new ≡ O.tells out.old }
         ensures texts { S.texts shelf.new ≡ S.texts shelf.old }
@@ -267,13 +346,23 @@ impl<'a, D: Search + Drop> Listing<'a, D> {
     {
         stopped(begin_log(&self.job, shelf), None)?;
         stopped(put_head(self.alloc, &self.job, shelf), Some(0))?;
-        let ending = self.search_on(shelf, out)?;
+        let ending = self.search_on(shelf, out, notes)?;
         let sets = Some(self.found.len());
-        if self.check(tools, ending).is_err() {
+        if self.check(workers, ending).is_err() {
             return Err(Stop::Memory(sets));
         }
-        stopped(self.close(ending, shelf, out), sets)?;
+        stopped(self.close(ending, shelf, out, notes), sets)?;
         Ok(ending)
+    }
+}
+
+/// Whether a list that ended so isn't whole.
+fn is_front(ending: Ending) -> bool
+    ensures { IsTrue result ↔ (ending_status ending ≡ 1) }
+{
+    match ending {
+        Ending::Complete => false,
+        Ending::Budget | Ending::Sets | Ending::Earlier => true,
     }
 }
 
@@ -293,13 +382,15 @@ fn tell_memory<O: Sink>(alloc: Global, sets: Option<usize>, out: &mut O) -> Outc
 
 /// Lists the sets of a problem and writes them as they are found: the log in portions, the lines of each set, the report, the waves,
 /// and the last line. A list is said to be complete only where it is whole and its log was checked.
-pub fn list<R: Threads + Sync, G: Gate + Sync, D: Search + Drop, S: Shelf, O: Sink>(
-    tools: &Tools<R, G>,
+pub fn list<R: Threads + Sync, G: Gate + Sync, D: Search + Drop, S: Shelf, O: Sink, N: Notes>(
+    alloc: Global,
+    workers: &Workers<R, G>,
     task: Task<D>,
     shelf: &mut S,
     out: &mut O,
+    notes: &mut N,
 ) -> Outcome
-    requires workers { IsUpTo 64 tools.now.workers }
+    requires workers { IsUpTo 64 workers.now.count }
     requires job { IsJob (asked_of task.job) }
     requires begins { Begins (asked_of task.job).problem (D.state task.search) }
     requires holds { IsDebugger (D.state task.search) }
@@ -319,16 +410,16 @@ pub fn list<R: Threads + Sync, G: Gate + Sync, D: Search + Drop, S: Shelf, O: Si
 {
     let Task { job, search } = task;
     let mut listing = Listing {
-        alloc: tools.alloc,
+        alloc,
         job,
         search,
-        found: Vec::new(tools.alloc),
+        found: Vec::new(alloc),
         steps: 0,
-        budget: Budget::new(job.budget),
+        left: job.budget,
     };
-    match listing.run(tools, shelf, out) {
+    match listing.run(workers, shelf, out, notes) {
         Ok(ending) => Outcome::Ended(ending),
         Err(Stop::Failed) => Outcome::Failed,
-        Err(Stop::Memory(sets)) => tell_memory(tools.alloc, sets, out),
+        Err(Stop::Memory(sets)) => tell_memory(alloc, sets, out),
     }
 }

@@ -7,10 +7,10 @@ ghost use Rattle.list_writer.specs.Texts.{report_for, report_of};
 
 use crate::job::Job;
 use design_core::SetWithValues;
-use found_report::{Findings, report_of};
 use loc_base::{Bytes, NoMemory};
 use report_doc::report_text;
 use report_doc::types::Ending;
+use report_sets::{Findings, report_of};
 use std::alloc::Global;
 
 /// The text of the report of the sets that were found.

@@ -1,5 +1,7 @@
-ghost use Rattle.std.specs.Prelude.{◌≡◌, IfOk, OnErr};
-ghost use Rattle.debug_core.specs.Debugging.{DebugState, FindsNothing, Gives, HasRoom, IsDebugger, Searches};
+ghost use Rattle.std.specs.Prelude.{◌≡◌, false, length, IfOk, OnErr, OnOk};
+ghost use Rattle.card_counter.specs.Shows.{Shows, last_of};
+ghost use Rattle.debug_core.specs.Problems.{suspect_count};
+ghost use Rattle.debug_core.specs.Debugging.{DebugState, FindsNothing, FinishedSome, Gives, HasCountedLog, HasRoom, IsDebugger, Searches, with_appended};
 
 use clause_base::{Form, Log};
 use debug_core::{Debugger, Found};
@@ -21,6 +23,17 @@ pub trait Search {
         ensures gives { IfOk result (Gives (state self.old) (state self.new) budget.new) }
         ensures err { OnErr result (FindsNothing (state self.old) (state self.new)) };
 
+    /// Appends the steps by which the log shows that no set is missing before the last one. After `NoMemory` the first of them are
+    /// appended, some or none.
+    fn finish(&mut self) -> Result<(), NoMemory>
+        requires { (state self.old).ended ≡ false }
+        ensures holds { IsDebugger (state self.new) }
+        ensures ok { OnOk result (state self.new ≡ with_appended (state self.old) (length (state self.old).certificate)) }
+        ensures err { OnErr result (FinishedSome (state self.old) (state self.new)) }
+        ensures shows { OnOk result (Shows (suspect_count (state self.new).problem) (state self.new).problem.k
+            (last_of (state self.new).listed) (state self.new).log) }
+        ensures counted { OnOk result ((state self.old).finished ≡ false → HasCountedLog (state self.new)) };
+
     /// The form, whose first variables are the suspects' selectors.
     fn form(&self) -> &Form
         ensures variables { result.now.vars ≡ (state self.now).vars }
@@ -36,6 +49,10 @@ impl Search for Debugger<'_> {
 
     fn next(&mut self, budget: &mut Budget) -> Result<Found, NoMemory> {
         Debugger::next(self, budget)
+    }
+
+    fn finish(&mut self) -> Result<(), NoMemory> {
+        Debugger::finish(self)
     }
 
     fn form(&self) -> &Form {

@@ -1,22 +1,16 @@
 -- The digest of the inputs is that of the texts' digests.
 use Rattle.std.proofs.Common.{ℕ, ◌≡◌, List, [], ◌∷◌, ◌++◌, ap, refl, ◌∙◌, Option, Some, None, codes, decimal}
 use Rattle.std.specs.List.{AllZip, flat_map}
-use Rattle.std.specs.Option.{option_copied, option_map_or}
-use Rattle.std.specs.Borrow.{Bor}
+use Rattle.std.specs.Option.{option_map_or}
 use Rattle.hex.specs.Hex.{encode_lower}
 use Rattle.sha2.specs.Sha256.{sha256}
 use Rattle.loc_base.specs.declared.digest.Digest.{Digest}
 use Rattle.command_contract.specs.Contract.{Texts}
-use Rattle.run_digest.specs.Inputs.{joined, line, name_or_nothing, trace_line}
+use Rattle.run_digest.specs.Inputs.{joined, line, trace_line}
 use Rattle.load_texts.specs.Means.{AreKeptOf, IsKeptOf, IsReadAnd}
-use Rattle.load_problem.specs.Asked.{Asked}
+use Rattle.requests.specs.Asked.{WantedAsked}
 use Rattle.load_problem.specs.Within.{digest_text}
 use Rattle.load_problem.specs.Means.{IsDigestOf, hash_line, inputs_text}
-
--- the clock's name
-pub clock-name : (clock : Option (Bor (List ℕ))) → name_or_nothing clock ≡ option_map_or (λ name. name) (option_copied clock) []
-clock-name (Some name) = refl
-clock-name None = refl
 
 -- ---- what is kept of a text
 abbrev pub IsSum : Digest → List ℕ → Type 0
@@ -58,12 +52,12 @@ texts-of texts (name ∷ names) (digest ∷ digests) kept =
     }
 
 -- ---- all of them
-pub is-digest : (asked : Asked) (texts : Texts) (design : Digest) (traces : List Digest) (digest : Digest)
-    → IsKeptOf IsSum texts asked.design design → AreKeptOf IsSum texts asked.traces traces
+pub is-digest : (asked : WantedAsked) (texts : Texts) (design : Digest) (traces : List Digest) (digest : Digest)
+    → IsKeptOf IsSum texts asked.sources.texts.design design → AreKeptOf IsSum texts asked.sources.texts.traces traces
     → digest.bytes ≡ sha256 (digest_text asked design traces) → IsDigestOf asked texts digest
 is-digest asked texts design traces digest of_design of_traces is =
-    let one = text-of texts asked.design design of_design in
-    let all = texts-of texts asked.traces traces of_traces in
+    let one = text-of texts asked.sources.texts.design design of_design in
+    let all = texts-of texts asked.sources.texts.traces traces of_traces in
     record {
       design = one.text;
       design_is = one.is;
@@ -72,18 +66,18 @@ is-digest asked texts design traces digest of_design of_traces is =
       is = is ∙ ap (λ text. sha256 text) (same one all);
     }
   where
-    same : (one : TextOf texts asked.design design) (all : TextsOf texts asked.traces traces)
+    same : (one : TextOf texts asked.sources.texts.design design) (all : TextsOf texts asked.sources.texts.traces traces)
         → digest_text asked design traces ≡ inputs_text asked one.text all.found
     same one all =
         ap (λ (bytes : List ℕ). codes "localise 1\n"
-        ++ (line (codes "top") asked.top
-        ++ (line (codes "clock") (option_map_or (λ name. name) asked.clock [])
+        ++ (line (codes "top") asked.sources.texts.top
+        ++ (line (codes "clock") (option_map_or (λ name. name) asked.sources.clock [])
         ++ (line (codes "kinds") (joined asked.suspects)
         ++ (line (codes "size") (decimal asked.size)
         ++ (line (codes "design") (encode_lower bytes) ++ flat_map trace_line traces)))))) one.sum
         ∙ ap (λ (more : List ℕ). codes "localise 1\n"
-        ++ (line (codes "top") asked.top
-        ++ (line (codes "clock") (option_map_or (λ name. name) asked.clock [])
+        ++ (line (codes "top") asked.sources.texts.top
+        ++ (line (codes "clock") (option_map_or (λ name. name) asked.sources.clock [])
         ++ (line (codes "kinds") (joined asked.suspects)
         ++ (line (codes "size") (decimal asked.size)
         ++ (hash_line (codes "design") one.text ++ more)))))) all.lines

@@ -1,4 +1,3 @@
 pub mod Digests
 pub mod Problems
 pub mod Causes
-pub mod Keeping

@@ -1,6 +1,5 @@
 pub mod Asked
 pub mod Means
 pub mod Refusals
-pub mod Lines
-pub mod Ends
+pub mod Inputs
 pub mod Within

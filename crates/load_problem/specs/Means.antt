@@ -13,7 +13,7 @@ use Rattle.front_end.specs.Means.{Meaning}
 use Rattle.load_texts.specs.Means.{MeansDesign, MeanTraces}
 use Rattle.debug_core.specs.Problems.{Problem}
 use Rattle.run_digest.specs.Inputs.{joined, line}
-use Rattle.load_problem.specs.Asked.{Asked, sources_of}
+use Rattle.requests.specs.Asked.{WantedAsked}
 
 -- which suspects the kinds of these names make of a design's places, one kind's behind the other's
 abbrev pub Suspecting : Type 0
@@ -24,12 +24,12 @@ abbrev pub most_suspects : ℕ
 most_suspects = 4096
 
 -- the problem that the texts mean
-pub record Means (M : Meaning) (S : Suspecting) (asked : Asked) (texts : Texts) (p : Problem) : Type 0 where
-  pub design : MeansDesign M (sources_of asked) texts p.design
+pub record Means (M : Meaning) (S : Suspecting) (asked : WantedAsked) (texts : Texts) (p : Problem) : Type 0 where
+  pub design : MeansDesign M asked.sources texts p.design
   pub order : IsLeastOrder p.design p.order
   pub groups : p.groups ≡ S asked.suspects p.design.places.items
   pub few_groups : length p.groups ≤ most_suspects
-  pub traces : MeanTraces texts asked.clock p.design asked.traces p.traces
+  pub traces : MeanTraces texts asked.sources.clock p.design asked.sources.texts.traces p.traces
   pub size : p.k ≡ asked.size
 
 -- ---- the digest of the inputs
@@ -38,19 +38,19 @@ abbrev pub hash_line : List ℕ → List ℕ → List ℕ
 hash_line word text = line word (encode_lower (sha256 text))
 
 -- the text that stands for them: the words by which the texts are read, and the SHA-256 of each text
-abbrev pub inputs_text : Asked → List ℕ → List (List ℕ) → List ℕ
+abbrev pub inputs_text : WantedAsked → List ℕ → List (List ℕ) → List ℕ
 inputs_text asked design traces =
     codes "localise 1\n"
-    ++ (line (codes "top") asked.top
-    ++ (line (codes "clock") (option_map_or (λ name. name) asked.clock [])
+    ++ (line (codes "top") asked.sources.texts.top
+    ++ (line (codes "clock") (option_map_or (λ name. name) asked.sources.clock [])
     ++ (line (codes "kinds") (joined asked.suspects)
     ++ (line (codes "size") (decimal asked.size)
     ++ (hash_line (codes "design") design ++ flat_map (hash_line (codes "trace")) traces)))))
 
 -- a digest is that of the texts under the names
-pub record IsDigestOf (asked : Asked) (texts : Texts) (digest : Digest) : Type 0 where
+pub record IsDigestOf (asked : WantedAsked) (texts : Texts) (digest : Digest) : Type 0 where
   pub design : List ℕ
-  pub design_is : texts asked.design ≡ Some design
+  pub design_is : texts asked.sources.texts.design ≡ Some design
   pub traces : List (List ℕ)
-  pub traces_are : AllZip (λ name text. texts name ≡ Some text) asked.traces traces
+  pub traces_are : AllZip (λ name text. texts name ≡ Some text) asked.sources.texts.traces traces
   pub is : digest.bytes ≡ sha256 (inputs_text asked design traces)

@@ -4,7 +4,7 @@ use Rattle.std.specs.Prelude.{ℕ, ◌≡◌, ◌+◌, ◌<◌, ◌≤◌, List,
 use Rattle.command_contract.specs.Contract.{Texts}
 use Rattle.design_core.specs.declared.design.Design.{Design}
 use Rattle.design_core.specs.declared.trace.Trace.{Trace}
-use Rattle.refusal_lines.specs.Refusals.{limit_line, memory_line}
+use Rattle.refusal.specs.Lines.{limit_line, memory_line}
 use Rattle.front_end.specs.Means.{Meaning, Refusing}
 use Rattle.load_texts.specs.declared.faults.DesignFault.{DesignFault}
 use Rattle.load_texts.specs.declared.faults.TraceFault.{TraceFault}
@@ -14,7 +14,7 @@ use Rattle.load_texts.specs.Causes.{DesignCause, TraceRefused}
 use Rattle.debug_core.specs.declared.error.DebugErr.{DebugErr}
 use Rattle.debug_core.specs.declared.error.DebugErr.TheVariants.{Nodes, Vars, Literals, NoMemory}
 use Rattle.debug_core.specs.Problems.{IsRefused, Problem}
-use Rattle.load_problem.specs.Asked.{Asked, sources_of}
+use Rattle.requests.specs.Asked.{WantedAsked}
 use Rattle.load_problem.specs.Means.{Means, Suspecting, most_suspects}
 
 -- ---- a problem that passes a limit
@@ -32,31 +32,31 @@ problem_status NoMemory = 7
 
 -- ---- suspects
 -- a design that is meant has no more suspects than there may be, or has more
-abbrev pub HasFewSuspects : Suspecting → Asked → Design → Type 0
+abbrev pub HasFewSuspects : Suspecting → WantedAsked → Design → Type 0
 HasFewSuspects S asked d = length (S asked.suspects d.places.items) ≤ most_suspects
 
-abbrev pub HasManySuspects : Suspecting → Asked → Design → Type 0
+abbrev pub HasManySuspects : Suspecting → WantedAsked → Design → Type 0
 HasManySuspects S asked d = most_suspects < length (S asked.suspects d.places.items)
 
 -- ---- refusals
 -- a refusal with its status and its line: what stands before it in the order has its value
-pub data Refused (M : Meaning) (R : Refusing) (S : Suspecting) (asked : Asked) (texts : Texts) : ℕ → List ℕ → Type 0 where
-  for_design : (fault : DesignFault) → DesignCause R (sources_of asked) texts fault
-      → Refused M R S asked texts (design_fault_status fault) (design_fault_line asked.design fault)
-  for_suspects : (d : Design) → MeansDesign M (sources_of asked) texts d → HasManySuspects S asked d
+pub data Refused (M : Meaning) (R : Refusing) (S : Suspecting) (asked : WantedAsked) (texts : Texts) : ℕ → List ℕ → Type 0 where
+  for_design : (fault : DesignFault) → DesignCause R asked.sources texts fault
+      → Refused M R S asked texts (design_fault_status fault) (design_fault_line asked.sources.texts.design fault)
+  for_suspects : (d : Design) → MeansDesign M asked.sources texts d → HasManySuspects S asked d
       → Refused M R S asked texts 4 (limit_line (codes "Z4"))
   for_trace : (d : Design) (place : ℕ) (name : List ℕ) (fault : TraceFault) → HasFewSuspects S asked d
-      → TraceRefused M (sources_of asked) texts d place name fault
+      → TraceRefused M asked.sources texts d place name fault
       → Refused M R S asked texts (trace_fault_status fault) (trace_fault_line d.signals.items name (place + 1) fault)
   for_problem : (p : Problem) (fault : DebugErr) → Means M S asked texts p → IsRefused p fault
       → Refused M R S asked texts (problem_status fault) (problem_line fault)
 
 -- nothing stands against a list: the design's text means a design, and for each design that it means there are not too many
 -- suspects, each trace's text means a trace, and no limit is passed
-pub record IsReady (M : Meaning) (S : Suspecting) (asked : Asked) (texts : Texts) : Type 0 where
+pub record IsReady (M : Meaning) (S : Suspecting) (asked : WantedAsked) (texts : Texts) : Type 0 where
   pub design : Design
-  pub means : MeansDesign M (sources_of asked) texts design
-  pub suspects : (d : Design) → MeansDesign M (sources_of asked) texts d → HasFewSuspects S asked d
-  pub traces : (d : Design) → MeansDesign M (sources_of asked) texts d
-      → All (λ name. (found : Trace) × MeansTrace texts asked.clock d name found) asked.traces
+  pub means : MeansDesign M asked.sources texts design
+  pub suspects : (d : Design) → MeansDesign M asked.sources texts d → HasFewSuspects S asked d
+  pub traces : (d : Design) → MeansDesign M asked.sources texts d
+      → All (λ name. (found : Trace) × MeansTrace texts asked.sources.clock d name found) asked.sources.texts.traces
   pub no_limit : (p : Problem) (fault : DebugErr) → Means M S asked texts p → IsRefused p fault → fault ≡ NoMemory

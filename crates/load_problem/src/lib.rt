@@ -3,11 +3,9 @@
 #![tactic(auto)]
 
 mod inputs;
-mod refusal;
+mod limits;
 mod tools;
-mod wanted;
 
 pub use inputs::{Inputs, read};
-pub use refusal::{Refusal, print_line};
+pub use limits::problem_line;
 pub use tools::Tools;
-pub use wanted::Wanted;

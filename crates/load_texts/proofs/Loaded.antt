@@ -21,7 +21,8 @@ use Rattle.load_texts.specs.declared.faults.DesignFault.{DesignFault}
 use Rattle.load_texts.specs.declared.faults.DesignFault.TheVariants as design
 use Rattle.load_texts.specs.declared.faults.TraceFault.{TraceFault}
 use Rattle.load_texts.specs.declared.faults.TraceFault.TheVariants as trace
-use Rattle.load_texts.specs.Asked.{Asked}
+use Rattle.load_texts.specs.By.{by_of}
+use Rattle.requests.specs.Asked.{SourcesAsked}
 use Rattle.load_texts.specs.Means.{AreKeptOf, IsKeptOf, IsReadAnd, IsReadOf, MeansTrace, MeanTraces, most_bytes, most_cycles}
 use Rattle.load_texts.specs.Causes.{DesignCause, TraceCause}
 use Rattle.load_texts.specs.Loading.{DesignSpared, HasTrace, TraceSpared}
@@ -46,29 +47,22 @@ take-next : {X : Type 0} (xs : List X) (i : ℕ) (x : X) → slice_get xs i ≡ 
 take-next xs i x at = take-at xs i x (slice_get_within xs i x at) (sym (get_or_from_slice_get xs i x x at))
 
 -- one trace more
-pub one-more : (texts : Texts) (asked : Asked) (d : Design) (place : ℕ) (name : List ℕ) (traces : List Trace)
+pub one-more : (texts : Texts) (asked : SourcesAsked) (d : Design) (place : ℕ) (name : List ℕ) (traces : List Trace)
     (trace : Trace)
-    → slice_get asked.traces place ≡ Some name → MeansTrace texts asked.clock d name trace
-    → MeanTraces texts asked.clock d (take place asked.traces) traces
-    → MeanTraces texts asked.clock d (take (place + 1) asked.traces) (traces ++ trace ∷ [])
+    → slice_get asked.texts.traces place ≡ Some name → MeansTrace texts asked.clock d name trace
+    → MeanTraces texts asked.clock d (take place asked.texts.traces) traces
+    → MeanTraces texts asked.clock d (take (place + 1) asked.texts.traces) (traces ++ trace ∷ [])
 one-more texts asked d place name traces trace at means before =
     subst (λ names. MeanTraces texts asked.clock d names (traces ++ trace ∷ []))
-    (sym (take-next asked.traces place name at))
-    (AllZip-push (MeansTrace texts asked.clock d) (take place asked.traces) traces name trace before means)
+    (sym (take-next asked.texts.traces place name at))
+    (AllZip-push (MeansTrace texts asked.clock d) (take place asked.texts.traces) traces name trace before means)
 
-pub no-trace : (texts : Texts) (asked : Asked) (d : Design) → MeanTraces texts asked.clock d (take 0 asked.traces) []
-no-trace texts asked d = at asked.traces
+pub no-trace : (texts : Texts) (asked : SourcesAsked) (d : Design) → MeanTraces texts asked.clock d (take 0 asked.texts.traces) []
+no-trace texts asked d = at asked.texts.traces
   where
     at : (names : List (List ℕ)) → MeanTraces texts asked.clock d (take 0 names) []
     at [] = tt
     at (name ∷ names) = tt
-
-pub all-traces : (texts : Texts) (asked : Asked) (d : Design) (place : ℕ) (traces : List Trace)
-    → length asked.traces ≤ place
-    → MeanTraces texts asked.clock d (take place asked.traces) traces
-    → MeanTraces texts asked.clock d asked.traces traces
-all-traces texts asked d place traces all mean =
-    subst (λ names. MeanTraces texts asked.clock d names traces) (take_all place asked.traces all) mean
 
 -- a list with one element more, all of which are of a kind
 pub fits-none : (d : Design) → All (IsReadOf d) []
@@ -119,18 +113,12 @@ pub is-read : (text : List ℕ) (d : Design) (clock : Option (List ℕ)) (found 
 is-read text d clock found has fits = record { fits = fits; few = few-cycles text d clock found has }
 
 -- ---- causes, from what loads and readers say
-pub load-design_cause : (R : Refusing) (asked : Asked) (texts : Texts) (why : DesignFault)
-    → LoadsDesign (texts asked.design) (Err why)
-    → DesignCause R asked texts why
-load-design_cause R asked texts (design.Load _) cause = cause
-load-design_cause R asked texts (design.Text fault) cause = absurd cause
-
-pub text-cause : (R : Refusing) (asked : Asked) (texts : Texts) (text : List ℕ) → IsLoaded (texts asked.design) text
+pub text-cause : (R : Refusing) (asked : SourcesAsked) (texts : Texts) (text : List ℕ) → IsLoaded (texts asked.texts.design) text
     → (why : DesignFault)
-    → RefusesText (R text asked.top asked.clock) why → DesignCause R asked texts why
+    → RefusesText (R text (by_of asked)) why → DesignCause R asked texts why
 text-cause R asked texts text is (design.Load _) cause = absurd cause
 text-cause R asked texts text is (design.Text fault) cause =
-    of-text (texts asked.design) text (λ t. Refuses (R t asked.top asked.clock) fault) is cause
+    of-text (texts asked.texts.design) text (λ t. Refuses (R t (by_of asked)) fault) is cause
 
 pub load-spared : (texts : Texts) (name : List ℕ) (P : List ℕ → Type 0) (why : DesignFault)
     → LoadsDesign (texts name) (Err why)
@@ -141,11 +129,6 @@ load-spared texts name P (design.Load load.NoMemory) cause read = inr refl
 load-spared texts name P (design.Text fault) cause read = absurd cause
 
 -- ---- traces
-pub load-trace_cause : (texts : Texts) (name : List ℕ) (d : Design) (clock : Option (List ℕ)) (why : TraceFault)
-    → LoadsTrace (texts name) (Err why) → TraceCause (texts name) d clock why
-load-trace_cause texts name d clock (trace.Load _) cause = cause
-load-trace_cause texts name d clock (trace.Text fault) cause = absurd cause
-
 pub dump-cause : (texts : Texts) (name : List ℕ) (d : Design) (clock : Option (List ℕ)) (text : List ℕ)
     → IsLoaded (texts name) text
     → (why : TraceFault) → RefusesDump text d clock why → TraceCause (texts name) d clock why
@@ -167,24 +150,24 @@ dump-spared fault e = subst (λ (f : VcdErr). TraceSpared (trace.Text f)) (sym e
 
 -- ---- the trace at a place
 -- it is spared where each trace's text means one
-pub next-spared : (texts : Texts) (asked : Asked) (d : Design) (place : ℕ) (name : List ℕ) (clock : Option (List ℕ))
+pub next-spared : (texts : Texts) (asked : SourcesAsked) (d : Design) (place : ℕ) (name : List ℕ) (clock : Option (List ℕ))
     (why : TraceFault)
-    → slice_get asked.traces place ≡ Some name → clock ≡ asked.clock
+    → slice_get asked.texts.traces place ≡ Some name → clock ≡ asked.clock
     → ((t : Trace) → MeansTrace texts clock d name t → TraceSpared why)
-    → All (HasTrace texts asked d) asked.traces → TraceSpared why
+    → All (HasTrace texts asked d) asked.texts.traces → TraceSpared why
 next-spared texts asked d place name clock why at is only all =
-    let (found, means) = All-member (HasTrace texts asked d) asked.traces name all
-    (Contains-at asked.traces place name at) in
+    let (found, means) = All-member (HasTrace texts asked d) asked.texts.traces name all
+    (Contains-at asked.texts.traces place name at) in
     only found (subst (λ c. MeansTrace texts c d name found) (sym is) means)
 
 -- it is kept, or there is no memory for it
-pub reads-next : {X : Type 0} (texts : Texts) (asked : Asked) (d : Design) (place : ℕ) (name : List ℕ)
+pub reads-next : {X : Type 0} (texts : Texts) (asked : SourcesAsked) (d : Design) (place : ℕ) (name : List ℕ)
     (old new : List Trace) (found : Trace)
-    (r : Result X TraceFault) → slice_get asked.traces place ≡ Some name → MeansTrace texts asked.clock d name found
+    (r : Result X TraceFault) → slice_get asked.texts.traces place ≡ Some name → MeansTrace texts asked.clock d name found
     → OnOk r (new ≡ old ++ found ∷ []) → IfErr r (λ why. why ≡ trace.Load load.NoMemory)
     → ReadsNext texts asked d place old new r
 reads-next texts asked d place name old new found (Ok x) at means kept fault = λ before.
-    subst (MeanTraces texts asked.clock d (take (place + 1) asked.traces)) (sym kept)
+    subst (MeanTraces texts asked.clock d (take (place + 1) asked.texts.traces)) (sym kept)
     (one-more texts asked d place name old found at means before)
 reads-next texts asked d place name old new found (Err why) at means kept fault =
     (name, at, subst (λ (f : TraceFault). TraceCause (texts name) d asked.clock f) (sym fault) tt)
@@ -197,14 +180,14 @@ fits-next d old new found (Ok x) fits kept =
 fits-next d old new found (Err why) fits kept = tt
 
 -- and so is what is kept of its text
-pub keeps-next : {X K : Type 0} (is_of : K → List ℕ → Type 0) (texts : Texts) (asked : Asked) (place : ℕ) (name : List ℕ)
+pub keeps-next : {X K : Type 0} (is_of : K → List ℕ → Type 0) (texts : Texts) (asked : SourcesAsked) (place : ℕ) (name : List ℕ)
     (old new : List K) (kept : K) (r : Result X TraceFault)
-    → slice_get asked.traces place ≡ Some name → IsKeptOf is_of texts name kept → OnOk r (new ≡ old ++ kept ∷ [])
+    → slice_get asked.texts.traces place ≡ Some name → IsKeptOf is_of texts name kept → OnOk r (new ≡ old ++ kept ∷ [])
     → KeepsNext is_of texts asked place old new r
 keeps-next is_of texts asked place name old new kept (Ok x) at is grew = λ before.
-    subst (AreKeptOf is_of texts (take (place + 1) asked.traces)) (sym grew)
-    (subst (λ names. AreKeptOf is_of texts names (old ++ kept ∷ [])) (sym (take-next asked.traces place name at))
-    (AllZip-push (IsKeptOf is_of texts) (take place asked.traces) old name kept before is))
+    subst (AreKeptOf is_of texts (take (place + 1) asked.texts.traces)) (sym grew)
+    (subst (λ names. AreKeptOf is_of texts names (old ++ kept ∷ [])) (sym (take-next asked.texts.traces place name at))
+    (AllZip-push (IsKeptOf is_of texts) (take place asked.texts.traces) old name kept before is))
 keeps-next is_of texts asked place name old new kept (Err why) at is grew = tt
 
 -- a fault that is passed on

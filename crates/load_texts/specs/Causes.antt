@@ -12,7 +12,8 @@ use Rattle.load_texts.specs.declared.faults.DesignFault.{DesignFault}
 use Rattle.load_texts.specs.declared.faults.DesignFault.TheVariants as design
 use Rattle.load_texts.specs.declared.faults.TraceFault.{TraceFault}
 use Rattle.load_texts.specs.declared.faults.TraceFault.TheVariants as trace
-use Rattle.load_texts.specs.Asked.{Asked}
+use Rattle.load_texts.specs.By.{by_of}
+use Rattle.requests.specs.Asked.{SourcesAsked}
 use Rattle.load_texts.specs.Means.{IsReadAnd, MeansDesign, MeanTraces, most_bytes}
 
 -- a text that isn't handed over: too big only where it is; of a fault and of want of memory nothing is said here
@@ -22,10 +23,10 @@ LoadCause text load.Fault = Unit {0}
 LoadCause text load.NoMemory = Unit {0}
 
 -- the design's text is refused: it isn't handed over, or it is, and means no design
-abbrev pub DesignCause : Refusing → Asked → Texts → DesignFault → Type 0
-DesignCause R asked texts (design.Load fault) = LoadCause (texts asked.design) fault
-DesignCause R asked texts (design.Text fault) =
-    IsReadAnd (texts asked.design) (λ text. Refuses (R text asked.top asked.clock) fault)
+abbrev pub DesignCause : Refusing → SourcesAsked → Texts → DesignFault → Type 0
+DesignCause R asked texts (design.Load fault) = LoadCause (texts asked.texts.design) fault
+DesignCause R asked texts (design.Text refusal) =
+    IsReadAnd (texts asked.texts.design) (λ text. Refuses (R text (by_of asked)) refusal)
 
 -- and that of a trace
 abbrev pub TraceCause : Option (List ℕ) → Design → Option (List ℕ) → TraceFault → Type 0
@@ -34,10 +35,10 @@ TraceCause text d clock (trace.Text fault) =
     IsReadAnd text (λ bytes. fault ≢ vcd.NoMemory → IsRefused bytes d clock fault)
 
 -- the design's text means a design, those of the traces before one mean traces of it, and that one's is refused
-pub record TraceRefused (M : Meaning) (asked : Asked) (texts : Texts)
+pub record TraceRefused (M : Meaning) (asked : SourcesAsked) (texts : Texts)
     (d : Design) (place : ℕ) (name : List ℕ) (fault : TraceFault) : Type 0 where
   pub design : MeansDesign M asked texts d
   pub before : List Trace
-  pub mean : MeanTraces texts asked.clock d (take place asked.traces) before
-  pub at : slice_get asked.traces place ≡ Some name
+  pub mean : MeanTraces texts asked.clock d (take place asked.texts.traces) before
+  pub at : slice_get asked.texts.traces place ≡ Some name
   pub cause : TraceCause (texts name) d asked.clock fault

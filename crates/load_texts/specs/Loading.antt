@@ -10,7 +10,7 @@ use Rattle.load_texts.specs.declared.faults.DesignFault.{DesignFault}
 use Rattle.load_texts.specs.declared.faults.DesignFault.TheVariants as design
 use Rattle.load_texts.specs.declared.faults.TraceFault.{TraceFault}
 use Rattle.load_texts.specs.declared.faults.TraceFault.TheVariants as trace
-use Rattle.load_texts.specs.Asked.{Asked}
+use Rattle.requests.specs.Asked.{SourcesAsked}
 use Rattle.load_texts.specs.Causes.{TraceCause}
 use Rattle.load_texts.specs.Means.{MeansTrace, MeanTraces}
 use Rattle.load_texts.specs.Refusals.{design_fault_status, trace_fault_status}
@@ -38,15 +38,15 @@ CountsOfTrace name old new (Ok _) = new ≡ old
 CountsOfTrace name old new (Err fault) = TraceCounts name old new fault
 
 -- the name of the text of the trace at a place
-abbrev pub trace_at : Asked → ℕ → List ℕ
-trace_at asked place = unwrap_or (slice_get asked.traces place) []
+abbrev pub trace_at : SourcesAsked → ℕ → List ℕ
+trace_at asked place = unwrap_or (slice_get asked.texts.traces place) []
 
 -- the traces before a place are read, and the one there is refused
-pub record StopsAt (texts : Texts) (asked : Asked) (d : Design) (place : ℕ) (fault : TraceFault) : Type 0 where
+pub record StopsAt (texts : Texts) (asked : SourcesAsked) (d : Design) (place : ℕ) (fault : TraceFault) : Type 0 where
   pub before : List Trace
-  pub mean : MeanTraces texts asked.clock d (take place asked.traces) before
+  pub mean : MeanTraces texts asked.clock d (take place asked.texts.traces) before
   pub name : List ℕ
-  pub at : slice_get asked.traces place ≡ Some name
+  pub at : slice_get asked.texts.traces place ≡ Some name
   pub cause : TraceCause (texts name) d asked.clock fault
 
 -- a refusal that comes although the text means a design, or a trace: a fault of the shelf, or want of memory
@@ -57,5 +57,5 @@ abbrev pub TraceSpared : TraceFault → Type 0
 TraceSpared fault = (trace_fault_status fault ≡ 5) ⊎ (trace_fault_status fault ≡ 7)
 
 -- the text under a name means some trace
-abbrev pub HasTrace : Texts → Asked → Design → List ℕ → Type 0
+abbrev pub HasTrace : Texts → SourcesAsked → Design → List ℕ → Type 0
 HasTrace texts asked d name = (found : Trace) × MeansTrace texts asked.clock d name found

@@ -6,7 +6,8 @@ use Rattle.design_core.specs.declared.design.Design.{Design}
 use Rattle.design_core.specs.declared.trace.Trace.{Trace}
 use Rattle.design_core.specs.TraceFits.{IsTraceOf}
 use Rattle.front_end.specs.Means.{Meaning}
-use Rattle.load_texts.specs.Asked.{Asked}
+use Rattle.load_texts.specs.By.{by_of}
+use Rattle.requests.specs.Asked.{SourcesAsked}
 use Rattle.vcd_traces.specs.Samples.{HasSamples}
 
 -- the most bytes that a text may have
@@ -37,13 +38,13 @@ pub record IsReadOf (d : Design) (trace : Trace) : Type 0 where
 
 -- ---- all of them
 -- the text under the design's name means a design
-abbrev pub MeansDesign : Meaning → Asked → Texts → Design → Type 0
-MeansDesign M asked texts d = IsReadAnd (texts asked.design) (λ text. M text asked.top asked.clock d)
+abbrev pub MeansDesign : Meaning → SourcesAsked → Texts → Design → Type 0
+MeansDesign M asked texts d = IsReadAnd (texts asked.texts.design) (λ text. M text (by_of asked) d)
 
 -- and those under the traces' names traces of it
-pub record Means (M : Meaning) (asked : Asked) (texts : Texts) (d : Design) (traces : List Trace) : Type 0 where
+pub record Means (M : Meaning) (asked : SourcesAsked) (texts : Texts) (d : Design) (traces : List Trace) : Type 0 where
   pub design : MeansDesign M asked texts d
-  pub mean : MeanTraces texts asked.clock d asked.traces traces
+  pub mean : MeanTraces texts asked.clock d asked.texts.traces traces
 
 -- ---- what is kept of texts
 -- something is kept of the text under a name

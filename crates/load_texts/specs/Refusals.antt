@@ -1,8 +1,9 @@
 -- Why there is no design, or no trace: what is printed then, and the status of the program.
 use Rattle.std.specs.Prelude.{ℕ, List, codes}
 use Rattle.design_core.specs.declared.signal.Signal.{Signal}
-use Rattle.refusal_lines.specs.Refusals.{dump_line, dump_status, fault_line, limit_line, memory_line}
-use Rattle.front_end.specs.Refusals.{design_err_line, design_status}
+use Rattle.refusal.specs.Codes.{code_line, code_status}
+use Rattle.refusal.specs.Lines.{fault_line, limit_line, memory_line}
+use Rattle.load_texts.specs.Dumps.{dump_line, dump_status}
 use Rattle.load_texts.specs.declared.faults.LoadFault.{LoadFault}
 use Rattle.load_texts.specs.declared.faults.LoadFault.TheVariants as load
 use Rattle.load_texts.specs.declared.faults.DesignFault.{DesignFault}
@@ -24,11 +25,11 @@ load_status load.NoMemory = 7
 -- ---- the design's, and a trace's: `name` is that of its text
 abbrev pub design_fault_line : List ℕ → DesignFault → List ℕ
 design_fault_line name (design.Load fault) = load_line name fault
-design_fault_line name (design.Text fault) = design_err_line fault
+design_fault_line name (design.Text refusal) = code_line refusal.code
 
 abbrev pub design_fault_status : DesignFault → ℕ
 design_fault_status (design.Load fault) = load_status fault
-design_fault_status (design.Text fault) = design_status fault
+design_fault_status (design.Text refusal) = code_status refusal.code
 
 abbrev pub trace_fault_line : List Signal → List ℕ → ℕ → TraceFault → List ℕ
 trace_fault_line signals name number (trace.Load fault) = load_line name fault

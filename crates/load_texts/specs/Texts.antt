@@ -6,7 +6,7 @@ use Rattle.design_core.specs.declared.design.Design.{Design}
 use Rattle.design_core.specs.declared.trace.Trace.{Trace}
 use Rattle.vcd_reading.specs.declared.error.VcdErr.TheVariants as vcd
 use Rattle.vcd_traces.specs.Samples.{IsRefused}
-use Rattle.front_end.specs.declared.reader.DesignErr.{DesignErr}
+use Rattle.refusal.specs.declared.code.Code.{Code}
 use Rattle.front_end.specs.Means.{Refuses}
 use Rattle.load_texts.specs.declared.faults.LoadFault.{LoadFault}
 use Rattle.load_texts.specs.declared.faults.LoadFault.TheVariants as load
@@ -14,7 +14,7 @@ use Rattle.load_texts.specs.declared.faults.DesignFault.{DesignFault}
 use Rattle.load_texts.specs.declared.faults.DesignFault.TheVariants as design
 use Rattle.load_texts.specs.declared.faults.TraceFault.{TraceFault}
 use Rattle.load_texts.specs.declared.faults.TraceFault.TheVariants as trace
-use Rattle.load_texts.specs.Asked.{Asked}
+use Rattle.requests.specs.Asked.{SourcesAsked}
 use Rattle.load_texts.specs.Causes.{LoadCause, TraceCause}
 use Rattle.load_texts.specs.Means.{AreKeptOf, MeanTraces, most_bytes}
 
@@ -40,9 +40,9 @@ LoadsTrace text (Err (trace.Load fault)) = LoadCause text fault
 LoadsTrace text (Err (trace.Text fault)) = ⊥
 
 -- a text that is there is refused
-abbrev pub RefusesText : (DesignErr → Type 0) → DesignFault → Type 0
+abbrev pub RefusesText : (Code → Type 0) → DesignFault → Type 0
 RefusesText R (design.Load _) = ⊥
-RefusesText R (design.Text fault) = Refuses R fault
+RefusesText R (design.Text refusal) = Refuses R refusal
 
 abbrev pub RefusesDump : List ℕ → Design → Option (List ℕ) → TraceFault → Type 0
 RefusesDump text d clock (trace.Load _) = ⊥
@@ -57,16 +57,16 @@ LoadCounts name old new (Err load.NoMemory) = new ≡ old
 
 -- the traces before a place and then the one there, or why it is refused
 abbrev pub ReadsNext : {X : Type 0}
-    → Texts → Asked → Design → ℕ → List Trace → List Trace → Result X TraceFault → Type 0
+    → Texts → SourcesAsked → Design → ℕ → List Trace → List Trace → Result X TraceFault → Type 0
 ReadsNext texts asked d place old new (Ok _) =
-    MeanTraces texts asked.clock d (take place asked.traces) old
-    → MeanTraces texts asked.clock d (take (place + 1) asked.traces) new
+    MeanTraces texts asked.clock d (take place asked.texts.traces) old
+    → MeanTraces texts asked.clock d (take (place + 1) asked.texts.traces) new
 ReadsNext texts asked d place old new (Err fault) =
-    (name : List ℕ) × (slice_get asked.traces place ≡ Some name) × TraceCause (texts name) d asked.clock fault
+    (name : List ℕ) × (slice_get asked.texts.traces place ≡ Some name) × TraceCause (texts name) d asked.clock fault
 
 -- what is kept of the texts before a place, and then of the one there
 abbrev pub KeepsNext : {X K : Type 0}
-    → (K → List ℕ → Type 0) → Texts → Asked → ℕ → List K → List K → Result X TraceFault → Type 0
+    → (K → List ℕ → Type 0) → Texts → SourcesAsked → ℕ → List K → List K → Result X TraceFault → Type 0
 KeepsNext is_of texts asked place old new (Ok _) =
-    AreKeptOf is_of texts (take place asked.traces) old → AreKeptOf is_of texts (take (place + 1) asked.traces) new
+    AreKeptOf is_of texts (take place asked.texts.traces) old → AreKeptOf is_of texts (take (place + 1) asked.texts.traces) new
 KeepsNext is_of texts asked place old new (Err fault) = Unit {0}

@@ -1,18 +1,14 @@
 //! Why there is no design, or no trace.
 
-ghost use Rattle.std.specs.Prelude.{◌≡◌, ◌++◌, OnOk};
-ghost use Rattle.refusal_lines.specs.Codes.{code_line, code_status};
-ghost use Rattle.front_end.specs.Refusals.{design_err_line, design_status};
+ghost use Rattle.std.specs.Prelude.{◌≡◌};
+ghost use Rattle.refusal.specs.Ends.{HasStatus, Says};
 ghost use Rattle.load_texts.specs.Refusals.{design_fault_line, load_line, trace_fault_line};
 ghost use Rattle.load_texts.specs.Refusals.{design_fault_status, load_status, trace_fault_status};
 
+use crate::dumps::{dump_status, dump_text};
 use design_core::Signal;
-use front_end::DesignErr;
-use loc_base::NoMemory;
-use refusal_lines::{
-    Code, binding_code, circle_code, dump_status, elaboration_code, lexical_code, push_dump,
-    push_fault, syntax_code,
-};
+use refusal::{Code, LastLine, Refusal};
+use std::alloc::Global;
 use thiserror::Error;
 use vcd_traces::VcdErr;
 
@@ -37,7 +33,7 @@ pub enum DesignFault {
     Load(LoadFault),
     /// The text means none.
     #[error(transparent)]
-    Text(DesignErr),
+    Text(Refusal),
 }
 
 /// Why there is no trace.
@@ -52,92 +48,51 @@ pub enum TraceFault {
 
 /// What the line of a trace that is refused names: the number of the trace, from 1, the name of its text, and the signals of the design.
 #[derive(Clone, Copy, Drop)]
-pub struct TraceName<'a> {
-    pub number: u32,
-    pub name: &'a str,
-    pub signals: &'a [Signal],
+pub(crate) struct TraceName<'a> {
+    pub(crate) number: u32,
+    pub(crate) name: &'a str,
+    pub(crate) signals: &'a [Signal],
 }
 
 impl LoadFault {
-    /// The status of the program.
-    fn status(self) -> u8
-        ensures { result ≡ load_status self }
+    /// The line that ends a run; `name` is that of the text.
+    pub fn last_line(self, alloc: Global, name: &str) -> LastLine
+        ensures says { Says result (load_status self) (load_line name.now self) }
+        ensures status { HasStatus result }
     {
         match self {
-            LoadFault::Size => 4,
-            LoadFault::Fault => 5,
-            LoadFault::NoMemory => 7,
+            LoadFault::Size => LastLine::of_code(alloc, Code::Limit("size")),
+            LoadFault::Fault => LastLine::of_fault(alloc, name),
+            LoadFault::NoMemory => LastLine::Memory,
         }
-    }
-
-    /// Appends the line; `name` is that of the text.
-    fn push(self, text: &mut Vec<u8>, name: &str) -> Result<(), NoMemory>
-        ensures { OnOk result (text.new.items ≡ text.old.items ++ load_line name.now self) }
-    {
-        match self {
-            LoadFault::Size => Code::Limit("size").push(text),
-            LoadFault::Fault => push_fault(text, name),
-            LoadFault::NoMemory => Code::Memory.push(text),
-        }
-    }
-}
-
-/// The code of a text that means no design.
-fn code_of(fault: DesignErr) -> Code
-    ensures line { code_line result ≡ design_err_line fault }
-    ensures status { code_status result ≡ design_status fault }
-{
-    match fault {
-        DesignErr::Lexical(fault) => lexical_code(fault),
-        DesignErr::Syntax(fault) => syntax_code(fault),
-        DesignErr::Elaboration(fault) => elaboration_code(fault),
-        DesignErr::Binding(fault) => binding_code(fault),
-        DesignErr::Circle(span) => circle_code(span),
-        DesignErr::NoMemory => Code::Memory,
     }
 }
 
 impl DesignFault {
-    /// The status of the program.
-    pub fn status(self) -> u8
-        ensures { result ≡ design_fault_status self }
+    /// The line that ends a run; `name` is that of the text.
+    pub(crate) fn last_line(self, alloc: Global, name: &str) -> LastLine
+        ensures says { Says result (design_fault_status self) (design_fault_line name.now self) }
+        ensures status { HasStatus result }
     {
         match self {
-            DesignFault::Load(fault) => fault.status(),
-            DesignFault::Text(fault) => code_of(fault).status(),
-        }
-    }
-
-    /// Appends the line; `name` is that of the text.
-    pub fn push(self, text: &mut Vec<u8>, name: &str) -> Result<(), NoMemory>
-        ensures { OnOk result (text.new.items ≡ text.old.items ++ design_fault_line name.now self) }
-    {
-        match self {
-            DesignFault::Load(fault) => fault.push(text, name),
-            DesignFault::Text(fault) => code_of(fault).push(text),
+            DesignFault::Load(fault) => fault.last_line(alloc, name),
+            DesignFault::Text(refusal) => refusal.last_line(alloc),
         }
     }
 }
 
 impl TraceFault {
-    /// The status of the program.
-    pub fn status(self) -> u8
-        ensures { result ≡ trace_fault_status self }
+    /// The line that ends a run; the source is that of the text.
+    pub(crate) fn last_line(self, alloc: Global, source: &TraceName) -> LastLine
+        ensures says { Says result (trace_fault_status self)
+            (trace_fault_line source.now.signals.now source.now.name.now source.now.number self) }
+        ensures status { HasStatus result }
     {
         match self {
-            TraceFault::Load(fault) => fault.status(),
-            TraceFault::Text(fault) => dump_status(fault),
-        }
-    }
-
-    /// Appends the line; the source is that of the text.
-    pub fn push(self, text: &mut Vec<u8>, source: &TraceName) -> Result<(), NoMemory>
-        ensures { OnOk result (text.new.items
-            ≡ text.old.items ++ trace_fault_line source.now.signals.now source.now.name.now source.now.number self) }
-    {
-        match self {
-            TraceFault::Load(fault) => fault.push(text, source.name),
-            TraceFault::Text(fault) => push_dump(text, source.signals, source.number, fault),
+            TraceFault::Load(fault) => fault.last_line(alloc, source.name),
+            TraceFault::Text(fault) => {
+                LastLine::of_made(dump_status(fault), dump_text(alloc, source, fault))
+            }
         }
     }
 }

@@ -2,12 +2,15 @@
 //! none, with its line and its status.
 #![tactic(auto)]
 
+mod dumps;
 mod faults;
 mod imprint;
+mod lines;
 mod loads;
 mod sources;
+mod telling;
 
-pub use faults::{DesignFault, LoadFault, TraceFault, TraceName};
+pub use faults::{DesignFault, LoadFault, TraceFault};
 pub use imprint::{Imprint, NoImprint};
-pub use loads::{DesignRead, TraceRefusal, TracesRead, load_design, load_traces};
-pub use sources::Sources;
+pub use lines::{load_design, load_traces};
+pub use loads::{DesignRead, TracesRead, load_text};

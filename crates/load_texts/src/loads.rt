@@ -1,5 +1,5 @@
 //! The texts: loaded from the shelf, and read.
-ghost use Rattle.std.specs.Prelude.{◌≡◌, ◌<◌, ◌+◌, ◌++◌, ◌∷◌, [], All, IfOk, IfErr, MatchResult, OnOk, Some, length};
+ghost use Rattle.std.specs.Prelude.{◌≡◌, ◌<◌, ◌≤◌, ◌+◌, ◌++◌, ◌∷◌, [], All, IfOk, IfErr, MatchResult, OnOk, Some, length};
 ghost use Rattle.std.specs.Prelude.{slice_get, true};
 ghost use Rattle.std.specs.Option.{option_copied};
 ghost use Rattle.design_core.specs.declared.design.Design.{Design as SomeDesign};
@@ -9,78 +9,103 @@ ghost use Rattle.vcd_traces.specs.Samples.{HasSamples};
 ghost use Rattle.front_end.specs.Means.{IsReady};
 ghost use Rattle.load_texts.specs.declared.faults.LoadFault.TheVariants as load;
 ghost use Rattle.load_texts.specs.declared.faults.TraceFault.TheVariants as why;
-ghost use Rattle.load_texts.specs.Asked.{asked_of};
-ghost use Rattle.load_texts.specs.Means.{AreKeptOf, IsKeptOf, IsReadOf, MeansDesign, MeansTrace, MeanTraces};
+ghost use Rattle.load_texts.specs.By.{by_of};
+ghost use Rattle.requests.specs.Views.{sources_asked};
+ghost use Rattle.load_texts.specs.Means.{AreKeptOf, IsKeptOf, IsReadOf, MeansDesign, MeansTrace, MeanTraces, most_bytes};
 ghost use Rattle.load_texts.specs.Causes.{DesignCause, TraceCause};
-ghost use Rattle.load_texts.specs.Loading.{CountsOfDesign, CountsOfTrace, DesignSpared, HasTrace, StopsAt, TraceCounts, TraceSpared, trace_at};
+ghost use Rattle.load_texts.specs.Loading.{CountsOfDesign, CountsOfTrace, DesignSpared, HasTrace, StopsAt};
+ghost use Rattle.load_texts.specs.Loading.{TraceCounts, TraceSpared, trace_at};
 ghost use Rattle.load_texts.specs.Texts.{KeepsNext, LoadCounts, Loads, LoadsDesign, LoadsTrace, ReadsNext, RefusesDump, RefusesText};
 
 use crate::faults::{DesignFault, LoadFault, TraceFault};
 use crate::imprint::Imprint;
-use crate::sources::Sources;
+use crate::sources::{name_at, read_by};
+use crate::telling::{tell_dump, tell_refused, tell_unread};
 use design_core::{Design, Trace};
 use front_end::{FrontEnd, Ordered};
 use io_ports::{LoadErr, Shelf};
 use loc_base::{Bytes, Name};
+use refusal::Notes;
+use requests::Sources;
 use std::alloc::Global;
 use thiserror::Error;
-use vcd_traces::samples;
+use vcd_traces::{SampleBy, samples};
 
 /// The most bytes that a text may have.
 const MOST_BYTES: u64 = 1_073_741_824;
 
 /// The text under a name.
-fn load<S: Shelf>(alloc: Global, shelf: &mut S, name: &str) -> Result<Bytes, LoadFault>
+pub fn load_text<S: Shelf, N: Notes>(
+    alloc: Global,
+    name: &str,
+    shelf: &mut S,
+    notes: &mut N,
+) -> Result<Bytes, LoadFault>
     ensures tells { S.tells shelf.new ≡ S.tells shelf.old }
     ensures texts { S.texts shelf.new ≡ S.texts shelf.old }
     ensures written { S.written shelf.new ≡ S.written shelf.old }
     ensures text { S.tells shelf.old ≡ true → Loads (S.texts shelf.old name.now) result }
+    ensures short { IfOk result (λ text. length text ≤ most_bytes) }
     ensures counts { LoadCounts name.now (S.faults shelf.old) (S.faults shelf.new) result }
 {
     match shelf.load(alloc, name, MOST_BYTES) {
         Ok(text) => Ok(text),
         Err(LoadErr::TooBig) => Err(LoadFault::Size),
-        Err(LoadErr::Failed(_)) => Err(LoadFault::Fault),
+        Err(LoadErr::Failed(cause)) => {
+            tell_unread(name, cause, notes);
+            Err(LoadFault::Fault)
+        }
         Err(LoadErr::NoMemory) => Err(LoadFault::NoMemory),
     }
 }
 
 /// The text under the design's name.
-fn load_source<S: Shelf>(
+fn load_source<S: Shelf, N: Notes>(
     alloc: Global,
     sources: &Sources,
     shelf: &mut S,
+    notes: &mut N,
 ) -> Result<Bytes, DesignFault>
     ensures tells { S.tells shelf.new ≡ S.tells shelf.old }
     ensures texts { S.texts shelf.new ≡ S.texts shelf.old }
     ensures written { S.written shelf.new ≡ S.written shelf.old }
-    ensures text { S.tells shelf.old ≡ true → LoadsDesign (S.texts shelf.old (asked_of sources.now).design) result }
-    ensures counts { CountsOfDesign (asked_of sources.now).design (S.faults shelf.old) (S.faults shelf.new) result }
+    ensures text { S.tells shelf.old ≡ true → LoadsDesign (S.texts shelf.old (sources_asked sources.now).texts.design) result }
+    ensures counts { CountsOfDesign (sources_asked sources.now).texts.design (S.faults shelf.old) (S.faults shelf.new) result }
 {
-    match load(alloc, shelf, sources.design) {
+    match load_text(alloc, sources.texts.design.as_str(), shelf, notes) {
         Ok(text) => Ok(text),
         Err(fault) => Err(DesignFault::Load(fault)),
     }
 }
 
+/// The text of a design, and what reads it.
+#[derive(Drop)]
+pub(crate) struct DesignText<'a, F> {
+    pub(crate) front: &'a F,
+    pub(crate) sources: &'a Sources<'a>,
+}
+
 /// The design that a text means.
-fn read_design<F: FrontEnd>(
+fn read_design<F: FrontEnd, N: Notes>(
     alloc: Global,
-    front: &F,
-    sources: &Sources,
+    design: &DesignText<'_, F>,
     text: &Bytes,
+    notes: &mut N,
 ) -> Result<Ordered, DesignFault>
     ensures means { IfOk result
-        (λ o. F.means text.now (asked_of sources.now).top (asked_of sources.now).clock o.design) }
+        (λ o. F.means text.now (by_of (sources_asked design.now.sources.now)) o.design) }
     ensures ready { IfOk result (λ o. IsReady o.design o.order) }
     ensures refused { IfErr result
-        (RefusesText (F.refuses text.now (asked_of sources.now).top (asked_of sources.now).clock)) }
-    ensures only { (d : SomeDesign) → F.means text.now (asked_of sources.now).top (asked_of sources.now).clock d
-        → IfErr result DesignSpared }
+        (RefusesText (F.refuses text.now (by_of (sources_asked design.now.sources.now)))) }
+    ensures only { (d : SomeDesign) → F.means text.now (by_of (sources_asked design.now.sources.now)) d → IfErr result DesignSpared }
 {
-    match front.read(alloc, text.as_slice(), sources.top, sources.clock) {
+    let bytes = text.as_slice();
+    match design.front.read(alloc, bytes, &read_by(design.sources)) {
         Ok(ordered) => Ok(ordered),
-        Err(fault) => Err(DesignFault::Text(fault)),
+        Err(refusal) => {
+            tell_refused(design.sources.texts.design.as_str(), bytes, &refusal, notes);
+            Err(DesignFault::Text(refusal))
+        }
     }
 }
 
@@ -94,28 +119,28 @@ pub struct DesignRead<K> {
 
 /// The design of the text under its name, with the order of its drivers. The text is let go.
 #[tactic(auto, using(crate::proofs::Loaded::load_rules))]
-pub fn load_design<K: Imprint, F: FrontEnd, S: Shelf>(
+pub(crate) fn fetch_design<K: Imprint, F: FrontEnd, S: Shelf, N: Notes>(
     alloc: Global,
-    front: &F,
-    sources: &Sources,
+    design: &DesignText<'_, F>,
     shelf: &mut S,
+    notes: &mut N,
 ) -> Result<DesignRead<K>, DesignFault>
     ensures tells { S.tells shelf.new ≡ S.tells shelf.old }
     ensures texts { S.texts shelf.new ≡ S.texts shelf.old }
     ensures written { S.written shelf.new ≡ S.written shelf.old }
-    ensures counts { CountsOfDesign (asked_of sources.now).design (S.faults shelf.old) (S.faults shelf.new) result }
+    ensures counts { CountsOfDesign (sources_asked design.now.sources.now).texts.design (S.faults shelf.old) (S.faults shelf.new) result }
     ensures means { S.tells shelf.old ≡ true
-        → IfOk result (λ r. MeansDesign F.means (asked_of sources.now) (S.texts shelf.old) r.ordered.design) }
+        → IfOk result (λ r. MeansDesign F.means (sources_asked design.now.sources.now) (S.texts shelf.old) r.ordered.design) }
     ensures kept { S.tells shelf.old ≡ true
-        → IfOk result (λ r. IsKeptOf K.is_of (S.texts shelf.old) (asked_of sources.now).design r.imprint) }
+        → IfOk result (λ r. IsKeptOf K.is_of (S.texts shelf.old) (sources_asked design.now.sources.now).texts.design r.imprint) }
     ensures ready { IfOk result (λ r. IsReady r.ordered.design r.ordered.order) }
     ensures refused { S.tells shelf.old ≡ true
-        → IfErr result (DesignCause F.refuses (asked_of sources.now) (S.texts shelf.old)) }
+        → IfErr result (DesignCause F.refuses (sources_asked design.now.sources.now) (S.texts shelf.old)) }
     ensures only { S.tells shelf.old ≡ true → (d : SomeDesign)
-        → MeansDesign F.means (asked_of sources.now) (S.texts shelf.old) d → IfErr result DesignSpared }
+        → MeansDesign F.means (sources_asked design.now.sources.now) (S.texts shelf.old) d → IfErr result DesignSpared }
 {
-    let text = load_source(alloc, sources, shelf)?;
-    let ordered = read_design(alloc, front, sources, &text)?;
+    let text = load_source(alloc, design.sources, shelf, notes)?;
+    let ordered = read_design(alloc, design, &text, notes)?;
     Ok(DesignRead {
         ordered,
         imprint: K::of(text.as_slice()),
@@ -123,45 +148,59 @@ pub fn load_design<K: Imprint, F: FrontEnd, S: Shelf>(
 }
 
 /// The text under a trace's name.
-fn load_dump<S: Shelf>(alloc: Global, shelf: &mut S, name: &str) -> Result<Bytes, TraceFault>
+fn load_dump<S: Shelf, N: Notes>(
+    alloc: Global,
+    name: &str,
+    shelf: &mut S,
+    notes: &mut N,
+) -> Result<Bytes, TraceFault>
     ensures tells { S.tells shelf.new ≡ S.tells shelf.old }
     ensures texts { S.texts shelf.new ≡ S.texts shelf.old }
     ensures written { S.written shelf.new ≡ S.written shelf.old }
     ensures text { S.tells shelf.old ≡ true → LoadsTrace (S.texts shelf.old name.now) result }
     ensures counts { CountsOfTrace name.now (S.faults shelf.old) (S.faults shelf.new) result }
 {
-    match load(alloc, shelf, name) {
+    match load_text(alloc, name, shelf, notes) {
         Ok(text) => Ok(text),
         Err(fault) => Err(TraceFault::Load(fault)),
     }
 }
 
-/// The trace that a text means.
-#[tactic(auto, using(crate::proofs::Loaded::load_rules))]
-fn read_dump(
-    alloc: Global,
-    text: &Bytes,
-    design: &Design,
-    clock: Option<&Name>,
-) -> Result<Trace, TraceFault>
-    requires { HasPorts design.now }
-    ensures means { IfOk result (HasSamples text.now design.now (option_copied clock.entry)) }
-    ensures fits { IfOk result (IsReadOf design.now) }
-    ensures refused { IfErr result (RefusesDump text.now design.now (option_copied clock.entry)) }
-    ensures only { (t : SomeTrace) → HasSamples text.now design.now (option_copied clock.entry) t
-        → IfErr result TraceSpared }
-{
-    match samples(alloc, text.as_slice(), design, clock) {
-        Ok(trace) => Ok(trace),
-        Err(fault) => Err(TraceFault::Text(fault)),
-    }
-}
-
-/// The text of a trace: its name, and the clock by which it is sampled.
+/// The text of a trace: its name, and the design and the clock by which it is read.
 #[derive(Drop)]
 struct Source<'a> {
     name: &'a str,
+    design: &'a Design,
     clock: Option<&'a Name>,
+}
+
+/// The trace that a text means.
+#[tactic(auto, using(crate::proofs::Loaded::load_rules))]
+fn read_dump<N: Notes>(
+    alloc: Global,
+    source: &Source,
+    text: &Bytes,
+    notes: &mut N,
+) -> Result<Trace, TraceFault>
+    requires { HasPorts source.now.design.now }
+    ensures means { IfOk result (HasSamples text.now source.now.design.now (option_copied source.now.clock)) }
+    ensures fits { IfOk result (IsReadOf source.now.design.now) }
+    ensures refused { IfErr result (RefusesDump text.now source.now.design.now (option_copied source.now.clock)) }
+    ensures only { (t : SomeTrace) → HasSamples text.now source.now.design.now (option_copied source.now.clock) t
+        → IfErr result TraceSpared }
+{
+    let by = SampleBy {
+        design: source.design,
+        clock: source.clock,
+    };
+    let bytes = text.as_slice();
+    match samples(alloc, bytes, &by) {
+        Ok(trace) => Ok(trace),
+        Err(fault) => {
+            tell_dump(source.name, bytes, fault, notes);
+            Err(TraceFault::Text(fault))
+        }
+    }
 }
 
 /// A trace that was read, and what is kept of its text.
@@ -173,54 +212,48 @@ struct TraceRead<K> {
 
 /// The trace of the text under a name.
 #[tactic(auto, using(crate::proofs::Loaded::load_rules))]
-fn load_trace<K: Imprint, S: Shelf>(
+fn load_trace<K: Imprint, S: Shelf, N: Notes>(
     alloc: Global,
-    design: &Design,
     source: &Source,
     shelf: &mut S,
+    notes: &mut N,
 ) -> Result<TraceRead<K>, TraceFault>
-    requires { HasPorts design.now }
+    requires { HasPorts source.now.design.now }
     ensures tells { S.tells shelf.new ≡ S.tells shelf.old }
     ensures texts { S.texts shelf.new ≡ S.texts shelf.old }
     ensures written { S.written shelf.new ≡ S.written shelf.old }
     ensures counts { CountsOfTrace source.now.name.now (S.faults shelf.old) (S.faults shelf.new) result }
     ensures means { S.tells shelf.old ≡ true → IfOk result
-        (λ r. MeansTrace (S.texts shelf.old) (option_copied source.now.clock) design.now source.now.name.now r.trace) }
+        (λ r. MeansTrace (S.texts shelf.old) (option_copied source.now.clock) source.now.design.now source.now.name.now r.trace) }
     ensures kept { S.tells shelf.old ≡ true
         → IfOk result (λ r. IsKeptOf K.is_of (S.texts shelf.old) source.now.name.now r.imprint) }
-    ensures fits { IfOk result (λ r. IsReadOf design.now r.trace) }
+    ensures fits { IfOk result (λ r. IsReadOf source.now.design.now r.trace) }
     ensures refused { S.tells shelf.old ≡ true → IfErr result
-        (TraceCause (S.texts shelf.old source.now.name.now) design.now (option_copied source.now.clock)) }
+        (TraceCause (S.texts shelf.old source.now.name.now) source.now.design.now (option_copied source.now.clock)) }
     ensures only { S.tells shelf.old ≡ true → (t : SomeTrace)
-        → MeansTrace (S.texts shelf.old) (option_copied source.now.clock) design.now source.now.name.now t
+        → MeansTrace (S.texts shelf.old) (option_copied source.now.clock) source.now.design.now source.now.name.now t
         → IfErr result TraceSpared }
 {
-    let text = load_dump(alloc, shelf, source.name)?;
-    let trace = read_dump(alloc, &text, design, source.clock)?;
+    let text = load_dump(alloc, source.name, shelf, notes)?;
+    let trace = read_dump(alloc, source, &text, notes)?;
     Ok(TraceRead {
         trace,
         imprint: K::of(text.as_slice()),
     })
 }
 
-/// Where the traces of a design are read.
-#[derive(Drop)]
-struct Reading<'s, 'n, 'd> {
-    sources: &'s Sources<'n>,
-    design: &'d Design,
-    place: usize,
+/// The texts of a design's traces.
+#[derive(Clone, Copy, Drop)]
+pub(crate) struct Dumps<'a> {
+    pub(crate) sources: &'a Sources<'a>,
+    pub(crate) design: &'a Design,
 }
 
-/// The name of the text of a trace, and the clock.
-fn source_at<'a>(sources: &Sources<'a>, place: usize) -> Source<'a>
-    requires { place < length sources.now.traces.now }
-    ensures name { slice_get (asked_of sources.now).traces place ≡ Some result.name.now }
-    ensures clock { option_copied result.clock ≡ (asked_of sources.now).clock }
-{
-    Source {
-        name: sources.traces[place].as_str(),
-        clock: sources.clock,
-    }
+/// Where the texts of a design's traces are read: the next one's place.
+#[derive(Drop)]
+struct Reading<'r, 'a> {
+    dumps: &'r Dumps<'a>,
+    place: usize,
 }
 
 /// The traces that were read, and what is kept of their texts, one each.
@@ -246,83 +279,89 @@ impl<K: Drop> TracesRead<K> {
     }
 }
 
-/// Loads the trace at a place, behind those before it.
-fn load_next<K: Imprint, S: Shelf>(
-    alloc: Global,
-    reading: &Reading,
-    shelf: &mut S,
-    read: &mut TracesRead<K>,
-) -> Result<(), TraceFault>
-    requires ports { HasPorts reading.now.design.now }
-    requires place { reading.now.place < length reading.now.sources.now.traces.now }
-    ensures tells { S.tells shelf.new ≡ S.tells shelf.old }
-    ensures texts { S.texts shelf.new ≡ S.texts shelf.old }
-    ensures written { S.written shelf.new ≡ S.written shelf.old }
-    ensures counts { CountsOfTrace (trace_at (asked_of reading.now.sources.now) reading.now.place)
-        (S.faults shelf.old) (S.faults shelf.new) result }
-    ensures read { S.tells shelf.old ≡ true → ReadsNext (S.texts shelf.old) (asked_of reading.now.sources.now)
-        reading.now.design.now reading.now.place read.old.traces.items read.new.traces.items result }
-    ensures kept { S.tells shelf.old ≡ true → KeepsNext K.is_of (S.texts shelf.old) (asked_of reading.now.sources.now)
-        reading.now.place read.old.imprints.items read.new.imprints.items result }
-    ensures fits { OnOk result (All (IsReadOf reading.now.design.now) read.old.traces.items
-        → All (IsReadOf reading.now.design.now) read.new.traces.items) }
-    ensures count { OnOk result (length read.new.traces.items ≡ length read.old.traces.items + 1) }
-    ensures only { S.tells shelf.old ≡ true
-        → All (HasTrace (S.texts shelf.old) (asked_of reading.now.sources.now) reading.now.design.now)
-        (asked_of reading.now.sources.now).traces
-        → IfErr result TraceSpared }
-{
-    let source = source_at(reading.sources, reading.place);
-    let next = load_trace(alloc, reading.design, &source, shelf)?;
-    read.keep(next)
+impl<K: Imprint> TracesRead<K> {
+    /// Loads the trace at a place, behind those before it.
+    fn load_next<S: Shelf, N: Notes>(
+        &mut self,
+        alloc: Global,
+        reading: &Reading,
+        shelf: &mut S,
+        notes: &mut N,
+    ) -> Result<(), TraceFault>
+        requires ports { HasPorts reading.now.dumps.now.design.now }
+        requires place { reading.now.place < length reading.now.dumps.now.sources.now.texts.now.traces.items }
+        ensures tells { S.tells shelf.new ≡ S.tells shelf.old }
+        ensures texts { S.texts shelf.new ≡ S.texts shelf.old }
+        ensures written { S.written shelf.new ≡ S.written shelf.old }
+        ensures counts { CountsOfTrace (trace_at (sources_asked reading.now.dumps.now.sources.now) reading.now.place)
+            (S.faults shelf.old) (S.faults shelf.new) result }
+        ensures read { S.tells shelf.old ≡ true → ReadsNext (S.texts shelf.old) (sources_asked reading.now.dumps.now.sources.now)
+            reading.now.dumps.now.design.now reading.now.place self.old.traces.items self.new.traces.items result }
+        ensures kept { S.tells shelf.old ≡ true → KeepsNext K.is_of (S.texts shelf.old) (sources_asked reading.now.dumps.now.sources.now)
+            reading.now.place self.old.imprints.items self.new.imprints.items result }
+        ensures fits { OnOk result (All (IsReadOf reading.now.dumps.now.design.now) self.old.traces.items
+            → All (IsReadOf reading.now.dumps.now.design.now) self.new.traces.items) }
+        ensures count { OnOk result (length self.new.traces.items ≡ length self.old.traces.items + 1) }
+        ensures only { S.tells shelf.old ≡ true
+            → All (HasTrace (S.texts shelf.old) (sources_asked reading.now.dumps.now.sources.now) reading.now.dumps.now.design.now)
+            (sources_asked reading.now.dumps.now.sources.now).texts.traces
+            → IfErr result TraceSpared }
+    {
+        let dumps = reading.dumps;
+        let source = Source {
+            name: name_at(dumps.sources, reading.place),
+            design: dumps.design,
+            clock: dumps.sources.clock,
+        };
+        let next = load_trace(alloc, &source, shelf, notes)?;
+        self.keep(next)
+    }
 }
 
 /// A trace that is refused: its place, from 0, and why.
 #[derive(Clone, Copy, Debug, Error)]
 #[error("dump {number}: {fault}", number = .place.saturating_add(1))]
-pub struct TraceRefusal {
-    pub place: usize,
-    pub fault: TraceFault,
+pub(crate) struct TraceRefusal {
+    pub(crate) place: usize,
+    pub(crate) fault: TraceFault,
 }
 
 /// The traces of the texts under their names, in order. Each text is let go once it is read.
 #[tactic(auto, using(crate::proofs::Loaded::load_rules))]
-pub fn load_traces<K: Imprint, S: Shelf>(
+pub(crate) fn fetch_traces<K: Imprint, S: Shelf, N: Notes>(
     alloc: Global,
-    sources: &Sources,
-    design: &Design,
+    dumps: &Dumps,
     shelf: &mut S,
+    notes: &mut N,
 ) -> Result<TracesRead<K>, TraceRefusal>
-    requires { HasPorts design.now }
+    requires { HasPorts dumps.now.design.now }
     ensures tells { S.tells shelf.new ≡ S.tells shelf.old }
     ensures texts { S.texts shelf.new ≡ S.texts shelf.old }
     ensures written { S.written shelf.new ≡ S.written shelf.old }
     ensures counts { MatchResult result (λ _. S.faults shelf.new ≡ S.faults shelf.old)
-        (λ r. TraceCounts (trace_at (asked_of sources.now) r.place) (S.faults shelf.old) (S.faults shelf.new) r.fault) }
+        (λ r. TraceCounts (trace_at (sources_asked dumps.now.sources.now) r.place) (S.faults shelf.old) (S.faults shelf.new) r.fault) }
     ensures means { S.tells shelf.old ≡ true → IfOk result (λ read. MeanTraces (S.texts shelf.old)
-        (asked_of sources.now).clock design.now (asked_of sources.now).traces read.traces.items) }
+        (sources_asked dumps.now.sources.now).clock dumps.now.design.now
+        (sources_asked dumps.now.sources.now).texts.traces read.traces.items) }
     ensures kept { S.tells shelf.old ≡ true → IfOk result (λ read. AreKeptOf K.is_of (S.texts shelf.old)
-        (asked_of sources.now).traces read.imprints.items) }
-    ensures fits { IfOk result (λ read. All (IsReadOf design.now) read.traces.items) }
-    ensures count { IfOk result (λ read. length read.traces.items ≡ length sources.now.traces.now) }
+        (sources_asked dumps.now.sources.now).texts.traces read.imprints.items) }
+    ensures fits { IfOk result (λ read. All (IsReadOf dumps.now.design.now) read.traces.items) }
+    ensures count { IfOk result (λ read. length read.traces.items ≡ length dumps.now.sources.now.texts.now.traces.items) }
     ensures refused { S.tells shelf.old ≡ true
-        → IfErr result (λ r. StopsAt (S.texts shelf.old) (asked_of sources.now) design.now r.place r.fault) }
-    ensures place { IfErr result (λ r. r.place < length sources.now.traces.now) }
+        → IfErr result (λ r. StopsAt (S.texts shelf.old) (sources_asked dumps.now.sources.now) dumps.now.design.now r.place r.fault) }
+    ensures place { IfErr result (λ r. r.place < length dumps.now.sources.now.texts.now.traces.items) }
     ensures only { S.tells shelf.old ≡ true
-        → All (HasTrace (S.texts shelf.old) (asked_of sources.now) design.now) (asked_of sources.now).traces
+        → All (HasTrace (S.texts shelf.old) (sources_asked dumps.now.sources.now) dumps.now.design.now)
+        (sources_asked dumps.now.sources.now).texts.traces
         → IfErr result (λ r. TraceSpared r.fault) }
 {
     let mut read = TracesRead {
         traces: Vec::new(alloc),
         imprints: Vec::new(alloc),
     };
-    for place in 0..sources.traces.len() {
-        let reading = Reading {
-            sources,
-            design,
-            place,
-        };
-        if let Err(fault) = load_next(alloc, &reading, shelf, &mut read) {
+    for place in 0..dumps.sources.texts.traces.len() {
+        let reading = Reading { dumps, place };
+        if let Err(fault) = read.load_next(alloc, &reading, shelf, notes) {
             return Err(TraceRefusal { place, fault });
         }
     }

@@ -1,6 +1,9 @@
 //! `localise COMMAND ..`: finds the suspects in a design that can make its traces right, or simulates them.
 #![tactic(auto)]
 
+mod standard_error;
+
+use crate::standard_error::StandardError;
 use io_ports::{FileShelf, OutSink};
 use loc_base::FreeGate;
 use localise_cmd::run_words;
@@ -58,6 +61,7 @@ fn status_of<R: Threads + Sync>(threads: &R, rt: &HostRuntime) -> Result<u8, All
     kinds.push(Box::new(alloc, Modules)?)?;
     let mut shelf = FileShelf::new(rt, alloc);
     let mut out = OutSink::new(rt);
+    let mut notes = StandardError::new(alloc, rt.stderr());
     Ok(run_words(
         threads,
         alloc,
@@ -65,6 +69,7 @@ fn status_of<R: Threads + Sync>(threads: &R, rt: &HostRuntime) -> Result<u8, All
         kinds.as_slice(),
         &mut shelf,
         &mut out,
+        &mut notes,
         &FreeGate,
     ))
 }

@@ -1,54 +1,23 @@
 -- What the words ask for, as a case.
-use Rattle.std.proofs.Common.{ℕ, ◌≡◌, ◌≤◌, List, [], ◌∷◌, arith, ap, sym, subst, refl, ◌∙◌, inl, inr, Result, Ok, Err}
+use Rattle.std.proofs.Common.{ℕ, ◌≡◌, List, [], ◌∷◌, arith, ap, sym, subst, refl, ◌∙◌, inl, inr, Result, Ok, Err}
 use Rattle.std.proofs.lemmas.List.{append-nil}
-use Rattle.refusal_lines.specs.Refusals.{memory_line}
+use Rattle.refusal.specs.Lines.{memory_line}
 use Rattle.command_contract.specs.Contract.{Keeps, Run, Texts}
 use Rattle.command_contract.proofs.Statuses.{input-refusal}
 use Rattle.word_values.specs.declared.usage.Usage.{Usage}
-use Rattle.command_words.specs.Check.{CheckAsked}
-use Rattle.command_words.specs.Find.{FindAsked}
-use Rattle.command_words.specs.Sim.{SimAsked}
-use Rattle.command_words.specs.Make.{MakeAsked}
-use Rattle.command_words.specs.Asked.{Asked, find, sim, check, make}
-use Rattle.check_cmd.specs.Asked.{Asked as Checking}
-use Rattle.check_cmd.specs.Checking.{checking}
-use Rattle.make_cmd.specs.Asked.{Asked as Making}
-use Rattle.make_cmd.specs.Making.{for_texts, in_memory_line, making}
+use Rattle.requests.specs.Asked.{Asked, find, sim, check, make}
+use Rattle.make_cmd.specs.Making.{for_texts, in_memory_line}
 use Rattle.write_order.specs.Writes.{AreDone, print_piece}
 use Rattle.write_order.proofs.Carried.{done-then, print-done, print-stops, stops-then}
-use Rattle.find_cmd.specs.Asked.{Asked as Finding}
-use Rattle.find_cmd.specs.Finding.{finding}
-use Rattle.sim_cmd.specs.Requests.{Asked as Simulating}
-use Rattle.sim_cmd.specs.Simulation.{simulation}
 use Rattle.localise_cmd.specs.Usage.{no_request}
-use Rattle.localise_cmd.specs.Commands.{Tools, case_of, checking_of, finding_of, making_of, simulating_of}
+use Rattle.localise_cmd.specs.Commands.{Tools, case_of}
 use Rattle.localise_cmd.proofs.Keeping.{AllowsMemory, eight-no_stop, low-no_stop}
 
 -- ---- a command
 module _ (tools : Tools) (asked : Result Asked Usage) (run : Run) (status : ℕ) where
-  pub find-keeps : (words : FindAsked) (request : Finding) → asked ≡ Ok (find words) → request ≡ finding_of words
-      → Keeps (finding tools.means tools.refuses tools.suspecting request) run status → Keeps (case_of tools asked) run status
-  find-keeps words request is same keeps =
-      subst (λ (a : Result Asked Usage). Keeps (case_of tools a) run status) (sym is)
-      (subst (λ (r : Finding). Keeps (finding tools.means tools.refuses tools.suspecting r) run status) same keeps)
-
-  pub sim-keeps : (words : SimAsked) (request : Simulating) → asked ≡ Ok (sim words) → request ≡ simulating_of words
-      → Keeps (simulation tools.means tools.refuses request) run status → Keeps (case_of tools asked) run status
-  sim-keeps words request is same keeps =
-      subst (λ (a : Result Asked Usage). Keeps (case_of tools a) run status) (sym is)
-      (subst (λ (r : Simulating). Keeps (simulation tools.means tools.refuses r) run status) same keeps)
-
-  pub check-keeps : (words : CheckAsked) (request : Checking) → asked ≡ Ok (check words) → request ≡ checking_of words
-      → Keeps (checking tools.means tools.refuses tools.known tools.suspecting request) run status → Keeps (case_of tools asked) run status
-  check-keeps words request is same keeps =
-      subst (λ (a : Result Asked Usage). Keeps (case_of tools a) run status) (sym is)
-      (subst (λ (r : Checking). Keeps (checking tools.means tools.refuses tools.known tools.suspecting r) run status) same keeps)
-
-  pub make-keeps : (words : MakeAsked) (request : Making) → asked ≡ Ok (make words) → request ≡ making_of words
-      → Keeps (making tools.means tools.refuses tools.suspecting request) run status → Keeps (case_of tools asked) run status
-  make-keeps words request is same keeps =
-      subst (λ (a : Result Asked Usage). Keeps (case_of tools a) run status) (sym is)
-      (subst (λ (r : Making). Keeps (making tools.means tools.refuses tools.suspecting r) run status) same keeps)
+  pub asked-keeps : (request : Asked) → asked ≡ Ok request → Keeps (case_of tools (Ok request)) run status
+      → Keeps (case_of tools asked) run status
+  asked-keeps request is keeps = subst (λ (a : Result Asked Usage). Keeps (case_of tools a) run status) (sym is) keeps
 
   pub no_request-keeps : (usage : Usage) → asked ≡ Err usage → Keeps (no_request usage) run status
       → Keeps (case_of tools asked) run status
@@ -102,7 +71,10 @@ allows-memory tools (Ok (sim asked)) run written = record {
   ];
 }
 allows-memory tools (Ok (check asked)) run written = record {
-  answer = λ status may. elim may [ inl zero ↦ low-no_stop status (omega (arith, zero)) | inr eight ↦ eight-no_stop status eight ];
+  answer = λ status may. elim may [
+    | inl zero ↦ low-no_stop status (omega (arith, zero))
+    | inr more ↦ elim more [ inl one ↦ low-no_stop status (omega (arith, one)) | inr eight ↦ eight-no_stop status eight ]
+  ];
   refusals = input-refusal;
   stopped = λ told rose front. (
     inr rose,

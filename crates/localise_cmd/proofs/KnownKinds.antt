@@ -1,20 +1,19 @@
 -- What words ask of `find` is what a list may be asked.
-use Rattle.std.proofs.Common.{ℕ, ◌≡◌, ◌⊎◌, Bool, true, false, List, [], ◌∷◌, map, refl, sym, ap, subst, ◌∙◌, inl, inr, Some, None, Option}
-use Rattle.std.specs.Prelude.{All, Contains, IfSome, if◌then◌else◌, nat_eq}
+use Rattle.std.proofs.Common.{ℕ, ◌≡◌, ◌⊎◌, Bool, true, false, List, [], ◌∷◌, map, refl, sym, ap, ◌∙◌, inl, inr, Some, None, Option}
+use Rattle.std.specs.Prelude.{All, Contains, IfSome, nat_eq}
 use Rattle.std.specs.Cmp.Lexicographic.{pointwise}
 use Rattle.std.proofs.lemmas.Bool.{false≢true}
 use Rattle.std.proofs.lemmas.List.Elements.{All-head, All-tail}
 use Rattle.loc_base.proofs.ShelfLists.{Contains-cons, Contains-empty}
 use Rattle.suspect_map.specs.Choose.{named, unknown, unknown_or}
 use Rattle.suspect_map.proofs.Steps.{same_name}
-use Rattle.command_words.specs.Check.{CheckAsked, IsCheckAsked}
-use Rattle.command_words.specs.Find.{FindAsked, IsFindAsked, IsWavePrefix, other_names}
+use Rattle.requests.specs.Asked.{FindAsked, ListingAsked, MakeAsked}
+use Rattle.command_words.specs.Find.{IsFindAsked, IsWavePrefix, other_names}
+use Rattle.command_words.specs.Listing.{IsListingAsked}
+use Rattle.command_words.specs.Make.{IsMakeAsked}
 use Rattle.set_waves.specs.Names.{IsNoWave}
-use Rattle.command_words.specs.Make.{IsMakeAsked, MakeAsked}
-use Rattle.check_cmd.specs.Asked.{Asked as Checking, IsAsked as IsCheckable}
-use Rattle.find_cmd.specs.Asked.{AreKnown, Asked as Finding, IsAsked}
-use Rattle.make_cmd.specs.Asked.{Asked as Making, IsAsked as IsMakeable, finding_of as list_of}
-use Rattle.localise_cmd.specs.Commands.{checking_of, finding_of, making_of}
+use Rattle.find_cmd.specs.Asked.{AreKnown, IsAsked, IsListing}
+use Rattle.make_cmd.specs.Asked.{IsAsked as IsMakeable, finding_of as list_of}
 use Rattle.localise_cmd.proofs.KindNames.{kind-names}
 
 -- ---- kinds that are known
@@ -49,53 +48,44 @@ unknown-none called kinds (name ∷ names) all =
     (unknown-none called kinds names (All-tail (Contains (map called kinds)) name names all))
 
 -- ---- what is asked
+-- a list
+listing-held : (known : List (List ℕ)) (asked : ListingAsked) → IsListingAsked known asked → IsListing asked
+listing-held known asked held = record {
+  some_kinds = held.some_kinds;
+  kind_names = kind-names asked.suspects held.kind_names;
+  kinds_once = held.kinds_once;
+  size = held.size;
+  budget = held.budget;
+  sets = held.sets;
+  workers = held.workers;
+}
+
 -- no other name is that of a wave
 waves-own : (words : FindAsked) (waves : Option (List ℕ)) → IfSome waves (IsWavePrefix words) → All (IsNoWave waves) (other_names words)
 waves-own words None own = λ k d below. tt
 waves-own words (Some prefix) own = own.own
 
-pub asked-held : (known : List (List ℕ)) (words : FindAsked) (request : Finding) → request ≡ finding_of words
-    → IsFindAsked known words → IsAsked request
-asked-held known words request same held = subst IsAsked (sym same) (record {
-  traces = (held.sources.some, held.sources.most);
-  some_kinds = held.some_kinds;
-  kind_names = kind-names words.suspects held.kind_names;
-  kinds_once = held.kinds_once;
-  size = held.size;
-  budget = held.budget;
-  sets = held.sets;
-  workers = held.workers;
+pub asked-held : (known : List (List ℕ)) (words : FindAsked) → IsFindAsked known words → IsAsked words
+asked-held known words held = record {
+  traces = (held.sources.texts.some, held.sources.texts.most);
+  listing = listing-held known words.listing held.listing;
   apart = held.apart;
   own_log = held.own_log;
   own_report = held.own_report;
   no_waves = waves-own words words.waves held.waves;
-})
+}
 
-pub known-held : {G : Type 0} (called : G → List ℕ) (kinds : List G) (words : FindAsked) (request : Finding)
-    → request ≡ finding_of words → IsFindAsked (map called kinds) words → AreKnown called kinds request
-known-held called kinds words request same held =
-    subst (λ (asked : Finding). AreKnown called kinds asked) (sym same) (unknown-none called kinds words.suspects held.known_kinds)
+pub known-held : {G : Type 0} (called : G → List ℕ) (kinds : List G) (words : FindAsked) → IsFindAsked (map called kinds) words
+    → AreKnown called kinds words
+known-held called kinds words held = unknown-none called kinds words.listing.suspects held.listing.known_kinds
 
-pub check-held : (words : CheckAsked) (request : Checking) → request ≡ checking_of words → IsCheckAsked words → IsCheckable request
-check-held words request same held =
-    subst IsCheckable (sym same) (record { traces = (held.some, held.most); workers = held.workers })
-
-pub make-held : (known : List (List ℕ)) (words : MakeAsked) (request : Making) → request ≡ making_of words
-    → IsMakeAsked known words → IsMakeable request
-make-held known words request same held = subst IsMakeable (sym same) (record {
+pub make-held : (known : List (List ℕ)) (words : MakeAsked) → IsMakeAsked known words → IsMakeable words
+make-held known words held = record {
   number = held.number;
-  some_kinds = held.some_kinds;
-  kind_names = kind-names words.suspects held.kind_names;
-  kinds_once = held.kinds_once;
-  size = held.size;
-  budget = held.budget;
-  sets = held.sets;
-  workers = held.workers;
+  listing = listing-held known words.listing held.listing;
   apart = held.names_once;
-})
+}
 
-pub make_known-held : {G : Type 0} (called : G → List ℕ) (kinds : List G) (words : MakeAsked) (request : Making)
-    → request ≡ making_of words → IsMakeAsked (map called kinds) words → AreKnown called kinds (list_of request)
-make_known-held called kinds words request same held =
-    subst (λ (asked : Making). AreKnown called kinds (list_of asked)) (sym same)
-    (unknown-none called kinds words.suspects held.known_kinds)
+pub make_known-held : {G : Type 0} (called : G → List ℕ) (kinds : List G) (words : MakeAsked) → IsMakeAsked (map called kinds) words
+    → AreKnown called kinds (list_of words)
+make_known-held called kinds words held = unknown-none called kinds words.listing.suspects held.listing.known_kinds

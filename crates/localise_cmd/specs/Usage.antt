@@ -4,7 +4,7 @@ use Rattle.std.specs.Prelude.{ℕ, ◌≡◌, ◌⊎◌, ◌++◌, List, codes}
 use Rattle.io_ports.specs.Faults.{Rose}
 use Rattle.io_ports.specs.Shelf.{AppendsFront}
 use Rattle.printed_text.specs.Numerals.{newline}
-use Rattle.refusal_lines.specs.Refusals.{memory_line}
+use Rattle.refusal.specs.Lines.{memory_line}
 use Rattle.command_contract.specs.Contract.{Case, NothingWritten, Run}
 use Rattle.word_values.specs.declared.usage.Usage.{Usage}
 use Rattle.word_values.specs.declared.usage.Usage.TheVariants.{Command, Words, Number, Name, Kind}

@@ -1,65 +1,45 @@
-//! The lines of runs that ask no command.
+//! The line of a run whose arguments are refused.
 ghost use Rattle.std.specs.Prelude.{◌≡◌, true};
-ghost use Rattle.refusal_lines.specs.Refusals.{memory_line};
+ghost use Rattle.refusal.specs.Ends.{PrintCounts, Prints};
 ghost use Rattle.localise_cmd.specs.Usage.{usage_line};
-ghost use Rattle.localise_cmd.specs.Prints.{PrintCause, Prints, printed_status};
 
 use command_words::Usage;
-use io_ports::{Sink, SinkFault};
+use io_ports::Sink;
+use refusal::{Note, Notes, print_line};
 
-/// What became of the only line of a run.
-#[derive(Clone, Copy, Debug, PartialEq, Eq)]
-pub(crate) enum Printed {
-    Whole,
-    /// The sink failed.
-    Failed,
-    /// Memory was refused.
-    NoMemory,
-}
-
-impl Printed {
-    /// The status of the program, where that of the whole line is given.
-    pub(crate) fn status(self, whole: u8) -> u8
-        ensures { result ≡ printed_status whole self }
-    {
-        match self {
-            Printed::Whole => whole,
-            Printed::Failed => 6,
-            Printed::NoMemory => 7,
-        }
+/// The argument that is wrong, where that is known: the one that names no command.
+fn wrong_word(usage: Usage, words: &[String]) -> &str {
+    match words.first() {
+        Some(word) if usage == Usage::Command => word.as_str(),
+        _ => "",
     }
 }
 
-/// Prints a line.
-fn print<O: Sink>(line: &[u8], out: &mut O) -> Printed
-    ensures text { O.tells out.old ≡ true → Prints line.now (O.written out.old) (O.written out.new) result }
-    ensures cause { PrintCause (O.faults out.old) (O.faults out.new) result }
-{
-    match out.put(line) {
-        Ok(()) => Printed::Whole,
-        Err(SinkFault::Failed(_)) => Printed::Failed,
-        Err(SinkFault::NoMemory) => Printed::NoMemory,
-    }
-}
-
-/// Prints what is wrong with the words.
-pub(crate) fn print_usage<O: Sink>(usage: Usage, out: &mut O) -> Printed
-    ensures text { O.tells out.old ≡ true → Prints (usage_line usage) (O.written out.old) (O.written out.new) result }
-    ensures cause { PrintCause (O.faults out.old) (O.faults out.new) result }
+/// The line that says what is wrong with the arguments.
+fn line_text(usage: Usage) -> &'static str
+    ensures { result.now ≡ usage_line usage }
 {
     match usage {
-        Usage::Command => print(b"usage command\n", out),
-        Usage::Words => print(b"usage words\n", out),
-        Usage::Number => print(b"usage number\n", out),
-        Usage::Name => print(b"usage name\n", out),
-        Usage::Kind => print(b"usage kind\n", out),
+        Usage::Command => "usage command\n",
+        Usage::Words => "usage words\n",
+        Usage::Number => "usage number\n",
+        Usage::Name => "usage name\n",
+        Usage::Kind => "usage kind\n",
     }
 }
 
-/// Prints that memory was wanted.
-pub(crate) fn print_memory<O: Sink>(out: &mut O) -> Printed
-    ensures text { O.tells out.old ≡ true → Prints memory_line (O.written out.old) (O.written out.new) result }
-    ensures cause { PrintCause (O.faults out.old) (O.faults out.new) result }
+/// Tells which argument is wrong, prints what is wrong with the arguments, and answers the status of the program.
+pub(crate) fn refuse<O: Sink, N: Notes>(
+    usage: Usage,
+    words: &[String],
+    out: &mut O,
+    notes: &mut N,
+) -> u8
+    ensures text { O.tells out.old ≡ true → Prints (usage_line usage) 2 (O.written out.old) (O.written out.new) result }
+    ensures counts { PrintCounts 2 (O.faults out.old) (O.faults out.new) result }
 {
-    print(b"memory\n", out)
+    notes.note(&Note::Usage {
+        word: wrong_word(usage, words),
+    });
+    print_line(line_text(usage).as_bytes(), 2, out)
 }

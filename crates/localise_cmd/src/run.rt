@@ -3,17 +3,19 @@ ghost use Rattle.std.specs.Prelude.{◌&&◌, map, string_bytes};
 ghost use Rattle.command_contract.specs.Contract.{counts_of, run_of};
 ghost use Rattle.suspect_map.specs.Choose.{joined};
 ghost use Rattle.localise_cmd.specs.Commands.{KeepsWords, tools_of};
-ghost use Rattle.verilog_front_end.specs.Meaning.{Means};
-ghost use Rattle.verilog_front_end.specs.Refusals.{IsRefusal};
+ghost use Rattle.verilog_front_end.specs.FrontEnd.{HasError, means_by};
 
-use crate::lines::{print_memory, print_usage};
-use crate::requests::{check_request, find_request, make_request, request_by, sim_request};
+use crate::asking::request_by;
+use crate::lines::refuse;
 use check_cmd::check;
-use command_words::{Request, WordsErr};
+use command_words::WordsErr;
 use find_cmd::find;
 use io_ports::{Shelf, Sink};
+use load_problem::Tools;
 use loc_base::Gate;
 use make_cmd::make;
+use refusal::{LastLine, Notes};
+use requests::Request;
 use sim_cmd::simulate;
 use std::alloc::Global;
 use std::thread::Threads;
@@ -32,26 +34,28 @@ use verilog_front_end::Verilog;
 /// | status | meaning | last line |
 /// |---|---|---|
 /// | 0 | done | `complete N` of `find`, `trace T ok` or `trace T miss C NAME` of `sim`, `yes N` of `check`, `made N stages S width W cycles C` of `make` |
-/// | 1 | a front of the list is found | `front N budget`, `front N sets`; of `make` its own line stands behind it |
-/// | 2 | the words ask for nothing | `usage W` |
+/// | 1 | a front of the list is found | `front N budget`, `front N sets`; of `make` its own line stands after it |
+/// | 2 | the arguments are wrong | `usage W` |
 /// | 3 | a text isn't what is read | `input CODE` and where |
 /// | 4 | a limit is passed | `limit CODE`, `limit size` |
-/// | 5 | a text wasn't handed over | `read fault NAME` |
+/// | 5 | a file can't be read | `read fault NAME` |
 /// | 6 | writing failed | none |
-/// | 7 | memory was wanted | `memory`, `front N memory`, or none |
+/// | 7 | out of memory | `memory`, `front N memory`, or none |
 /// | 8 | `check`: it isn't shown that the report's sets are the whole list | `no` and the first condition that fails |
 ///
-/// The kinds of suspects that `--suspects` may name are those that are given. Texts of designs are in Verilog.
-pub fn run_words<R: Threads + Sync, S: Shelf, O: Sink, G: Gate + Sync>(
+/// The kinds of suspects that `--suspects` may name are those that are given. Texts of designs are in Verilog. What is told to a
+/// person beside the output goes to the notes, of which no clause says anything.
+pub fn run_words<R: Threads + Sync, S: Shelf, O: Sink, G: Gate + Sync, N: Notes>(
     rt: &R,
     alloc: Global,
     words: &[String],
     kinds: &[Box<dyn Granularity>],
     shelf: &mut S,
     out: &mut O,
+    notes: &mut N,
     gate: &G,
 ) -> u8
-    ensures { KeepsWords (tools_of Means IsRefusal (map (λ kind. called kind) kinds.now)
+    ensures { KeepsWords (tools_of means_by HasError (map (λ kind. called kind) kinds.now)
         (joined (λ kind. called kind) (λ kind. lists kind) kinds.now))
         (map string_bytes words.now)
         (run_of (S.tells shelf.old && O.tells out.old) (S.texts shelf.old) (S.written shelf.old) (S.written shelf.new)
@@ -59,36 +63,18 @@ pub fn run_words<R: Threads + Sync, S: Shelf, O: Sink, G: Gate + Sync>(
         (counts_of (S.faults shelf.old) (S.faults shelf.new) (O.faults out.old) (O.faults out.new)))
         result }
 {
+    let tools = Tools {
+        front: &Verilog,
+        kinds,
+        runtime: rt,
+        gate,
+    };
     match request_by(alloc, words, kinds) {
-        Ok(Request::Find(words)) => {
-            let tools = find_cmd::Tools {
-                front: &Verilog,
-                kinds,
-                runtime: rt,
-                gate,
-            };
-            find(alloc, &tools, &find_request(words), shelf, out)
-        }
-        Ok(Request::Sim(words)) => simulate(alloc, &Verilog, &sim_request(words), shelf, out),
-        Ok(Request::Check(words)) => {
-            let tools = check_cmd::Tools {
-                front: &Verilog,
-                kinds,
-                runtime: rt,
-                gate,
-            };
-            check(alloc, &tools, &check_request(words), shelf, out)
-        }
-        Ok(Request::Make(words)) => {
-            let tools = make_cmd::Tools {
-                front: &Verilog,
-                kinds,
-                runtime: rt,
-                gate,
-            };
-            make(alloc, &tools, &make_request(words), shelf, out)
-        }
-        Err(WordsErr::Usage(usage)) => print_usage(usage, out).status(2),
-        Err(WordsErr::NoMemory) => print_memory(out).status(7),
+        Ok(Request::Find(request)) => find(alloc, &tools, &request, shelf, out, notes),
+        Ok(Request::Sim(request)) => simulate(alloc, &Verilog, &request, shelf, out, notes),
+        Ok(Request::Check(request)) => check(alloc, &tools, &request, shelf, out, notes),
+        Ok(Request::Make(request)) => make(alloc, &tools, &request, shelf, out, notes),
+        Err(WordsErr::Usage(usage)) => refuse(usage, words, out, notes),
+        Err(WordsErr::NoMemory) => LastLine::Memory.print(out),
     }
 }

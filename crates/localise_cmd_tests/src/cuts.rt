@@ -16,15 +16,18 @@ const REPORT: &[u8] =
 const LOG: &[u8] =
     b"localise-log 1\ninputs 4e8cae5cec1457bb6699c30389d997b502e30db26b5b032c76537885b4803196\nl 4 : 9 10 1 3 2 12\nd 4 : 21\nb -1\nb -2\nd : 24 10 9 23 12\n";
 
-/// What is said of whole lines of the log, from the head on: the block of the first set is step 3 and that of the second step 4, and
-/// without the last step nothing closes the list.
+/// What is said of whole lines of the log, from the head on: the block of the first set is step 3 and that of the second step 4; without
+/// the last step nothing closes the list, but the block of the first set shows that none is missing before the second.
 const JUDGED: [&str; 5] = [
     "no step 1\n",
     "no step 2\n",
     "no step 3\n",
     "no step 4\n",
-    "no closing\n",
+    "front 2\n",
 ];
+
+/// The status with each of these.
+const STATUSES: [u8; 5] = [8, 8, 8, 8, 1];
 
 const LINES: [&str; 2] = ["check m.v m r l t.vcd", "check m.v m r l t.vcd --workers 7"];
 
@@ -36,8 +39,10 @@ fn is_answered<R: Threads + Sync + Abort>(
     line: usize,
 ) -> Result<(), Fail> {
     let refused = format!(in alloc; "input G1 {line}\n")?;
-    let wanted = match JUDGED.get(line.wrapping_sub(3)) {
-        Some(judged) if front.ends_with(b"\n") => (*judged, 8),
+    let step = line.wrapping_sub(3);
+    let status = STATUSES.get(step).copied().unwrap_or(3);
+    let wanted = match JUDGED.get(step) {
+        Some(judged) if front.ends_with(b"\n") => (*judged, status),
         _ => (refused.as_str(), 3),
     };
     for words in LINES {

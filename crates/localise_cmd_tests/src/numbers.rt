@@ -1,7 +1,8 @@
 //! The numbers that words ask for; no run shows how many steps, sets and workers there may be.
 
 use crate::same::same;
-use command_words::{Request, request};
+use command_words::request;
+use requests::{Listing, Request};
 use std::alloc::Global;
 use std::test::Fail;
 
@@ -34,11 +35,15 @@ const ASKED: [(&str, [u32; 4]); 11] = [
     ("make --size=0 -- 0000000012", [0, 200_000, 1_000, 1]),
 ];
 
+fn numbers_in(listing: &Listing) -> [u32; 4] {
+    [listing.size, listing.budget, listing.sets, listing.workers]
+}
+
 /// The size, the budget, the number of sets and that of workers, where a command has them.
 fn numbers_of(request: &Request) -> [u32; 4] {
     match request {
-        Request::Find(find) => [find.size, find.budget, find.sets, find.workers],
-        Request::Make(make) => [make.size, make.budget, make.sets, make.workers],
+        Request::Find(find) => numbers_in(&find.listing),
+        Request::Make(make) => numbers_in(&make.listing),
         Request::Check(check) => [0, 0, 0, check.workers],
         Request::Sim(_sim) => [0, 0, 0, 0],
     }

@@ -4,6 +4,7 @@ use crate::own::Everything;
 use io_ports::{MemShelf, MemSink, Numbers, Texts};
 use loc_base::{Bytes, FreeGate, Gate};
 use localise_cmd::run_words;
+use refusal::NoNotes;
 use std::alloc::Global;
 use std::test::Fail;
 use std::thread::Threads;
@@ -153,6 +154,7 @@ pub(super) fn run_by<R: Threads + Sync, G: Gate + Sync>(
         kinds.as_slice(),
         &mut shelf,
         &mut out,
+        &mut NoNotes,
         gate,
     );
     Ok(Ran { status, shelf, out })

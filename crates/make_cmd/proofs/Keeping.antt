@@ -4,7 +4,7 @@ use Rattle.std.proofs.Common.{◌⊎◌, inl, inr, Some}
 use Rattle.std.proofs.Math.Path.{fun_ext}
 use Rattle.io_ports.specs.Faults.{FaultCounts, Rose, WriteRose}
 use Rattle.io_ports.specs.Shelf.{AppendsFront}
-use Rattle.refusal_lines.specs.Refusals.{memory_line}
+use Rattle.refusal.specs.Lines.{memory_line}
 use Rattle.command_contract.specs.Contract.{Causes, IsInputRefusal, IsRefusal, IsStatus, Keeps, NoneRose, Run, Texts, WriteFailed, counts_of}
 use Rattle.command_contract.proofs.Counting.{write-rose}
 use Rattle.command_contract.proofs.Statuses.{input-refusal}
@@ -12,34 +12,35 @@ use Rattle.front_end.specs.Means.{Meaning, Refusing}
 use Rattle.write_order.specs.Writes.{AreDone, StopsIn, on_shelf, print_piece}
 use Rattle.write_order.proofs.Carried.{done-then, print-done, print-stops, stops-then}
 use Rattle.made_input.specs.Made.{design_text, made_line, trace_text}
-use Rattle.load_problem.specs.Ends.{PrintCounts, Prints}
+use Rattle.refusal.specs.Ends.{PrintCounts, Prints}
 use Rattle.load_problem.specs.Means.{Suspecting}
-use Rattle.find_cmd.specs.Asked.{Asked as Finding}
-use Rattle.find_cmd.specs.Finding.{finding, outputs_of}
-use Rattle.make_cmd.specs.Asked.{Asked, IsAsked, finding_of}
-use Rattle.make_cmd.specs.Making.{IsCut, IsListed, IsMade, IsMadeRefusal, IsStopped, made_texts, made_writes, made_written, making}
+use Rattle.requests.specs.Asked.{FindAsked}
+use Rattle.find_cmd.specs.Finding.{outputs_of}
+use Rattle.make_cmd.specs.Asked.{IsAsked, finding_of}
+use Rattle.requests.specs.Asked.{MakeAsked}
+use Rattle.make_cmd.specs.Making.{IsCut, IsListed, IsMade, IsMadeRefusal, IsStopped, made_texts, made_writes, made_written, making, quiet_list}
 use Rattle.make_cmd.specs.Making.{for_last_line, for_list, for_texts, in_last_line, in_list, in_memory_line, in_texts}
 use Rattle.make_cmd.proofs.Asking.{design-log, design-report, design-trace, trace-log, trace-report}
 use Rattle.make_cmd.proofs.Spared.{AllSpare, done-stays, other-name, same-name, spare-take, stays, stops-stays}
 
 -- ---- the made texts, once they are written
-pub design-written : (asked : Asked) (written : Texts) → IsAsked asked
+pub design-written : (asked : MakeAsked) (written : Texts) → IsAsked asked
     → made_written asked written asked.design ≡ Some (design_text asked.number)
 design-written asked written may =
     rw (same-name asked.design, other-name asked.design asked.trace (design-trace asked may)) refl
 
-pub trace-written : (asked : Asked) (written : Texts) → IsAsked asked
+pub trace-written : (asked : MakeAsked) (written : Texts) → IsAsked asked
     → made_written asked written asked.trace ≡ Some (trace_text asked.number)
 trace-written asked written may =
     rw (same-name asked.trace) refl
 
 -- the writes spare the texts of other names
-writes-spare : (asked : Asked) (name : List ℕ) → name ≢ asked.design → name ≢ asked.trace → AllSpare name (made_writes asked)
+writes-spare : (asked : MakeAsked) (name : List ℕ) → name ≢ asked.design → name ≢ asked.trace → AllSpare name (made_writes asked)
 writes-spare asked name no_design no_trace = (no_design, (no_design, (no_trace, (no_trace, tt))))
 
 -- the list writes its log and its report, and no waves
-unwritten : (asked : Asked) (name : List ℕ) → name ≢ asked.log → name ≢ asked.report
-    → (name ≡ asked.log) ⊎ ((name ≡ asked.report) ⊎ ⊥) → ⊥
+unwritten : (asked : MakeAsked) (name : List ℕ) → name ≢ asked.listing.log → name ≢ asked.listing.report
+    → (name ≡ asked.listing.log) ⊎ ((name ≡ asked.listing.report) ⊎ ⊥) → ⊥
 unwritten asked name other_log other_report (inl log) = other_log log
 unwritten asked name other_log other_report (inr (inl report)) = other_report report
 unwritten asked name other_log other_report (inr (inr wave)) = wave
@@ -66,9 +67,9 @@ made-range n (inr four) = (omega (arith, four), omega (arith, four))
 refusal-made : (n : ℕ) → IsMadeRefusal n → IsRefusal n
 refusal-made n is = input-refusal n (input-refused n is)
 
-module _ (M : Meaning) (R : Refusing) (S : Suspecting) (asked : Asked) (run : Run) where
+module _ (M : Meaning) (R : Refusing) (S : Suspecting) (asked : MakeAsked) (run : Run) where
   -- a status of the list but 5 is one of the command
-  made-status : (status : ℕ) → status ≢ 5 → IsStatus (finding M R S (finding_of asked)) status → IsStatus (making M R S asked) status
+  made-status : (status : ℕ) → status ≢ 5 → IsStatus (quiet_list M R S (finding_of asked)) status → IsStatus (making M R S asked) status
   made-status status other (inl answer) = inl answer
   made-status status other (inr (inl (inl three))) = inr (inl (inl three))
   made-status status other (inr (inl (inr (inl four)))) = inr (inl (inr four))
@@ -214,9 +215,9 @@ module _ (M : Meaning) (R : Refusing) (S : Suspecting) (asked : Asked) (run : Ru
   }
 
   -- by what was asked of it, and what it read
-  pub ran-made : (list : Finding) (texts mid : Texts) (shelf : FaultCounts) (printed : List ℕ) (sink status : ℕ) → list ≡ finding_of asked
+  pub ran-made : (list : FindAsked) (texts mid : Texts) (shelf : FaultCounts) (printed : List ℕ) (sink status : ℕ) → list ≡ finding_of asked
       → texts ≡ made_texts asked → shelf ≡ run.counts.shelf
-      → Keeps (finding M R S list) (record {
+      → Keeps (quiet_list M R S list) (record {
         texts = texts;
         written = mid;
         now_written = run.now_written;
@@ -225,9 +226,9 @@ module _ (M : Meaning) (R : Refusing) (S : Suspecting) (asked : Asked) (run : Ru
         counts = counts_of shelf run.counts.now_shelf run.counts.sink sink;
         told = run.told;
       }) status
-      → Keeps (finding M R S (finding_of asked)) (ran mid printed sink) status
+      → Keeps (quiet_list M R S (finding_of asked)) (ran mid printed sink) status
   ran-made list texts mid shelf printed sink status is_list is_texts is_shelf keeps =
-      subst (λ n. Keeps (finding M R S (finding_of asked)) (record {
+      subst (λ n. Keeps (quiet_list M R S (finding_of asked)) (record {
         texts = made_texts asked;
         written = mid;
         now_written = run.now_written;
@@ -236,7 +237,7 @@ module _ (M : Meaning) (R : Refusing) (S : Suspecting) (asked : Asked) (run : Ru
         counts = counts_of n run.counts.now_shelf run.counts.sink sink;
         told = run.told;
       }) status) is_shelf
-      (subst (λ (t : Texts). Keeps (finding M R S (finding_of asked)) (record {
+      (subst (λ (t : Texts). Keeps (quiet_list M R S (finding_of asked)) (record {
         texts = t;
         written = mid;
         now_written = run.now_written;
@@ -245,7 +246,7 @@ module _ (M : Meaning) (R : Refusing) (S : Suspecting) (asked : Asked) (run : Ru
         counts = counts_of shelf run.counts.now_shelf run.counts.sink sink;
         told = run.told;
       }) status) is_texts
-      (subst (λ (f : Finding). Keeps (finding M R S f) (record {
+      (subst (λ (f : FindAsked). Keeps (quiet_list M R S f) (record {
         texts = texts;
         written = mid;
         now_written = run.now_written;
@@ -261,25 +262,25 @@ module _ (M : Meaning) (R : Refusing) (S : Suspecting) (asked : Asked) (run : Ru
     made : run.told ≡ true → mid ≡ made_written asked run.written
     made told = fun_ext (begun told).texts
 
-    from-made : (printed : List ℕ) (sink status : ℕ) → Keeps (finding M R S (finding_of asked)) (ran mid printed sink) status
-        → run.told ≡ true → Keeps (finding M R S (finding_of asked)) (ran (made_written asked run.written) printed sink) status
+    from-made : (printed : List ℕ) (sink status : ℕ) → Keeps (quiet_list M R S (finding_of asked)) (ran mid printed sink) status
+        → run.told ≡ true → Keeps (quiet_list M R S (finding_of asked)) (ran (made_written asked run.written) printed sink) status
     from-made printed sink status keeps told =
-        subst (λ (w : Texts). Keeps (finding M R S (finding_of asked)) (ran w printed sink) status) (made told) keeps
+        subst (λ (w : Texts). Keeps (quiet_list M R S (finding_of asked)) (ran w printed sink) status) (made told) keeps
 
-    list-others : (printed : List ℕ) (sink status : ℕ) → Keeps (finding M R S (finding_of asked)) (ran mid printed sink) status → Others
+    list-others : (printed : List ℕ) (sink status : ℕ) → Keeps (quiet_list M R S (finding_of asked)) (ran mid printed sink) status → Others
     list-others printed sink status keeps told name unnamed =
         (from-made printed sink status keeps told).others told name
         (unwritten asked name (λ e. unnamed (inr (inr (inl e)))) (λ e. unnamed (inr (inr (inr e)))))
         ∙ stays name (made_writes asked) (run.written name) (writes-spare asked name (λ e. unnamed (inl e)) (λ e. unnamed (inr (inl e))))
 
-    design-stands : (printed : List ℕ) (sink status : ℕ) → Keeps (finding M R S (finding_of asked)) (ran mid printed sink) status
+    design-stands : (printed : List ℕ) (sink status : ℕ) → Keeps (quiet_list M R S (finding_of asked)) (ran mid printed sink) status
         → run.told ≡ true → run.now_written asked.design ≡ Some (design_text asked.number)
     design-stands printed sink status keeps told =
         (from-made printed sink status keeps told).others told asked.design
         (unwritten asked asked.design (design-log asked may) (design-report asked may))
         ∙ design-written asked run.written may
 
-    trace-stands : (printed : List ℕ) (sink status : ℕ) → Keeps (finding M R S (finding_of asked)) (ran mid printed sink) status
+    trace-stands : (printed : List ℕ) (sink status : ℕ) → Keeps (quiet_list M R S (finding_of asked)) (ran mid printed sink) status
         → run.told ≡ true → run.now_written asked.trace ≡ Some (trace_text asked.number)
     trace-stands printed sink status keeps told =
         (from-made printed sink status keeps told).others told asked.trace
@@ -288,7 +289,7 @@ module _ (M : Meaning) (R : Refusing) (S : Suspecting) (asked : Asked) (run : Ru
 
     -- it ends the run, with no answer
     pub list-keeps : (status : ℕ) → 2 ≤ status → status ≢ 5
-        → Keeps (finding M R S (finding_of asked)) (ran mid run.now_printed run.counts.now_sink) status
+        → Keeps (quiet_list M R S (finding_of asked)) (ran mid run.now_printed run.counts.now_sink) status
         → Keeps (making M R S asked) run status
     list-keeps status least other keeps =
         let from = from-made run.now_printed run.counts.now_sink status keeps in
@@ -298,7 +299,7 @@ module _ (M : Meaning) (R : Refusing) (S : Suspecting) (asked : Asked) (run : Ru
           answered = λ told is. absurd (omega (arith, least, answer-low status is));
           refused = λ told is.
               let ends = (from told).refused told (input-refused status is) in
-              record { line = ends.line; refused = ends.refused; named = ends.named; printed = ends.printed; stands = ends.stands };
+              record { line = ends.line; refused = ends.refused.0; named = ends.named; printed = ends.printed; stands = ends.stands };
           stopped = λ told six. (((from told).stopped told six).0, in_list ((from told).stopped told six));
           cut = λ told seven. for_list ((from told).cut told seven);
           others = list-others run.now_printed run.counts.now_sink status keeps;
@@ -314,7 +315,7 @@ module _ (M : Meaning) (R : Refusing) (S : Suspecting) (asked : Asked) (run : Ru
 
     -- ---- behind the list
     module _ (before : List ℕ) (sink first : ℕ) (low : first ≤ 1)
-        (keeps : Keeps (finding M R S (finding_of asked)) (ran mid before sink) first) where
+        (keeps : Keeps (quiet_list M R S (finding_of asked)) (ran mid before sink) first) where
       listed : run.told ≡ true → IsListed M R S asked run before first
       listed told = record {
         may_answer = low-answer first low;

@@ -1,4 +1,3 @@
 pub mod Asked
-pub mod Requests
 pub mod Making
 pub mod Shelves

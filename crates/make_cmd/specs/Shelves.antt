@@ -4,7 +4,7 @@ use Rattle.std.specs.Str.{bytes_eq}
 use Rattle.command_contract.specs.Contract.{Texts}
 use Rattle.write_order.specs.Writes.{Write, begin_text, put_piece}
 use Rattle.made_input.specs.Made.{design_text, trace_text}
-use Rattle.make_cmd.specs.Asked.{Asked}
+use Rattle.requests.specs.Asked.{MakeAsked}
 use Rattle.make_cmd.specs.declared.made_shelf.MadeShelf.{MadeShelf}
 
 -- the text under a name
@@ -14,7 +14,7 @@ texts_of shelf name =
     else (if bytes_eq name shelf.trace_name.now then Some shelf.trace else None)
 
 -- it holds the texts that are asked for
-pub record IsMadeBy (asked : Asked) (shelf : MadeShelf) : Type 0 where
+pub record IsMadeBy (asked : MakeAsked) (shelf : MadeShelf) : Type 0 where
   pub design_name : shelf.design_name.now ≡ asked.design
   pub design : shelf.design ≡ design_text asked.number
   pub trace_name : shelf.trace_name.now ≡ asked.trace

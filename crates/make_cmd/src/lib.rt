@@ -5,8 +5,5 @@ mod made;
 mod made_shelf;
 mod request;
 mod run;
-mod tools;
 
-pub use request::Request;
 pub use run::make;
-pub use tools::Tools;

@@ -1,48 +1,14 @@
-//! What a made input is asked of.
+//! What the list of a made input is asked of.
 ghost use Rattle.std.specs.Prelude.{◌≡◌, [], ◌∷◌, IfOk, map, string_bytes};
 ghost use Rattle.loc_base.specs.Name.{IsName};
-ghost use Rattle.find_cmd.specs.Requests.{asked_of as list_asked};
+ghost use Rattle.requests.specs.Views.{make_asked, reading_asked, texts_asked};
+ghost use Rattle.find_cmd.specs.Views.{list_asked};
 ghost use Rattle.make_cmd.specs.Asked.{finding_of};
-ghost use Rattle.make_cmd.specs.Requests.{asked_of};
 
+use find_cmd::ListRequest;
 use loc_base::{Name, NoMemory};
+use requests::{MakeRequest, Reading, Texts};
 use std::alloc::Global;
-
-/// What a made input is asked of. The four names of texts differ.
-#[derive(Drop)]
-pub struct Request {
-    /// The number of the input, 0 to 9,999.
-    pub number: u32,
-    /// The name of the design's text that is written.
-    pub design: String,
-    /// The name of the trace's text that is written.
-    pub trace: String,
-    /// The kinds of suspects, each once.
-    pub suspects: Vec<Name>,
-    /// The most members of a set, 0 to 8.
-    pub size: u32,
-    /// The most steps that may be learned, 1 to 10,000,000.
-    pub budget: u32,
-    /// The most sets that are listed, 1 to 100,000.
-    pub sets: u32,
-    /// How many workers check the log, 1 to 64. No answer depends on their number.
-    pub workers: u32,
-    /// The name of the log that is written.
-    pub log: String,
-    /// The name of the report that is written.
-    pub report: String,
-}
-
-/// Copies of names.
-fn names_of(alloc: Global, names: &[Name]) -> Result<Vec<Name>, NoMemory>
-    ensures { IfOk result (λ copies. copies.items ≡ names.now) }
-{
-    let mut copies = Vec::new(alloc);
-    for name in names {
-        copies.push(name.copied(alloc)?)?;
-    }
-    Ok(copies)
-}
 
 /// A word as a name.
 fn name_of(alloc: Global, word: &[u8]) -> Result<Name, NoMemory>
@@ -64,24 +30,35 @@ fn one_text(alloc: Global, name: &str) -> Result<Vec<String>, NoMemory>
     Ok(names)
 }
 
-impl Request {
-    /// What the list of the made design and trace is asked of.
-    pub(crate) fn list_request(&self, alloc: Global) -> Result<find_cmd::Request, NoMemory>
-        ensures { IfOk result (λ request. list_asked request ≡ finding_of (asked_of self.now)) }
-    {
-        Ok(find_cmd::Request {
-            design: String::from_str(alloc, self.design.as_str())?,
-            top: name_of(alloc, b"made")?,
-            traces: one_text(alloc, self.trace.as_str())?,
-            clock: Some(name_of(alloc, b"clk")?),
-            suspects: names_of(alloc, &self.suspects)?,
-            size: self.size,
-            budget: self.budget,
-            sets: self.sets,
-            workers: self.workers,
-            log: String::from_str(alloc, self.log.as_str())?,
-            report: String::from_str(alloc, self.report.as_str())?,
-            waves: None,
-        })
+/// The made design and trace, as texts that are read.
+fn read_texts(alloc: Global, request: &MakeRequest) -> Result<Texts, NoMemory>
+    ensures { IfOk result (λ texts. texts_asked texts ≡ (finding_of (make_asked request.now)).sources.texts) }
+{
+    Ok(Texts {
+        design: String::from_str(alloc, request.design.as_str())?,
+        top: name_of(alloc, b"made")?,
+        traces: one_text(alloc, request.trace.as_str())?,
+    })
+}
+
+/// The made design and trace, with the clock by which they are read.
+pub(crate) fn reading_of(alloc: Global, request: &MakeRequest) -> Result<Reading, NoMemory>
+    ensures { IfOk result (λ reading. reading_asked reading ≡ (finding_of (make_asked request.now)).sources) }
+{
+    Ok(Reading {
+        texts: read_texts(alloc, request)?,
+        clock: Some(name_of(alloc, b"clk")?),
+    })
+}
+
+/// What the list of the made design and trace is asked of.
+pub(crate) fn list_of<'a>(reading: &'a Reading, request: &'a MakeRequest) -> ListRequest<'a>
+    requires { reading_asked reading.now ≡ (finding_of (make_asked request.now)).sources }
+    ensures { list_asked result ≡ finding_of (make_asked request.now) }
+{
+    ListRequest {
+        sources: reading.sources(),
+        listing: &request.listing,
+        waves: None,
     }
 }

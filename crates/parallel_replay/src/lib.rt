@@ -8,3 +8,4 @@ mod trial;
 
 pub use fitting::are_values_for;
 pub use set_search::replay_all;
+pub use trial::Trial;

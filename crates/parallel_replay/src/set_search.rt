@@ -8,9 +8,8 @@ ghost use Rattle.parallel_replay.specs.Trials.{AreTried, FoundFrom, HaveValues, 
 
 use crate::trial::{Piece, Trial};
 use cycle_sim::{Miss, Sim, replay};
-use design_core::types::Order;
-use design_core::{Design, SetWithValues, Trace};
-use loc_base::{Gate, NoMemory};
+use design_core::{Design, SetWithValues};
+use loc_base::{Gate, NoMemory, Workers};
 use std::alloc::Global;
 use std::slice;
 use std::thread::{Threads, map_indices};
@@ -96,22 +95,21 @@ fn only_design(designs: &[Design]) -> &Design
 /// Tries the sets in pieces, each of which passes the gate once. The design stands in a list of one, which workers can share.
 #[tactic(auto, using(crate::proofs::Crossing::crossing_rules))]
 fn search_all<R: Threads + Sync, G: Gate + Sync>(
-    rt: &R,
     alloc: Global,
-    trial: &Trial,
+    workers: &Workers<'_, R, G>,
+    trial: &Trial<'_>,
     sets: &[SetWithValues],
-    workers: u32,
-    gate: &G,
 ) -> Result<Option<(u32, Miss)>, NoMemory>
     requires trial { IsTrial trial.now }
     requires values { HaveValues trial.now sets.now }
-    requires some { 0 < workers }
-    requires most { workers ≤ 64 }
+    requires some { 0 < workers.now.count }
+    requires most { workers.now.count ≤ 64 }
     ensures { IfOk result (λ found. IsSimulable trial.now.design.now trial.now.order.now
         → FirstToMiss trial.now.design.now trial.now.traces.now sets.now 0 (length sets.now) found) }
 {
-    let pieces = shared_out(sets.len(), workers);
+    let pieces = shared_out(sets.len(), workers.count);
     let many = pieces.many;
+    let gate = workers.gate;
     let designs = slice::from_ref(trial.design);
     let order = trial.order;
     let traces = trial.traces;
@@ -131,7 +129,7 @@ fn search_all<R: Threads + Sync, G: Gate + Sync>(
         };
         first_to_miss(alloc, &trial, sets, piece)
     };
-    let answers = map_indices(rt, alloc, pieces.count, &search)?;
+    let answers = map_indices(workers.runtime, alloc, pieces.count, &search)?;
     first_found(&answers)
 }
 
@@ -139,29 +137,21 @@ fn search_all<R: Threads + Sync, G: Gate + Sync>(
 /// workers and every gate, by which each piece of the sets passes before it begins. None where each trace is right with the
 /// values of each set.
 pub fn replay_all<R: Threads + Sync, G: Gate + Sync>(
-    rt: &R,
     alloc: Global,
-    design: &Design,
-    order: &Order,
-    traces: &[Trace],
+    workers: &Workers<'_, R, G>,
+    trial: &Trial<'_>,
     sets: &[SetWithValues],
-    workers: u32,
-    gate: &G,
 ) -> Result<Option<(u32, Miss)>, NoMemory>
-    requires can { CanSimulate design.now order.now }
-    requires traces { All (IsTraceOf design.now) traces.now }
-    requires many { length traces.now < 2 ^ 32 }
-    requires few { length design.now.outputs.items < 2 ^ 32 }
+    requires can { CanSimulate trial.now.design.now trial.now.order.now }
+    requires traces { All (IsTraceOf trial.now.design.now) trial.now.traces.now }
+    requires many { length trial.now.traces.now < 2 ^ 32 }
+    requires few { length trial.now.design.now.outputs.items < 2 ^ 32 }
     requires sets { length sets.now < 2 ^ 32 }
-    requires values { All (λ set. AreValuesFor design.now traces.now set.values) sets.now }
-    requires some { 0 < workers }
-    requires most { workers ≤ 64 }
-    ensures { IfOk result (λ found. IsSimulable design.now order.now → FirstToMiss design.now traces.now sets.now 0 (length sets.now) found) }
+    requires values { All (λ set. AreValuesFor trial.now.design.now trial.now.traces.now set.values) sets.now }
+    requires some { 0 < workers.now.count }
+    requires most { workers.now.count ≤ 64 }
+    ensures { IfOk result (λ found. IsSimulable trial.now.design.now trial.now.order.now
+        → FirstToMiss trial.now.design.now trial.now.traces.now sets.now 0 (length sets.now) found) }
 {
-    let trial = Trial {
-        design,
-        order,
-        traces,
-    };
-    search_all(rt, alloc, &trial, sets, workers, gate)
+    search_all(alloc, workers, trial, sets)
 }

@@ -1,12 +1,12 @@
 use design_core::types::Order;
 use design_core::{Design, Trace};
 
-/// What the values of sets are tried on.
+/// What the values of sets are tried on: a design, an order in which its cycles can be computed, and traces of it.
 #[derive(Drop)]
-pub(crate) struct Trial<'a> {
-    pub(crate) design: &'a Design,
-    pub(crate) order: &'a Order,
-    pub(crate) traces: &'a [Trace],
+pub struct Trial<'a> {
+    pub design: &'a Design,
+    pub order: &'a Order,
+    pub traces: &'a [Trace],
 }
 
 /// So many sets from one number on.

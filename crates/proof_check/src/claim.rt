@@ -8,10 +8,10 @@ pub struct BadStep {
 
 /// A log, with the form and the blocks after which it is checked.
 #[derive(Drop)]
-pub(crate) struct Claim<'a> {
-    pub(crate) form: &'a Form,
-    pub(crate) blocks: &'a [Clause],
-    pub(crate) log: &'a Log,
+pub struct Claim<'a> {
+    pub form: &'a Form,
+    pub blocks: &'a [Clause],
+    pub log: &'a Log,
 }
 
 /// The steps of a log from one place up to another, and how many blocks stand before them.

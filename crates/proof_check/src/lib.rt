@@ -18,7 +18,7 @@ mod text;
 pub mod types;
 
 pub use checker::Checker;
-pub use claim::BadStep;
+pub use claim::{BadStep, Claim};
 pub use laws::{named_follow, one_answer, same_answer};
 pub use naming::named;
 pub use parallel::check_log_parallel;

@@ -9,8 +9,8 @@ ghost use Rattle.proof_check.specs.Pieced.{AreFound, CanSearch, first_of};
 use crate::checker::Checker;
 use crate::claim::{BadStep, Claim, Piece};
 use crate::piece::{answer_of, blocks_up_to_end};
-use clause_base::{Clause, Form, Log, is_within};
-use loc_base::{Gate, NoMemory};
+use clause_base::{Form, Log, is_within};
+use loc_base::{Gate, NoMemory, Workers};
 use std::alloc::Global;
 use std::thread::{Threads, map_chunks};
 
@@ -105,11 +105,10 @@ fn only_piece(pieces: &[Piece]) -> Piece
 
 /// The first step that isn't accepted, each piece being checked by a worker.
 fn search_pieces<R: Threads + Sync, G: Gate + Sync>(
-    rt: &R,
     alloc: Global,
-    claim: &Claim,
+    workers: &Workers<'_, R, G>,
+    claim: &Claim<'_>,
     pieces: &[Piece],
-    gate: &G,
 ) -> Result<Option<BadStep>, NoMemory>
     requires form_within { AreWithin claim.now.form.now.vars claim.now.form.now.clauses }
     requires blocks_within { AreWithin claim.now.form.now.vars claim.now.blocks.now }
@@ -120,6 +119,7 @@ fn search_pieces<R: Threads + Sync, G: Gate + Sync>(
     ensures { IfOk result (FoundIn claim.now.form.now.clauses claim.now.blocks.now claim.now.log.now 0 (length claim.now.log.now)) }
 {
     let known = known_steps(claim.form, claim.log);
+    let gate = workers.gate;
     let form = claim.form;
     let blocks = claim.blocks;
     let log = claim.log;
@@ -131,32 +131,28 @@ fn search_pieces<R: Threads + Sync, G: Gate + Sync>(
         let claim = Claim { form, blocks, log };
         check_piece(alloc, &claim, known, only_piece(part))
     };
-    let answers = map_chunks(rt, alloc, pieces, 1, &search)?;
+    let answers = map_chunks(workers.runtime, alloc, pieces, 1, &search)?;
     first_found(&answers)
 }
 
 /// What `Checker::check_log` answers, by so many workers: the same for every number of workers and every gate. The log is
 /// cut into as many pieces as there are workers, or fewer, each of which passes the gate once and has a checker of its own.
 pub fn check_log_parallel<R: Threads + Sync, G: Gate + Sync>(
-    rt: &R,
     alloc: Global,
-    form: &Form,
-    blocks: &[Clause],
-    log: &Log,
-    workers: u32,
-    gate: &G,
+    workers: &Workers<'_, R, G>,
+    claim: &Claim<'_>,
 ) -> Result<Option<BadStep>, NoMemory>
-    requires form_within { AreWithin form.now.vars form.now.clauses }
-    requires blocks_within { AreWithin form.now.vars blocks.now }
-    requires few { length log.now + 1 < 2 ^ 32 }
-    requires some { 0 < workers }
-    requires most { workers ≤ 64 }
-    ensures accepted { IfOk result (λ found. IsNone found ↔ IsAccepted form.now.clauses blocks.now log.now) }
-    ensures least { IfOk result (λ found. IfSome found (λ bad. IsLeastRefused form.now.clauses blocks.now log.now bad.n)) }
-    ensures sound { IfOk result (λ found. IsNone found → Follows form.now.clauses blocks.now log.now) }
+    requires form_within { AreWithin claim.now.form.now.vars claim.now.form.now.clauses }
+    requires blocks_within { AreWithin claim.now.form.now.vars claim.now.blocks.now }
+    requires few { length claim.now.log.now + 1 < 2 ^ 32 }
+    requires some { 0 < workers.now.count }
+    requires most { workers.now.count ≤ 64 }
+    ensures accepted { IfOk result (λ found. IsNone found ↔ IsAccepted claim.now.form.now.clauses claim.now.blocks.now claim.now.log.now) }
+    ensures least { IfOk result (λ found. IfSome found (λ bad. IsLeastRefused claim.now.form.now.clauses claim.now.blocks.now claim.now.log.now bad.n)) }
+    ensures sound { IfOk result (λ found. IsNone found → Follows claim.now.form.now.clauses claim.now.blocks.now claim.now.log.now) }
 {
-    let claim = Claim { form, blocks, log };
-    let pieces = pieces_of(alloc, log, piece_length(log.len(), workers))?;
-    let found = search_pieces(rt, alloc, &claim, &pieces, gate)?;
-    Ok(answer_of(&claim, found))
+    let size = piece_length(claim.log.len(), workers.count);
+    let pieces = pieces_of(alloc, claim.log, size)?;
+    let found = search_pieces(alloc, workers, claim, &pieces)?;
+    Ok(answer_of(claim, found))
 }

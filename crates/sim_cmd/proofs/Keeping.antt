@@ -1,130 +1,181 @@
--- The promises of the command, from how a run ends.
-use Rattle.std.proofs.Common.{ℕ, ◌≡◌, true, ap, refl, arith, ◌⊎◌, inl, inr}
-use Rattle.command_contract.specs.Contract.{Causes, Counts, EndsRefused, IsInputRefusal, IsStatus, Keeps, OneRose, Run}
+-- The promises of the command, where its lines were printed, and where a refusal's line ends it.
+use Rattle.std.proofs.Common.{ℕ, ◌≡◌, ◌≢◌, ◌≤◌, List, [], ◌++◌, take, true, ap, sym, refl, ◌∙◌, arith, ◌⊎◌, inl, inr}
+use Rattle.std.proofs.lemmas.List.{append-nil}
+use Rattle.command_contract.specs.Contract.{Causes, IsStatus, Keeps, NamesFault, OneRose, Run, Texts}
+use Rattle.design_core.specs.declared.design.Design.{Design}
+use Rattle.design_core.specs.declared.trace.Trace.{Trace}
+use Rattle.io_ports.specs.Faults.{Rose}
 use Rattle.command_contract.proofs.Statuses.{input-range, input-refusal}
-use Rattle.front_end.specs.Means.{Meaning, Refusing}
-use Rattle.sim_cmd.specs.declared.outcome.Outcome.{Outcome}
-use Rattle.sim_cmd.specs.declared.outcome.Outcome.TheVariants.{Done, NoDesign, NoTrace, WriteFault, Memory}
-use Rattle.sim_cmd.specs.Requests.{Asked}
-use Rattle.load_texts.specs.Refusals.{design_fault_status, trace_fault_status}
-use Rattle.sim_cmd.specs.Simulation.{IsCut, IsDone, IsReady, IsStopped, simulation}
-use Rattle.sim_cmd.specs.Ends.{Leaves, RunCounts, status_of}
-use Rattle.load_texts.proofs.Statuses.{IsOne, design-one, not-done, not-stopped, trace-one}
-use Rattle.sim_cmd.proofs.Statuses.{refused-memory}
-use Rattle.load_texts.proofs.Counting.{design-rose, design-stays, trace-rose, trace-stays}
+use Rattle.front_end.specs.Means.{IsReady, Meaning, Refusing}
+use Rattle.load_texts.specs.Means.{Means}
+use Rattle.refusal.specs.Lines.{memory_line}
+use Rattle.refusal.specs.Stops.{LineCut, LineStops}
+use Rattle.refusal.proofs.Keeping.{EndsByLines}
+use Rattle.requests.specs.Asked.{SourcesAsked}
+use Rattle.sim_lines.specs.Lines.{AreLines, Line, text_of}
+use Rattle.sim_lines.proofs.SomeLines.{some-lines as some-lines-of}
+use Rattle.sim_cmd.specs.Ends.{EndsShown, ShownCounts}
+use Rattle.sim_cmd.specs.Simulation.{IsCut, IsDone, IsDue, IsStopped, MayStand, Refused, Simulated, simulation}
 
-module _ (M : Meaning) (R : Refusing) (asked : Asked) (run : Run) where
-  abbrev Left : Outcome → Type 0
-  Left o = Leaves M R asked run.texts run.counts run.printed run.now_printed o
+module _ (M : Meaning) (R : Refusing) (asked : SourcesAsked) (run : Run) where
+  -- ---- a refusal's line
+  -- a line that was due is due here
+  line-due : (line : List ℕ)
+      → ((status : ℕ) × Refused M R asked run.texts status line × NamesFault run.counts.shelf run.counts.now_shelf status line)
+      ⊎ (line ≡ memory_line)
+      → IsDue M R asked run.texts run.counts line
+  line-due line (inl refused) = inr (inl refused)
+  line-due line (inr memory) = inr (inr (inr (inl memory)))
 
-  -- ---- the status
-  status-of_one : (status : ℕ) → IsOne status → IsStatus (simulation M R asked) status
-  status-of_one status (inl is) = inr (inl is)
-  status-of_one status (inr e) = inr (inr (inr e))
+  line-stops : LineStops (Refused M R asked run.texts) run → IsStopped M R asked run
+  line-stops is = record {
+    due = is.line;
+    is_due = line-due is.line is.is_due;
+    printed = is.printed;
+    sink_failed = is.sink_failed;
+    nothing_written = is.nothing_written;
+  }
 
-  is-status : (o : Outcome) → IsStatus (simulation M R asked) (status_of o)
-  is-status Done = inl refl
-  is-status (NoDesign why) = status-of_one (design_fault_status why) (design-one why)
-  is-status (NoTrace why) = status-of_one (trace_fault_status why) (trace-one why)
-  is-status WriteFault = inr (inr (inl refl))
-  is-status Memory = inr (inr (inr refl))
-
-  -- ---- what the run leaves
-  done : (o : Outcome) → Left o → run.now_written ≡ run.written → status_of o ≡ 0 → IsDone M asked run
-  done Done (lines, simulated, printed) nothing e =
-      record { lines = lines; simulated = simulated; printed = printed; nothing_written = nothing }
-  done (NoDesign why) left nothing e = absurd (not-done (design_fault_status why) (design-one why) e)
-  done (NoTrace why) left nothing e = absurd (not-done (trace_fault_status why) (trace-one why) e)
-  done WriteFault left nothing e = absurd (omega (arith, e))
-  done Memory left nothing e = absurd (omega (arith, e))
-
-  refused : (o : Outcome) → Left o → run.now_written ≡ run.written → IsInputRefusal (status_of o)
-      → EndsRefused (simulation M R asked) run (status_of o)
-  refused Done left nothing is = absurd (omega (arith, input-range 0 is))
-  refused (NoDesign why) (line, cause, named, printed) nothing is =
-      record { line = line; refused = cause; named = named; printed = printed; stands = nothing }
-  refused (NoTrace why) (line, cause, named, printed) nothing is =
-      record { line = line; refused = cause; named = named; printed = printed; stands = nothing }
-  refused WriteFault left nothing is = absurd (omega (arith, input-range 6 is))
-  refused Memory left nothing is = absurd (omega (arith, input-range 7 is))
-
-  stopped : (o : Outcome) → Left o → run.now_written ≡ run.written → RunCounts run.counts o → status_of o ≡ 6
-      → IsStopped M R asked run
-  stopped Done left nothing counts e = absurd (omega (arith, e))
-  stopped (NoDesign why) left nothing counts e = absurd (not-stopped (design_fault_status why) (design-one why) e)
-  stopped (NoTrace why) left nothing counts e = absurd (not-stopped (trace_fault_status why) (trace-one why) e)
-  stopped WriteFault (due, is_due, front) nothing counts e =
-      record { due = due; is_due = is_due; printed = front; sink_failed = counts; nothing_written = nothing }
-  stopped Memory left nothing counts e = absurd (omega (arith, e))
-
-  cut : (o : Outcome) → Left o → run.now_written ≡ run.written → status_of o ≡ 7 → IsCut M asked run
-  cut Done left nothing e = absurd (omega (arith, e))
-  cut (NoDesign why) (line, cause, named, printed) nothing e = record {
-    front = line;
-    may_stand = inr (inl (refused-memory M R asked run.texts (design_fault_status why) line cause e));
-    printed = printed;
+  cut-at : run.now_written ≡ run.written → (run.now_printed ≡ run.printed) ⊎ (run.now_printed ≡ run.printed ++ memory_line)
+      → IsCut M asked run
+  cut-at nothing (inl same) = record {
+    front = [];
+    may_stand = inl refl;
+    printed = same ∙ sym (append-nil run.printed);
     nothing_written = nothing;
   }
-  cut (NoTrace why) (line, cause, named, printed) nothing e = record {
-    front = line;
-    may_stand = inr (inl (refused-memory M R asked run.texts (trace_fault_status why) line cause e));
-    printed = printed;
+  cut-at nothing (inr put) =
+      record { front = memory_line; may_stand = inr (inl refl); printed = put; nothing_written = nothing }
+
+  line-cut : LineCut run → IsCut M asked run
+  line-cut is = cut-at is.nothing_written is.printed
+
+  pub ends-by_lines : EndsByLines (simulation M R asked) run
+  ends-by_lines = record {
+    no_answer = λ s is least most. omega (arith, is, least);
+    may_refuse = λ s is. is;
+    refuses = λ s is. is;
+    stands = λ nothing. nothing;
+    stops = λ failed is. line-stops is;
+    cut = λ is. line-cut is;
+  }
+
+  -- ---- lines that were printed
+  -- some lines are those of the traces, and they, or a front of them, were printed
+  abbrev Shown : ℕ → Type 0
+  Shown status =
+      (lines : List Line) × Simulated M asked run.texts lines × EndsShown lines run.printed run.now_printed status
+
+  shown-done : (status : ℕ) → Shown status → run.now_written ≡ run.written → status ≡ 0 → IsDone M asked run
+  shown-done status (lines, is, inl (e, put)) nothing zero =
+      record { lines = lines; simulated = is; printed = put; nothing_written = nothing }
+  shown-done status (lines, is, inr (inl (e, fails))) nothing zero = absurd (omega (arith, e, zero))
+  shown-done status (lines, is, inr (inr (e, ends))) nothing zero = absurd (omega (arith, e, zero))
+
+  -- some of them, and `memory`
+  some-lines : (lines : List Line) (count : ℕ) (front : List ℕ) → Simulated M asked run.texts lines
+      → run.counts.now_shelf ≡ run.counts.shelf
+      → (front ≡ text_of (take count lines)) ⊎ (front ≡ text_of (take count lines) ++ memory_line)
+      → MayStand M asked run.texts run.counts front
+  some-lines lines count front is loaded which =
+      inr (inr (record { lines = lines; simulated = is; untroubled = loaded; count = count; is = which }))
+
+  shown-stopped : (status : ℕ) → Shown status → run.now_written ≡ run.written → run.counts.now_shelf ≡ run.counts.shelf
+      → Rose run.counts.sink run.counts.now_sink → status ≡ 6 → IsStopped M R asked run
+  shown-stopped status (lines, is, inl (e, put)) nothing loaded rose six = absurd (omega (arith, e, six))
+  shown-stopped status (lines, is, inr (inl (e, inl front))) nothing loaded rose six = record {
+    due = text_of lines;
+    is_due = inl (lines, is, loaded, refl);
+    printed = front;
+    sink_failed = rose;
     nothing_written = nothing;
   }
-  cut WriteFault left nothing e = absurd (omega (arith, e))
-  cut Memory (front, may, printed) nothing e =
-      record { front = front; may_stand = may; printed = printed; nothing_written = nothing }
+  shown-stopped status (lines, is, inr (inl (e, inr (count, front)))) nothing loaded rose six = record {
+    due = text_of (take count lines) ++ memory_line;
+    is_due = inr (inr (some-lines lines count _ is loaded (inr refl)));
+    printed = front;
+    sink_failed = rose;
+    nothing_written = nothing;
+  }
+  shown-stopped status (lines, is, inr (inr (e, ends))) nothing loaded rose six = absurd (omega (arith, e, six))
+
+  shown-cut : (status : ℕ) → Shown status → run.now_written ≡ run.written → run.counts.now_shelf ≡ run.counts.shelf
+      → status ≡ 7 → IsCut M asked run
+  shown-cut status (lines, is, inl (e, put)) nothing loaded seven = absurd (omega (arith, e, seven))
+  shown-cut status (lines, is, inr (inl (e, fails))) nothing loaded seven = absurd (omega (arith, e, seven))
+  shown-cut status (lines, is, inr (inr (e, (count, inl put)))) nothing loaded seven = record {
+    front = text_of (take count lines);
+    may_stand = some-lines lines count _ is loaded (inl refl);
+    printed = put;
+    nothing_written = nothing;
+  }
+  shown-cut status (lines, is, inr (inr (e, (count, inr put)))) nothing loaded seven = record {
+    front = text_of (take count lines) ++ memory_line;
+    may_stand = some-lines lines count _ is loaded (inr refl);
+    printed = put;
+    nothing_written = nothing;
+  }
 
   -- ---- the counts of faults
-  causes : (c : Counts) (o : Outcome) → RunCounts c o → Causes (simulation M R asked) c (status_of o)
-  causes c Done counts = record {
-    answer = λ e. counts;
-    none = λ low. counts;
-    read = λ e. absurd (omega (arith, e));
-    write = λ e. absurd (omega (arith, e));
-    memory = λ e. absurd (omega (arith, e));
-  }
-  causes c (NoDesign why) (name, shelf, sink) = record {
-    answer = λ e. absurd (not-done (design_fault_status why) (design-one why) e);
-    none = λ low. (design-stays name c.shelf c.now_shelf why shelf (λ e. omega (arith, e, low)), sink);
-    read = λ e. (design-rose name c.shelf c.now_shelf why shelf e, sink);
-    write = λ e. absurd (not-stopped (design_fault_status why) (design-one why) e);
-    memory = λ e. sink;
-  }
-  causes c (NoTrace why) (name, shelf, sink) = record {
-    answer = λ e. absurd (not-done (trace_fault_status why) (trace-one why) e);
-    none = λ low. (trace-stays name c.shelf c.now_shelf why shelf (λ e. omega (arith, e, low)), sink);
-    read = λ e. (trace-rose name c.shelf c.now_shelf why shelf e, sink);
-    write = λ e. absurd (not-stopped (trace_fault_status why) (trace-one why) e);
-    memory = λ e. sink;
-  }
-  causes c WriteFault counts = record {
-    answer = λ e. absurd (omega (arith, e));
-    none = λ low. absurd (omega (arith, low));
-    read = λ e. absurd (omega (arith, e));
-    write = λ e. inr counts;
-    memory = λ e. absurd (omega (arith, e));
-  }
-  causes c Memory counts = record {
-    answer = λ e. absurd (omega (arith, e));
-    none = λ low. absurd (omega (arith, low));
-    read = λ e. absurd (omega (arith, e));
-    write = λ e. absurd (omega (arith, e));
-    memory = λ e. counts;
+  abbrev Sunk : ℕ → Type 0
+  Sunk status = ShownCounts run.counts.sink run.counts.now_sink status
+
+  shown-status : (status : ℕ) → Sunk status → IsStatus (simulation M R asked) status
+  shown-status status (inl (e, same)) = inl e
+  shown-status status (inr (inl (e, rose))) = inr (inr (inl e))
+  shown-status status (inr (inr (e, same))) = inr (inr (inr e))
+
+  shown-rose : (status : ℕ) → Sunk status → status ≡ 6 → Rose run.counts.sink run.counts.now_sink
+  shown-rose status (inl (e, same)) six = absurd (omega (arith, e, six))
+  shown-rose status (inr (inl (e, rose))) six = rose
+  shown-rose status (inr (inr (e, same))) six = absurd (omega (arith, e, six))
+
+  shown-same : (status : ℕ) → Sunk status → status ≢ 6 → run.counts.now_sink ≡ run.counts.sink
+  shown-same status (inl (e, same)) other = same
+  shown-same status (inr (inl (e, rose))) other = absurd (other e)
+  shown-same status (inr (inr (e, same))) other = same
+
+  shown-high : (status : ℕ) → Sunk status → 1 ≤ status → 6 ≤ status
+  shown-high status (inl (e, same)) some = absurd (omega (arith, e, some))
+  shown-high status (inr (inl (e, rose))) some = omega (arith, e)
+  shown-high status (inr (inr (e, same))) some = omega (arith, e)
+
+  shown-causes : (status : ℕ) → Sunk status → run.counts.now_shelf ≡ run.counts.shelf
+      → Causes (simulation M R asked) run.counts status
+  shown-causes status sunk loaded = record {
+    answer = λ e. (loaded, shown-same status sunk (λ six. omega (arith, six, e)));
+    none = λ low. (loaded, shown-same status sunk (λ six. omega (arith, six, low)));
+    read = λ five. absurd (omega (arith, five, shown-high status sunk (omega (arith, five))));
+    write = λ six. inr (shown-rose status sunk six);
+    memory = λ seven. shown-same status sunk (λ six. omega (arith, six, seven));
   }
 
+  shown-complete : (status : ℕ) → Sunk status → ¬ OneRose run.counts → (status ≡ 0) ⊎ (status ≡ 7)
+  shown-complete status (inl (e, same)) none = inl e
+  shown-complete status (inr (inl (e, rose))) none = absurd (none (inr rose))
+  shown-complete status (inr (inr (e, same))) none = inr e
+
   -- ---- all of them
-  pub keeps : (o : Outcome) → (run.told ≡ true → Left o) → run.now_written ≡ run.written → RunCounts run.counts o
-      → (run.told ≡ true → IsReady M asked run.texts → ¬ OneRose run.counts → (status_of o ≡ 0) ⊎ (status_of o ≡ 7))
-      → Keeps (simulation M R asked) run (status_of o)
-  keeps o leaves nothing counts complete = record {
-    is_status = is-status o;
+  pub shown-keeps : (status : ℕ) → (run.told ≡ true → Shown status) → run.now_written ≡ run.written
+      → run.counts.now_shelf ≡ run.counts.shelf → Sunk status → Keeps (simulation M R asked) run status
+  shown-keeps status shown nothing loaded sunk = record {
+    is_status = shown-status status sunk;
     refusals = input-refusal;
-    answered = λ told e. done o (leaves told) nothing e;
-    refused = λ told is. refused o (leaves told) nothing is;
-    stopped = λ told e. stopped o (leaves told) nothing counts e;
-    cut = λ told e. cut o (leaves told) nothing e;
+    answered = λ told zero. shown-done status (shown told) nothing zero;
+    refused = λ told is. absurd (omega (arith, input-range status is, shown-high status sunk (omega (arith, input-range status is))));
+    stopped = λ told six. shown-stopped status (shown told) nothing loaded (shown-rose status sunk six) six;
+    cut = λ told seven. shown-cut status (shown told) nothing loaded seven;
     others = λ told name may. ap (λ texts. texts name) nothing;
-    causes = causes run.counts o counts;
-    complete = complete;
+    causes = shown-causes status sunk loaded;
+    complete = λ told ready none. shown-complete status sunk none;
   }
+
+-- of a design and traces that were loaded
+pub shown-of : (M : Meaning) (asked : SourcesAsked) (texts : Texts) (d : Design) (order : List ℕ) (traces : List Trace)
+    (old new : List ℕ) (status : ℕ) → IsReady d order → Means M asked texts d traces
+    → ((lines : List Line) → AreLines d 1 traces lines → EndsShown lines old new status)
+    → (lines : List Line) × Simulated M asked texts lines × EndsShown lines old new status
+shown-of M asked texts d order traces old new status ready means ends =
+    let (lines, are) = some-lines-of d order
+    (record { well_formed = ready.well_formed; once = ready.once; ordered = ready.ordered }) 1 traces in
+    (lines, record { design = d; traces = traces; means = means; are = are }, ends lines are)

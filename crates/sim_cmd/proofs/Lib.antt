@@ -1,5 +1,4 @@
 pub mod Ready
-pub mod Ending
-pub mod Statuses
-pub mod Counting
+pub mod Shown
+pub mod Causes
 pub mod Keeping

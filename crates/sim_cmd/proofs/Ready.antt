@@ -1,8 +1,6 @@
 -- A design that is read can be simulated, and traces that are read are of it.
-use Rattle.std.proofs.Common.{ℕ, suc, ◌≡◌, ◌<◌, List, [], ◌∷◌, length, ap, refl, ◌∙◌, arith}
-use Rattle.std.specs.Prelude.{All, true, ◌&&◌, nat_lt}
-use Rattle.std.specs.List.{list_all}
-use Rattle.std.proofs.lemmas.Bool.{lt-ltb}
+use Rattle.std.proofs.Common.{ℕ, List, length}
+use Rattle.std.specs.Prelude.{All}
 use Rattle.loc_base.proofs.ShelfLists.{list_all-below}
 use Rattle.design_core.specs.declared.design.Design.{Design}
 use Rattle.plain_sim.proofs.EvaluateRun.{can-run}

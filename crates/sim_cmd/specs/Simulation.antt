@@ -5,18 +5,18 @@ use Rattle.io_ports.specs.Shelf.{AppendsFront}
 use Rattle.command_contract.specs.Contract.{Case, Counts, IsInputRefusal, NamesFault, NothingWritten, Run, Texts}
 use Rattle.design_core.specs.declared.design.Design.{Design}
 use Rattle.design_core.specs.declared.trace.Trace.{Trace}
-use Rattle.refusal_lines.specs.Refusals.{memory_line}
+use Rattle.refusal.specs.Lines.{memory_line}
 use Rattle.sim_lines.specs.Lines.{AreLines, Line, text_of}
 use Rattle.front_end.specs.Means.{Meaning, Refusing}
 use Rattle.load_texts.specs.declared.faults.DesignFault.{DesignFault}
 use Rattle.load_texts.specs.declared.faults.TraceFault.{TraceFault}
-use Rattle.sim_cmd.specs.Requests.{Asked}
+use Rattle.requests.specs.Asked.{SourcesAsked}
 use Rattle.load_texts.specs.Causes.{DesignCause, TraceRefused}
 use Rattle.load_texts.specs.Means.{Means, MeansDesign, MeansTrace}
 use Rattle.load_texts.specs.Refusals.{design_fault_line, design_fault_status, trace_fault_line, trace_fault_status}
 
 -- ---- what is simulated
-pub record Simulated (M : Meaning) (asked : Asked) (texts : Texts) (lines : List Line) : Type 0 where
+pub record Simulated (M : Meaning) (asked : SourcesAsked) (texts : Texts) (lines : List Line) : Type 0 where
   pub design : Design
   pub traces : List Trace
   pub means : Means M asked texts design traces
@@ -24,27 +24,27 @@ pub record Simulated (M : Meaning) (asked : Asked) (texts : Texts) (lines : List
 
 -- ---- refusals
 -- a refusal with its status and its line: traces are counted from 1
-pub data Refused (M : Meaning) (R : Refusing) (asked : Asked) (texts : Texts) : ℕ → List ℕ → Type 0 where
+pub data Refused (M : Meaning) (R : Refusing) (asked : SourcesAsked) (texts : Texts) : ℕ → List ℕ → Type 0 where
   for_design : (fault : DesignFault) → DesignCause R asked texts fault
-      → Refused M R asked texts (design_fault_status fault) (design_fault_line asked.design fault)
+      → Refused M R asked texts (design_fault_status fault) (design_fault_line asked.texts.design fault)
   for_trace : (d : Design) (place : ℕ) (name : List ℕ) (fault : TraceFault)
       → TraceRefused M asked texts d place name fault
       → Refused M R asked texts (trace_fault_status fault) (trace_fault_line d.signals.items name (place + 1) fault)
 
 -- ---- want of memory, and a put that fails
 -- all texts were loaded, and some of the lines, from the first one on, and `memory`, where there was memory for that
-pub record SomeLines (M : Meaning) (asked : Asked) (texts : Texts) (counts : Counts) (front : List ℕ) : Type 0 where
+pub record SomeLines (M : Meaning) (asked : SourcesAsked) (texts : Texts) (counts : Counts) (front : List ℕ) : Type 0 where
   pub lines : List Line
   pub simulated : Simulated M asked texts lines
   pub untroubled : counts.now_shelf ≡ counts.shelf
   pub count : ℕ
   pub is : (front ≡ text_of (take count lines)) ⊎ (front ≡ text_of (take count lines) ++ memory_line)
 
-abbrev pub MayStand : Meaning → Asked → Texts → Counts → List ℕ → Type 0
+abbrev pub MayStand : Meaning → SourcesAsked → Texts → Counts → List ℕ → Type 0
 MayStand M asked texts counts front = (front ≡ []) ⊎ ((front ≡ memory_line) ⊎ SomeLines M asked texts counts front)
 
 -- all lines, of texts that were all loaded, or a refusal's, with 5 by the load that failed, or what stands where memory was wanted
-abbrev pub IsDue : Meaning → Refusing → Asked → Texts → Counts → List ℕ → Type 0
+abbrev pub IsDue : Meaning → Refusing → SourcesAsked → Texts → Counts → List ℕ → Type 0
 IsDue M R asked texts counts due =
     ((lines : List Line) × Simulated M asked texts lines × (counts.now_shelf ≡ counts.shelf) × (due ≡ text_of lines))
     ⊎ (((status : ℕ) × Refused M R asked texts status due × NamesFault counts.shelf counts.now_shelf status due)
@@ -52,14 +52,14 @@ IsDue M R asked texts counts due =
 
 -- ---- the case
 -- all lines are printed, each once and in order, and nothing is written
-pub record IsDone (M : Meaning) (asked : Asked) (run : Run) : Type 0 where
+pub record IsDone (M : Meaning) (asked : SourcesAsked) (run : Run) : Type 0 where
   pub lines : List Line
   pub simulated : Simulated M asked run.texts lines
   pub printed : run.now_printed ≡ run.printed ++ text_of lines
   pub nothing_written : run.now_written ≡ run.written
 
 -- the sink failed: a front of what was due is printed, and nothing is written
-pub record IsStopped (M : Meaning) (R : Refusing) (asked : Asked) (run : Run) : Type 0 where
+pub record IsStopped (M : Meaning) (R : Refusing) (asked : SourcesAsked) (run : Run) : Type 0 where
   pub due : List ℕ
   pub is_due : IsDue M R asked run.texts run.counts due
   pub printed : AppendsFront due run.printed run.now_printed
@@ -67,21 +67,21 @@ pub record IsStopped (M : Meaning) (R : Refusing) (asked : Asked) (run : Run) : 
   pub nothing_written : run.now_written ≡ run.written
 
 -- memory was wanted: some of what was due is printed, in whole lines, and nothing is written
-pub record IsCut (M : Meaning) (asked : Asked) (run : Run) : Type 0 where
+pub record IsCut (M : Meaning) (asked : SourcesAsked) (run : Run) : Type 0 where
   pub front : List ℕ
   pub may_stand : MayStand M asked run.texts run.counts front
   pub printed : run.now_printed ≡ run.printed ++ front
   pub nothing_written : run.now_written ≡ run.written
 
 -- the design's text means a design, and for each design that it means each of the traces' texts means a trace of it
-pub record IsReady (M : Meaning) (asked : Asked) (texts : Texts) : Type 0 where
+pub record IsReady (M : Meaning) (asked : SourcesAsked) (texts : Texts) : Type 0 where
   pub design : Design
   pub means : MeansDesign M asked texts design
   pub traces : (d : Design) → MeansDesign M asked texts d
-      → All (λ name. (found : Trace) × MeansTrace texts asked.clock d name found) asked.traces
+      → All (λ name. (found : Trace) × MeansTrace texts asked.clock d name found) asked.texts.traces
 
 -- its only answer is 0, and it may write no text
-abbrev pub simulation : Meaning → Refusing → Asked → Case
+abbrev pub simulation : Meaning → Refusing → SourcesAsked → Case
 simulation M R asked = record {
   MayAnswer = λ status. status ≡ 0;
   MayRefuse = IsInputRefusal;

@@ -11,7 +11,7 @@ ghost use Rattle.sim_lines.specs.Lines.{cycle_line, end_line, line_text};
 ghost use Rattle.sim_lines.specs.CanShow.{CanShow};
 ghost use Rattle.sim_lines.specs.Running.{EndAfter, IsRunner, IsSameRunner, design_of, order_of, no_choice, place_of};
 
-use crate::checks::first_wrong;
+use crate::checks::{Miss, first_wrong, note_miss};
 use crate::lines::{Moment, Wrong, push_cycle, push_end};
 use cycle_sim::Sim;
 use design_core::types::Order;
@@ -19,6 +19,7 @@ use design_core::{Design, Trace};
 use io_ports::{Sink, SinkFault};
 use loc_base::{Bits, NoMemory};
 use plain_values::row;
+use refusal::Notes;
 use std::alloc::Global;
 
 /// A simulator of a design, with what says that no place is freed, and the room of a line.
@@ -141,35 +142,47 @@ impl<'a> Runner<'a> {
         self.sim.reset();
     }
 
-    /// Where the cycle of a number, which was made, is not right.
-    fn wrong_in(&self, trace: &Trace, cycle: u32) -> Option<Wrong>
+    /// Where a cycle, which was made, is not right. That is told.
+    fn wrong_in<N: Notes>(&self, trace: &Trace, moment: Moment, notes: &mut N) -> Option<Wrong>
         requires runner { IsRunner self.now }
         requires trace { IsTraceOf (design_of self.now) trace.now }
-        requires time { cycle < trace.now.cycles }
-        ensures { EndAfter (design_of self.now) (expected_at (design_of self.now) trace.now cycle) (held_by self.now.sim).values cycle None result }
+        requires time { moment.cycle < trace.now.cycles }
+        ensures { EndAfter (design_of self.now) (expected_at (design_of self.now) trace.now moment.cycle) (held_by self.now.sim).values
+            moment.cycle None result }
     {
+        let cycle = moment.cycle;
         let expected = row(&trace.expected, self.design.outputs.len(), cycle as usize);
         match first_wrong(self.design, &self.sim, expected) {
-            Some(output) => Some(Wrong { cycle, output }),
+            Some(output) => {
+                let miss = Miss {
+                    moment,
+                    output,
+                    expected,
+                };
+                note_miss(self.design, &self.sim, &miss, notes);
+                Some(Wrong { cycle, output })
+            }
             None => None,
         }
     }
 
-    /// Where a trace first is not right up to the cycle of a number, which was made, by where it first is not before it.
-    pub(crate) fn end_after(
+    /// Where a trace first is not right up to a cycle, which was made, by where it first is not before it. The first is told.
+    pub(crate) fn end_after<N: Notes>(
         &self,
         before: Option<Wrong>,
         trace: &Trace,
-        cycle: u32,
+        moment: Moment,
+        notes: &mut N,
     ) -> Option<Wrong>
         requires runner { IsRunner self.now }
         requires trace { IsTraceOf (design_of self.now) trace.now }
-        requires time { cycle < trace.now.cycles }
-        ensures { EndAfter (design_of self.now) (expected_at (design_of self.now) trace.now cycle) (held_by self.now.sim).values cycle before result }
+        requires time { moment.cycle < trace.now.cycles }
+        ensures { EndAfter (design_of self.now) (expected_at (design_of self.now) trace.now moment.cycle) (held_by self.now.sim).values
+            moment.cycle before result }
     {
         match before {
             Some(miss) => Some(miss),
-            None => self.wrong_in(trace, cycle),
+            None => self.wrong_in(trace, moment, notes),
         }
     }
 

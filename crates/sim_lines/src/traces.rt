@@ -17,6 +17,7 @@ use crate::runner::Runner;
 use design_core::types::Order;
 use design_core::{Design, Trace};
 use io_ports::{Sink, SinkFault};
+use refusal::Notes;
 use std::alloc::Global;
 
 /// What is simulated: the traces of a design, with the order of its drivers.
@@ -28,11 +29,12 @@ pub struct Simulation<'a> {
 }
 
 /// Prints the outputs in each cycle of a trace, and answers where it first is not right.
-fn show_cycles<O: Sink>(
+fn show_cycles<O: Sink, N: Notes>(
     runner: &mut Runner,
     trace: &Trace,
     number: u32,
     out: &mut O,
+    notes: &mut N,
 ) -> Result<Option<Wrong>, SinkFault>
     requires runner { IsRunner runner.old }
     requires start { held_by runner.old.sim ≡ at_start (design_of runner.old) (order_of runner.old) }
@@ -52,17 +54,18 @@ fn show_cycles<O: Sink>(
             cycle,
         };
         runner.show_cycle(trace, moment, out)?;
-        miss = runner.end_after(miss, trace, cycle);
+        miss = runner.end_after(miss, trace, moment, notes);
     }
     Ok(miss)
 }
 
 /// Prints the lines of a trace: its cycles, and then how it ends.
-fn show_trace<O: Sink>(
+fn show_trace<O: Sink, N: Notes>(
     runner: &mut Runner,
     trace: &Trace,
     number: u32,
     out: &mut O,
+    notes: &mut N,
 ) -> Result<(), SinkFault>
     requires runner { IsRunner runner.old }
     requires trace { IsTraceOf (design_of runner.old) trace.now }
@@ -74,7 +77,7 @@ fn show_trace<O: Sink>(
     ensures cause { SinkCause (O.faults out.old) (O.faults out.new) result }
 {
     runner.reset();
-    let miss = show_cycles(runner, trace, number, out)?;
+    let miss = show_cycles(runner, trace, number, out, notes)?;
     runner.show_end(number, miss, out)
 }
 
@@ -88,11 +91,12 @@ fn trace_at(traces: &[Trace], j: usize) -> &Trace
 }
 
 /// Prints the lines of traces, which are counted from 1: for each of them a line for each cycle, with the outputs in the
-/// order of the ports, and then whether it is right, or where it first is not. Each line is put by itself.
-pub fn show_traces<O: Sink>(
+/// order of the ports, and then whether it is right, or where it first is not, which is told too. Each line is put by itself.
+pub fn show_traces<O: Sink, N: Notes>(
     alloc: Global,
     simulation: &Simulation,
     out: &mut O,
+    notes: &mut N,
 ) -> Result<(), SinkFault>
     requires can { CanShow simulation.now.design.now simulation.now.order.now }
     requires traces { AreShown simulation.now.design.now simulation.now.traces.now }
@@ -104,7 +108,7 @@ pub fn show_traces<O: Sink>(
     let traces = simulation.traces;
     let mut runner = Runner::new(alloc, simulation.design, simulation.order)?;
     for j in 0..traces.len() {
-        show_trace(&mut runner, trace_at(traces, j), j as u32 + 1, out)?;
+        show_trace(&mut runner, trace_at(traces, j), j as u32 + 1, out, notes)?;
     }
     Ok(())
 }

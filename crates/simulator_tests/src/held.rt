@@ -5,8 +5,8 @@ ghost use Rattle.cycle_sim.specs.Misses.{AreValuesFor};
 
 use cycle_sim::can_simulate;
 use design_core::{Design, Members, SetWithValues, Trace, Values};
-use loc_base::Gate;
-use parallel_replay::{are_values_for, replay_all};
+use loc_base::{Gate, Workers};
+use parallel_replay::{Trial, are_values_for, replay_all};
 use small_networks::{OR_NOT, network, traces, word};
 use std::alloc::Global;
 use std::sync::atomic::{AtomicBool, Ordering};
@@ -96,7 +96,17 @@ fn the_second_worker_begins_while_the_first_is_held(rt: HostRuntime) -> Result<(
     assert!(rt; traces.len() == 1 && sets.len() == 2 && design.outputs.len() == 1);
     assert!(rt; have_values(design, &traces, &sets));
     let gate = HoldingGate::new();
-    let miss = replay_all(&rt, alloc, design, &found.order, &traces, &sets, 2, &gate)?;
+    let workers = Workers {
+        runtime: &rt,
+        gate: &gate,
+        count: 2,
+    };
+    let trial = Trial {
+        design,
+        order: &found.order,
+        traces: &traces,
+    };
+    let miss = replay_all(alloc, &workers, &trial, &sets)?;
     assert!(rt; miss.is_none());
     assert!(rt; gate.noted.load(Ordering::SeqCst));
     Ok(())

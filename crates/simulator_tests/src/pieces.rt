@@ -1,7 +1,7 @@
 //! Calls of the plain simulator by themselves, on a register that toggles and has an asynchronous reset, and on three assignments.
 
 use design_fits::{are_chosen, can_run, is_trace_of, samples_fit};
-use front_end::{FrontEnd, Ordered};
+use front_end::{FrontEnd, Ordered, ReadBy};
 use loc_base::Bits;
 use plain_sim::{compute_cycle, is_cycle, meets, start_words};
 use plain_values::run_statement;
@@ -14,8 +14,10 @@ const TOGGLE: &[u8] =
     b"module m(input clk, input rst, output reg q = 1'b1); always @(posedge clk or posedge rst) if (rst) q <= 1'b0; else q <= ~q; endmodule";
 
 fn toggle(alloc: Global) -> Result<Ordered, Fail> {
-    let (top, clock) = (name(alloc, "m")?, name(alloc, "clk")?);
-    match Verilog.read(alloc, TOGGLE, &top, Some(&clock)) {
+    let (top, clk) = (name(alloc, "m")?, name(alloc, "clk")?);
+    let clock = Some(&clk);
+    let by = ReadBy { top: &top, clock };
+    match Verilog.read(alloc, TOGGLE, &by) {
         Ok(found) => Ok(found),
         Err(_) => Err(Fail::new("no design")),
     }

@@ -1,11 +1,10 @@
 -- A design that is read, of assignments to whole nets alone, is a network.
-use Rattle.std.proofs.Common.{◌≡◌, ℕ, ◌==◌, Bool, true, false, not, List, [], ◌∷◌, length, sym, refl, subst, ◌∙◌, arith}
-use Rattle.std.specs.Prelude.{IsTrue, Contains}
-use Rattle.std.specs.List.{list_all, list_any}
+use Rattle.std.proofs.Common.{◌≡◌, ℕ, ◌==◌, Bool, true, false, not, List, [], ◌∷◌, length, sym, refl, ◌∙◌, arith}
+use Rattle.std.specs.Prelude.{Contains}
+use Rattle.std.specs.List.{list_all}
 use Rattle.std.proofs.lemmas.Grind.{common_steps}
-use Rattle.loc_base.proofs.ShelfBools.{equal-true, not-true}
+use Rattle.loc_base.proofs.ShelfBools.{not-true}
 use Rattle.loc_base.proofs.ShelfLists.{list_any-found, list_any-member}
-use Rattle.design_core.specs.declared.driver.Driver.{Driver}
 use Rattle.design_core.specs.declared.design.Design.{Design}
 use Rattle.design_core.specs.DrivenOnce.{IsDrivenOnce}
 use Rattle.design_core.specs.Drives.{driver_drives, is_driven, is_listed, is_reg}

@@ -9,7 +9,7 @@ ghost use Rattle.plain_list.specs.Network.{IsNetwork, whole_of};
 use crate::error::NetworkErr;
 use crate::letters::name;
 use design_core::{Driver, Part, Signal, SignalKind};
-use front_end::{FrontEnd, Ordered};
+use front_end::{FrontEnd, Ordered, ReadBy};
 use plain_list::laws::is_network;
 use std::alloc::Global;
 use verilog_front_end::Verilog;
@@ -30,7 +30,12 @@ pub const FAN_OUT: &[u8] =
 fn read(alloc: Global, text: &[u8]) -> Result<Ordered, NetworkErr>
     ensures { IfOk result (λ o. IsReady o.design o.order) }
 {
-    match Verilog.read(alloc, text, &name(alloc, "m")?, None) {
+    let top = name(alloc, "m")?;
+    let by = ReadBy {
+        top: &top,
+        clock: None,
+    };
+    match Verilog.read(alloc, text, &by) {
         Ok(ordered) => Ok(ordered),
         Err(_) => Err(NetworkErr::Unfit),
     }

@@ -4,7 +4,7 @@ ghost use Rattle.std.specs.Prelude.{IfOk};
 ghost use Rattle.front_end.specs.Means.{IsReady};
 
 use bit_circuit::{Circuit, blast};
-use front_end::{FrontEnd, Ordered};
+use front_end::{FrontEnd, Ordered, ReadBy};
 use gate_base::{Literal, Node};
 use loc_base::{Bits, Name};
 use std::alloc::Global;
@@ -32,7 +32,11 @@ pub(super) fn read(alloc: Global, text: &str) -> Result<Ordered, Fail>
     ensures { IfOk result (λ o. IsReady o.design o.order) }
 {
     let top = name(alloc, "m")?;
-    match Verilog.read(alloc, text.as_bytes(), &top, None) {
+    let by = ReadBy {
+        top: &top,
+        clock: None,
+    };
+    match Verilog.read(alloc, text.as_bytes(), &by) {
         Ok(ready) => Ok(ready),
         Err(_) => Err(Fail::new("no design")),
     }
@@ -43,8 +47,10 @@ pub(super) fn read_clocked(alloc: Global, text: &str) -> Result<Ordered, Fail>
     ensures { IfOk result (λ o. IsReady o.design o.order) }
 {
     let top = name(alloc, "m")?;
-    let clock = name(alloc, "clk")?;
-    match Verilog.read(alloc, text.as_bytes(), &top, Some(&clock)) {
+    let clk = name(alloc, "clk")?;
+    let clock = Some(&clk);
+    let by = ReadBy { top: &top, clock };
+    match Verilog.read(alloc, text.as_bytes(), &by) {
         Ok(ready) => Ok(ready),
         Err(_) => Err(Fail::new("no design")),
     }

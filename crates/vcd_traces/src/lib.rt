@@ -16,5 +16,5 @@ mod table;
 mod watches;
 
 pub use condition::{formed_has_ports, has_ports};
-pub use sampling::samples;
+pub use sampling::{SampleBy, samples};
 pub use vcd_reading::VcdErr;

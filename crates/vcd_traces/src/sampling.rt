@@ -33,23 +33,27 @@ fn answer(
     dump.trace(alloc, design, ports.as_slice())
 }
 
+/// What a dump is read by.
+#[derive(Clone, Copy, Drop)]
+pub struct SampleBy<'a> {
+    /// The design whose ports are sampled.
+    pub design: &'a Design,
+    /// The input that is the clock.
+    pub clock: Option<&'a Name>,
+}
+
 /// The trace that the text of a dump holds of a design's ports: with a clock their values before each of its rising
 /// edges, without one those after each stamp.
 ///
 /// Of several refusals the first counts in the order `Syntax`, `MissingPort`, `PortWidth`, `NoCycle`, `Cycles`,
 /// `UnknownInput`.
-pub fn samples(
-    alloc: Global,
-    text: &[u8],
-    design: &Design,
-    clock: Option<&Name>,
-) -> Result<Trace, VcdErr>
-    requires { HasPorts design.now }
-    ensures samples { IfOk result (λ trace. HasSamples text.now design.now (option_copied clock.entry) trace) }
-    ensures fits { IfOk result (λ trace. IsTraceOf design.now trace) }
-    ensures refused { IfErr result (λ fault. fault ≢ OutOfMemory → IsRefused text.now design.now (option_copied clock.entry) fault) }
-    ensures only { (trace : TheTrace) → HasSamples text.now design.now (option_copied clock.entry) trace → IsOnly trace result }
-    ensures only_refused { (fault : TheFault) → IsRefused text.now design.now (option_copied clock.entry) fault → IsOnlyFault fault result }
+pub fn samples(alloc: Global, text: &[u8], by: &SampleBy<'_>) -> Result<Trace, VcdErr>
+    requires { HasPorts by.now.design.now }
+    ensures samples { IfOk result (λ trace. HasSamples text.now by.now.design.now (option_copied by.now.clock) trace) }
+    ensures fits { IfOk result (λ trace. IsTraceOf by.now.design.now trace) }
+    ensures refused { IfErr result (λ fault. fault ≢ OutOfMemory → IsRefused text.now by.now.design.now (option_copied by.now.clock) fault) }
+    ensures only { (trace : TheTrace) → HasSamples text.now by.now.design.now (option_copied by.now.clock) trace → IsOnly trace result }
+    ensures only_refused { (fault : TheFault) → IsRefused text.now by.now.design.now (option_copied by.now.clock) fault → IsOnlyFault fault result }
 {
-    answer(alloc, text, design, clock)
+    answer(alloc, text, by.design, by.clock)
 }

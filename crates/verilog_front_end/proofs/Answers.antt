@@ -13,10 +13,11 @@ use Rattle.bind_laws.proofs.Whole.{instances-stand}
 use Rattle.bind_laws.proofs.OfWhole.{instances-of}
 use Rattle.verilog_front_end.proofs.Modules.{source-written}
 use Rattle.design_order.specs.DriverOrder.{IsTheOrder}
-use Rattle.front_end.specs.declared.reader.DesignErr.{DesignErr}
+use Rattle.verilog_front_end.specs.declared.error.DesignErr.{DesignErr}
 use Rattle.front_end.specs.declared.reader.Ordered.{Ordered}
-use Rattle.front_end.specs.Means.{Refuses, IsRead, IsReady}
-use Rattle.front_end.specs.Refusals.{design_status}
+use Rattle.front_end.specs.Means.{IsReady}
+use Rattle.verilog_front_end.specs.Errors.{Refuses}
+use Rattle.verilog_front_end.specs.Errors.{design_status}
 use Rattle.verilog_front_end.specs.Meaning.{HasModules, HasInstances, HasDesign, Means}
 use Rattle.verilog_front_end.specs.Refusals.{IsRefusal}
 use Rattle.verilog_front_end.proofs.Sizes.{meant-small, IsFew, few-of, few-outputs}
@@ -60,11 +61,9 @@ ready text top clock d (Ok o) has well once same order =
 ready text top clock d (Err fault) has well once same order = tt
 
 -- ---- a text that means a design is not refused
-pub read : (text top : List ℕ) (clock : Option (List ℕ)) (answer : Result Ordered DesignErr)
-    → IfErr answer (Refuses (IsRefusal text top clock))
-    → (d : Design) → Means text top clock d → IsRead answer
-read text top clock (Ok ordered) refused d means = tt
-read text top clock (Err fault) refused d means =
+pub spared : (text top : List ℕ) (clock : Option (List ℕ)) (fault : DesignErr) → Refuses (IsRefusal text top clock) fault
+    → (d : Design) → Means text top clock d → design_status fault ≡ 7
+spared text top clock fault refused d means =
     elim (cases_eq (design_status fault) 7) [
       | inl want ↦ want
       | inr other ↦ absurd (no-refusal text top clock d fault means (refused other))

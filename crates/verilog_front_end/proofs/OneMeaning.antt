@@ -12,8 +12,8 @@ use Rattle.v_binding.specs.Binding.{Binding, binding}
 use Rattle.bind_laws.specs.Whole.{IsDesignOf}
 use Rattle.bind_rules.specs.Rules.{IsFirstBroken}
 use Rattle.v_design.specs.Means.{beside_binding, IsBound, IsMeant, IsRefused}
-use Rattle.front_end.specs.declared.reader.DesignErr.{DesignErr}
-use Rattle.front_end.specs.declared.reader.DesignErr.TheVariants.{Lexical, Syntax, Elaboration, Binding as Bound, Circle, NoMemory}
+use Rattle.verilog_front_end.specs.declared.error.DesignErr.{DesignErr}
+use Rattle.verilog_front_end.specs.declared.error.DesignErr.TheVariants.{Lexical, Syntax, Elaboration, Binding as Bound, Circle, NoMemory}
 use Rattle.verilog_front_end.specs.Meaning.{HasModules, HasInstances, HasDesign, Means}
 use Rattle.verilog_front_end.specs.Refusals.{HasNoModules, IsRefusal}
 use Rattle.verilog_front_end.specs.Laws.{AreAlike}

@@ -1,4 +1,6 @@
 pub mod Texts
+pub mod Errors
 pub mod Meaning
 pub mod Refusals
+pub mod FrontEnd
 pub mod Laws

@@ -13,8 +13,8 @@ use Rattle.v_binding.specs.declared.error.BindErr.{BindErr}
 use Rattle.bind_rules.specs.Rules.{driver_span}
 use Rattle.v_design.specs.Means.{IsRefused}
 use Rattle.design_order.specs.Circle.{IsCircle}
-use Rattle.front_end.specs.declared.reader.DesignErr.{DesignErr}
-use Rattle.front_end.specs.declared.reader.DesignErr.TheVariants.{Lexical, Syntax, Elaboration, Binding, Circle, NoMemory}
+use Rattle.verilog_front_end.specs.declared.error.DesignErr.{DesignErr}
+use Rattle.verilog_front_end.specs.declared.error.DesignErr.TheVariants.{Lexical, Syntax, Elaboration, Binding, Circle, NoMemory}
 use Rattle.verilog_front_end.specs.Meaning.{HasModules, HasInstances, HasDesign}
 
 -- it has tokens, and no tokens that begin as these do, up to the one that tells of the fault, are modules by the grammar

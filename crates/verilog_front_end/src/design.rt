@@ -9,13 +9,13 @@ ghost use Rattle.v_hierarchy.specs.Views.{instances_of};
 ghost use Rattle.v_binding.specs.Standing.{InstancesStand};
 ghost use Rattle.bind_laws.specs.OfText.{OfText};
 ghost use Rattle.v_design.specs.Means.{IsMeant};
-ghost use Rattle.front_end.specs.Means.{Refuses};
+ghost use Rattle.verilog_front_end.specs.Errors.{Refuses};
 ghost use Rattle.verilog_front_end.specs.Meaning.{HasDesign, HasInstances, HasModules};
 ghost use Rattle.verilog_front_end.specs.Refusals.{IsRefusal};
 
+use crate::error::DesignErr;
 use crate::text::tree_of;
 use design_core::Design;
-use front_end::DesignErr;
 use loc_base::Name;
 use std::alloc::Global;
 use v_design::design;

@@ -1,7 +1,7 @@
 //! Laws of the definitions. Each is the contract of a function that does nothing.
 ghost use Rattle.std.specs.Prelude.{ℕ, List, Option};
 ghost use Rattle.design_core.specs.declared.design.Design.{Design};
-ghost use Rattle.front_end.specs.declared.reader.DesignErr.{DesignErr};
+ghost use Rattle.verilog_front_end.specs.declared.error.DesignErr.{DesignErr};
 ghost use Rattle.verilog_front_end.specs.Laws.{AreAlike};
 ghost use Rattle.verilog_front_end.specs.Meaning.{Means};
 ghost use Rattle.verilog_front_end.specs.Refusals.{IsRefusal};

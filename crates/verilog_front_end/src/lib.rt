@@ -3,13 +3,16 @@
 #![tactic(auto)]
 
 mod circle;
+mod codes;
 mod design;
+mod error;
 mod laws;
 mod order;
 mod text;
 mod text_laws;
 mod verilog;
 
+pub use error::DesignErr;
 pub use laws::{no_refusal, one_design};
 pub use text_laws::{design_of_text_has_one_run, design_of_text_is_well_formed, text_is_written};
 pub use verilog::Verilog;

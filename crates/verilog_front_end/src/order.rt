@@ -2,14 +2,15 @@
 ghost use Rattle.std.specs.Prelude.{◌≡◌, ◌<◌, ◌^◌, ℕ, List, Option, IfOk, IfErr, length};
 ghost use Rattle.design_core.specs.WellFormed.{IsWellFormed};
 ghost use Rattle.design_order.specs.DriverOrder.{IsTheOrder};
-ghost use Rattle.front_end.specs.Means.{Refuses};
+ghost use Rattle.verilog_front_end.specs.Errors.{Refuses};
 ghost use Rattle.verilog_front_end.specs.Meaning.{HasDesign};
 ghost use Rattle.verilog_front_end.specs.Refusals.{IsRefusal};
 
 use crate::circle::circle_span;
+use crate::error::DesignErr;
 use design_core::Design;
 use design_order::{OrderErr, order};
-use front_end::{DesignErr, Ordered};
+use front_end::Ordered;
 use std::alloc::Global;
 
 /// A design with the order in which its drivers are carried out.

@@ -2,11 +2,11 @@
 ghost use Rattle.std.specs.Prelude.{ℕ, List, Option, IfOk, IfErr};
 ghost use Rattle.v_lexer.specs.Tokens.{HasTokens};
 ghost use Rattle.v_syntax.specs.ModuleTree.{source_of};
-ghost use Rattle.front_end.specs.Means.{Refuses};
+ghost use Rattle.verilog_front_end.specs.Errors.{Refuses};
 ghost use Rattle.verilog_front_end.specs.Meaning.{HasModules};
 ghost use Rattle.verilog_front_end.specs.Refusals.{IsRefusal};
 
-use front_end::DesignErr;
+use crate::error::DesignErr;
 use std::alloc::Global;
 use v_lexer::types::Tokens;
 use v_lexer::{few_tokens, tokens};

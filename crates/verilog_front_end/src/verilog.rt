@@ -1,14 +1,19 @@
 //! The front end for Verilog.
 ghost use Rattle.std.specs.Prelude.{IfOk, IfErr};
 ghost use Rattle.std.specs.Option.{option_copied};
-ghost use Rattle.front_end.specs.Means.{IsReady, Refuses};
+ghost use Rattle.front_end.specs.Means.{IsReady};
+ghost use Rattle.verilog_front_end.specs.Errors.{IsCodeOf, Refuses};
+ghost use Rattle.verilog_front_end.specs.FrontEnd.{HasError, means_by};
 ghost use Rattle.verilog_front_end.specs.Meaning.{Means};
 ghost use Rattle.verilog_front_end.specs.Refusals.{IsRefusal};
 
+use crate::codes::design_code;
 use crate::design::design_of;
+use crate::error::DesignErr;
 use crate::order::ordered;
-use front_end::{DesignErr, FrontEnd, Ordered};
+use front_end::{FrontEnd, Ordered, ReadBy};
 use loc_base::Name;
+use refusal::Refusal;
 use std::alloc::Global;
 
 /// The front end for Verilog.
@@ -30,18 +35,22 @@ fn read_text(
     ordered(alloc, design)
 }
 
+/// The refusal for an error.
+fn refusal_of(fault: DesignErr) -> Refusal
+    ensures { IsCodeOf fault result.code }
+{
+    Refusal::of(design_code(fault), &fault)
+}
+
 impl FrontEnd for Verilog {
-    ghost means = { Means };
+    ghost means = { means_by };
 
-    ghost refuses = { IsRefusal };
+    ghost refuses = { HasError };
 
-    fn read(
-        &self,
-        alloc: Global,
-        text: &[u8],
-        top: &Name,
-        clock: Option<&Name>,
-    ) -> Result<Ordered, DesignErr> {
-        read_text(alloc, text, top, clock)
+    fn read(&self, alloc: Global, text: &[u8], by: &ReadBy<'_>) -> Result<Ordered, Refusal> {
+        match read_text(alloc, text, by.top, by.clock) {
+            Ok(ordered) => Ok(ordered),
+            Err(fault) => Err(refusal_of(fault)),
+        }
     }
 }

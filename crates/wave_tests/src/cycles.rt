@@ -3,7 +3,7 @@ use crate::design::{add_signal, empty, name};
 use design_core::{Design, SignalKind};
 use std::alloc::Global;
 use std::test::Fail;
-use vcd_traces::{VcdErr, has_ports, samples};
+use vcd_traces::{SampleBy, VcdErr, has_ports, samples};
 
 /// A dump of an output `q` of 1 bit that has so many stamps.
 fn stamps(alloc: Global, count: u32) -> Result<Vec<u8>, Fail> {
@@ -23,8 +23,11 @@ fn cycles(alloc: Global, design: &Design, text: &[u8]) -> Result<u32, VcdErr> {
     if !has_ports(design) {
         return Ok(0);
     }
-    let clock = None;
-    let trace = samples(alloc, text, design, clock)?;
+    let by = SampleBy {
+        design,
+        clock: None,
+    };
+    let trace = samples(alloc, text, &by)?;
     Ok(trace.cycles)
 }
 

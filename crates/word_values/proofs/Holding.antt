@@ -11,7 +11,8 @@ use Rattle.std.proofs.lemmas.List.Sums.{AllPass-from_list_all}
 use Rattle.std.proofs.lemmas.Slice.Eq.{bytes_eq-Decides}
 use Rattle.loc_base.proofs.ShelfBools.{not-true}
 use Rattle.loc_base.proofs.ShelfLists.{list_any-found, list_any-member}
-use Rattle.word_values.specs.Sources.{AreSources, Sources, are_source_names}
+use Rattle.requests.specs.Asked.{TextsAsked}
+use Rattle.word_values.specs.Sources.{AreSources, are_source_names}
 use Rattle.word_values.specs.Values.{are_kinds, begins_with, is_file_name, is_kind_name, is_name, is_once, is_one_of, kinds_in}
 use Rattle.word_values.proofs.Prefixes.{not-begins}
 
@@ -86,7 +87,7 @@ kinds-some word none =
     omega (arith, count, zero)
 
 -- ---- sources
-pub sources-hold : (sources : Sources) → are_source_names sources ≡ true → AreSources sources
+pub sources-hold : (sources : TextsAsked) → are_source_names sources ≡ true → AreSources sources
 sources-hold sources names =
     let traces = list_all is_file_name sources.traces in
     let count = length sources.traces in

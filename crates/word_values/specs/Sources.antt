@@ -1,30 +1,26 @@
 -- What says which texts are read: the names of the design's text, of the top module and of the traces' texts.
 use Rattle.std.specs.Prelude.{◌≡◌, ◌≤◌, true, ℕ, Bool, ◌&&◌, nat_le, List, length, Option, Some, None, codes}
 use Rattle.std.specs.List.{list_all}
+use Rattle.requests.specs.Asked.{TextsAsked}
 use Rattle.word_values.specs.Arguments.{Row, all_of, first_of}
 use Rattle.word_values.specs.Values.{is_file_name, is_name}
 
-pub record Sources : Type 0 where
-  pub design : List ℕ
-  pub top : List ℕ
-  pub traces : List (List ℕ)
-
 -- where each is given
-abbrev pub sources_of : Option (List ℕ) → Option (List ℕ) → Option (List (List ℕ)) → Option Sources
+abbrev pub sources_of : Option (List ℕ) → Option (List ℕ) → Option (List (List ℕ)) → Option TextsAsked
 sources_of (Some design) (Some top) (Some traces) = Some (record { design = design; top = top; traces = traces })
 sources_of _ _ _ = None
 
-abbrev pub sources_in : List Row → Option Sources
+abbrev pub sources_in : List Row → Option TextsAsked
 sources_in rows = sources_of (first_of (codes "design") rows) (first_of (codes "top") rows) (all_of (codes "trace") rows)
 
 -- the names are names, and there are 1 to 256 traces
-abbrev pub are_source_names : Sources → Bool
+abbrev pub are_source_names : TextsAsked → Bool
 are_source_names sources =
     is_file_name sources.design && is_name sources.top && list_all is_file_name sources.traces
     && nat_le 1 (length sources.traces) && nat_le (length sources.traces) 256
 
 -- the same, as facts
-pub record AreSources (sources : Sources) : Type 0 where
+pub record AreSources (sources : TextsAsked) : Type 0 where
   pub design : is_file_name sources.design ≡ true
   pub top : is_name sources.top ≡ true
   pub traces : list_all is_file_name sources.traces ≡ true

@@ -3,7 +3,7 @@ use Rattle.std.specs.Prelude.{map}
 use Rattle.word_values.specs.declared.numbers.Numbers.{Numbers}
 use Rattle.word_values.specs.declared.sources.Sources.{Sources}
 use Rattle.word_values.specs.Numbers.{Numbers as ListNumbers}
-use Rattle.word_values.specs.Sources.{Sources as SourceNames}
+use Rattle.requests.specs.Asked.{TextsAsked}
 
 abbrev pub numbers_view : Numbers → ListNumbers
 numbers_view numbers = record {
@@ -13,7 +13,7 @@ numbers_view numbers = record {
   workers = numbers.workers;
 }
 
-abbrev pub sources_view : Sources → SourceNames
+abbrev pub sources_view : Sources → TextsAsked
 sources_view sources = record {
   design = sources.design.now;
   top = sources.top.now;

@@ -1,4 +1,4 @@
--- A listing that ended with status 0 is whole by its report and its log.
+-- A listing that ended with status 0 is whole by its report and its log, and one with status 1 a front.
 use Rattle.std.proofs.Common.{ℕ, ◌≡◌, ◌-◌, ◌<◌, ◌≤◌, ◌⊎◌, inl, inr, List, [], ◌∷◌, length, map, Some, refl, ap, sym, ◌∙◌, subst, arith}
 use Rattle.std.proofs.Math.Path.{fun_ext}
 use Rattle.std.specs.Prelude.{IsTrue, slice_get}
@@ -17,13 +17,14 @@ use Rattle.debug_core.proofs.Selected.{within-few, within-same}
 use Rattle.report_doc.specs.declared.types.Ending.{Ending}
 use Rattle.report_doc.specs.declared.types.Ending.TheVariants.{Complete, Budget, Sets, Earlier}
 use Rattle.report_doc.specs.declared.types.ReportSet.{ReportSet}
-use Rattle.found_report.specs.Found.{set_of}
-use Rattle.report_values.specs.Written.{IsWritten}
-use Rattle.report_values.proofs.Saying.{meets-same}
-use Rattle.debug_core.specs.Problems.{Problem, suspects_of}
+use Rattle.report_sets.specs.Found.{set_of}
+use Rattle.report_sets.specs.Written.{IsWritten}
+use Rattle.report_sets.proofs.Saying.{meets-same}
+use Rattle.card_counter.specs.Shows.{Shows, last_of}
+use Rattle.debug_core.specs.Problems.{Problem, suspect_count, suspects_of}
 use Rattle.list_verdict.specs.Claims.{Claim, IsSetAt}
-use Rattle.list_verdict.specs.Conditions.{Closes, Holds, IsInOrder, IsRightSet, blocks_for}
-use Rattle.list_verdict.specs.Verdicts.{IsWhole}
+use Rattle.list_verdict.specs.Conditions.{Closes, Holds, IsAcceptedLog, IsInOrder, IsRightSet, ShowsLast, blocks_for}
+use Rattle.list_verdict.specs.Verdicts.{IsFrontShown, IsWhole}
 use Rattle.list_writer.specs.Found.{EndsAs, IsShown, Portion, found_of, sets_of}
 use Rattle.list_writer.specs.Laws.{Listed}
 use Rattle.list_writer.specs.Lines.{ending_status}
@@ -162,11 +163,20 @@ module _ (of : Listed) where
       at Sets ends zero = absurd (omega (arith, zero))
       at Earlier ends zero = absurd ends
 
+  accepted : IsAcceptedLog c
+  accepted = subst (λ (blocks : List (List Lit)). IsAccepted of.is.form blocks c.log) (blocks-same portions) of.is.is_ended.accepted
+
   pub is-whole : of.status ≡ 0 → IsWhole c
-  is-whole none = record {
-    in_order = in-order;
-    none_holds = none-holds;
-    right = right;
-    accepted = subst (λ (blocks : List (List Lit)). IsAccepted of.is.form blocks c.log) (blocks-same portions) of.is.is_ended.accepted;
-    closes = closes none;
-  }
+  is-whole none = record { in_order = in-order; none_holds = none-holds; right = right; accepted = accepted; closes = closes none }
+
+  members-same : (some : List Portion) → sets_of some ≡ map (λ (set : ReportSet). set.members) (map (set_of p.traces) (found_of some))
+  members-same [] = refl
+  members-same (portion ∷ some) = ap (λ (rest : List (List ℕ)). portion.set.members ∷ rest) (members-same some)
+
+  shows : of.status ≡ 1 → ShowsLast c
+  shows one =
+      subst (λ (sets : List (List ℕ)). Shows (suspect_count p) p.k (last_of sets) c.log) (members-same portions)
+      (of.is.is_ended.shows (sym of.is.has_status ∙ one))
+
+  pub is-shown : of.status ≡ 1 → IsFrontShown c
+  is-shown one = record { in_order = in-order; none_holds = none-holds; right = right; accepted = accepted; shows = shows one }

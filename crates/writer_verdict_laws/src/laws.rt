@@ -1,10 +1,11 @@
 //! The laws. Each is the contract of a function that does nothing.
-ghost use Rattle.std.specs.Prelude.{◌≡◌, All, IsSomeAnd};
+ghost use Rattle.std.specs.Prelude.{◌≡◌, ◌⊎◌, All, IsSomeAnd, map};
 ghost use Rattle.debug_core.specs.Problems.{IsProblem};
+ghost use Rattle.report_sets.specs.Found.{suspect_of};
 ghost use Rattle.proof_check.specs.Text.{IsLogText, text_of};
 ghost use Rattle.report_reading.specs.Reading.{IsKindName, IsReportOf};
-ghost use Rattle.list_verdict.specs.Verdicts.{IsVerdict, IsWhole};
-ghost use Rattle.list_verdict.specs.declared.verdict.Verdict.TheVariants.{Whole};
+ghost use Rattle.list_verdict.specs.Verdicts.{IsFrontShown, IsVerdict, IsWhole};
+ghost use Rattle.list_verdict.specs.declared.verdict.Verdict.TheVariants.{Front, Whole};
 ghost use Rattle.list_writer.specs.Asked.{HasOwnNames};
 ghost use Rattle.list_writer.specs.Laws.{Listed};
 ghost use Rattle.writer_verdict_laws.specs.Listings.{Judged, claim_in, log_in, report_in};
@@ -24,6 +25,31 @@ pub fn listed_is_judged()
     requires status { of.listed.status ≡ 0 }
     requires verdict { IsVerdict (claim_in of.listed) of.verdict }
     ensures { of.verdict ≡ Whole }
+{}
+
+/// A listing that ends with status 1 shows by the sets of its report and by its log that they are a front: the first four of these hold, and
+/// the log shows that no set is missing before the last one.
+pub fn listed_is_shown()
+    ghost of: { Listed }
+    requires { of.status ≡ 1 }
+    ensures { IsFrontShown (claim_in of) }
+{}
+
+/// So that of a problem that can be asked no other answer is one than `Front`, and `Whole` where the log closes the list.
+pub fn listed_front_is_judged()
+    ghost of: { Judged }
+    requires problem { IsProblem of.listed.asked.problem }
+    requires status { of.listed.status ≡ 1 }
+    requires verdict { IsVerdict (claim_in of.listed) of.verdict }
+    ensures { (of.verdict ≡ Whole) ⊎ (of.verdict ≡ Front) }
+{}
+
+/// The report of a listing has the top that was asked of and the suspects of the problem, each with its kind, its label and the line of
+/// its first place, as whoever judges it asks beside its sets.
+pub fn listed_has_table()
+    ghost of: { Listed }
+    ensures top { (report_in of).top ≡ of.asked.top }
+    ensures suspects { (report_in of).suspects ≡ map (suspect_of of.asked.problem.design.places.items) of.asked.problem.groups }
 {}
 
 /// What a listing leaves at the statuses 0 and 1 is read back: under the log's name stands a text that is that of its log, and under the

@@ -8,7 +8,7 @@ use bit_circuit::{Circuit, blast};
 use clause_base::Form;
 use clause_form::form;
 use design_core::{Design, Trace};
-use front_end::{FrontEnd, Ordered};
+use front_end::{FrontEnd, Ordered, ReadBy};
 use io_ports::{FileShelf, Shelf};
 use std::alloc::Global;
 use std::time::Instant;
@@ -17,7 +17,7 @@ use suspect_map::{
 };
 use unroller::{are_traces, unroll};
 use v_synth::word_net;
-use vcd_traces::{has_ports, samples};
+use vcd_traces::{SampleBy, has_ports, samples};
 use verilog_front_end::Verilog;
 
 /// The most bytes of a text.
@@ -67,9 +67,13 @@ fn traces_of(rt: &HostRuntime, request: &Request, design: &Design) -> Result<Vec
     if !has_ports(design) {
         return Err(Failure::Large);
     }
+    let by = SampleBy {
+        design,
+        clock: request.clock.as_ref(),
+    };
     for name in &request.traces {
         let text = shelf.load(alloc, name.as_str(), MOST_BYTES)?;
-        traces.push(samples(alloc, text.as_slice(), design, request.clock.as_ref())?)?;
+        traces.push(samples(alloc, text.as_slice(), &by)?)?;
     }
     Ok(traces)
 }
@@ -80,7 +84,11 @@ pub fn read_parts(rt: &HostRuntime, request: &Request) -> Result<Parts, Failure>
 {
     let alloc = rt.alloc();
     let text = FileShelf::new(rt, alloc).load(alloc, request.design.as_str(), MOST_BYTES)?;
-    let ordered = Verilog.read(alloc, text.as_slice(), &request.top, request.clock.as_ref())?;
+    let by = ReadBy {
+        top: &request.top,
+        clock: request.clock.as_ref(),
+    };
+    let ordered = Verilog.read(alloc, text.as_slice(), &by)?;
     let groups = groups_of(alloc, request, &ordered.design)?;
     let traces = traces_of(rt, request, &ordered.design)?;
     Ok(Parts {

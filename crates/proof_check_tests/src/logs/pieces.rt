@@ -6,8 +6,8 @@ use clause_base::{
     Clause, Clauses, Form, Lit, Log, StepKind, are_within, blocks_are_within,
     has_distinct_variables,
 };
-use loc_base::{FreeGate, Gate, NoMemory};
-use proof_check::check_log_parallel;
+use loc_base::{FreeGate, Gate, NoMemory, Workers};
+use proof_check::{Claim, check_log_parallel};
 use std::alloc::Global;
 use std::process::Abort;
 use std::sync::atomic::{AtomicU64, Ordering};
@@ -138,7 +138,13 @@ fn refused_by<G: Gate + Sync>(
     assert!(rt; are_within(&form.clauses, form.vars));
     assert!(rt; blocks_are_within(blocks, form.vars));
     assert!(rt; log.len() < 1000);
-    match check_log_parallel(rt, rt.alloc(), form, blocks, log, workers, gate)? {
+    let workers = Workers {
+        runtime: rt,
+        gate,
+        count: workers,
+    };
+    let claim = Claim { form, blocks, log };
+    match check_log_parallel(rt.alloc(), &workers, &claim)? {
         Some(bad) => Ok(bad.n),
         None => Ok(0),
     }

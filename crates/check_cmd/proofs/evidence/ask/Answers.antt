@@ -1,8 +1,8 @@
-use Rattle.std.proofs.Common.{map, ◌∙◌, sym}
+use Rattle.std.proofs.Common.{◌∙◌, sym}
 use Rattle.std.proofs.lemmas.Bool.{false≢true}
-use Rattle.load_problem.specs.Ends.{HasCause, HasStatus, IsSpared}
+use Rattle.refusal.specs.Ends.{HasCause, HasStatus, IsSpared}
 use Rattle.load_texts.proofs.Loaded.{passed_on}
-use Rattle.check_cmd.specs.Asked.{asked_of}
+use Rattle.requests.specs.Views.{check_asked}
 use Rattle.check_cmd.specs.Parts.{KindRefused}
 use Rattle.check_cmd.specs.Refusals.{Refused}
 use Rattle.check_cmd.proofs.Causes.{counts-passed, low-counts, low-status}
@@ -12,7 +12,7 @@ use Rattle.check_cmd.proofs.evidence.ask.Goals as goal
 
 pub returns-in_err-report-clause-refused : goal.returns-in_err-report-clause-refused
 returns-in_err-report-clause-refused g c = λ told.
-    let asked = asked_of c.args.request.now in
+    let asked = check_asked c.args.request.now in
     let texts = g.S.Shelf.texts c.args.shelf.now in
     passed_on (HasCause (Refused g.F.FrontEnd.means g.F.FrontEnd.refuses _ _ asked texts)) c.from_residual.result
     c.in_err-report.field-0.0 c.from_residual.ensures.1
@@ -36,7 +36,7 @@ returns-in_err-know-clause-status g c =
 
 pub returns-in_err-know-clause-refused : goal.returns-in_err-know-clause-refused
 returns-in_err-know-clause-refused g c = λ told.
-    let asked = asked_of c.args.request.now in
+    let asked = check_asked c.args.request.now in
     let texts = g.S.Shelf.texts c.args.shelf.now in
     passed_on (HasCause (Refused g.F.FrontEnd.means g.F.FrontEnd.refuses _ _ asked texts)) c.from_residual-in_err-know.result
     c.in_err-know.field-0.0 c.from_residual-in_err-know.ensures.1

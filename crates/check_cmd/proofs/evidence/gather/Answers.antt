@@ -1,11 +1,11 @@
 use Rattle.std.proofs.Common.{subst, sym, ◌∙◌}
 use Rattle.std.proofs.lemmas.Bool.{false≢true}
 use Rattle.command_contract.specs.Contract.{Texts}
-use Rattle.load_problem.specs.Ends.{HasCause, HasStatus, IsSpared}
+use Rattle.refusal.specs.Ends.{HasCause, HasStatus, IsSpared}
 use Rattle.load_texts.proofs.Loaded.{passed_on}
-use Rattle.check_cmd.specs.Asked.{asked_of}
+use Rattle.requests.specs.Views.{check_asked}
 use Rattle.check_cmd.specs.Means.{Given, MeansLog}
-use Rattle.check_cmd.specs.Parts.{OtherRefused, digests_of, posed_of}
+use Rattle.check_cmd.specs.Parts.{OtherRefused, posed_of}
 use Rattle.check_cmd.specs.Refusals.{LogRefused, Refused}
 use Rattle.check_cmd.proofs.Causes.{counts-passed, low-counts, low-status}
 use Rattle.check_cmd.proofs.WholeCauses.{other-low, whole-log, whole-other}
@@ -13,7 +13,7 @@ use Rattle.check_cmd.proofs.evidence.gather.Goals as goal
 
 pub returns-in_err-log-clause-refused : goal.returns-in_err-log-clause-refused
 returns-in_err-log-clause-refused g c = λ told.
-    let asked = asked_of c.args.request.now in
+    let asked = check_asked c.args.request.now in
     let texts = g.S.Shelf.texts c.args.shelf.now in
     let why = c.in_err-log.field-0.0 in
     passed_on (HasCause (Refused g.F.FrontEnd.means g.F.FrontEnd.refuses _ _ asked texts)) c.from_residual-in_err-log.result why
@@ -25,7 +25,7 @@ returns-in_err-log-clause-refused g c = λ told.
 
 pub returns-in_err-log-clause-only : goal.returns-in_err-log-clause-only
 returns-in_err-log-clause-only g c = λ told ready.
-    let asked = asked_of c.args.request.now in
+    let asked = check_asked c.args.request.now in
     passed_on IsSpared c.from_residual-in_err-log.result c.in_err-log.field-0.0 c.from_residual-in_err-log.ensures.1
     (c.in_err-log.ensures.only (c.in_ok-posed.ensures.tells ∙ told) ready.log
     (subst (λ (ts : Texts). MeansLog asked ts ready.log) (sym c.in_ok-posed.ensures.texts) ready.means_log))
@@ -45,7 +45,7 @@ returns-in_err-same_inputs-clause-status g c =
 
 pub returns-in_err-same_inputs-clause-refused : goal.returns-in_err-same_inputs-clause-refused
 returns-in_err-same_inputs-clause-refused g c = λ told.
-    let asked = asked_of c.args.request.now in
+    let asked = check_asked c.args.request.now in
     let texts = g.S.Shelf.texts c.args.shelf.now in
     let why = c.in_err-same_inputs.field-0.0 in
     let given : Given = record { posed = posed_of c.in_ok-posed.posed; log = c.in_ok-log.log } in
@@ -61,7 +61,7 @@ returns-in_err-same_inputs-clause-refused g c = λ told.
 
 pub returns-in_err-same_inputs-clause-only : goal.returns-in_err-same_inputs-clause-only
 returns-in_err-same_inputs-clause-only g c = λ told ready.
-    let asked = asked_of c.args.request.now in
+    let asked = check_asked c.args.request.now in
     let texts = g.S.Shelf.texts c.args.shelf.now in
     let poses = c.in_ok-posed.ensures.poses told in
     absurd
@@ -81,7 +81,7 @@ returns-clause-same g c =
 
 pub returns-clause-means : goal.returns-clause-means
 returns-clause-means g c = λ told.
-    let asked = asked_of c.args.request.now in
+    let asked = check_asked c.args.request.now in
     record {
       poses = c.in_ok-posed.ensures.poses told;
       log = subst (λ (ts : Texts). MeansLog asked ts c.in_ok-log.log) c.in_ok-posed.ensures.texts

@@ -1,12 +1,16 @@
 use Rattle.std.proofs.Common.{ap, sym, subst, ◌∙◌}
 use Rattle.suspect_map.specs.Choose.{joined}
 use Rattle.debug_core.specs.Problems.{IsProblem}
-use Rattle.load_problem.specs.Asked.{AreKnown, Asked as Wanted, IsAsked, asked_of as wanted_asked}
-use Rattle.load_problem.specs.Ends.{HasCause, HasStatus, IsSpared, problem_in}
+use Rattle.load_problem.specs.Asked.{AreKnown, IsAsked}
+use Rattle.requests.specs.Asked.{WantedAsked}
+use Rattle.requests.specs.Views.{wanted_asked}
+use Rattle.load_problem.specs.Inputs.{problem_in}
+use Rattle.refusal.specs.Ends.{HasCause, HasStatus, IsSpared}
 use Rattle.load_problem.specs.Means.{IsDigestOf, Suspecting}
 use Rattle.load_problem.specs.Refusals.{IsReady as IsReadyList, Refused as InputsRefused}
 use Rattle.load_texts.proofs.Loaded.{passed_on}
-use Rattle.check_cmd.specs.Asked.{asked_of, wanted_by}
+use Rattle.check_cmd.specs.Asked.{wanted_by}
+use Rattle.requests.specs.Views.{check_asked}
 use Rattle.check_cmd.specs.Parts.{FormRefused}
 use Rattle.check_cmd.specs.Refusals.{Refused}
 use Rattle.check_cmd.proofs.Causes.{counts-passed, low-counts, low-status, memory-spared}
@@ -24,12 +28,12 @@ pub read-requires-clause-known : goal.read-requires-clause-known
 read-requires-clause-known g c =
     λ κs within.
     subst
-    (λ (w : Wanted). AreKnown (λ k. (goal.Granularity-dyn g (k.vtable, k.value)).called k.value) c.args.tools.now.kinds.now w)
+    (λ (w : WantedAsked). AreKnown (λ k. (goal.Granularity-dyn g (k.vtable, k.value)).called k.value) c.args.tools.now.kinds.now w)
     (sym c.wanted.ensures) c.in_ok-report.ensures.known
 
 pub returns-in_err-inputs-clause-refused : goal.returns-in_err-inputs-clause-refused
 returns-in_err-inputs-clause-refused g c = λ told.
-    let asked = asked_of c.args.request.now in
+    let asked = check_asked c.args.request.now in
     let S : Suspecting = joined (λ k. (goal.Granularity-dyn g (k.vtable, k.value)).called k.value)
     (λ k. (goal.Granularity-dyn g (k.vtable, k.value)).lists k.value) c.args.tools.now.kinds.now in
     let texts = g.S.Shelf.texts c.args.shelf.now in
@@ -43,7 +47,7 @@ returns-in_err-inputs-clause-refused g c = λ told.
 
 pub returns-in_err-inputs-clause-only : goal.returns-in_err-inputs-clause-only
 returns-in_err-inputs-clause-only g c = λ told ready.
-    let asked = asked_of c.args.request.now in
+    let asked = check_asked c.args.request.now in
     let S : Suspecting = joined (λ k. (goal.Granularity-dyn g (k.vtable, k.value)).called k.value)
     (λ k. (goal.Granularity-dyn g (k.vtable, k.value)).lists k.value) c.args.tools.now.kinds.now in
     let texts = g.S.Shelf.texts c.args.shelf.now in
@@ -54,7 +58,7 @@ returns-in_err-inputs-clause-only g c = λ told ready.
 
 pub plan_in-requires : goal.plan_in-requires
 plan_in-requires g c =
-    subst (λ n. IsProblem (problem_in c.in_ok-inputs.inputs n)) (ap (λ (w : Wanted). w.size) c.wanted.ensures) c.in_ok-inputs.ensures.problem
+    subst (λ n. IsProblem (problem_in c.in_ok-inputs.inputs n)) (ap (λ (w : WantedAsked). w.size) c.wanted.ensures) c.in_ok-inputs.ensures.problem
 
 pub returns-in_err-plan-clause-counts : goal.returns-in_err-plan-clause-counts
 returns-in_err-plan-clause-counts g c =
@@ -69,7 +73,7 @@ returns-in_err-plan-clause-status g c =
 
 pub returns-in_err-plan-clause-refused : goal.returns-in_err-plan-clause-refused
 returns-in_err-plan-clause-refused g c = λ told.
-    let asked = asked_of c.args.request.now in
+    let asked = check_asked c.args.request.now in
     let S : Suspecting = joined (λ k. (goal.Granularity-dyn g (k.vtable, k.value)).called k.value)
     (λ k. (goal.Granularity-dyn g (k.vtable, k.value)).lists k.value) c.args.tools.now.kinds.now in
     let texts = g.S.Shelf.texts c.args.shelf.now in
@@ -85,7 +89,7 @@ returns-in_err-plan-clause-refused g c = λ told.
 
 pub returns-in_err-plan-clause-only : goal.returns-in_err-plan-clause-only
 returns-in_err-plan-clause-only g c = λ told ready.
-    let asked = asked_of c.args.request.now in
+    let asked = check_asked c.args.request.now in
     let S : Suspecting = joined (λ k. (goal.Granularity-dyn g (k.vtable, k.value)).called k.value)
     (λ k. (goal.Granularity-dyn g (k.vtable, k.value)).lists k.value) c.args.tools.now.kinds.now in
     let texts = g.S.Shelf.texts c.args.shelf.now in
@@ -101,7 +105,7 @@ returns-in_err-plan-clause-only g c = λ told ready.
 
 pub returns-clause-can : goal.returns-clause-can
 returns-clause-can g c = record {
-  problem = subst (λ n. IsProblem (problem_in c.in_ok-inputs.inputs n)) (ap (λ (w : Wanted). w.size) c.wanted.ensures)
+  problem = subst (λ n. IsProblem (problem_in c.in_ok-inputs.inputs n)) (ap (λ (w : WantedAsked). w.size) c.wanted.ensures)
       c.in_ok-inputs.ensures.problem;
   form = c.in_ok-plan.ensures.form;
   numbers = c.in_ok-inputs.ensures.numbers;
@@ -109,7 +113,7 @@ returns-clause-can g c = record {
 
 pub returns-clause-poses : goal.returns-clause-poses
 returns-clause-poses g c = λ told.
-    let asked = asked_of c.args.request.now in
+    let asked = check_asked c.args.request.now in
     let S : Suspecting = joined (λ k. (goal.Granularity-dyn g (k.vtable, k.value)).called k.value)
     (λ k. (goal.Granularity-dyn g (k.vtable, k.value)).lists k.value) c.args.tools.now.kinds.now in
     let texts = g.S.Shelf.texts c.args.shelf.now in

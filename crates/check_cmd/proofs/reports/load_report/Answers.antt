@@ -1,8 +1,8 @@
-use Rattle.check_cmd.specs.Asked.{asked_of}
+use Rattle.requests.specs.Views.{check_asked}
 use Rattle.check_cmd.specs.Means.{MeansReport}
 use Rattle.check_cmd.specs.Parts.{ReportTextRefused}
 use Rattle.check_cmd.specs.Refusals.{ReportRefused}
-use Rattle.load_problem.specs.Ends.{HasCause, HasStatus, IsMemory, IsSpared}
+use Rattle.refusal.specs.Ends.{HasCause, HasStatus, IsMemory, IsSpared}
 use Rattle.report_doc.specs.Shape.{IsReport}
 use Rattle.report_reading.specs.Reading.{IsReportOf}
 use Rattle.load_texts.proofs.Loaded.{passed_on}
@@ -12,17 +12,17 @@ use Rattle.check_cmd.proofs.reports.load_report.Goals as goal
 
 pub returns-in_err-text-clause-refused : goal.returns-in_err-text-clause-refused
 returns-in_err-text-clause-refused g c = λ told.
-    let asked = asked_of c.args.request.now in
+    let asked = check_asked c.args.request.now in
     let texts = g.S.Shelf.texts c.args.shelf.now in
     passed_on (HasCause (ReportRefused asked texts)) c.from_residual.result c.in_err-text.field-0.0 c.from_residual.ensures.1
-    (report-cause_load asked texts c.as_str.result.now c.in_err-text.field-0.0 c.as_str.ensures.value (c.in_err-text.ensures.refused told))
+    (report-cause_load asked texts c.as_str-name.result.now c.in_err-text.field-0.0 c.as_str-name.ensures.value (c.in_err-text.ensures.refused told))
 
 pub returns-in_err-text-clause-only : goal.returns-in_err-text-clause-only
 returns-in_err-text-clause-only g c = λ told report means.
-    let asked = asked_of c.args.request.now in
+    let asked = check_asked c.args.request.now in
     let texts = g.S.Shelf.texts c.args.shelf.now in
     passed_on IsSpared c.from_residual.result c.in_err-text.field-0.0 c.from_residual.ensures.1
-    (c.in_err-text.ensures.only told (name-short texts c.as_str.result.now asked.report _ c.as_str.ensures.value means))
+    (c.in_err-text.ensures.only told (name-short texts c.as_str-name.result.now asked.report _ c.as_str-name.ensures.value means))
 
 pub returns-clause-counts : goal.returns-clause-counts
 returns-clause-counts g c =
@@ -40,25 +40,25 @@ returns-clause-report g c =
 
 pub returns-clause-means : goal.returns-clause-means
 returns-clause-means g c = λ told.
-    let asked = asked_of c.args.request.now in
+    let asked = check_asked c.args.request.now in
     let texts = g.S.Shelf.texts c.args.shelf.now in
     ok-of (IsReportOf c.in_ok-text.text) (MeansReport asked texts) c.report_in.result
-    (λ report is. at-text (texts asked.report) c.in_ok-text.text (λ text. IsReportOf text report) (at-name texts _ asked.report c.in_ok-text.text c.as_str.ensures.value (c.in_ok-text.ensures.text told))
+    (λ report is. at-text (texts asked.report) c.in_ok-text.text (λ text. IsReportOf text report) (at-name texts _ asked.report c.in_ok-text.text c.as_str-name.ensures.value (c.in_ok-text.ensures.text told))
     c.in_ok-text.ensures.short is)
     c.report_in.ensures.means
 
 pub returns-clause-refused : goal.returns-clause-refused
 returns-clause-refused g c = λ told.
-    let asked = asked_of c.args.request.now in
+    let asked = check_asked c.args.request.now in
     let texts = g.S.Shelf.texts c.args.shelf.now in
     err-of (HasCause (ReportTextRefused c.in_ok-text.text)) (HasCause (ReportRefused asked texts)) c.report_in.result
-    (λ refusal. report-cause_text asked texts c.in_ok-text.text refusal (at-name texts _ asked.report c.in_ok-text.text c.as_str.ensures.value (c.in_ok-text.ensures.text told)) c.in_ok-text.ensures.short)
+    (λ refusal. report-cause_text asked texts c.in_ok-text.text refusal (at-name texts _ asked.report c.in_ok-text.text c.as_str-name.ensures.value (c.in_ok-text.ensures.text told)) c.in_ok-text.ensures.short)
     c.report_in.ensures.refused
 
 pub returns-clause-only : goal.returns-clause-only
 returns-clause-only g c = λ told report means.
-    let asked = asked_of c.args.request.now in
+    let asked = check_asked c.args.request.now in
     let texts = g.S.Shelf.texts c.args.shelf.now in
     err-of IsMemory IsSpared c.report_in.result memory-spared
     (c.report_in.ensures.only report
-    (of-text (texts asked.report) c.in_ok-text.text (λ text. IsReportOf text report) (at-name texts _ asked.report c.in_ok-text.text c.as_str.ensures.value (c.in_ok-text.ensures.text told)) means))
+    (of-text (texts asked.report) c.in_ok-text.text (λ text. IsReportOf text report) (at-name texts _ asked.report c.in_ok-text.text c.as_str-name.ensures.value (c.in_ok-text.ensures.text told)) means))

@@ -1,20 +1,19 @@
 use Rattle.std.proofs.Common.{List, ℕ, subst}
 use Rattle.report_doc.specs.declared.types.Report.{Report}
-use Rattle.report_doc.specs.Json.{IsJson}
 use Rattle.report_reading.specs.Reading.{IsReportOf}
 use Rattle.check_cmd.specs.Parts.{ReportTextRefused}
-use Rattle.load_problem.specs.Ends.{HasCause, IsMemory}
+use Rattle.refusal.specs.Ends.{HasCause, IsMemory}
 use Rattle.check_cmd.proofs.LoadedTexts.{report-cause, report-memory}
 use Rattle.check_cmd.proofs.reports.report_in.Goals as goal
 
 pub returns-in-Err-clause-refused : goal.returns-in-Err-clause-refused
-returns-in-Err-clause-refused c =
-    subst (λ (t : List ℕ). HasCause (ReportTextRefused t) c.refusal_of.result) c.as_slice.ensures
-    (report-cause c.as_slice.result.now c.in-Err.fault c.refusal_of.result c.in-Err.ensures.syntax c.in-Err.ensures.json
-    c.in-Err.ensures.shape c.refusal_of.ensures.status c.refusal_of.ensures.says)
+returns-in-Err-clause-refused g c =
+    subst (λ (t : List ℕ). HasCause (ReportTextRefused t) c.refused.result) c.as_slice.ensures
+    (report-cause c.as_slice.result.now c.in-Err.fault c.refused.result c.in-Err.ensures.syntax c.in-Err.ensures.json
+    c.in-Err.ensures.shape c.refused.ensures.status c.refused.ensures.says)
 
 pub returns-in-Err-clause-only : goal.returns-in-Err-clause-only
-returns-in-Err-clause-only c =
-    subst (λ (t : List ℕ). (report : Report) → IsReportOf t report → IsMemory c.refusal_of.result) c.as_slice.ensures
-    (λ report is. report-memory c.as_slice.result.now c.in-Err.fault c.refusal_of.result report c.in-Err.ensures.syntax
-    c.in-Err.ensures.shape c.refusal_of.ensures.status c.refusal_of.ensures.says is)
+returns-in-Err-clause-only g c =
+    subst (λ (t : List ℕ). (report : Report) → IsReportOf t report → IsMemory c.refused.result) c.as_slice.ensures
+    (λ report is. report-memory c.as_slice.result.now c.in-Err.fault c.refused.result report c.in-Err.ensures.syntax
+    c.in-Err.ensures.shape c.refused.ensures.status c.refused.ensures.says is)

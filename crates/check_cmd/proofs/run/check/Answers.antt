@@ -1,16 +1,16 @@
-use Rattle.std.proofs.Common.{List, ℕ, ap, refl, sym, subst, ◌∙◌, Ok, Err}
+use Rattle.std.proofs.Common.{List, ℕ, subst}
 use Rattle.std.proofs.lemmas.Bool.{and_parts}
-use Rattle.load_problem.specs.declared.refusal.Refusal.TheVariants.{Memory}
-use Rattle.load_problem.specs.Ends.{Prints}
-use Rattle.load_problem.proofs.Keeping.{refused-keeps}
-use Rattle.check_cmd.specs.Asked.{asked_of}
+use Rattle.refusal.specs.declared.last_line.LastLine.TheVariants.{Memory}
+use Rattle.refusal.specs.Ends.{Prints}
+use Rattle.refusal.proofs.Keeping.{refused-keeps}
+use Rattle.requests.specs.Views.{check_asked}
 use Rattle.check_cmd.specs.Parts.{given_of}
 use Rattle.check_cmd.proofs.Keeping.{answer-status, ends-by_lines, judged, judged-keeps}
 use Rattle.check_cmd.proofs.run.check.Goals as goal
 
 pub returns-in-Err : goal.returns-in-Err
 returns-in-Err g c =
-    let asked = asked_of c.args.request.now in
+    let asked = check_asked c.args.request.now in
     let both = and_parts (g.S.Shelf.tells c.args.shelf.now) (g.O.Sink.tells c.args.out.now) in
     refused-keeps _ _ (ends-by_lines g.F.FrontEnd.means g.F.FrontEnd.refuses _ _ asked _) c.in-Err.refusal c.print.result
     (record {
@@ -25,13 +25,13 @@ returns-in-Err g c =
 
 pub returns-in-Ok-answer_of : goal.returns-in-Ok-answer_of
 returns-in-Ok-answer_of g c =
-    let asked = asked_of c.args.request.now in
+    let asked = check_asked c.args.request.now in
     let both = and_parts (g.S.Shelf.tells c.args.shelf.now) (g.O.Sink.tells c.args.out.now) in
     let given = given_of c.in-Ok.evidence in
     judged-keeps g.F.FrontEnd.means g.F.FrontEnd.refuses _ _ asked _ c.in-Ok-answer_of.answer.status c.in-Ok-answer_of.answer.line.items
     c.print_line.result
     (record {
-      answer = answer-status given c.in-Ok-answer_of.answer c.in-Ok-answer_of.ensures;
+      answer = answer-status asked.texts.top given c.in-Ok-answer_of.answer c.in-Ok-answer_of.ensures;
       judged = λ told.
           judged g.F.FrontEnd.means _ _ asked _ given c.in-Ok-answer_of.answer (c.in-Ok.ensures.means (both told).0) c.in-Ok.ensures.same
           c.in-Ok.ensures.can.posed.problem c.in-Ok-answer_of.ensures;
@@ -46,7 +46,7 @@ returns-in-Ok-answer_of g c =
 
 pub returns : goal.returns
 returns g c =
-    let asked = asked_of c.args.request.now in
+    let asked = check_asked c.args.request.now in
     let both = and_parts (g.S.Shelf.tells c.args.shelf.now) (g.O.Sink.tells c.args.out.now) in
     refused-keeps _ _ (ends-by_lines g.F.FrontEnd.means g.F.FrontEnd.refuses _ _ asked _) Memory c.print-in-Err-answer_of.result
     (record {

@@ -6,17 +6,17 @@ use Rattle.check_cmd.proofs.texts.load.Goals as goal
 
 pub returns-in-Err-clause-counts : goal.returns-in-Err-clause-counts
 returns-in-Err-clause-counts g c =
-    load-counts _ _ c.args.name.now c.in-Err.fault c.of_load.result c.in-Err.ensures.counts
-    c.of_load.ensures.status c.of_load.ensures.says
+    load-counts _ _ c.args.name.now c.in-Err.fault c.last_line.result c.in-Err.ensures.counts
+    c.last_line.ensures.status c.last_line.ensures.says
 
 pub returns-in-Err-clause-refused : goal.returns-in-Err-clause-refused
 returns-in-Err-clause-refused g c = λ told.
     let text = g.S.Shelf.texts c.args.shelf.now c.args.name.now in
-    said (LoadRefused c.args.name.now text) c.of_load.result (load_status c.in-Err.fault) (load_line c.args.name.now c.in-Err.fault)
-    (text_load c.in-Err.fault (c.in-Err.ensures.text told)) c.of_load.ensures.says
+    said (LoadRefused c.args.name.now text) c.last_line.result (load_status c.in-Err.fault) (load_line c.args.name.now c.in-Err.fault)
+    (text_load c.in-Err.fault (c.in-Err.ensures.text told)) c.last_line.ensures.says
 
 pub returns-in-Err-clause-only : goal.returns-in-Err-clause-only
 returns-in-Err-clause-only g c = λ told short.
     let text = g.S.Shelf.texts c.args.shelf.now c.args.name.now in
-    load-spared text c.in-Err.fault c.of_load.result (load_line c.args.name.now c.in-Err.fault)
-    (c.in-Err.ensures.text told) c.of_load.ensures.status c.of_load.ensures.says short
+    load-spared text c.in-Err.fault c.last_line.result (load_line c.args.name.now c.in-Err.fault)
+    (c.in-Err.ensures.text told) c.last_line.ensures.status c.last_line.ensures.says short

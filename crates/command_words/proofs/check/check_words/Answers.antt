@@ -1,6 +1,6 @@
 use Rattle.std.proofs.Common.{rules, ◌≡◌, true, subst, sym}
 use Rattle.command_words.specs.Check.{IsCheckAsked, are_check_names}
-use Rattle.command_words.specs.CheckRequests.{check_values}
+use Rattle.command_words.specs.Views.{check_values}
 use Rattle.command_words.proofs.CheckHolding.{check-holds}
 use Rattle.command_words.proofs.check.check_words.Goals as goal
 

@@ -1,6 +1,6 @@
-use Rattle.command_words.specs.CheckRequests.{check_values}
-use Rattle.command_words.proofs.CheckHolding.{top-name}
+use Rattle.command_words.specs.Views.{check_values}
+use Rattle.command_words.proofs.CheckHolding.{texts-named}
 use Rattle.command_words.proofs.check.copied.Goals as goal
 
-pub name_of-requires : goal.name_of-requires
-name_of-requires c = top-name (check_values c.args.values.now) c.requires
+pub copied-requires : goal.copied-requires
+copied-requires c = texts-named (check_values c.args.values.now) c.requires

@@ -11,6 +11,6 @@ returns-clause-holds c =
     let asked = find_values c.in_ok-values.values in
     let known = map (λ w. w.now) c.args.known.now in
     let names : are_find_names asked ≡ true = search rules in
-    let kinds : are_kinds known asked.suspects ≡ true = search rules in
+    let kinds : are_kinds known asked.listing.suspects ≡ true = search rules in
     subst (IsFindAsked known) (sym c.in_ok-copied.ensures)
-    (find-holds known asked names kinds (kinds-some c.in_ok-values.values.suspects.now) c.in_ok-values.ensures.numbers)
+    (find-holds known asked names kinds (kinds-some c.in_ok-values.values.listing.suspects.now) c.in_ok-values.ensures.numbers)

@@ -1,12 +1,11 @@
-use Rattle.std.proofs.Common.{ap, sym, subst, refl, ◌∙◌}
+use Rattle.std.proofs.Common.{ap, sym, subst, refl}
 use Rattle.debug_core.specs.Problems.{IsProblem, IsRefused, Problem}
-use Rattle.command_contract.specs.Contract.{counts_of, run_of}
-use Rattle.load_problem.specs.Ends.{problem_in}
+use Rattle.load_problem.specs.Inputs.{problem_in}
 use Rattle.load_problem.specs.Means.{IsDigestOf, Means}
 use Rattle.list_writer.specs.Asked.{Asked as Listing}
 use Rattle.list_writer.specs.Jobs.{IsJob}
-use Rattle.find_cmd.specs.Asked.{wanted_of}
-use Rattle.find_cmd.specs.Requests.{asked_of}
+use Rattle.requests.specs.Asked.{wanted_for}
+use Rattle.find_cmd.specs.Views.{list_asked}
 use Rattle.find_cmd.proofs.Faults.{listed-fault, unformed-fault, unread-fault}
 use Rattle.find_cmd.proofs.Jobs.{job-held}
 use Rattle.find_cmd.proofs.Listed.{listing-keeps}
@@ -15,19 +14,19 @@ use Rattle.find_cmd.proofs.run.list_read.Goals as goal
 
 pub list-requires-clause-job : goal.list-requires-clause-job
 list-requires-clause-job g c κs within =
-    let asked = asked_of c.args.request.now in
+    let asked = list_asked c.args.request.now in
     let inputs = c.in-Ok.inputs in
-    subst IsJob (sym c.job_of-job.ensures) (job-held asked (problem_in inputs asked.size) inputs.digest c.requires.asked
-    (at-ok (λ i. IsProblem (problem_in i asked.size)) c.args.read inputs c.in-Ok.is c.requires.problem))
+    subst IsJob (sym c.job_of-job.ensures) (job-held asked (problem_in inputs asked.listing.size) inputs.digest c.requires.asked
+    (at-ok (λ i. IsProblem (problem_in i asked.listing.size)) c.args.read inputs c.in-Ok.is c.requires.problem))
 
 pub returns-in-Err-clause-fault : goal.returns-in-Err-clause-fault
 returns-in-Err-clause-fault g c five =
-    unread-fault c.args.read c.in-Err.refusal (g.O.Sink.faults c.args.out.now) (g.O.Sink.faults c.print.new.out) c.print.result
+    unread-fault c.args.read c.in-Err.last (g.O.Sink.faults c.args.out.now) (g.O.Sink.faults c.print.new.out) c.print.result
     c.in-Err.is c.print.ensures.counts five
 
 pub returns-in-Err-clause-keeps : goal.returns-in-Err-clause-keeps
 returns-in-Err-clause-keeps g c told texts faults on_shelf on_sink reads =
-    unread-keeps g.F.FrontEnd.means g.F.FrontEnd.refuses _ (asked_of c.args.request.now) _ _ c.args.read c.in-Err.refusal
+    unread-keeps g.F.FrontEnd.means g.F.FrontEnd.refuses _ (list_asked c.args.request.now) _ _ c.args.read c.in-Err.last
     c.print.result c.in-Err.is reads c.requires.status refl refl (λ t. c.print.ensures.text (on_sink t)) c.print.ensures.counts
 
 pub returns-in-Ok-new-clause-fault : goal.returns-in-Ok-new-clause-fault
@@ -35,31 +34,31 @@ returns-in-Ok-new-clause-fault g c five = listed-fault c.args.read c.list.result
 
 pub returns-in-Ok-new-clause-keeps : goal.returns-in-Ok-new-clause-keeps
 returns-in-Ok-new-clause-keeps g c told texts faults on_shelf on_sink reads =
-    let asked = asked_of c.args.request.now in
+    let asked = list_asked c.args.request.now in
     let inputs = c.in-Ok.inputs in
-    listing-keeps g.F.FrontEnd.means g.F.FrontEnd.refuses _ asked _ (problem_in inputs asked.size)
+    listing-keeps g.F.FrontEnd.means _ asked _ _ (problem_in inputs asked.listing.size)
     inputs.digest _ (g.S.Shelf.written c.args.shelf.now) (g.S.Shelf.faults c.args.shelf.now) c.list.result c.status.result
     c.job_of-job.ensures refl (counts-ok _ _ c.args.read inputs c.in-Ok.is reads.counts) c.status.ensures
-    (λ t. at-ok (λ i. Means g.F.FrontEnd.means _ (wanted_of asked) texts (problem_in i asked.size)) c.args.read inputs c.in-Ok.is
+    (λ t. at-ok (λ i. Means g.F.FrontEnd.means _ (wanted_for asked) texts (problem_in i asked.listing.size)) c.args.read inputs c.in-Ok.is
     (reads.means t))
-    (λ t. at-ok (λ i. IsDigestOf (wanted_of asked) texts i.digest) c.args.read inputs c.in-Ok.is (reads.digest t))
+    (λ t. at-ok (λ i. IsDigestOf (wanted_for asked) texts i.digest) c.args.read inputs c.in-Ok.is (reads.digest t))
     (λ t. c.list.ensures.left (on_shelf t) (on_sink t))
     (λ t. c.list.ensures.others (on_shelf t) (on_sink t))
     c.list.ensures.causes
 
 pub returns-clause-fault : goal.returns-clause-fault
 returns-clause-fault g c five =
-    unformed-fault c.args.read c.in-Err-new.fault c.of_problem.result (g.O.Sink.faults c.args.out.now)
-    (g.O.Sink.faults c.print-in-Err-new.new.out) c.print-in-Err-new.result c.of_problem.ensures.says c.print-in-Err-new.ensures.counts
+    unformed-fault c.args.read c.in-Err-new.fault c.problem_line.result (g.O.Sink.faults c.args.out.now)
+    (g.O.Sink.faults c.print-in-Err-new.new.out) c.print-in-Err-new.result c.problem_line.ensures.says c.print-in-Err-new.ensures.counts
     five
 
 pub returns-clause-keeps : goal.returns-clause-keeps
 returns-clause-keeps g c told texts faults on_shelf on_sink reads =
-    let asked = asked_of c.args.request.now in
+    let asked = list_asked c.args.request.now in
     let inputs = c.in-Ok.inputs in
     let fault = c.in-Err-new.fault in
     let refused = subst (λ (p : Problem). IsRefused p fault) (ap (λ (l : Listing). l.problem) c.job_of-job.ensures)
     c.in-Err-new.ensures.err in
-    unformed-keeps g.F.FrontEnd.means g.F.FrontEnd.refuses _ asked _ _ c.args.read inputs fault c.of_problem.result
-    c.print-in-Err-new.result c.in-Ok.is reads refused c.of_problem.ensures.status c.of_problem.ensures.says refl refl
+    unformed-keeps g.F.FrontEnd.means g.F.FrontEnd.refuses _ asked _ _ c.args.read inputs fault c.problem_line.result
+    c.print-in-Err-new.result c.in-Ok.is reads refused c.problem_line.ensures.status c.problem_line.ensures.says refl refl
     (λ t. c.print-in-Err-new.ensures.text (on_sink t)) c.print-in-Err-new.ensures.counts

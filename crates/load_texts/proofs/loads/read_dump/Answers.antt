@@ -5,7 +5,7 @@ use Rattle.load_texts.proofs.Loaded.{dump-spared}
 use Rattle.load_texts.proofs.loads.read_dump.Goals as goal
 
 pub returns-in-Err-clause-only : goal.returns-in-Err-clause-only
-returns-in-Err-clause-only c = λ t has.
+returns-in-Err-clause-only g c = λ t has.
     dump-spared c.in-Err.fault
     (c.in-Err.ensures.only t
-    (subst (λ b. HasSamples b c.args.design.now (option_copied c.args.clock) t) (sym c.as_slice.ensures) has))
+    (subst (λ b. HasSamples b c.args.source.now.design.now (option_copied c.args.source.now.clock) t) (sym c.as_slice-bytes.ensures) has))

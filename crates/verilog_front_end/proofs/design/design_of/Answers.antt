@@ -1,7 +1,7 @@
 use Rattle.std.proofs.Common.{option_map}
 use Rattle.v_syntax.specs.ModuleTree.{source_of}
 use Rattle.v_hierarchy.specs.Views.{instances_of}
-use Rattle.front_end.specs.Means.{Refuses}
+use Rattle.verilog_front_end.specs.Errors.{Refuses}
 use Rattle.verilog_front_end.specs.Refusals.{IsRefusal}
 use Rattle.verilog_front_end.proofs.Answers.{handed-on, stand, of-text, made}
 use Rattle.verilog_front_end.proofs.design.design_of.Goals as goal

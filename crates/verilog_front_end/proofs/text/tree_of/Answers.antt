@@ -1,4 +1,4 @@
-use Rattle.front_end.specs.Means.{Refuses}
+use Rattle.verilog_front_end.specs.Errors.{Refuses}
 use Rattle.verilog_front_end.specs.Refusals.{IsRefusal}
 use Rattle.verilog_front_end.proofs.Answers.{handed-on}
 use Rattle.verilog_front_end.proofs.text.tree_of.Goals as goal

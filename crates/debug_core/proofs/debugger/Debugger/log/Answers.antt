@@ -1,4 +1,4 @@
-use Rattle.std.proofs.Common.{subst}
+use Rattle.std.proofs.Common.{drop, subst}
 use Rattle.debug_core.specs.Debugging.{IsDebugger}
 use Rattle.debug_core.specs.Standing.{problem_in}
 use Rattle.debug_core.proofs.Debuggers.{is-debugger}
@@ -8,4 +8,5 @@ pub returns-clause-holds : goal.returns-clause-holds
 returns-clause-holds c =
     let inside = c.self.inside in
     subst IsDebugger c.self.view_is
-    (is-debugger (problem_in inside.encoding) inside.encoding.form inside.encoding.unrolled inside.enumerator c.self.invariant)
+    (is-debugger (problem_in inside.encoding) inside.encoding.form inside.encoding.unrolled inside.search.enumerator
+    (drop inside.search.appended inside.search.certificate) inside.search.finished c.self.invariant)

@@ -1,4 +1,4 @@
-use Rattle.std.proofs.Common.{ℕ, ap, subst, sym, ◌∙◌, arith}
+use Rattle.std.proofs.Common.{ℕ, [], false, ap, subst, sym, ◌∙◌, arith}
 use Rattle.card_counter.specs.InForm.{HasCounter}
 use Rattle.debug_core.specs.Problems.{Problem, suspect_count}
 use Rattle.set_enum.specs.EnumState.{IsEnum}
@@ -25,13 +25,25 @@ new-requires-2-clause-clauses_fit c =
     let is = c.in_ok-encoding.ensures.encoding in
     omega (arith, clauses-few e.form.clauses, is.form.few_literals)
 
+pub invariant_of-result : goal.invariant_of-result
+invariant_of-result c =
+    let e = c.in_ok-encoding.encoding in
+    let begins = c.in_ok-enumerator.ensures.begins in
+    let same = sym c.in_ok-encoding.ensures.question in
+    subst (λ steps. IsStanding (problem_in e) e.form e.unrolled c.in_ok-enumerator.enumerator steps false) (sym c.new-3.ensures)
+    (subst (λ x. IsStanding (problem_in e) e.form e.unrolled x [] false) (sym begins)
+    (begun-standing (problem_in e) e.form e.unrolled c.len-suspects.result c.args.question.now.k c.in_ok-encoding.ensures.encoding
+    (c.len-suspects.ensures ∙ ap suspect_count same) (ap (λ (p : Problem). p.k) same)
+    (subst IsEnum begins c.in_ok-enumerator.ensures.holds)))
+
 pub returns-clause-holds : goal.returns-clause-holds
 returns-clause-holds c =
     let e = c.in_ok-encoding.encoding in
     let begins = c.in_ok-enumerator.ensures.begins in
     let same = sym c.in_ok-encoding.ensures.question in
-    is-debugger (problem_in e) e.form e.unrolled c.in_ok-enumerator.enumerator
-    (subst (IsStanding (problem_in e) e.form e.unrolled) (sym begins)
+    is-debugger (problem_in e) e.form e.unrolled c.in_ok-enumerator.enumerator c.new-3.result false
+    (subst (λ steps. IsStanding (problem_in e) e.form e.unrolled c.in_ok-enumerator.enumerator steps false) (sym c.new-3.ensures)
+    (subst (λ x. IsStanding (problem_in e) e.form e.unrolled x [] false) (sym begins)
     (begun-standing (problem_in e) e.form e.unrolled c.len-suspects.result c.args.question.now.k c.in_ok-encoding.ensures.encoding
     (c.len-suspects.ensures ∙ ap suspect_count same) (ap (λ (p : Problem). p.k) same)
-    (subst IsEnum begins c.in_ok-enumerator.ensures.holds)))
+    (subst IsEnum begins c.in_ok-enumerator.ensures.holds))))

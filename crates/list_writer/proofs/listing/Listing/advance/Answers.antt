@@ -16,19 +16,19 @@ returns-in_err-stopped-in-Ok-Set-clause-turn g c =
     let state = g.D.Search.state in
     let many : c.len-count.result ≡ length c.args.self.now.found.items = omega (arith, c.len-count.ensures, c.args.self.now.found.ok.0) in
     let old = state c.args.self.now.search in
-    let mid = state c.next.new.self in
+    let mid = state c.next_in_slice.new.search in
     let gives = rw c.in-Ok-Set.field-0-is at c.in-Ok-Set.ensures.gives in
     let same : mid ≡ state c.take.new.self.search = ap state (sym c.take.ensures.search) in
-    let kept : c.next.new.budget ≡ c.take.new.self.budget = sym c.take.ensures.budget in
+    let kept : c.next_in_slice.new.left ≡ c.take.new.self.left = sym c.take.ensures.units in
     let holds : IsDebugger (state c.take.new.self.search) = subst IsDebugger same c.in-Ok-Set.ensures.holds in
-    let searches : Searches old (state c.take.new.self.search) c.args.self.now.budget c.take.new.self.budget =
-    subst (λ (n : ℕ). Searches old (state c.take.new.self.search) c.args.self.now.budget n) kept
-    (subst (λ (s : DebugState). Searches old s c.args.self.now.budget c.next.new.budget) same c.in-Ok-Set.ensures.searches) in
+    let searches : Searches old (state c.take.new.self.search) c.args.self.now.left c.take.new.self.left =
+    subst (λ (n : ℕ). Searches old (state c.take.new.self.search) c.args.self.now.left n) kept
+    (subst (λ (s : DebugState). Searches old s c.args.self.now.left c.next_in_slice.new.left) same c.in-Ok-Set.ensures.searches) in
     let finds : FindsSet old (state c.take.new.self.search) c.in-Ok-Set.set =
-    subst (λ (s : DebugState). FindsSet old s c.in-Ok-Set.set) same gives.1 in
+    subst (λ (s : DebugState). FindsSet old s c.in-Ok-Set.set) same gives in
     let turn = turn_of (asked_of c.args.self.now.job) old (state c.take.new.self.search)
-    (record { found = c.args.self.now.found.items; steps = c.args.self.now.steps; left = c.args.self.now.budget })
-    (record { found = c.take.new.self.found.items; steps = c.take.new.self.steps; left = c.take.new.self.budget })
+    (record { found = c.args.self.now.found.items; steps = c.args.self.now.steps; left = c.args.self.now.left })
+    (record { found = c.take.new.self.found.items; steps = c.take.new.self.steps; left = c.take.new.self.left })
     (outputs (g.S.Shelf.written c.args.shelf.now) (g.S.Shelf.written c.take.new.shelf) (g.O.Sink.written c.args.out.now)
     (g.O.Sink.written c.take.new.out))
     (g.S.Shelf.tells c.args.shelf.now && g.O.Sink.tells c.args.out.now) in
@@ -47,19 +47,19 @@ returns-in_ok-stopped-in-Ok-Set-clause-turn g c =
     let state = g.D.Search.state in
     let many : c.len-count.result ≡ length c.args.self.now.found.items = omega (arith, c.len-count.ensures, c.args.self.now.found.ok.0) in
     let old = state c.args.self.now.search in
-    let mid = state c.next.new.self in
+    let mid = state c.next_in_slice.new.search in
     let gives = rw c.in-Ok-Set.field-0-is at c.in-Ok-Set.ensures.gives in
     let same : mid ≡ state c.take.new.self.search = ap state (sym c.take.ensures.search) in
-    let kept : c.next.new.budget ≡ c.take.new.self.budget = sym c.take.ensures.budget in
+    let kept : c.next_in_slice.new.left ≡ c.take.new.self.left = sym c.take.ensures.units in
     let holds : IsDebugger (state c.take.new.self.search) = subst IsDebugger same c.in-Ok-Set.ensures.holds in
-    let searches : Searches old (state c.take.new.self.search) c.args.self.now.budget c.take.new.self.budget =
-    subst (λ (n : ℕ). Searches old (state c.take.new.self.search) c.args.self.now.budget n) kept
-    (subst (λ (s : DebugState). Searches old s c.args.self.now.budget c.next.new.budget) same c.in-Ok-Set.ensures.searches) in
+    let searches : Searches old (state c.take.new.self.search) c.args.self.now.left c.take.new.self.left =
+    subst (λ (n : ℕ). Searches old (state c.take.new.self.search) c.args.self.now.left n) kept
+    (subst (λ (s : DebugState). Searches old s c.args.self.now.left c.next_in_slice.new.left) same c.in-Ok-Set.ensures.searches) in
     let finds : FindsSet old (state c.take.new.self.search) c.in-Ok-Set.set =
-    subst (λ (s : DebugState). FindsSet old s c.in-Ok-Set.set) same gives.1 in
+    subst (λ (s : DebugState). FindsSet old s c.in-Ok-Set.set) same gives in
     let turn = turn_of (asked_of c.args.self.now.job) old (state c.take.new.self.search)
-    (record { found = c.args.self.now.found.items; steps = c.args.self.now.steps; left = c.args.self.now.budget })
-    (record { found = c.take.new.self.found.items; steps = c.take.new.self.steps; left = c.take.new.self.budget })
+    (record { found = c.args.self.now.found.items; steps = c.args.self.now.steps; left = c.args.self.now.left })
+    (record { found = c.take.new.self.found.items; steps = c.take.new.self.steps; left = c.take.new.self.left })
     (outputs (g.S.Shelf.written c.args.shelf.now) (g.S.Shelf.written c.take.new.shelf) (g.O.Sink.written c.args.out.now)
     (g.O.Sink.written c.take.new.out))
     (g.S.Shelf.tells c.args.shelf.now && g.O.Sink.tells c.args.out.now) in

@@ -1,13 +1,15 @@
-use Rattle.std.proofs.Common.{◌≡◌, ℕ, List, [], ◌∷◌, Some, None, true, ◌&&◌, ◌∙◌, sym, ap, ap₂, subst, length, drop, arith}
+use Rattle.std.proofs.Common.{◌≡◌, ℕ, List, [], ◌∷◌, Some, None, Err, true, ◌&&◌, ◌∙◌, sym, ap, ap₂, subst, length, drop, arith}
 use Rattle.std.proofs.lemmas.Result.{err_from_is_err_and}
 use Rattle.log_portions.specs.Portions.{head_text}
 use Rattle.proof_check.specs.Text.{IsDigest}
 use Rattle.write_order.specs.Writes.{AreDone, Leaves, begin_text, put_piece}
 use Rattle.write_order.proofs.Carried.{done-then}
+use Rattle.command_contract.specs.Contract.{counts_of}
+use Rattle.report_doc.specs.declared.types.Ending.{Ending}
 use Rattle.report_doc.specs.Shape.{IsReport}
 use Rattle.list_writer.specs.declared.job.Job.{Job}
 use Rattle.list_writer.specs.Due.{opening}
-use Rattle.list_writer.specs.Going.{StopsShort, closing_writes, outputs}
+use Rattle.list_writer.specs.Going.{StopCauses, StopsShort, closing_writes, outputs}
 use Rattle.list_writer.specs.Jobs.{asked_of}
 use Rattle.list_writer.specs.Reporting.{CanBeReported}
 use Rattle.list_writer.specs.Stops.{stopped}
@@ -17,7 +19,7 @@ use Rattle.list_writer.specs.Found.{found_of}
 use Rattle.list_writer.specs.Texts.{report_for, waved_for}
 use Rattle.set_waves.specs.Waved.{AreRuns, CanBeWaved, HaveValues, Runs}
 use Rattle.list_writer.proofs.Runs.{begin-stopped, check-short, close-done, close-stopped, front}
-use Rattle.list_writer.proofs.Runs.{head-stopped, search-done, search-stopped, stopped-ok, stopped-on_ok}
+use Rattle.list_writer.proofs.Runs.{head-stopped, search-done, search-stopped, stopped-causes, stopped-none, stopped-ok, stopped-on_ok, stopped-same}
 use Rattle.list_writer.proofs.listing.Listing.run.Goals as goal
 
 pub returns-in_err-stopped-clause-left : goal.returns-in_err-stopped-clause-left
@@ -193,7 +195,7 @@ returns-in_err-stopped-3-clause-left g c =
     let p4 = g.O.Sink.written c.close.new.out in
     let digest : IsDigest job.inputs = stopped-on_ok (IsDigest job.inputs) c.put_head.result (Some 0) c.in_ok-stopped-2.field-0
     (sym c.stopped-2.ensures ∙ c.in_ok-stopped-2.was) c.put_head.ensures.digest in
-    let is = is-ended asked s found steps c.in_ok-ending.ending ends.portions ends.ended c.requires.job.few digest in
+    let is = is-ended asked s found steps c.in_ok-ending.ending ends.portions ends.ended c.requires.job.few digest c.in_ok-ending.ensures.shown in
     let some = runs-of asked s found steps c.in_ok-ending.ending ends.portions ends.ended in
     let runs : Runs = some.0 in
     let are : AreRuns (waved_for asked) (found_of ends.portions) runs = some.1 in
@@ -244,7 +246,7 @@ returns-clause-left g c = λ told_shelf told_sink.
     let p4 = g.O.Sink.written c.close.new.out in
     let digest : IsDigest job.inputs = stopped-on_ok (IsDigest job.inputs) c.put_head.result (Some 0) c.in_ok-stopped-2.field-0
     (sym c.stopped-2.ensures ∙ c.in_ok-stopped-2.was) c.put_head.ensures.digest in
-    let is = is-ended asked s found steps c.in_ok-ending.ending ends.portions ends.ended c.requires.job.few digest in
+    let is = is-ended asked s found steps c.in_ok-ending.ending ends.portions ends.ended c.requires.job.few digest c.in_ok-ending.ensures.shown in
     let some = runs-of asked s found steps c.in_ok-ending.ending ends.portions ends.ended in
     let runs : Runs = some.0 in
     let are : AreRuns (waved_for asked) (found_of ends.portions) runs = some.1 in
@@ -263,3 +265,43 @@ returns-clause-left g c = λ told_shelf told_sink.
     (stopped-ok (closing_writes asked found (drop steps s.log) c.in_ok-ending.ending runs) (outputs w3 w4 p3 p4) c.close.result
     (Some c.len.result)
     c.in_ok-stopped-3.field-0 (sym c.stopped-3.ensures ∙ c.in_ok-stopped-3.was) left)
+
+pub returns-then-is_err-clause-causes : goal.returns-then-is_err-clause-causes
+returns-then-is_err-clause-causes g c =
+    let faults = g.S.Shelf.faults in
+    let begun = stopped-same (faults c.args.shelf.now) (faults c.begin_log.new.shelf) c.begin_log.result None c.in_ok-stopped.field-0
+    (sym c.stopped.ensures ∙ c.in_ok-stopped.was) c.begin_log.ensures.cause in
+    let put = stopped-same (faults c.begin_log.new.shelf) (faults c.put_head.new.shelf) c.put_head.result (Some 0) c.in_ok-stopped-2.field-0
+    (sym c.stopped-2.ensures ∙ c.in_ok-stopped-2.was) c.put_head.ensures.cause in
+    (c.in_ok-ending.ensures.causes.0 ∙ (put ∙ begun), c.in_ok-ending.ensures.causes.1)
+
+pub returns-in_err-stopped-3-clause-causes : goal.returns-in_err-stopped-3-clause-causes
+returns-in_err-stopped-3-clause-causes g c =
+    let p = err_from_is_err_and c.from_residual-in_err-stopped-3.result c.from_residual-in_err-stopped-3.ensures.1 in
+    let faults = g.S.Shelf.faults in
+    let sink = g.O.Sink.faults in
+    let begun = stopped-same (faults c.args.shelf.now) (faults c.begin_log.new.shelf) c.begin_log.result None c.in_ok-stopped.field-0
+    (sym c.stopped.ensures ∙ c.in_ok-stopped.was) c.begin_log.ensures.cause in
+    let put = stopped-same (faults c.begin_log.new.shelf) (faults c.put_head.new.shelf) c.put_head.result (Some 0) c.in_ok-stopped-2.field-0
+    (sym c.stopped-2.ensures ∙ c.in_ok-stopped-2.was) c.put_head.ensures.cause in
+    let searched = c.in_ok-ending.ensures.causes in
+    rw (p.1, p.2)
+    (subst (λ x. StopCauses {X = Ending} (counts_of x (faults c.close.new.shelf) (sink c.args.out.now) (sink c.close.new.out)) (Err c.in_err-stopped-3.field-0.0))
+    (searched.0 ∙ (put ∙ begun))
+    (subst (λ x. StopCauses {X = Ending} (counts_of (faults c.search_on.new.shelf) (faults c.close.new.shelf) x (sink c.close.new.out)) (Err c.in_err-stopped-3.field-0.0))
+    searched.1
+    (stopped-causes (counts_of (faults c.search_on.new.shelf) (faults c.close.new.shelf) (sink c.search_on.new.out) (sink c.close.new.out))
+    c.close.result _ c.in_err-stopped-3.field-0.0 (sym c.stopped-3.ensures ∙ c.in_err-stopped-3.was) c.close.ensures.causes)))
+
+pub returns-clause-causes : goal.returns-clause-causes
+returns-clause-causes g c =
+    let faults = g.S.Shelf.faults in
+    let sink = g.O.Sink.faults in
+    let begun = stopped-same (faults c.args.shelf.now) (faults c.begin_log.new.shelf) c.begin_log.result None c.in_ok-stopped.field-0
+    (sym c.stopped.ensures ∙ c.in_ok-stopped.was) c.begin_log.ensures.cause in
+    let put = stopped-same (faults c.begin_log.new.shelf) (faults c.put_head.new.shelf) c.put_head.result (Some 0) c.in_ok-stopped-2.field-0
+    (sym c.stopped-2.ensures ∙ c.in_ok-stopped-2.was) c.put_head.ensures.cause in
+    let searched = c.in_ok-ending.ensures.causes in
+    let closed = stopped-none (counts_of (faults c.search_on.new.shelf) (faults c.close.new.shelf) (sink c.search_on.new.out) (sink c.close.new.out))
+    c.close.result _ c.in_ok-stopped-3.field-0 (sym c.stopped-3.ensures ∙ c.in_ok-stopped-3.was) c.close.ensures.causes in
+    (closed.0 ∙ (searched.0 ∙ (put ∙ begun)), closed.1 ∙ searched.1)

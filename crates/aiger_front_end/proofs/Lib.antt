@@ -1,0 +1,4 @@
+pub mod Circles
+pub mod OneMeaning
+pub mod Answers
+mod Examples

@@ -1,0 +1,4 @@
+pub mod Errors
+pub mod Meaning
+pub mod Refusals
+pub mod FrontEnd

@@ -1,0 +1,24 @@
+//! Laws of the definitions. Each is the contract of a function that does nothing but call laws of the layers below.
+ghost use Rattle.std.specs.Prelude.{ℕ, List, Option};
+ghost use Rattle.design_core.specs.declared.design.Design.{Design};
+ghost use Rattle.aiger_design.specs.Laws.{AreAlike};
+ghost use Rattle.aiger_front_end.specs.declared.error.GraphErr.{GraphErr};
+ghost use Rattle.aiger_front_end.specs.Meaning.{Means};
+ghost use Rattle.aiger_front_end.specs.Refusals.{IsRefusal};
+
+/// A text means one design at most: those that it means have the same lists.
+pub fn one_design()
+    ensures { (text top : List ℕ) (clock : Option (List ℕ)) (d e : Design)
+        → Means text top clock d → Means text top clock e → AreAlike d e }
+{
+    aiger_design::one_design();
+}
+
+/// A text that means a design is not refused.
+pub fn no_refusal()
+    ensures { (text top : List ℕ) (clock : Option (List ℕ)) (d : Design) (fault : GraphErr)
+        → Means text top clock d → ¬ IsRefusal text top clock fault }
+{
+    aiger_design::one_design();
+    aiger_design::no_refusal();
+}

@@ -1,6 +1,0 @@
-use Rattle.std.proofs.Common.{◌≡◌}
-use Rattle.found_report.specs.Found.{rows_texts}
-use Rattle.found_report.proofs.findings.rows_texts.Given as goal
-
-abbrev pub invariant-loop-cycle : goal.invariant-loop-cycle
-invariant-loop-cycle l = l.texts ≡ rows_texts l.values l.first l.cycle

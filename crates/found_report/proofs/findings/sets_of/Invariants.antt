@@ -1,6 +1,0 @@
-use Rattle.std.proofs.Common.{◌≡◌, map, take}
-use Rattle.found_report.specs.Found.{set_of}
-use Rattle.found_report.proofs.findings.sets_of.Given as goal
-
-abbrev pub invariant-loop-set : goal.invariant-loop-set
-invariant-loop-set l = l.made ≡ map (set_of l.traces) (take l.set-index l.sets)

@@ -1,6 +1,0 @@
-use Rattle.std.proofs.Common.{◌≢◌, take}
-use Rattle.std.specs.Prelude.{AllPairs}
-use Rattle.found_report.proofs.kinds.are_once.Given as goal
-
-abbrev pub invariant-loop-place : goal.invariant-loop-place
-invariant-loop-place l = AllPairs (λ one other. one ≢ other) (take l.place l.names)

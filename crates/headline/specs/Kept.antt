@@ -1,0 +1,20 @@
+-- What is promised of each run of `run_words`, as a run of this crate has it.
+use Rattle.std.specs.Prelude.{ℕ, ◌≡◌, List, Ok, true}
+use Rattle.command_words.specs.Words.{asked as asked_by}
+use Rattle.requests.specs.Asked.{Asked, find}
+use Rattle.verilog_front_end.specs.FrontEnd.{HasError, means_by}
+use Rattle.localise_cmd.specs.Commands.{KeepsWords, Tools, tools_of}
+use Rattle.headline.specs.Runs.{FindRun, WordsRun}
+
+-- a run works with these kinds, and its designs are in Verilog
+abbrev pub tools_for : WordsRun → Tools
+tools_for of = tools_of means_by HasError of.known of.suspecting
+
+-- shelf and sink tell what they hold, the words ask for this, and the run keeps what is promised of it
+pub record IsKept (of : WordsRun) (asked : Asked) : Type 0 where
+  pub keeps : KeepsWords (tools_for of) of.words of.run of.status
+  pub told : of.run.told ≡ true
+  pub words : asked_by of.known of.words ≡ Ok asked
+
+abbrev pub IsKeptFind : FindRun → Type 0
+IsKeptFind r = IsKept r.of (find r.asked)

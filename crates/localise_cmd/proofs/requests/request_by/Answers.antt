@@ -1,5 +1,0 @@
-use Rattle.localise_cmd.proofs.requests.request_by.Goals as goal
-
-pub returns-clause-gives : goal.returns-clause-gives
-returns-clause-gives g c =
-    let gives = rw c.deref.ensures.value at c.request.ensures.gives in rw c.in_ok-known.ensures at gives

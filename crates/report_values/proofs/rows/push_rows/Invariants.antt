@@ -1,6 +1,0 @@
-use Rattle.std.proofs.Common.{take}
-use Rattle.report_values.specs.Reading.{AppendsRows}
-use Rattle.report_values.proofs.rows.push_rows.Given as goal
-
-abbrev pub invariant-loop-cycle : goal.invariant-loop-cycle
-invariant-loop-cycle l = AppendsRows l.widths (take l.cycle l.texts) l.initial.words.items l.words.items

@@ -1,0 +1,76 @@
+-- What the commands are asked, as plain data: names of texts, names in a design, kinds of suspects and prefixes are bytes.
+use Rattle.std.specs.Prelude.{ℕ, ◌≤◌, List, Option}
+
+-- ---- what is read
+-- the names of the design's text, of the module that is the top, and of the traces' texts
+pub record TextsAsked : Type 0 where
+  pub design : List ℕ
+  pub top : List ℕ
+  pub traces : List (List ℕ)
+
+-- and the clock by which they are read
+pub record SourcesAsked : Type 0 where
+  pub texts : TextsAsked
+  pub clock : Option (List ℕ)
+
+-- ---- a list
+-- what a list is asked of: what is read, the names of the kinds of suspects, the most members of a set
+pub record WantedAsked : Type 0 where
+  pub sources : SourcesAsked
+  pub suspects : List (List ℕ)
+  pub size : ℕ
+
+-- the names of the kinds of suspects, the most members of a set, the most steps that may be learned, the most sets; how many workers
+-- check the log; the names of the log and of the report
+pub record ListingAsked : Type 0 where
+  pub suspects : List (List ℕ)
+  pub size : ℕ
+  pub budget : ℕ
+  pub sets : ℕ
+  pub workers : ℕ
+  pub log : List ℕ
+  pub report : List ℕ
+
+-- a list of what is read is asked of
+abbrev pub wanted_of : SourcesAsked → ListingAsked → WantedAsked
+wanted_of sources listing = record { sources = sources; suspects = listing.suspects; size = listing.size }
+
+-- ---- the commands
+-- `find`: the prefix of the waves' names, where waves are asked for
+pub record FindAsked : Type 0 where
+  pub sources : SourcesAsked
+  pub listing : ListingAsked
+  pub waves : Option (List ℕ)
+
+abbrev pub wanted_for : FindAsked → WantedAsked
+wanted_for asked = wanted_of asked.sources asked.listing
+
+-- `sim`
+pub record SimAsked : Type 0 where
+  pub sources : SourcesAsked
+
+-- `check`: the names of the report and of the log, and how many workers check it
+pub record CheckAsked : Type 0 where
+  pub texts : TextsAsked
+  pub report : List ℕ
+  pub log : List ℕ
+  pub workers : ℕ
+
+-- `make`: the number of the input that is made, and the names under which its design and its trace are written
+pub record MakeAsked : Type 0 where
+  pub number : ℕ
+  pub design : List ℕ
+  pub trace : List ℕ
+  pub listing : ListingAsked
+
+-- one of them
+pub data Asked : Type 0 where
+  find : FindAsked → Asked
+  sim : SimAsked → Asked
+  check : CheckAsked → Asked
+  make : MakeAsked → Asked
+
+-- ---- ranges
+-- a number from 1 to the most
+abbrev pub IsUpTo : ℕ → ℕ → Type 0
+IsUpTo most n = (1 ≤ n) × (n ≤ most)

@@ -1,0 +1,70 @@
+//! The request of each command.
+ghost use Rattle.std.specs.Prelude.{◌≡◌};
+ghost use Rattle.requests.specs.Asked.{wanted_for};
+ghost use Rattle.requests.specs.Views.{find_asked, wanted_asked};
+
+use crate::listing::Listing;
+use crate::sources::Reading;
+use crate::texts::Texts;
+use crate::wanted::Wanted;
+
+/// What `find` is asked.
+#[derive(Drop)]
+pub struct FindRequest {
+    pub reading: Reading,
+    pub listing: Listing,
+    /// The prefix of the waves' names, where waves are asked for: that of set S and trace T is `P-S-T.vcd`.
+    pub waves: Option<String>,
+}
+
+/// What `sim` is asked.
+#[derive(Drop)]
+pub struct SimRequest {
+    pub reading: Reading,
+}
+
+/// What `check` is asked. The clock, the kinds of suspects and the size are the report's.
+#[derive(Drop)]
+pub struct CheckRequest {
+    pub texts: Texts,
+    /// The name of the report.
+    pub report: String,
+    /// The name of the log.
+    pub log: String,
+    /// How many workers read and check the log, 1 to 64. No answer depends on their number.
+    pub workers: u32,
+}
+
+/// What `make` is asked.
+#[derive(Drop)]
+pub struct MakeRequest {
+    /// The number of the input that is made, 0 to 9999.
+    pub number: u32,
+    /// The name of the design's text.
+    pub design: String,
+    /// The name of the trace's text.
+    pub trace: String,
+    pub listing: Listing,
+}
+
+/// A command, with what it is asked.
+#[derive(Drop)]
+pub enum Request {
+    Find(FindRequest),
+    Sim(SimRequest),
+    Check(CheckRequest),
+    Make(MakeRequest),
+}
+
+impl FindRequest {
+    /// What the list is asked of.
+    pub fn wanted(&self) -> Wanted<'_>
+        ensures { wanted_asked result ≡ wanted_for (find_asked self.now) }
+    {
+        Wanted {
+            sources: self.reading.sources(),
+            suspects: &self.listing.suspects,
+            size: self.listing.size,
+        }
+    }
+}

@@ -1,0 +1,14 @@
+use Rattle.std.proofs.Common.{List, subst, sym, ◌∙◌}
+use Rattle.design_core.specs.declared.trace.Trace.{Trace}
+use Rattle.sim_lines.specs.Lines.{AreLines}
+use Rattle.sim_cmd.proofs.Shown.{some-then-memory}
+use Rattle.sim_cmd.proofs.run.show.Goals as goal
+
+pub returns-in-Err-NoMemory-clause-text : goal.returns-in-Err-NoMemory-clause-text
+returns-in-Err-NoMemory-clause-text g c told lines are =
+    let text = rw c.in-Err-NoMemory.field-0-is at c.in-Err-NoMemory.ensures.text in
+    some-then-memory lines (g.O.Sink.written c.args.out.now) (g.O.Sink.written c.show_traces.new.out) (g.O.Sink.written c.print.new.out)
+    c.print.result
+    (text told lines
+    (subst (λ (ts : List Trace). AreLines c.args.loaded.now.ordered.design 1 ts lines) (sym c.deref.ensures.value) are))
+    (c.print.ensures.text (c.show_traces.ensures.tells ∙ told))
