@@ -8,7 +8,8 @@ use Rattle.command_words.specs.Check.{check_arguments}
 use Rattle.command_words.specs.Find.{find_arguments}
 use Rattle.command_words.specs.Sim.{sim_arguments}
 use Rattle.command_words.specs.Make.{make_arguments}
-use Rattle.requests.specs.Asked.{Asked, ListingAsked, find, sim, check, make}
+use Rattle.requests.specs.Asked.{Asked, ListingAsked, find, sim, check, make, help}
+use Rattle.requests.specs.declared.help.HelpPage.TheVariants as page
 use Rattle.command_words.specs.Words.{asked as asked_by}
 
 -- where two kinds of suspects are known
@@ -94,9 +95,24 @@ an_option_that_stands_twice : asked (find_words (codes "--size=1" ∷ codes "--s
 unfolding clap_on_literals read_by find_arguments
 an_option_that_stands_twice = refl
 
-a_request_for_help : asked (codes "sim" ∷ codes "--help" ∷ []) ≡ Err Words
+a_request_for_help_after_a_command : asked (codes "sim" ∷ codes "--help" ∷ []) ≡ Err Words
 unfolding clap_on_literals read_by sim_arguments
-a_request_for_help = refl
+a_request_for_help_after_a_command = refl
+
+help_alone : asked (codes "help" ∷ []) ≡ Ok (help (record { page = page.Overview }))
+help_alone = refl
+
+help_on_a_command : asked (codes "help" ∷ codes "check" ∷ []) ≡ Ok (help (record { page = page.Check }))
+help_on_a_command = refl
+
+help_on_no_command : asked (codes "help" ∷ codes "help" ∷ []) ≡ Err Words
+help_on_no_command = refl
+
+the_versions : asked (codes "--version" ∷ []) ≡ Ok (help (record { page = page.Version }))
+the_versions = refl
+
+a_word_after_an_option_that_asks_for_help : asked (codes "-h" ∷ codes "find" ∷ []) ≡ Err Words
+a_word_after_an_option_that_asks_for_help = refl
 
 the_report_under_the_name_of_the_trace : asked (find_words (codes "--report" ∷ codes "t" ∷ [])) ≡ Err Name
 unfolding clap_on_literals read_by find_arguments

@@ -5,4 +5,6 @@ pub mod Sim
 pub mod Find
 pub mod Views
 pub mod Asked
+pub mod Help
+pub mod Pages
 pub mod Words

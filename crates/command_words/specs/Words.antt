@@ -6,9 +6,10 @@ use Rattle.word_values.specs.declared.usage.Usage.{Usage}
 use Rattle.word_values.specs.declared.usage.Usage.TheVariants.{Command}
 use Rattle.command_words.specs.Check.{check_asked}
 use Rattle.command_words.specs.Find.{find_asked}
+use Rattle.command_words.specs.Help.{page_asked}
 use Rattle.command_words.specs.Sim.{sim_asked}
 use Rattle.command_words.specs.Make.{make_asked}
-use Rattle.requests.specs.Asked.{Asked, find, sim, check, make}
+use Rattle.requests.specs.Asked.{Asked, find, sim, check, make, help}
 
 -- what one command's words ask for, as what any command's do
 abbrev pub as_asked : {A : Type 0} → (A → Asked) → Result A Usage → Result Asked Usage
@@ -20,7 +21,8 @@ asked_of_command known command words =
     if bytes_eq command (codes "find") then as_asked find (find_asked known words)
     else (if bytes_eq command (codes "sim") then as_asked (λ sources. sim (record { sources = sources })) (sim_asked words)
     else (if bytes_eq command (codes "check") then as_asked check (check_asked words)
-    else (if bytes_eq command (codes "make") then as_asked make (make_asked known words) else Err Command)))
+    else (if bytes_eq command (codes "make") then as_asked make (make_asked known words)
+    else as_asked (λ page. help (record { page = page })) (page_asked words))))
 
 -- where kinds of suspects of these names are known
 abbrev pub asked : List (List ℕ) → List (List ℕ) → Result Asked Usage

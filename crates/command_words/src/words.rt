@@ -7,9 +7,10 @@ ghost use Rattle.requests.specs.Views.{asked_of};
 
 use crate::check::check_words;
 use crate::find::find_words;
+use crate::help::page_words;
 use crate::make::make_words;
 use crate::sim::sim_words;
-use requests::{Request, SimRequest};
+use requests::{HelpRequest, Request, SimRequest};
 use std::alloc::Global;
 use word_values::{Usage, WordsErr};
 
@@ -21,6 +22,7 @@ use word_values::{Usage, WordsErr};
 /// - `check DESIGN TOP REPORT LOG TRACE.. [--workers N]`
 /// - `make NUMBER [--size K] [--budget B] [--sets M] [--suspects A,B] [--workers N] [--log NAME] [--report NAME] [--design NAME]
 ///   [--trace NAME]`
+/// - `help [COMMAND]`, `--help`, `-h`, `--version`
 ///
 /// There are 1 to 256 traces. The size is 0 to 8 (without the option 2), the budget 1 to 10,000,000 (200,000), the number of sets
 /// 1 to 100,000 (1,000), that of workers 1 to 64 (1), that of an input that is made 0 to 9999. The suspects (`stmt`) are known,
@@ -42,6 +44,9 @@ pub fn request(alloc: Global, words: &[String], known: &[&str]) -> Result<Reques
         })),
         "check" => Ok(Request::Check(check_words(alloc, words)?)),
         "make" => Ok(Request::Make(make_words(alloc, words, known)?)),
-        _ => Err(WordsErr::Usage(Usage::Command)),
+        _ => match page_words(words) {
+            Ok(page) => Ok(Request::Help(HelpRequest { page })),
+            Err(usage) => Err(WordsErr::Usage(usage)),
+        },
     }
 }

@@ -1,5 +1,6 @@
 -- What the commands are asked, as plain data: names of texts, names in a design, kinds of suspects and prefixes are bytes.
 use Rattle.std.specs.Prelude.{ℕ, ◌≤◌, List, Option}
+use Rattle.requests.specs.declared.help.HelpPage.{HelpPage}
 
 -- ---- what is read
 -- the names of the design's text, of the module that is the top, and of the traces' texts
@@ -63,12 +64,17 @@ pub record MakeAsked : Type 0 where
   pub trace : List ℕ
   pub listing : ListingAsked
 
+-- `help`: a page
+pub record HelpAsked : Type 0 where
+  pub page : HelpPage
+
 -- one of them
 pub data Asked : Type 0 where
   find : FindAsked → Asked
   sim : SimAsked → Asked
   check : CheckAsked → Asked
   make : MakeAsked → Asked
+  help : HelpAsked → Asked
 
 -- ---- ranges
 -- a number from 1 to the most

@@ -1,18 +1,19 @@
 -- What requests ask.
 use Rattle.std.specs.Prelude.{map, string_bytes}
 use Rattle.std.specs.Option.{option_copied, option_map}
+use Rattle.requests.specs.declared.help.HelpRequest.{HelpRequest}
 use Rattle.requests.specs.declared.listing.Listing.{Listing}
 use Rattle.requests.specs.declared.requests.CheckRequest.{CheckRequest}
 use Rattle.requests.specs.declared.requests.FindRequest.{FindRequest}
 use Rattle.requests.specs.declared.requests.MakeRequest.{MakeRequest}
 use Rattle.requests.specs.declared.requests.Request.{Request}
-use Rattle.requests.specs.declared.requests.Request.TheVariants.{Find, Sim, Check, Make}
+use Rattle.requests.specs.declared.requests.Request.TheVariants.{Find, Sim, Check, Make, Help}
 use Rattle.requests.specs.declared.requests.SimRequest.{SimRequest}
 use Rattle.requests.specs.declared.sources.Reading.{Reading}
 use Rattle.requests.specs.declared.sources.Sources.{Sources}
 use Rattle.requests.specs.declared.texts.Texts.{Texts}
 use Rattle.requests.specs.declared.wanted.Wanted.{Wanted}
-use Rattle.requests.specs.Asked.{Asked, CheckAsked, FindAsked, ListingAsked, MakeAsked, SimAsked, SourcesAsked, TextsAsked, WantedAsked, find, sim, check, make}
+use Rattle.requests.specs.Asked.{Asked, CheckAsked, FindAsked, HelpAsked, ListingAsked, MakeAsked, SimAsked, SourcesAsked, TextsAsked, WantedAsked, find, sim, check, make, help}
 
 -- ---- what is read
 abbrev pub texts_asked : Texts → TextsAsked
@@ -74,8 +75,12 @@ make_asked request = record {
   listing = listing_asked request.listing;
 }
 
+abbrev pub help_asked : HelpRequest → HelpAsked
+help_asked request = record { page = request.page }
+
 abbrev pub asked_of : Request → Asked
 asked_of (Find request) = find (find_asked request)
 asked_of (Sim request) = sim (sim_asked request)
 asked_of (Check request) = check (check_asked request)
 asked_of (Make request) = make (make_asked request)
+asked_of (Help request) = help (help_asked request)

@@ -2,12 +2,14 @@
 //! each command's request. The arguments fill these, and the commands take them.
 #![tactic(auto)]
 
+mod help;
 mod listing;
 mod requests;
 mod sources;
 mod texts;
 mod wanted;
 
+pub use help::{HelpPage, HelpRequest};
 pub use listing::Listing;
 pub use requests::{CheckRequest, FindRequest, MakeRequest, Request, SimRequest};
 pub use sources::{Reading, Sources};

@@ -3,6 +3,7 @@ ghost use Rattle.std.specs.Prelude.{◌≡◌};
 ghost use Rattle.requests.specs.Asked.{wanted_for};
 ghost use Rattle.requests.specs.Views.{find_asked, wanted_asked};
 
+use crate::help::HelpRequest;
 use crate::listing::Listing;
 use crate::sources::Reading;
 use crate::texts::Texts;
@@ -54,6 +55,7 @@ pub enum Request {
     Sim(SimRequest),
     Check(CheckRequest),
     Make(MakeRequest),
+    Help(HelpRequest),
 }
 
 impl FindRequest {
