@@ -3,3 +3,5 @@ pub mod Numerals
 pub mod KindNames
 pub mod Prefixes
 pub mod Holding
+pub mod SamePaths
+pub mod PathFronts

@@ -9,7 +9,7 @@ use Rattle.std.proofs.lemmas.Slice.Eq.{starts_is}
 use Rattle.word_values.specs.Values.{begins_with}
 
 -- a list begins as a text does
-starts-tells : (s p : List ℕ) → (starts_with nat_eq s p ≡ true → s ≡ p ++ drop (length p) s)
+pub starts-tells : (s p : List ℕ) → (starts_with nat_eq s p ≡ true → s ≡ p ++ drop (length p) s)
     × ((rest : List ℕ) → s ≡ p ++ rest → starts_with nat_eq s p ≡ true)
 starts-tells s p = starts_is Decides-eqb s p (starts_with nat_eq s p) refl
 

@@ -1,6 +1,7 @@
 pub mod Arguments
 pub mod Tables
 pub mod Values
+pub mod Paths
 pub mod Numbers
 pub mod Sources
 pub mod Standing

@@ -4,6 +4,7 @@
 mod given;
 mod kinds;
 mod numbers;
+mod paths;
 mod sources;
 mod table;
 mod usage;
@@ -12,6 +13,7 @@ mod values;
 pub use given::{Given, given_by};
 pub use kinds::{are_kinds, kinds_in};
 pub use numbers::{Numbers, numbers_in, workers_in};
+pub use paths::{are_paths_once, is_path_of_one, is_same_path, path_begins_with};
 pub use sources::{Sources, are_source_names, sources_in};
 pub use table::Table;
 pub use usage::{Usage, WordsErr};
