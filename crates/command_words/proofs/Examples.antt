@@ -1,5 +1,6 @@
 -- What some words ask for.
 use Rattle.std.specs.Prelude.{◌≡◌, ℕ, List, [], ◌∷◌, Some, None, Result, Ok, Err, codes, refl}
+use Rattle.std.specs.Path.{path_components, path_names}
 use Rattle.clap.proofs.OnLiterals.{clap_on_literals}
 use Rattle.word_values.specs.declared.usage.Usage.{Usage}
 use Rattle.word_values.specs.declared.usage.Usage.TheVariants.{Command, Words, Number, Name, Kind}
@@ -45,7 +46,7 @@ what_stands_where_no_option_is_given
       listing = plain_list (codes "stmt" ∷ []);
       waves = None;
     }))
-unfolding clap_on_literals read_by find_arguments
+unfolding clap_on_literals read_by find_arguments path_components path_names
 what_stands_where_no_option_is_given = refl
 
 what_is_made_where_no_option_is_given
@@ -56,7 +57,7 @@ what_is_made_where_no_option_is_given
       trace = codes "made.vcd";
       listing = plain_list (codes "stmt" ∷ []);
     }))
-unfolding clap_on_literals read_by make_arguments
+unfolding clap_on_literals read_by make_arguments path_components path_names
 what_is_made_where_no_option_is_given = refl
 
 the_report_stands_before_the_log
@@ -80,19 +81,19 @@ two_kinds_of_suspects_and_waves
       listing = plain_list (codes "block" ∷ codes "stmt" ∷ []);
       waves = Some (codes "w");
     }))
-unfolding clap_on_literals read_by find_arguments
+unfolding clap_on_literals read_by find_arguments path_components path_names
 two_kinds_of_suspects_and_waves = refl
 
 waves_among_which_a_trace_would_be : asked (find_words (codes "t-1-1.vcd" ∷ codes "--waves=t" ∷ [])) ≡ Err Name
-unfolding clap_on_literals read_by find_arguments
+unfolding clap_on_literals read_by find_arguments path_components path_names
 waves_among_which_a_trace_would_be = refl
 
 an_input_of_the_number_10000 : asked (codes "make" ∷ codes "10000" ∷ []) ≡ Err Number
-unfolding clap_on_literals read_by make_arguments
+unfolding clap_on_literals read_by make_arguments path_components path_names
 an_input_of_the_number_10000 = refl
 
 an_option_that_stands_twice : asked (find_words (codes "--size=1" ∷ codes "--size=1" ∷ [])) ≡ Err Words
-unfolding clap_on_literals read_by find_arguments
+unfolding clap_on_literals read_by find_arguments path_components path_names
 an_option_that_stands_twice = refl
 
 a_request_for_help_after_a_command : asked (codes "sim" ∷ codes "--help" ∷ []) ≡ Err Words
@@ -114,12 +115,16 @@ the_versions = refl
 a_word_after_an_option_that_asks_for_help : asked (codes "-h" ∷ codes "find" ∷ []) ≡ Err Words
 a_word_after_an_option_that_asks_for_help = refl
 
+the_log_under_another_name_of_the_trace : asked (find_words (codes "--log=./t" ∷ [])) ≡ Err Name
+unfolding clap_on_literals read_by find_arguments path_components path_names
+the_log_under_another_name_of_the_trace = refl
+
 the_report_under_the_name_of_the_trace : asked (find_words (codes "--report" ∷ codes "t" ∷ [])) ≡ Err Name
-unfolding clap_on_literals read_by find_arguments
+unfolding clap_on_literals read_by find_arguments path_components path_names
 the_report_under_the_name_of_the_trace = refl
 
 a_kind_that_is_named_twice : asked (find_words (codes "--suspects=stmt,stmt" ∷ [])) ≡ Err Kind
-unfolding clap_on_literals read_by find_arguments
+unfolding clap_on_literals read_by find_arguments path_components path_names
 a_kind_that_is_named_twice = refl
 
 a_dashed_word_is_no_value : asked (sim_words (codes "t" ∷ codes "--clock" ∷ codes "-c" ∷ [])) ≡ Err Words

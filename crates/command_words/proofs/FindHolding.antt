@@ -1,12 +1,12 @@
 -- What holds of a list of sets whose names and kinds pass.
-use Rattle.std.proofs.Common.{ℕ, ◌≡◌, ◌≢◌, ◌&&◌, true, not, List, [], ◌∷◌, Option, Some, None}
+use Rattle.std.proofs.Common.{ℕ, ◌≡◌, ◌≢◌, ◌&&◌, true, not, List, [], ◌∷◌, ◌++◌, Option, Some, None, codes}
 use Rattle.std.specs.Prelude.{All, IfSome}
 use Rattle.std.specs.List.{list_any}
-use Rattle.std.specs.Str.{bytes_eq}
 use Rattle.std.proofs.lemmas.Bool.{and_parts}
 use Rattle.word_values.specs.Numbers.{AreNumbers}
-use Rattle.word_values.specs.Values.{are_kinds, begins_with, is_file_name, option_all}
-use Rattle.word_values.proofs.Holding.{apart, no_one-All, none-begins}
+use Rattle.word_values.specs.Values.{are_kinds, is_file_name, option_all}
+use Rattle.word_values.specs.Paths.{IsOtherPath, is_same_path, path_begins}
+use Rattle.word_values.proofs.SamePaths.{no_path-All, no_path-begins, paths-apart}
 use Rattle.requests.specs.Asked.{FindAsked}
 use Rattle.command_words.specs.Listing.{numbers_of}
 use Rattle.command_words.specs.Find.{IsFindAsked, IsWavePrefix, are_find_names, are_written_names, is_own, is_wave_prefix, other_names}
@@ -18,15 +18,15 @@ use Rattle.command_words.proofs.SimHolding.{sim-holds}
 record AreWritten (asked : FindAsked) : Type 0 where
   pub log : is_file_name asked.listing.log ≡ true
   pub report : is_file_name asked.listing.report ≡ true
-  pub apart_names : asked.listing.log ≢ asked.listing.report
-  pub own_log : All (λ name. name ≢ asked.listing.log) (asked.sources.texts.design ∷ asked.sources.texts.traces)
-  pub own_report : All (λ name. name ≢ asked.listing.report) (asked.sources.texts.design ∷ asked.sources.texts.traces)
+  pub apart_names : IsOtherPath asked.listing.log asked.listing.report
+  pub own_log : All (λ name. IsOtherPath name asked.listing.log) (asked.sources.texts.design ∷ asked.sources.texts.traces)
+  pub own_report : All (λ name. IsOtherPath name asked.listing.report) (asked.sources.texts.design ∷ asked.sources.texts.traces)
 
 written-hold : (asked : FindAsked) → are_written_names asked ≡ true → AreWritten asked
 written-hold asked names =
     let log = is_file_name asked.listing.log in
     let report = is_file_name asked.listing.report in
-    let differ = not (bytes_eq asked.listing.log asked.listing.report) in
+    let differ = not (is_same_path asked.listing.log asked.listing.report) in
     let last = and_parts (log && report && differ && is_own asked asked.listing.log) (is_own asked asked.listing.report) names in
     let own = and_parts (log && report && differ) (is_own asked asked.listing.log) last.0 in
     let two = and_parts (log && report) differ own.0 in
@@ -34,17 +34,17 @@ written-hold asked names =
     record {
       log = first.0;
       report = first.1;
-      apart_names = apart asked.listing.log asked.listing.report two.1;
-      own_log = no_one-All (asked.sources.texts.design ∷ asked.sources.texts.traces) asked.listing.log own.1;
-      own_report = no_one-All (asked.sources.texts.design ∷ asked.sources.texts.traces) asked.listing.report last.1;
+      apart_names = paths-apart asked.listing.log asked.listing.report two.1;
+      own_log = no_path-All (asked.sources.texts.design ∷ asked.sources.texts.traces) asked.listing.log own.1;
+      own_report = no_path-All (asked.sources.texts.design ∷ asked.sources.texts.traces) asked.listing.report last.1;
     }
 
 waves-hold : (asked : FindAsked) (waves : Option (List ℕ)) → option_all (is_wave_prefix asked) waves ≡ true
     → IfSome waves (IsWavePrefix asked)
 waves-hold asked None names = tt
 waves-hold asked (Some prefix) names =
-    let both = and_parts (is_file_name prefix) (not (list_any (begins_with prefix) (other_names asked))) names in
-    record { is_name = both.0; own = none-begins prefix (other_names asked) both.1 }
+    let both = and_parts (is_file_name prefix) (not (list_any (path_begins (prefix ++ codes "-")) (other_names asked))) names in
+    record { is_name = both.0; own = no_path-begins prefix (other_names asked) both.1 }
 
 -- ---- a list of sets
 pub find-holds : (known : List (List ℕ)) (asked : FindAsked) → are_find_names asked ≡ true → are_kinds known asked.listing.suspects ≡ true

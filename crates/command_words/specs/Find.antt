@@ -1,14 +1,14 @@
 -- What the words of `find` ask for: the values of its arguments, with those that stand where an option isn't
 -- given, or the first thing that is wrong with them: the numbers, then the names, then the kinds of suspects.
-use Rattle.std.specs.Prelude.{◌≡◌, ◌≢◌, true, ℕ, Bool, not, ◌&&◌, List, [], ◌∷◌, ◌++◌, All, IfSome, Option, Some, None, Result, Ok, Err, codes}
+use Rattle.std.specs.Prelude.{◌≡◌, true, ℕ, Bool, not, ◌&&◌, List, [], ◌∷◌, ◌++◌, All, IfSome, Option, Some, None, Result, Ok, Err, codes}
 use Rattle.std.specs.List.{list_any}
-use Rattle.std.specs.Str.{bytes_eq}
 use Rattle.requests.specs.Asked.{FindAsked, ListingAsked, SourcesAsked}
 use Rattle.word_values.specs.declared.usage.Usage.{Usage}
 use Rattle.word_values.specs.declared.usage.Usage.TheVariants.{Number}
 use Rattle.word_values.specs.Arguments.{Arguments, Row, first_of, values_of}
 use Rattle.word_values.specs.Standing.{kinded, named, standing}
-use Rattle.word_values.specs.Values.{begins_with, is_file_name, is_one_of, option_all}
+use Rattle.word_values.specs.Paths.{IsOtherPath, is_path_of_one, is_same_path, path_begins}
+use Rattle.word_values.specs.Values.{is_file_name, option_all}
 use Rattle.command_words.specs.Listing.{IsListingAsked, listing_in}
 use Rattle.command_words.specs.Sim.{IsSimAsked, are_sim_names, sim_in}
 
@@ -38,22 +38,22 @@ find_of (Err usage) rows = Err usage
 abbrev pub find_in : List Row → Result FindAsked Usage
 find_in rows = find_of (sim_in rows) rows
 
--- nothing that is read has the name
+-- nothing that is read lies there
 abbrev pub is_own : FindAsked → List ℕ → Bool
-is_own asked name = not (is_one_of (asked.sources.texts.design ∷ asked.sources.texts.traces) name)
+is_own asked name = not (is_path_of_one (asked.sources.texts.design ∷ asked.sources.texts.traces) name)
 
 -- the log and the report have names of their own
 abbrev pub are_written_names : FindAsked → Bool
 are_written_names asked =
     is_file_name asked.listing.log && is_file_name asked.listing.report
-    && not (bytes_eq asked.listing.log asked.listing.report) && is_own asked asked.listing.log && is_own asked asked.listing.report
+    && not (is_same_path asked.listing.log asked.listing.report) && is_own asked asked.listing.log && is_own asked asked.listing.report
 
--- what the names of waves begin with is the name of a file, and with it and `-` no other name begins
+-- what the names of waves begin with is the name of a file, and with it and `-` no other name begins, as a path
 abbrev pub other_names : FindAsked → List (List ℕ)
 other_names asked = asked.sources.texts.design ∷ asked.listing.log ∷ asked.listing.report ∷ asked.sources.texts.traces
 
 abbrev pub is_wave_prefix : FindAsked → List ℕ → Bool
-is_wave_prefix asked prefix = is_file_name prefix && not (list_any (begins_with prefix) (other_names asked))
+is_wave_prefix asked prefix = is_file_name prefix && not (list_any (path_begins (prefix ++ codes "-")) (other_names asked))
 
 abbrev pub are_find_names : FindAsked → Bool
 are_find_names asked =
@@ -65,10 +65,10 @@ find_asked known words =
     kinded known (λ asked. asked.listing.suspects) (named are_find_names (standing find_in (values_of find_arguments words)))
 
 -- ---- what holds of what is asked for
--- the names of waves begin with a file's name and `-`, and no other name does
+-- the names of waves begin with a file's name and `-`, and no other name is the path of one that does
 pub record IsWavePrefix (asked : FindAsked) (prefix : List ℕ) : Type 0 where
   pub is_name : is_file_name prefix ≡ true
-  pub own : All (λ name. (rest : List ℕ) → name ≢ (prefix ++ codes "-") ++ rest) (other_names asked)
+  pub own : All (λ name. (rest : List ℕ) → IsOtherPath name ((prefix ++ codes "-") ++ rest)) (other_names asked)
 
 -- where kinds of suspects of these names are known
 pub record IsFindAsked (known : List (List ℕ)) (asked : FindAsked) : Type 0 where
@@ -76,8 +76,8 @@ pub record IsFindAsked (known : List (List ℕ)) (asked : FindAsked) : Type 0 wh
   pub listing : IsListingAsked known asked.listing
   pub log : is_file_name asked.listing.log ≡ true
   pub report : is_file_name asked.listing.report ≡ true
-  -- the log and the report have names of their own, and so have the waves
-  pub apart : asked.listing.log ≢ asked.listing.report
-  pub own_log : All (λ name. name ≢ asked.listing.log) (asked.sources.texts.design ∷ asked.sources.texts.traces)
-  pub own_report : All (λ name. name ≢ asked.listing.report) (asked.sources.texts.design ∷ asked.sources.texts.traces)
+  -- the log and the report have paths of their own, and so have the waves
+  pub apart : IsOtherPath asked.listing.log asked.listing.report
+  pub own_log : All (λ name. IsOtherPath name asked.listing.log) (asked.sources.texts.design ∷ asked.sources.texts.traces)
+  pub own_report : All (λ name. IsOtherPath name asked.listing.report) (asked.sources.texts.design ∷ asked.sources.texts.traces)
   pub waves : IfSome asked.waves (IsWavePrefix asked)

@@ -1,6 +1,6 @@
 -- What the words of `make` ask for: the values of its arguments, with those that stand where an option isn't given, or the
 -- first thing that is wrong with them: the numbers, then the names, then the kinds of suspects.
-use Rattle.std.specs.Prelude.{◌≡◌, ◌≢◌, ◌≤◌, true, ℕ, Bool, ◌&&◌, List, [], ◌∷◌, AllPairs, Option, Some, None, Result, Ok, Err, codes}
+use Rattle.std.specs.Prelude.{◌≡◌, ◌≤◌, true, ℕ, Bool, ◌&&◌, List, [], ◌∷◌, AllPairs, Option, Some, None, Result, Ok, Err, codes}
 use Rattle.std.specs.List.{list_all}
 use Rattle.requests.specs.Asked.{ListingAsked, MakeAsked}
 use Rattle.word_values.specs.declared.usage.Usage.{Usage}
@@ -8,7 +8,8 @@ use Rattle.word_values.specs.declared.usage.Usage.TheVariants.{Words, Number}
 use Rattle.word_values.specs.Arguments.{Arguments, Row, first_of, values_of}
 use Rattle.word_values.specs.Numbers.{given_or}
 use Rattle.word_values.specs.Standing.{kinded, named, standing}
-use Rattle.word_values.specs.Values.{is_file_name, is_once, number_from}
+use Rattle.word_values.specs.Paths.{IsOtherPath, are_paths_once}
+use Rattle.word_values.specs.Values.{is_file_name, number_from}
 use Rattle.command_words.specs.Listing.{IsListingAsked, listing_in}
 
 -- `make N` and its options
@@ -43,9 +44,9 @@ make_in rows = make_of rows (first_of (codes "number") rows)
 abbrev pub written_names : MakeAsked → List (List ℕ)
 written_names asked = asked.listing.log ∷ asked.listing.report ∷ asked.design ∷ asked.trace ∷ []
 
--- each has a name of its own
+-- each has a path of its own
 abbrev pub are_make_names : MakeAsked → Bool
-are_make_names asked = list_all is_file_name (written_names asked) && is_once (written_names asked)
+are_make_names asked = list_all is_file_name (written_names asked) && are_paths_once (written_names asked)
 
 -- the words of the command, itself the first, where kinds of suspects of these names are known
 abbrev pub make_asked : List (List ℕ) → List (List ℕ) → Result MakeAsked Usage
@@ -57,6 +58,6 @@ make_asked known words =
 pub record IsMakeAsked (known : List (List ℕ)) (asked : MakeAsked) : Type 0 where
   pub number : asked.number ≤ 9999
   pub listing : IsListingAsked known asked.listing
-  -- the texts that are written have names, each its own
+  -- the texts that are written have names, each its own path
   pub names : list_all is_file_name (written_names asked) ≡ true
-  pub names_once : AllPairs (λ one other. one ≢ other) (written_names asked)
+  pub names_once : AllPairs IsOtherPath (written_names asked)

@@ -1,13 +1,15 @@
 //! The words of `find`.
-ghost use Rattle.std.specs.Prelude.{◌≡◌, IfOk, true, map, string_bytes};
-ghost use Rattle.std.specs.List.{list_all};
+ghost use Rattle.std.specs.Prelude.{◌≡◌, ◌++◌, IfOk, codes, true, map, string_bytes};
+ghost use Rattle.std.specs.List.{list_all, list_any};
 ghost use Rattle.word_values.specs.Answers.{Gives, Says};
 ghost use Rattle.word_values.specs.Arguments.{IsPlain};
 ghost use Rattle.word_values.specs.Numbers.{AreNumbers};
 ghost use Rattle.word_values.specs.Tables.{arguments_of};
+ghost use Rattle.word_values.specs.Paths.{path_begins};
 ghost use Rattle.word_values.specs.Values.{is_name, kinds_in, option_all};
 ghost use Rattle.word_values.specs.Views.{numbers_view};
-ghost use Rattle.command_words.specs.Find.{IsFindAsked, are_find_names, are_written_names, find_arguments, find_asked, find_in, is_own, is_wave_prefix};
+ghost use Rattle.command_words.specs.Find.{IsFindAsked, are_find_names, are_written_names, find_arguments};
+ghost use Rattle.command_words.specs.Find.{find_asked, find_in, is_own, is_wave_prefix, other_names};
 ghost use Rattle.requests.specs.Views.{find_asked as find_asked_of};
 ghost use Rattle.command_words.specs.Views.{find_values};
 
@@ -17,8 +19,8 @@ use loc_base::NoMemory;
 use requests::FindRequest;
 use std::alloc::Global;
 use word_values::{
-    Given, Table, Usage, WordsErr, are_kinds, begins_with, given_by, is_file_name, is_one_of,
-    kinds_in, one_begins_with, text_if,
+    Given, Table, Usage, WordsErr, are_kinds, given_by, is_file_name, is_path_of_one, is_same_path,
+    kinds_in, one_path_begins_with, path_begins_with, text_if,
 };
 
 /// The values of the command's arguments.
@@ -61,48 +63,67 @@ fn values_in<'m, 'a>(given: &'m Given<'a>) -> Result<FindValues<'m, 'a>, Usage>
     })
 }
 
-/// Whether nothing that is read has the name.
+/// Whether nothing that is read lies there.
 fn is_own(values: &FindValues, name: &str) -> bool
     ensures { result ≡ is_own (find_values values.now) name.now }
 {
-    name != values.sources.texts.design && !is_one_of(values.sources.texts.traces, name)
+    !is_same_path(name, values.sources.texts.design)
+        && !is_path_of_one(values.sources.texts.traces, name)
 }
 
-/// Whether the log and the report have names of their own.
+/// Whether the log and the report have paths of their own.
 fn are_written_names(values: &FindValues) -> bool
     ensures { result ≡ are_written_names (find_values values.now) }
 {
     is_file_name(values.listing.log)
         && is_file_name(values.listing.report)
-        && values.listing.log != values.listing.report
+        && !is_same_path(values.listing.log, values.listing.report)
         && is_own(values, values.listing.log)
         && is_own(values, values.listing.report)
 }
 
-/// Whether the names of waves may begin with it.
-fn is_wave_prefix(values: &FindValues, prefix: &str) -> bool
-    ensures { result ≡ is_wave_prefix (find_values values.now) prefix.now }
+/// What the names of waves begin with: the prefix and `-`.
+fn wave_front(alloc: Global, prefix: &str) -> Result<String, NoMemory>
+    ensures { IfOk result (λ front. string_bytes front ≡ prefix.now ++ codes "-") }
 {
-    is_file_name(prefix)
-        && !begins_with(values.sources.texts.design, prefix)
-        && !begins_with(values.listing.log, prefix)
-        && !begins_with(values.listing.report, prefix)
-        && !one_begins_with(values.sources.texts.traces, prefix)
+    let mut front = String::from_str(alloc, prefix)?;
+    front.push_str("-")?;
+    Ok(front)
 }
 
-fn is_wave_prefix_if(values: &FindValues) -> bool
-    ensures { result ≡ option_all (is_wave_prefix (find_values values.now)) (find_values values.now).waves }
+/// Whether a name other than a wave's begins so, as a path.
+fn one_begins_with(values: &FindValues, front: &str) -> bool
+    ensures { result ≡ list_any (path_begins front.now) (other_names (find_values values.now)) }
+{
+    path_begins_with(values.sources.texts.design, front)
+        || path_begins_with(values.listing.log, front)
+        || path_begins_with(values.listing.report, front)
+        || one_path_begins_with(values.sources.texts.traces, front)
+}
+
+/// Whether the names of waves may begin with it.
+fn is_wave_prefix(alloc: Global, values: &FindValues, prefix: &str) -> Result<bool, NoMemory>
+    ensures { IfOk result (λ passes. passes ≡ is_wave_prefix (find_values values.now) prefix.now) }
+{
+    let front = wave_front(alloc, prefix)?;
+    Ok(is_file_name(prefix) && !one_begins_with(values, front.as_str()))
+}
+
+fn is_wave_prefix_if(alloc: Global, values: &FindValues) -> Result<bool, NoMemory>
+    ensures { IfOk result (λ passes. passes
+        ≡ option_all (is_wave_prefix (find_values values.now)) (find_values values.now).waves) }
 {
     match values.waves {
-        Some(prefix) => is_wave_prefix(values, prefix),
-        None => true,
+        Some(prefix) => is_wave_prefix(alloc, values, prefix),
+        None => Ok(true),
     }
 }
 
-fn are_names(values: &FindValues) -> bool
-    ensures { result ≡ are_find_names (find_values values.now) }
+fn are_names(alloc: Global, values: &FindValues) -> Result<bool, NoMemory>
+    ensures { IfOk result (λ passes. passes ≡ are_find_names (find_values values.now)) }
 {
-    sim::are_names(&values.sources) && are_written_names(values) && is_wave_prefix_if(values)
+    let waves = is_wave_prefix_if(alloc, values)?;
+    Ok(sim::are_names(&values.sources) && are_written_names(values) && waves)
 }
 
 fn copied(alloc: Global, values: &FindValues, suspects: &[&str]) -> Result<FindRequest, NoMemory>
@@ -128,7 +149,7 @@ pub fn find_words(alloc: Global, words: &[String], known: &[&str]) -> Result<Fin
         return Err(WordsErr::Usage(Usage::Words));
     };
     let values = values_in(&given)?;
-    if !are_names(&values) {
+    if !are_names(alloc, &values)? {
         return Err(WordsErr::Usage(Usage::Name));
     }
     let suspects = kinds_in(alloc, values.listing.suspects)?;

@@ -16,7 +16,7 @@ use loc_base::NoMemory;
 use requests::MakeRequest;
 use std::alloc::Global;
 use word_values::{
-    Given, Table, Usage, WordsErr, are_file_names, are_kinds, given_by, is_once, kinds_in,
+    Given, Table, Usage, WordsErr, are_file_names, are_kinds, are_paths_once, given_by, kinds_in,
     number_from,
 };
 
@@ -77,7 +77,7 @@ fn are_names(values: &MakeValues) -> bool
         values.design,
         values.trace,
     ];
-    are_file_names(&names) && is_once(&names)
+    are_file_names(&names) && are_paths_once(&names)
 }
 
 fn copied(alloc: Global, values: &MakeValues, suspects: &[&str]) -> Result<MakeRequest, NoMemory>
@@ -96,7 +96,7 @@ fn copied(alloc: Global, values: &MakeValues, suspects: &[&str]) -> Result<MakeR
 /// What the words of the command ask for, itself the first, where kinds of suspects of these names are known: `make N [--size K]
 /// [--budget B] [--sets M] [--suspects A,B] [--workers N] [--log NAME] [--report NAME] [--design NAME] [--trace NAME]`, with a
 /// number of 0 to 9999; the design's text is `made.v` and the trace's `made.vcd` where the options aren't given, and the others
-/// are as for `find`. The four names differ.
+/// are as for `find`. The four names are four paths.
 #[tactic(auto, using(word_values::proofs::KindNames::kind_rules))]
 pub fn make_words(alloc: Global, words: &[String], known: &[&str]) -> Result<MakeRequest, WordsErr>
     ensures gives { Gives make_asked_of (make_asked (map (λ w. w.now) known.now) (map string_bytes words.now)) result }

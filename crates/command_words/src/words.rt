@@ -27,9 +27,9 @@ use word_values::{Usage, WordsErr};
 /// There are 1 to 256 traces. The size is 0 to 8 (without the option 2), the budget 1 to 10,000,000 (200,000), the number of sets
 /// 1 to 100,000 (1,000), that of workers 1 to 64 (1), that of an input that is made 0 to 9999. The suspects (`stmt`) are known,
 /// each once. What is written, the log (`localise.log`), the report (`localise.json`), and for `make` the design (`made.v`) and
-/// the trace (`made.vcd`), have names that differ from each other and from those that are read; with `--waves` no other name
-/// begins with its value and `-`. An option is `--x v` or `--x=v`, stands anywhere behind the command and once at most; after
-/// `--` all words are positional.
+/// the trace (`made.vcd`), have names that are other paths than each other's and than those of what is read; with `--waves` no
+/// other name begins, as a path, with its value and `-`. An option is `--x v` or `--x=v`, stands anywhere behind the command and
+/// once at most; after `--` all words are positional.
 pub fn request(alloc: Global, words: &[String], known: &[&str]) -> Result<Request, WordsErr>
     ensures gives { Gives asked_of (asked (map (λ w. w.now) known.now) (map string_bytes words.now)) result }
     ensures holds { IfOk result (λ request. IsAsked (map (λ w. w.now) known.now) (asked_of request)) }

@@ -8,6 +8,7 @@ use Rattle.loc_base.proofs.ShelfLists.{Contains-cons, Contains-empty}
 use Rattle.suspect_map.specs.Choose.{named, unknown, unknown_or}
 use Rattle.suspect_map.proofs.Steps.{same_name}
 use Rattle.requests.specs.Asked.{FindAsked, ListingAsked, MakeAsked}
+use Rattle.word_values.proofs.SamePaths.{other_path-name}
 use Rattle.command_words.specs.Find.{IsFindAsked, IsWavePrefix, other_names}
 use Rattle.command_words.specs.Listing.{IsListingAsked}
 use Rattle.command_words.specs.Make.{IsMakeAsked}
@@ -63,15 +64,15 @@ listing-held known asked held = record {
 -- no other name is that of a wave
 waves-own : (words : FindAsked) (waves : Option (List ℕ)) → IfSome waves (IsWavePrefix words) → All (IsNoWave waves) (other_names words)
 waves-own words None own = λ k d below. tt
-waves-own words (Some prefix) own = own.own
+waves-own words (Some prefix) own = λ k d below rest. other_path-name _ _ (own.own k d below rest)
 
 pub asked-held : (known : List (List ℕ)) (words : FindAsked) → IsFindAsked known words → IsAsked words
 asked-held known words held = record {
   traces = (held.sources.texts.some, held.sources.texts.most);
   listing = listing-held known words.listing held.listing;
-  apart = held.apart;
-  own_log = held.own_log;
-  own_report = held.own_report;
+  apart = other_path-name _ _ held.apart;
+  own_log = λ k d below. other_path-name _ _ (held.own_log k d below);
+  own_report = λ k d below. other_path-name _ _ (held.own_report k d below);
   no_waves = waves-own words words.waves held.waves;
 }
 
@@ -83,7 +84,7 @@ pub make-held : (known : List (List ℕ)) (words : MakeAsked) → IsMakeAsked kn
 make-held known words held = record {
   number = held.number;
   listing = listing-held known words.listing held.listing;
-  apart = held.names_once;
+  apart = λ i j d before below. other_path-name _ _ (held.names_once i j d before below);
 }
 
 pub make_known-held : {G : Type 0} (called : G → List ℕ) (kinds : List G) (words : MakeAsked) → IsMakeAsked (map called kinds) words

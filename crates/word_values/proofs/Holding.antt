@@ -1,7 +1,7 @@
 -- What holds of values that pass their tests.
-use Rattle.std.proofs.Common.{ℕ, ◌≡◌, ◌≢◌, ◌&&◌, ◌==◌, Bool, true, false, not, List, [], ◌∷◌, ◌++◌, length, get_or, arith, refl, ap, sym, subst, ◌∙◌, codes}
+use Rattle.std.proofs.Common.{ℕ, ◌≡◌, ◌≢◌, ◌&&◌, ◌==◌, true, not, List, [], ◌∷◌, length, get_or, arith, refl, ap, sym, subst, ◌∙◌}
 use Rattle.std.specs.Prelude.{All, AllPairs, Contains, nat_le}
-use Rattle.std.specs.List.{list_all, list_any}
+use Rattle.std.specs.List.{list_all}
 use Rattle.std.specs.Str.{bytes_eq}
 use Rattle.std.proofs.lemmas.Bool.{and_parts, false≢true, leb-true}
 use Rattle.std.proofs.lemmas.List.Elements.{Contains-get_or}
@@ -13,17 +13,9 @@ use Rattle.loc_base.proofs.ShelfBools.{not-true}
 use Rattle.loc_base.proofs.ShelfLists.{list_any-found, list_any-member}
 use Rattle.requests.specs.Asked.{TextsAsked}
 use Rattle.word_values.specs.Sources.{AreSources, are_source_names}
-use Rattle.word_values.specs.Values.{are_kinds, begins_with, is_file_name, is_kind_name, is_name, is_once, is_one_of, kinds_in}
-use Rattle.word_values.proofs.Prefixes.{not-begins}
+use Rattle.word_values.specs.Values.{are_kinds, is_file_name, is_kind_name, is_name, is_once, is_one_of, kinds_in}
 
 -- ---- names among names
--- texts that a test tells apart
-pub apart : (xs ys : List ℕ) → not (bytes_eq xs ys) ≡ true → xs ≢ ys
-apart xs ys test same = false≢true (differ ((bytes_eq-Decides xs ys).1 same))
-  where
-    differ : bytes_eq xs ys ≡ true → false ≡ true
-    differ equal = rw equal at test
-
 one_of-Contains : (names : List (List ℕ)) (name : List ℕ) → is_one_of names name ≡ true → Contains names name
 one_of-Contains names name is =
     let (other, member, same) = list_any-found (bytes_eq name) names is in
@@ -49,18 +41,6 @@ once-AllPairs (name ∷ names) once =
     let both = and_parts (not (is_one_of names name)) (is_once names) once in
     AllPairs-cons (λ one other. one ≢ other) name names (λ k d below same. no_one-All names name both.0 k d below (sym same))
     (once-AllPairs names both.1)
-
--- names none of which begins with a prefix and `-`
-pub none-begins : (prefix : List ℕ) (names : List (List ℕ)) → not (list_any (begins_with prefix) names) ≡ true
-    → All (λ name. (rest : List ℕ) → name ≢ (prefix ++ codes "-") ++ rest) names
-none-begins prefix names none k d below rest =
-    not-begins prefix (get_or names k d) rest (told (begins_with prefix (get_or names k d)) refl)
-  where
-    told : (test : Bool) → begins_with prefix (get_or names k d) ≡ test → test ≡ false
-    told false is = refl
-    told true is =
-        let some = list_any-member (begins_with prefix) names (get_or names k d) (Contains-get_or names k d below) is in
-        absurd (false≢true (sym (not-true (list_any (begins_with prefix) names) none) ∙ some))
 
 -- ---- kinds
 pub record AreKinds (known names : List (List ℕ)) : Type 0 where

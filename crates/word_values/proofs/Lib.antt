@@ -1,7 +1,6 @@
 pub mod Reading
 pub mod Numerals
 pub mod KindNames
-pub mod Prefixes
 pub mod Holding
 pub mod SamePaths
 pub mod PathFronts

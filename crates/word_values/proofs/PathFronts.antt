@@ -1,16 +1,15 @@
 -- What begins with a text that ends in a hyphen begins with it as a path, too.
-use Rattle.std.proofs.Common.{ℕ, suc, ◌≡◌, ◌&&◌, ◌||◌, ◌==◌, Bool, true, false, not, cond, if◌then◌else◌, List, [], ◌∷◌, ◌++◌, length}
+use Rattle.std.proofs.Common.{ℕ, suc, ◌≡◌, ◌&&◌, ◌||◌, ◌==◌, Bool, true, false, not, cond, if◌then◌else◌, List, [], ◌∷◌, ◌++◌, length, drop}
 use Rattle.std.proofs.Common.{refl, ap, ap₂, sym, subst, ◌∙◌, append_assoc, arith, codes}
-use Rattle.std.specs.Prelude.{slice_index}
-use Rattle.std.specs.List.{filter}
+use Rattle.std.specs.Prelude.{nat_eq, slice_index}
+use Rattle.std.specs.List.{filter, starts_with}
 use Rattle.std.specs.Path.{cur_dir, first_piece, is_dot_at, is_name, later_pieces, leading_components, path_components}
 use Rattle.std.specs.Path.{path_names, root_dir, slash}
 use Rattle.std.specs.Str.{bytes_eq}
 use Rattle.std.proofs.lemmas.Bool.{false≢true}
-use Rattle.std.proofs.lemmas.Bool.Decides.{nat_tests}
-use Rattle.std.proofs.lemmas.Slice.Eq.{bytes_eq-Decides}
+use Rattle.std.proofs.lemmas.Bool.Decides.{Decides-eqb, nat_tests}
+use Rattle.std.proofs.lemmas.Slice.Eq.{bytes_eq-Decides, starts_is}
 use Rattle.word_values.specs.Paths.{IsOtherPath, begin_parts, parts_of, path_begins, without_here}
-use Rattle.word_values.proofs.Prefixes.{starts-tells}
 
 -- the parts of one list are those of another, but that its last one may go on there, and more may follow
 record Fronts (parts names : List (List ℕ)) : Type 0 where
@@ -167,6 +166,11 @@ parts-front text more =
     (lead-front (slice_index short 0 == slash) (is_dot_at short 0) (path_names short) (path_names long) (pieces-front [] text more))
 
 -- ---- the test
+-- a list begins as a text does
+starts-tells : (s p : List ℕ) → (starts_with nat_eq s p ≡ true → s ≡ p ++ drop (length p) s)
+    × ((rest : List ℕ) → s ≡ p ++ rest → starts_with nat_eq s p ≡ true)
+starts-tells s p = starts_is Decides-eqb s p (starts_with nat_eq s p) refl
+
 same-and : (part : List ℕ) (test : Bool) → test ≡ true → (bytes_eq part part && test) ≡ true
 same-and part test e = ap₂ (λ a b. a && b) ((bytes_eq-Decides part part).1 refl) e
 

@@ -1,6 +1,6 @@
 -- What the values of arguments mean: rules of our own.
-use Rattle.std.specs.Prelude.{ℕ, Bool, true, not, ◌&&◌, ◌||◌, ◌==◌, nat_eq, nat_le, codes, ◌++◌, if◌then◌else◌, List, [], ◌∷◌, length, Option, Some, None}
-use Rattle.std.specs.List.{list_all, list_any, slice_split, starts_with}
+use Rattle.std.specs.Prelude.{ℕ, Bool, true, not, ◌&&◌, ◌||◌, ◌==◌, nat_le, if◌then◌else◌, List, [], ◌∷◌, length, Option, Some, None}
+use Rattle.std.specs.List.{list_all, list_any, slice_split}
 use Rattle.std.specs.Option.{option_map_or}
 use Rattle.std.specs.Str.{bytes_eq}
 use Rattle.std.specs.Str.Parse.{digits_value}
@@ -37,10 +37,6 @@ is_name word = nat_le 1 (length word) && list_all is_visible word
 -- what a value passes, where there is one
 abbrev pub option_all : {A : Type 0} → (A → Bool) → Option A → Bool
 option_all passes value = option_map_or passes value true
-
--- a name begins with a prefix and `-`
-abbrev pub begins_with : List ℕ → List ℕ → Bool
-begins_with prefix name = starts_with nat_eq name (prefix ++ codes "-")
 
 -- ---- names among names
 -- a name is one of some

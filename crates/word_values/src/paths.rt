@@ -1,6 +1,6 @@
 //! Names of files, as paths.
 ghost use Rattle.std.specs.Prelude.{◌≡◌, false, map, nat_eq};
-ghost use Rattle.std.specs.List.{starts_with};
+ghost use Rattle.std.specs.List.{list_any, starts_with};
 ghost use Rattle.std.specs.Option.{option_map_or};
 ghost use Rattle.std.specs.Path.{component_bytes, components_remaining};
 ghost use Rattle.std.specs.Str.{bytes_eq};
@@ -81,6 +81,18 @@ pub fn is_path_of_one(names: &[&str], name: &str) -> bool
 {
     for other in names {
         if is_same_path(name, other) {
+            return true;
+        }
+    }
+    false
+}
+
+/// Whether one of some names begins, as a path, with another.
+pub fn one_path_begins_with(names: &[&str], front: &str) -> bool
+    ensures { result ≡ list_any (path_begins front.now) (map (λ w. w.now) names.now) }
+{
+    for name in names {
+        if path_begins_with(name, front) {
             return true;
         }
     }

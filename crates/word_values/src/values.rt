@@ -2,7 +2,7 @@
 ghost use Rattle.std.specs.Prelude.{◌≡◌, ◌≤◌, IfOk, IfSome, true, codes, map, nat_eq, string_bytes};
 ghost use Rattle.std.specs.List.{list_all, list_any, starts_with};
 ghost use Rattle.std.specs.Option.{option_map};
-ghost use Rattle.word_values.specs.Values.{begins_with, is_file_byte, is_file_name, is_name, is_numeral, is_once, is_one_of, number_from, number_of, option_all};
+ghost use Rattle.word_values.specs.Values.{is_file_byte, is_file_name, is_name, is_numeral, is_once, is_one_of, number_from, number_of, option_all};
 ghost use Rattle.loc_base.specs.Ascii.{is_decimal, is_visible};
 
 use loc_base::{Name, NoMemory, is_decimal, is_visible};
@@ -170,32 +170,4 @@ pub fn is_once(words: &[&str]) -> bool
         }
     }
     true
-}
-
-/// Whether a name begins with a prefix and `-`.
-pub fn begins_with(name: &str, prefix: &str) -> bool
-    ensures { result ≡ begins_with prefix.now name.now }
-{
-    match name.as_bytes().strip_prefix(prefix.as_bytes()) {
-        Some(rest) => is_dashed(rest),
-        None => false,
-    }
-}
-
-fn is_dashed(bytes: &[u8]) -> bool
-    ensures { result ≡ starts_with nat_eq bytes.now (codes "-") }
-{
-    bytes.starts_with(b"-")
-}
-
-/// Whether one of some names begins with a prefix and `-`.
-pub fn one_begins_with(names: &[&str], prefix: &str) -> bool
-    ensures { result ≡ list_any (begins_with prefix.now) (map (λ w. w.now) names.now) }
-{
-    for name in names {
-        if begins_with(name, prefix) {
-            return true;
-        }
-    }
-    false
 }
