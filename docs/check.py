@@ -1,7 +1,7 @@
 #!/usr/bin/env python3
 """Runs the commands of the documents, and compares what they print with what the documents say. First it looks whether
-docs/crates.md is what docs/crates.py makes of the crates, and whether the tables of codes in docs/formats.md have the messages of the errors in the
-sources (docs/messages.py).
+docs/crates.md is what docs/crates.py makes of the crates, whether the tables of codes in docs/formats.md have the messages of the errors in the
+sources (docs/messages.py), and whether the man page and the completions are what docs/help_files.py makes of the pages of help.
 
     docs/check.py [PROGRAM] [--only FILE..]
 
@@ -20,6 +20,7 @@ import sys
 import tempfile
 
 import crates
+import help_files
 import messages
 
 HERE = os.path.dirname(os.path.abspath(__file__))
@@ -95,12 +96,13 @@ def main():
     if not is_current:
         print("docs/crates.md isn't current: docs/crates.py --into docs/crates.md")
     is_said = messages.check()
+    is_helped = help_files.check()
     program = os.path.abspath(asked.program)
     if not os.path.exists(program):
         sys.exit("no program at %s; build it first" % program)
     counts = [check(name, program) for name in asked.only]
     print("%d commands right" % sum(right for right, _ in counts))
-    return 0 if is_current and is_said and not any(wrong for _, wrong in counts) else 1
+    return 0 if is_current and is_said and is_helped and not any(wrong for _, wrong in counts) else 1
 
 
 if __name__ == "__main__":
