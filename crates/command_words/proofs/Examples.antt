@@ -141,3 +141,29 @@ behind_two_dashes_all_words_are_positional
     }))
 unfolding clap_on_literals read_by sim_arguments
 behind_two_dashes_all_words_are_positional = refl
+
+-- ---- a first word and `--`, and nothing else, ask for nothing
+two_dashes_behind_find : asked (codes "find" ∷ codes "--" ∷ []) ≡ Err Words
+unfolding clap_on_literals read_by find_arguments
+two_dashes_behind_find = refl
+
+two_dashes_behind_sim : asked (codes "sim" ∷ codes "--" ∷ []) ≡ Err Words
+unfolding clap_on_literals read_by sim_arguments
+two_dashes_behind_sim = refl
+
+two_dashes_behind_check : asked (codes "check" ∷ codes "--" ∷ []) ≡ Err Words
+unfolding clap_on_literals read_by check_arguments
+two_dashes_behind_check = refl
+
+two_dashes_behind_make : asked (codes "make" ∷ codes "--" ∷ []) ≡ Err Words
+unfolding clap_on_literals read_by make_arguments
+two_dashes_behind_make = refl
+
+two_dashes_behind_help : asked (codes "help" ∷ codes "--" ∷ []) ≡ Err Words
+two_dashes_behind_help = refl
+
+two_dashes_behind_an_option_that_asks_for_help : asked (codes "--help" ∷ codes "--" ∷ []) ≡ Err Words
+two_dashes_behind_an_option_that_asks_for_help = refl
+
+two_dashes_behind_no_command : asked (codes "" ∷ codes "--" ∷ []) ≡ Err Command
+two_dashes_behind_no_command = refl

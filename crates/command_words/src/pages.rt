@@ -95,7 +95,10 @@ searches nothing. The clock, the size and the kinds are those of the report.
   DUMP           the dumps that find was given, in the same order; 1 to 256
   --workers N    the most threads, 1 to 64 (without the option 1)
 
-status 0: yes N: the N sets are the whole list. 8: the first that is so:
+status 0: yes N: the N sets are the whole list. 1: front N: they are a front of
+it, none is missing before the last. 8: the first that is so:
+  no top                 the report's top isn't TOP
+  no suspect S           suspect S of the report isn't that of the design
   no order S             set S isn't of the report's form, or not in order
   no contains S T        all members of set T are in set S
   no replay S T C NAME   with the values of set S dump T isn't right: first in
@@ -105,7 +108,6 @@ status 0: yes N: the N sets are the whole list. 8: the first that is so:
 2: the arguments are wrong. 3: a file isn't of a form that is read, or is of
 other inputs. 4: a limit is passed. 5: a file can't be read. 6: a write failed.
 7: out of memory.
-
 example:
   localise check uart_tx.v uart_tx localise.json localise.log uart_tx.vcd
 ";
