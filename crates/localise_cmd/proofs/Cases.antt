@@ -5,7 +5,7 @@ use Rattle.refusal.specs.Lines.{memory_line}
 use Rattle.command_contract.specs.Contract.{Keeps, Run, Texts}
 use Rattle.command_contract.proofs.Statuses.{input-refusal}
 use Rattle.word_values.specs.declared.usage.Usage.{Usage}
-use Rattle.requests.specs.Asked.{Asked, find, sim, check, make}
+use Rattle.requests.specs.Asked.{Asked, find, sim, check, make, help}
 use Rattle.make_cmd.specs.Making.{for_texts, in_memory_line}
 use Rattle.write_order.specs.Writes.{AreDone, print_piece}
 use Rattle.write_order.proofs.Carried.{done-then, print-done, print-stops, stops-then}
@@ -103,6 +103,12 @@ allows-memory tools (Ok (make asked)) run written = record {
         done-then [] (print_piece memory_line ∷ []) run.written run.now_written run.now_written run.printed run.printed run.now_printed
         (none-done run run.printed written refl) (print-done memory_line run.now_written run.printed run.now_printed put))
   ]);
+}
+allows-memory tools (Ok (help asked)) run written = record {
+  answer = λ status zero. low-no_stop status (omega (arith, zero));
+  refusals = λ status may. absurd may;
+  stopped = λ told rose front. record { sink_failed = rose; printed = inr front; nothing_written = written };
+  cut = λ told text. record { printed = text; nothing_written = written };
 }
 allows-memory tools (Err usage) run written = record {
   answer = λ status may. absurd may;

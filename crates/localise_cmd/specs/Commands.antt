@@ -1,9 +1,9 @@
--- Which case the words behind the program's name are: that of the command that they ask for, or of words that ask for
--- nothing; and what is promised of a run of the program.
+-- Which case the words behind the program's name are: that of the command or the page of help that they ask for, or of words that
+-- ask for nothing; and what is promised of a run of the program.
 use Rattle.std.specs.Prelude.{ℕ, List, Result, Ok, Err}
 use Rattle.command_contract.specs.Contract.{Case, Keeps, Run}
 use Rattle.word_values.specs.declared.usage.Usage.{Usage}
-use Rattle.requests.specs.Asked.{Asked, find, sim, check, make}
+use Rattle.requests.specs.Asked.{Asked, find, sim, check, make, help}
 use Rattle.command_words.specs.Words.{asked as asked_by}
 use Rattle.check_cmd.specs.Checking.{checking}
 use Rattle.find_cmd.specs.Finding.{finding}
@@ -11,6 +11,7 @@ use Rattle.load_problem.specs.Means.{Suspecting}
 use Rattle.make_cmd.specs.Making.{making}
 use Rattle.front_end.specs.Means.{Meaning, Refusing}
 use Rattle.sim_cmd.specs.Simulation.{simulation}
+use Rattle.localise_cmd.specs.Help.{helping}
 use Rattle.localise_cmd.specs.Usage.{no_request}
 
 -- ---- what a run works with
@@ -31,6 +32,7 @@ case_of tools (Ok (find asked)) = finding tools.means tools.refuses tools.suspec
 case_of tools (Ok (sim asked)) = simulation tools.means tools.refuses asked.sources
 case_of tools (Ok (check asked)) = checking tools.means tools.refuses tools.known tools.suspecting asked
 case_of tools (Ok (make asked)) = making tools.means tools.refuses tools.suspecting asked
+case_of tools (Ok (help asked)) = helping asked
 case_of tools (Err usage) = no_request usage
 
 -- a run for these words that ends with a status keeps the promises of their case

@@ -1,2 +1,4 @@
+pub mod Printed
 pub mod Usage
+pub mod Help
 pub mod Commands

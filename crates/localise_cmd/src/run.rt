@@ -8,13 +8,13 @@ ghost use Rattle.verilog_front_end.specs.FrontEnd.{HasError, means_by};
 use crate::asking::request_by;
 use crate::lines::refuse;
 use check_cmd::check;
-use command_words::WordsErr;
+use command_words::{WordsErr, page_text};
 use find_cmd::find;
 use io_ports::{Shelf, Sink};
 use load_problem::Tools;
 use loc_base::Gate;
 use make_cmd::make;
-use refusal::{LastLine, Notes};
+use refusal::{LastLine, Notes, print_line};
 use requests::Request;
 use sim_cmd::simulate;
 use std::alloc::Global;
@@ -30,18 +30,19 @@ use verilog_front_end::Verilog;
 /// | `sim DESIGN TOP TRACE.. [--clock NAME]` | simulates the traces (`sim_cmd`) |
 /// | `check DESIGN TOP REPORT LOG TRACE.. [--workers N]` | judges a list by its report and its log (`check_cmd`) |
 /// | `make NUMBER [--size K] [--budget B] [--sets M] [--suspects A,B] [--workers N] [--log NAME] [--report NAME] [--design NAME] [--trace NAME]` | writes an input that it makes, and lists its sets (`make_cmd`) |
+/// | `help [COMMAND]`, `--help`, `-h`, `--version` | prints a page, or the versions of what is written (`page_text` of `command_words`) |
 ///
 /// | status | meaning | last line |
 /// |---|---|---|
-/// | 0 | done | `complete N` of `find`, `trace T ok` or `trace T miss C NAME` of `sim`, `yes N` of `check`, `made N stages S width W cycles C` of `make` |
-/// | 1 | a front of the list is found | `front N budget`, `front N sets`; of `make` its own line stands after it |
+/// | 0 | done | `complete N` of `find`, `trace T ok` or `trace T miss C NAME` of `sim`, `yes N` of `check`, `made N stages S width W cycles C` of `make`, the page's own of `help` |
+/// | 1 | a front of the list is found, or of `check` shown | `front N budget`, `front N sets`; of `make` its own line stands after it; of `check` `front N` |
 /// | 2 | the arguments are wrong | `usage W` |
 /// | 3 | a text isn't what is read | `input CODE` and where |
 /// | 4 | a limit is passed | `limit CODE`, `limit size` |
 /// | 5 | a file can't be read | `read fault NAME` |
 /// | 6 | writing failed | none |
 /// | 7 | out of memory | `memory`, `front N memory`, or none |
-/// | 8 | `check`: it isn't shown that the report's sets are the whole list | `no` and the first condition that fails |
+/// | 8 | `check`: the report's table isn't the design's, or it isn't shown that its sets are the whole list or a front of it | `no top`, `no suspect S`, or `no` and the first condition that fails |
 ///
 /// The kinds of suspects that `--suspects` may name are those that are given. Texts of designs are in Verilog. What is told to a
 /// person beside the output goes to the notes, of which no clause says anything.
@@ -74,6 +75,7 @@ pub fn run_words<R: Threads + Sync, S: Shelf, O: Sink, G: Gate + Sync, N: Notes>
         Ok(Request::Sim(request)) => simulate(alloc, &Verilog, &request, shelf, out, notes),
         Ok(Request::Check(request)) => check(alloc, &tools, &request, shelf, out, notes),
         Ok(Request::Make(request)) => make(alloc, &tools, &request, shelf, out, notes),
+        Ok(Request::Help(request)) => print_line(page_text(request.page), 0, out),
         Err(WordsErr::Usage(usage)) => refuse(usage, words, out, notes),
         Err(WordsErr::NoMemory) => LastLine::Memory.print(out),
     }

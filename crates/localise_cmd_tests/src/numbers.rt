@@ -46,6 +46,7 @@ fn numbers_of(request: &Request) -> [u32; 4] {
         Request::Make(make) => numbers_in(&make.listing),
         Request::Check(check) => [0, 0, 0, check.workers],
         Request::Sim(_sim) => [0, 0, 0, 0],
+        Request::Help(_help) => [0, 0, 0, 0],
     }
 }
 

@@ -3,12 +3,12 @@ use Rattle.std.specs.Prelude.{◌&&◌, string_bytes}
 use Rattle.std.proofs.lemmas.Bool.{and_parts}
 use Rattle.command_contract.specs.Contract.{Run, counts_of, run_of}
 use Rattle.suspect_map.specs.Choose.{joined}
-use Rattle.requests.specs.Asked.{find, sim, check, make}
-use Rattle.requests.specs.Views.{check_asked, find_asked, make_asked, sim_asked}
+use Rattle.requests.specs.Asked.{find, sim, check, make, help}
+use Rattle.requests.specs.Views.{check_asked, find_asked, help_asked, make_asked, sim_asked}
 use Rattle.command_words.specs.Words.{asked}
 use Rattle.verilog_front_end.specs.FrontEnd.{HasError, means_by}
 use Rattle.localise_cmd.specs.Commands.{KeepsWords, case_of, tools_of}
-use Rattle.localise_cmd.proofs.Keeping.{memory-keeps, usage-keeps}
+use Rattle.localise_cmd.proofs.Keeping.{help-keeps, memory-keeps, usage-keeps}
 use Rattle.localise_cmd.proofs.Cases.{allows-memory, asked-keeps, no_request-keeps}
 use Rattle.localise_cmd.proofs.KnownKinds.{asked-held, known-held, make-held, make_known-held}
 use Rattle.localise_cmd.proofs.run.run_words.Goals as goal
@@ -82,6 +82,27 @@ returns-in-Ok-Make g c =
     let gives = rw c.in-Ok-Make.field-0-is at c.in-Ok-Make.ensures.gives in
     asked-keeps tools (asked tools.known (map string_bytes c.args.words.now)) _ c.make.result
     (make (make_asked c.in-Ok-Make.request)) gives c.make.ensures
+
+pub returns-in-Ok-Help : goal.returns-in-Ok-Help
+unfolding KeepsWords
+returns-in-Ok-Help g c =
+    let kinds = c.args.kinds.now in
+    let tools = tools_of means_by HasError
+    (map (λ k. (goal.Granularity-dyn g (k.vtable, k.value)).called k.value) kinds)
+    (joined (λ k. (goal.Granularity-dyn g (k.vtable, k.value)).called k.value)
+    (λ k. (goal.Granularity-dyn g (k.vtable, k.value)).lists k.value) kinds) in
+    let page = help_asked c.in-Ok-Help.request in
+    let shelf = c.args.shelf.now in
+    let out = c.args.out.now in
+    let r : Run = run_of (g.S.Shelf.tells shelf && g.O.Sink.tells out) (g.S.Shelf.texts shelf) (g.S.Shelf.written shelf)
+    (g.S.Shelf.written shelf) (g.O.Sink.written out) (g.O.Sink.written c.print_line.new.out)
+    (counts_of (g.S.Shelf.faults shelf) (g.S.Shelf.faults shelf) (g.O.Sink.faults out)
+    (g.O.Sink.faults c.print_line.new.out)) in
+    let gives = rw c.in-Ok-Help.field-0-is at c.in-Ok-Help.ensures.gives in
+    let text = rw c.page_text.ensures at c.print_line.ensures.text in
+    asked-keeps tools (asked tools.known (map string_bytes c.args.words.now)) r c.print_line.result (help page) gives
+    (help-keeps page r c.print_line.result c.print_line.ensures.counts refl
+    (λ told. text (and_parts (g.S.Shelf.tells shelf) (g.O.Sink.tells out) told).1) refl)
 
 pub returns-in-Err-Usage : goal.returns-in-Err-Usage
 unfolding KeepsWords
