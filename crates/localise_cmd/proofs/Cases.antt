@@ -1,17 +1,21 @@
 -- What the words ask for, as a case.
-use Rattle.std.proofs.Common.{ℕ, ◌≡◌, List, [], ◌∷◌, arith, ap, sym, subst, refl, ◌∙◌, inl, inr, Result, Ok, Err}
+use Rattle.std.proofs.Common.{ℕ, ◌≡◌, true, List, [], ◌∷◌, arith, ap, sym, subst, refl, ◌∙◌, inl, inr, Option, Some, None, Result, Ok, Err, drop}
+use Rattle.std.specs.Prelude.{codes}
 use Rattle.std.proofs.lemmas.List.{append-nil}
 use Rattle.refusal.specs.Lines.{memory_line}
+use Rattle.refusal.specs.Ends.{PrintCounts, Prints}
 use Rattle.command_contract.specs.Contract.{Keeps, Run, Texts}
 use Rattle.command_contract.proofs.Statuses.{input-refusal}
 use Rattle.word_values.specs.declared.usage.Usage.{Usage}
 use Rattle.requests.specs.Asked.{Asked, find, sim, check, make, help}
+use Rattle.command_words.specs.Words.{asked as asked_by}
 use Rattle.make_cmd.specs.Making.{for_texts, in_memory_line}
 use Rattle.write_order.specs.Writes.{AreDone, print_piece}
 use Rattle.write_order.proofs.Carried.{done-then, print-done, print-stops, stops-then}
 use Rattle.localise_cmd.specs.Usage.{no_request}
-use Rattle.localise_cmd.specs.Commands.{Tools, case_of}
-use Rattle.localise_cmd.proofs.Keeping.{AllowsMemory, eight-no_stop, low-no_stop}
+use Rattle.localise_cmd.specs.Commands.{KeepsWords, Tools, case_of}
+use Rattle.localise_cmd.specs.Given.{AreWords, KeepsGiven}
+use Rattle.localise_cmd.proofs.Keeping.{AllowsMemory, eight-no_stop, low-no_stop, memory-keeps}
 
 -- ---- a command
 module _ (tools : Tools) (asked : Result Asked Usage) (run : Run) (status : ℕ) where
@@ -116,3 +120,22 @@ allows-memory tools (Err usage) run written = record {
   stopped = λ told rose front. record { sink_failed = rose; printed = inr front; nothing_written = written };
   cut = λ told text. record { printed = text; nothing_written = written };
 }
+
+-- ---- and before the words are known
+-- some words, whatever is given
+some-words : (given : Option (List (List ℕ))) → (words : List (List ℕ)) × AreWords given words
+some-words (Some arguments) = (drop 1 arguments, refl)
+some-words None = ([] ∷ codes "--" ∷ [], refl)
+
+pub memory-given : (tools : Tools) (given : Option (List (List ℕ))) (run : Run) (status : ℕ)
+    → (run.told ≡ true → Prints memory_line 7 run.printed run.now_printed status)
+    → PrintCounts 7 run.counts.sink run.counts.now_sink status → run.now_written ≡ run.written → KeepsGiven tools given run status
+unfolding KeepsWords
+memory-given tools given run status text counts written =
+    let (words, are) = some-words given in
+    record {
+      words = words;
+      are_words = are;
+      keeps = memory-keeps (case_of tools (asked_by tools.known words)) run status
+          (allows-memory tools (asked_by tools.known words) run written) text counts written;
+    }

@@ -2,3 +2,4 @@ pub mod Printed
 pub mod Usage
 pub mod Help
 pub mod Commands
+pub mod Given

@@ -4,6 +4,8 @@
 mod asking;
 mod kinds;
 mod lines;
+mod program;
 mod run;
 
+pub use program::run_program;
 pub use run::run_words;
