@@ -13,6 +13,7 @@ A case is a folder `cases/LAYER/NAME/`:
     written/   each text that the run leaves, by its name
     writes     the names, one a line, of texts that the run leaves and that aren't compared
     again      more words, one a line: a second run, with them after those of `args`, does the same
+    closed     the numbers, one a line, of standard streams that are closed when the program begins
 
 Every other file is an input: the design, the dumps, a report, a log. The program runs in a folder of its own with copies of
 the inputs. It must leave them as they were, leave each text of `written/` and `writes`, and leave no other. An input that is
@@ -35,7 +36,7 @@ from concurrent.futures import ThreadPoolExecutor
 
 HERE = os.path.dirname(os.path.abspath(__file__))
 BUILT = os.path.join(HERE, "..", "crates", "localise", "out", "localise")
-ABOUT = {"shows", "args", "stdout", "status", "stderr", "written", "writes", "again"}
+ABOUT = {"shows", "args", "stdout", "status", "stderr", "written", "writes", "again", "closed"}
 SECONDS = 60
 
 
@@ -111,6 +112,12 @@ def left_in(case, room, inputs):
     return wrong
 
 
+def command_of(program, case, words):
+    """The words of a run, by a shell where streams are closed for it."""
+    closed = "".join(f" {int(number)}>&-" for number in words_of(f"{case}/closed"))
+    return [b"sh", b"-c", f'exec "$@"{closed}'.encode(), b"sh", program.encode(), *words] if closed else [program.encode(), *words]
+
+
 def failures_by(program, case, words, inputs):
     """What is wrong with a run of the program on a case by these words."""
     with tempfile.TemporaryDirectory(prefix="case-") as room:
@@ -119,7 +126,7 @@ def failures_by(program, case, words, inputs):
             with open(f"{room}/{name}", "wb") as file:
                 file.write(text)
         try:
-            ran = subprocess.run([program.encode(), *words], cwd=room, stdin=subprocess.DEVNULL, capture_output=True, timeout=SECONDS)
+            ran = subprocess.run(command_of(program, case, words), cwd=room, stdin=subprocess.DEVNULL, capture_output=True, timeout=SECONDS)
         except subprocess.TimeoutExpired:
             return [f"it had not ended after {SECONDS} seconds"]
         wrong = []

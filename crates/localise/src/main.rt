@@ -2,8 +2,10 @@
 #![tactic(auto)]
 
 mod standard_error;
+mod streams;
 
 use crate::standard_error::StandardError;
+use crate::streams::held_stream;
 use io_ports::{FileShelf, OutSink};
 use loc_base::FreeGate;
 use localise_cmd::run_program;
@@ -44,5 +46,7 @@ fn status_of<R: Env + Threads + Sync>(threads: &R, rt: &HostRuntime) -> Result<u
 }
 
 fn main(rt: HostRuntime) -> ExitCode {
+    // One for each of the three streams.
+    let _held = (held_stream(&rt), held_stream(&rt), held_stream(&rt));
     ExitCode::from(status_of(&rt, &rt).unwrap_or(7))
 }
