@@ -74,6 +74,11 @@ def kinds(made):
     return re.search(r"kinds: ([\w, ]+) \(", made["find"].options()["suspects"][1])[1].split(", ")
 
 
+def formats(made):
+    """The formats of designs, by the same page."""
+    return list(re.search(r"design: (\w+) or (\w+) \(", made["find"].options()["format"][1]).groups())
+
+
 # ---- the man page
 
 
@@ -136,6 +141,8 @@ _localise() {{
         local front=
         [[ $word == *,* ]] && front=${{word%,*}},
         mapfile -t COMPREPLY < <(compgen -P "$front" -W "{" ".join(kinds(made))}" -- "${{word##*,}}")
+    elif [[ $before == --format ]]; then
+        mapfile -t COMPREPLY < <(compgen -W "{" ".join(formats(made))}" -- "$word")
     elif [[ $word == -* ]]; then
         mapfile -t COMPREPLY < <(compgen -W "$words" -- "$word")
     else
@@ -153,7 +160,8 @@ def quoted(text):
 
 def zsh_option(name, value, about, made):
     """An option for zsh's _arguments, with what may be its value."""
-    values = {"suspects": f"_sequence compadd - {' '.join(kinds(made))}", "clock": " "}.get(name)
+    lists = {"suspects": f"_sequence compadd - {' '.join(kinds(made))}", "format": f"({' '.join(formats(made))})"}
+    values = {**lists, "clock": " "}.get(name)
     about = about.replace("[", "\\[").replace("]", "\\]").replace(":", "\\:")
     if values is None:
         values = "_files" if value in ("NAME", "PREFIX") else " "
@@ -198,6 +206,8 @@ def fish_option(command, name, value, about, made):
     kind = "-r" if value in ("NAME", "PREFIX") and name != "clock" else "-x"
     if name == "suspects":
         kind = f"-x -a '(__fish_append , {' '.join(kinds(made))})'"
+    if name == "format":
+        kind = f"-x -a '{' '.join(formats(made))}'"
     return f"complete -c localise -n '__fish_seen_subcommand_from {command}' -l {name} {kind} -d {quoted(about)}\n"
 
 

@@ -79,7 +79,7 @@ class Completing(unittest.TestCase):
     def test_options_are_those_of_the_command(self):
         self.assertEqual(self.offers("localise", "find", "--s"), ["--size", "--suspects", "--sets"])
         self.assertEqual(self.offers("localise", "sim", "--s"), [])
-        self.assertEqual(self.offers("localise", "check", "--"), ["--workers"])
+        self.assertEqual(self.offers("localise", "check", "--"), ["--workers", "--format"])
 
     def test_kinds_follow_their_option_and_commas(self):
         self.assertEqual(self.offers("localise", "find", "--suspects", "st"), ["stmt"])

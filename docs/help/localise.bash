@@ -7,9 +7,9 @@ _localise() {
         return
     fi
     case ${COMP_WORDS[1]} in
-        sim) words="--clock" ;;
-        find) words="--clock --size --suspects --budget --sets --workers --log --report --waves" ;;
-        check) words="--workers" ;;
+        sim) words="--clock --format" ;;
+        find) words="--format --clock --size --suspects --budget --sets --workers --log --report --waves" ;;
+        check) words="--workers --format" ;;
         make) words="--design --trace --size --suspects --budget --sets --workers --log --report" ;;
         help) mapfile -t COMPREPLY < <(compgen -W "sim find check make" -- "$word") && return ;;
     esac
@@ -18,7 +18,9 @@ _localise() {
     if [[ $before == --suspects ]]; then
         local front=
         [[ $word == *,* ]] && front=${word%,*},
-        mapfile -t COMPREPLY < <(compgen -P "$front" -W "stmt block gate instance module" -- "${word##*,}")
+        mapfile -t COMPREPLY < <(compgen -P "$front" -W "and block gate instance module stmt" -- "${word##*,}")
+    elif [[ $before == --format ]]; then
+        mapfile -t COMPREPLY < <(compgen -W "verilog aiger" -- "$word")
     elif [[ $word == -* ]]; then
         mapfile -t COMPREPLY < <(compgen -W "$words" -- "$word")
     else

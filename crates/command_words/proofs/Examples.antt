@@ -2,6 +2,7 @@
 use Rattle.std.specs.Prelude.{◌≡◌, ℕ, List, [], ◌∷◌, Some, None, Result, Ok, Err, codes, refl}
 use Rattle.std.specs.Path.{path_components, path_names}
 use Rattle.clap.proofs.OnLiterals.{clap_on_literals}
+use Rattle.front_end.specs.declared.format.Format.TheVariants.{Verilog, Aiger}
 use Rattle.word_values.specs.declared.usage.Usage.{Usage}
 use Rattle.word_values.specs.declared.usage.Usage.TheVariants.{Command, Words, Number, Name, Kind}
 use Rattle.word_values.specs.Arguments.{read_by}
@@ -42,7 +43,7 @@ a_name_of_a_command_that_is_not_known = refl
 what_stands_where_no_option_is_given
     : asked (find_words [])
     ≡ Ok (find (record {
-      sources = record { texts = record { design = codes "m.v"; top = codes "m"; traces = codes "t" ∷ [] }; clock = None };
+      sources = record { texts = record { design = codes "m.v"; format = Verilog; top = codes "m"; traces = codes "t" ∷ [] }; clock = None };
       listing = plain_list (codes "stmt" ∷ []);
       waves = None;
     }))
@@ -63,7 +64,7 @@ what_is_made_where_no_option_is_given = refl
 the_report_stands_before_the_log
     : asked (codes "check" ∷ codes "m.v" ∷ codes "m" ∷ codes "r" ∷ codes "l" ∷ codes "t" ∷ codes "u" ∷ [])
     ≡ Ok (check (record {
-      texts = record { design = codes "m.v"; top = codes "m"; traces = codes "t" ∷ codes "u" ∷ [] };
+      texts = record { design = codes "m.v"; format = Verilog; top = codes "m"; traces = codes "t" ∷ codes "u" ∷ [] };
       report = codes "r";
       log = codes "l";
       workers = 1;
@@ -75,7 +76,7 @@ two_kinds_of_suspects_and_waves
     : asked (find_words (codes "--suspects" ∷ codes "block,stmt" ∷ codes "u" ∷ codes "--clock=c" ∷ codes "--waves=w" ∷ []))
     ≡ Ok (find (record {
       sources = record {
-        texts = record { design = codes "m.v"; top = codes "m"; traces = codes "t" ∷ codes "u" ∷ [] };
+        texts = record { design = codes "m.v"; format = Verilog; top = codes "m"; traces = codes "t" ∷ codes "u" ∷ [] };
         clock = Some (codes "c");
       };
       listing = plain_list (codes "block" ∷ codes "stmt" ∷ []);
@@ -135,7 +136,7 @@ behind_two_dashes_all_words_are_positional
     : asked (sim_words (codes "--" ∷ codes "--clock" ∷ codes "-" ∷ []))
     ≡ Ok (sim (record {
       sources = record {
-        texts = record { design = codes "m.v"; top = codes "m"; traces = codes "--clock" ∷ codes "-" ∷ [] };
+        texts = record { design = codes "m.v"; format = Verilog; top = codes "m"; traces = codes "--clock" ∷ codes "-" ∷ [] };
         clock = None;
       };
     }))
@@ -167,3 +168,18 @@ two_dashes_behind_an_option_that_asks_for_help = refl
 
 two_dashes_behind_no_command : asked (codes "" ∷ codes "--" ∷ []) ≡ Err Command
 two_dashes_behind_no_command = refl
+
+a_design_in_aiger
+    : asked (sim_words (codes "t" ∷ codes "--format" ∷ codes "aiger" ∷ []))
+    ≡ Ok (sim (record {
+      sources = record {
+        texts = record { design = codes "m.v"; format = Aiger; top = codes "m"; traces = codes "t" ∷ [] };
+        clock = None;
+      };
+    }))
+unfolding clap_on_literals read_by sim_arguments
+a_design_in_aiger = refl
+
+a_format_that_is_none : asked (sim_words (codes "t" ∷ codes "--format=aig" ∷ [])) ≡ Err Name
+unfolding clap_on_literals read_by sim_arguments
+a_format_that_is_none = refl

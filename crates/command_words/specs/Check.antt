@@ -7,16 +7,16 @@ use Rattle.word_values.specs.declared.usage.Usage.TheVariants.{Words, Number}
 use Rattle.word_values.specs.Arguments.{Arguments, Row, first_of, values_of}
 use Rattle.word_values.specs.Numbers.{IsFrom, workers_in}
 use Rattle.word_values.specs.Sources.{AreSources, are_source_names, sources_in}
-use Rattle.word_values.specs.Standing.{named, standing}
+use Rattle.word_values.specs.Standing.{named, standing, with_format}
 use Rattle.word_values.specs.Values.{is_file_name}
 
--- `check DESIGN TOP REPORT LOG TRACE.. [--workers N]`
+-- `check DESIGN TOP REPORT LOG TRACE.. [--workers N] [--format F]`
 unfoldable pub check_arguments : Arguments
 check_arguments = record {
   command = codes "check";
   words = codes "design" ∷ codes "top" ∷ codes "report" ∷ codes "log" ∷ [];
   rest = Some (codes "trace");
-  options = codes "workers" ∷ [];
+  options = codes "workers" ∷ codes "format" ∷ [];
 }
 
 -- ---- what is asked
@@ -43,7 +43,7 @@ are_check_names asked = are_source_names asked.texts && is_file_name asked.repor
 
 -- the words of the command, itself the first
 abbrev pub check_asked : List (List ℕ) → Result CheckAsked Usage
-check_asked words = named are_check_names (standing check_in (values_of check_arguments words))
+check_asked words = named are_check_names (standing (with_format check_in) (values_of check_arguments words))
 
 -- ---- what holds of what is asked for
 pub record IsCheckAsked (asked : CheckAsked) : Type 0 where

@@ -6,7 +6,7 @@ use Rattle.requests.specs.Asked.{FindAsked, ListingAsked, SourcesAsked}
 use Rattle.word_values.specs.declared.usage.Usage.{Usage}
 use Rattle.word_values.specs.declared.usage.Usage.TheVariants.{Number}
 use Rattle.word_values.specs.Arguments.{Arguments, Row, first_of, values_of}
-use Rattle.word_values.specs.Standing.{kinded, named, standing}
+use Rattle.word_values.specs.Standing.{kinded, named, standing, with_format}
 use Rattle.word_values.specs.Paths.{IsOtherPath, is_path_of_one, is_same_path, path_begins}
 use Rattle.word_values.specs.Values.{is_file_name, option_all}
 use Rattle.command_words.specs.Listing.{IsListingAsked, listing_in}
@@ -19,7 +19,7 @@ find_arguments = record {
   words = codes "design" ∷ codes "top" ∷ [];
   rest = Some (codes "trace");
   options = codes "clock" ∷ codes "size" ∷ codes "budget" ∷ codes "sets" ∷ codes "suspects" ∷ codes "workers" ∷ codes "log"
-      ∷ codes "report" ∷ codes "waves" ∷ [];
+      ∷ codes "report" ∷ codes "waves" ∷ codes "format" ∷ [];
 }
 
 -- ---- what is asked
@@ -62,7 +62,7 @@ are_find_names asked =
 -- the words of the command, itself the first, where kinds of suspects of these names are known
 abbrev pub find_asked : List (List ℕ) → List (List ℕ) → Result FindAsked Usage
 find_asked known words =
-    kinded known (λ asked. asked.listing.suspects) (named are_find_names (standing find_in (values_of find_arguments words)))
+    kinded known (λ asked. asked.listing.suspects) (named are_find_names (standing (with_format find_in) (values_of find_arguments words)))
 
 -- ---- what holds of what is asked for
 -- the names of waves begin with a file's name and `-`, and no other name is the path of one that does

@@ -5,16 +5,16 @@ use Rattle.word_values.specs.declared.usage.Usage.{Usage}
 use Rattle.word_values.specs.declared.usage.Usage.TheVariants.{Words}
 use Rattle.word_values.specs.Arguments.{Arguments, Row, first_of, values_of}
 use Rattle.word_values.specs.Sources.{AreSources, are_source_names, sources_in}
-use Rattle.word_values.specs.Standing.{named, standing}
+use Rattle.word_values.specs.Standing.{named, standing, with_format}
 use Rattle.word_values.specs.Values.{is_name, option_all}
 
--- `sim DESIGN TOP TRACE.. [--clock NAME]`
+-- `sim DESIGN TOP TRACE.. [--clock NAME] [--format F]`
 unfoldable pub sim_arguments : Arguments
 sim_arguments = record {
   command = codes "sim";
   words = codes "design" ∷ codes "top" ∷ [];
   rest = Some (codes "trace");
-  options = codes "clock" ∷ [];
+  options = codes "clock" ∷ codes "format" ∷ [];
 }
 
 -- ---- what is asked
@@ -32,7 +32,7 @@ are_sim_names asked = are_source_names asked.texts && option_all is_name asked.c
 
 -- the words of the command, itself the first
 abbrev pub sim_asked : List (List ℕ) → Result SourcesAsked Usage
-sim_asked words = named are_sim_names (standing sim_in (values_of sim_arguments words))
+sim_asked words = named are_sim_names (standing (with_format sim_in) (values_of sim_arguments words))
 
 -- ---- what holds of what is asked for
 pub record IsSimAsked (asked : SourcesAsked) : Type 0 where

@@ -19,8 +19,8 @@ use loc_base::NoMemory;
 use requests::FindRequest;
 use std::alloc::Global;
 use word_values::{
-    Given, Table, Usage, WordsErr, are_kinds, given_by, is_file_name, is_path_of_one, is_same_path,
-    kinds_in, one_path_begins_with, path_begins_with, text_if,
+    Given, Table, Usage, WordsErr, are_kinds, given_by, is_file_name, is_format_known,
+    is_path_of_one, is_same_path, kinds_in, one_path_begins_with, path_begins_with, text_if,
 };
 
 /// The values of the command's arguments.
@@ -43,6 +43,7 @@ fn find_table() -> Table<'static>
         rest: Some("trace"),
         options: &[
             "clock", "size", "budget", "sets", "suspects", "workers", "log", "report", "waves",
+            "format",
         ],
     }
 }
@@ -149,7 +150,7 @@ pub fn find_words(alloc: Global, words: &[String], known: &[&str]) -> Result<Fin
         return Err(WordsErr::Usage(Usage::Words));
     };
     let values = values_in(&given)?;
-    if !are_names(alloc, &values)? {
+    if !is_format_known(&given) || !are_names(alloc, &values)? {
         return Err(WordsErr::Usage(Usage::Name));
     }
     let suspects = kinds_in(alloc, values.listing.suspects)?;

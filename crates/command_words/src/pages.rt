@@ -39,12 +39,13 @@ pub const FIND: &[u8] = b"usage: localise find DESIGN TOP DUMP.. [OPTION..]
 Lists every minimal set of suspects that can explain the dumps: with values of
 their own, chosen anew in each cycle, each dump has the outputs that it wants.
 
-  DESIGN, TOP      the file of the design, in Verilog, and its top module
+  DESIGN, TOP      the file of the design, and its top module
   DUMP             a VCD file with the ports of the top: the inputs that were
                    applied, the outputs that are wanted; 1 to 256 of them
+  --format F       the format of the design: verilog or aiger (verilog)
   --clock NAME     the input of the top that is the clock (none)
   --size K         the most suspects in a set, 0 to 8 (2)
-  --suspects A,B   their kinds: stmt, block, gate, instance, module (stmt)
+  --suspects A,B   their kinds: and, block, gate, instance, module, stmt (stmt)
   --budget B       the most steps that may be learned, 1 to 10000000 (200000)
   --sets M         the most sets that are listed, 1 to 100000 (1000)
   --workers N      the most threads, 1 to 64 (1)
@@ -61,15 +62,16 @@ example: localise find uart_tx.v uart_tx uart_tx.vcd --clock clk --size 1
 ";
 
 /// `sim`.
-pub const SIM: &[u8] = b"usage: localise sim DESIGN TOP DUMP.. [--clock NAME]
+pub const SIM: &[u8] = b"usage: localise sim DESIGN TOP DUMP.. [--clock NAME] [--format F]
 
 Runs the design on the inputs of each dump, prints its outputs, and says where
 they first differ from those that the dump wants.
 
-  DESIGN, TOP    the file of the design, in Verilog, and its top module
+  DESIGN, TOP    the file of the design, and its top module
   DUMP           a VCD file with the ports of the top: the inputs that were
                  applied, the outputs that are wanted; 1 to 256 of them
   --clock NAME   the input of the top that is the clock (none)
+  --format F     the format of the design: verilog or aiger (verilog)
 
 It prints, of dump T (from 1) and cycle C (from 0), in hex:
   T C NAME=HEX NAME=HEX ..
@@ -85,15 +87,17 @@ example: localise sim uart_tx.v uart_tx uart_tx.vcd --clock clk
 ";
 
 /// `check`.
-pub const CHECK: &[u8] = b"usage: localise check DESIGN TOP REPORT LOG DUMP.. [--workers N]
+pub const CHECK: &[u8] =
+    b"usage: localise check DESIGN TOP REPORT LOG DUMP.. [--workers N] [--format F]
 
 Judges a list that find wrote: are the sets of its report all that there are? It
 searches nothing. The clock, the size and the kinds are those of the report.
 
-  DESIGN, TOP    the file of the design, in Verilog, and its top module
+  DESIGN, TOP    the file of the design, and its top module
   REPORT, LOG    the files of the report and of the log that find wrote
   DUMP           the dumps that find was given, in the same order; 1 to 256
   --workers N    the most threads, 1 to 64 (without the option 1)
+  --format F     the format of the design: verilog or aiger (without it verilog)
 
 status 0: yes N: the N sets are the whole list. 1: front N: they are a front of
 it, none is missing before the last. 8: the first that is so:

@@ -16,6 +16,7 @@ pub(crate) fn copied(alloc: Global, texts: &Sources) -> Result<Texts, NoMemory>
 {
     Ok(Texts {
         design: String::from_str(alloc, texts.design)?,
+        format: texts.format,
         top: name_of(alloc, texts.top)?,
         traces: copies_of(alloc, texts.traces)?,
     })

@@ -5,7 +5,7 @@ ghost use Rattle.front_end.specs.Means.{IsReady};
 
 use bit_circuit::{Circuit, blast};
 use design_core::{Checked, Design, Trace};
-use front_end::{FrontEnd, Ordered, ReadBy};
+use front_end::{Format, FrontEnd, Ordered, ReadBy};
 use loc_base::{Bits, Items, Name};
 use plain_values::width_at;
 use std::alloc::Global;
@@ -28,7 +28,11 @@ pub(super) fn read(alloc: Global, text: &str) -> Result<Ordered, Fail>
     let top = name(alloc, "m")?;
     let clk = name(alloc, "clk")?;
     let clock = Some(&clk);
-    let by = ReadBy { top: &top, clock };
+    let by = ReadBy {
+        format: Format::Verilog,
+        top: &top,
+        clock,
+    };
     match Verilog.read(alloc, text.as_bytes(), &by) {
         Ok(ready) => Ok(ready),
         Err(_) => Err(Fail::new("no design")),

@@ -3,4 +3,4 @@ use Rattle.front_end.specs.By.{By}
 use Rattle.requests.specs.Asked.{SourcesAsked}
 
 abbrev pub by_of : SourcesAsked → By
-by_of asked = record { top = asked.texts.top; clock = asked.clock }
+by_of asked = record { format = asked.texts.format; top = asked.texts.top; clock = asked.clock }

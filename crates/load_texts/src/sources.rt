@@ -14,6 +14,7 @@ pub(crate) fn read_by<'a>(sources: &Sources<'a>) -> ReadBy<'a>
     ensures { view_of result ≡ by_of (sources_asked sources.now) }
 {
     ReadBy {
+        format: sources.texts.format,
         top: &sources.texts.top,
         clock: sources.clock,
     }

@@ -6,6 +6,7 @@ ghost use Rattle.find_cmd.specs.Views.{list_asked};
 ghost use Rattle.make_cmd.specs.Asked.{finding_of};
 
 use find_cmd::ListRequest;
+use front_end::Format;
 use loc_base::{Name, NoMemory};
 use requests::{MakeRequest, Reading, Texts};
 use std::alloc::Global;
@@ -36,6 +37,7 @@ fn read_texts(alloc: Global, request: &MakeRequest) -> Result<Texts, NoMemory>
 {
     Ok(Texts {
         design: String::from_str(alloc, request.design.as_str())?,
+        format: Format::Verilog,
         top: name_of(alloc, b"made")?,
         traces: one_text(alloc, request.trace.as_str())?,
     })

@@ -1,11 +1,13 @@
 -- What the commands are asked, as plain data: names of texts, names in a design, kinds of suspects and prefixes are bytes.
 use Rattle.std.specs.Prelude.{ℕ, ◌≤◌, List, Option}
+use Rattle.front_end.specs.declared.format.Format.{Format}
 use Rattle.requests.specs.declared.help.HelpPage.{HelpPage}
 
 -- ---- what is read
--- the names of the design's text, of the module that is the top, and of the traces' texts
+-- the name of the design's text and its format, the names of the module that is the top and of the traces' texts
 pub record TextsAsked : Type 0 where
   pub design : List ℕ
+  pub format : Format
   pub top : List ℕ
   pub traces : List (List ℕ)
 

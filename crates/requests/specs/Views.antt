@@ -19,6 +19,7 @@ use Rattle.requests.specs.Asked.{Asked, CheckAsked, FindAsked, HelpAsked, Listin
 abbrev pub texts_asked : Texts → TextsAsked
 texts_asked texts = record {
   design = string_bytes texts.design;
+  format = texts.format;
   top = texts.top;
   traces = map string_bytes texts.traces.items;
 }

@@ -1,3 +1,4 @@
+use front_end::Format;
 use loc_base::Name;
 
 /// The texts that a command reads, by their names, and how a text is read.
@@ -5,6 +6,8 @@ use loc_base::Name;
 pub struct Texts {
     /// The name of the design's text.
     pub design: String,
+    /// The format of the design's text.
+    pub format: Format,
     /// The module that is the top.
     pub top: Name,
     /// The names of the traces' texts.

@@ -1,7 +1,7 @@
 //! Calls of the plain simulator by themselves, on a register that toggles and has an asynchronous reset, and on three assignments.
 
 use design_fits::{are_chosen, can_run, is_trace_of, samples_fit};
-use front_end::{FrontEnd, Ordered, ReadBy};
+use front_end::{Format, FrontEnd, Ordered, ReadBy};
 use loc_base::Bits;
 use plain_sim::{compute_cycle, is_cycle, meets, start_words};
 use plain_values::run_statement;
@@ -16,7 +16,11 @@ const TOGGLE: &[u8] =
 fn toggle(alloc: Global) -> Result<Ordered, Fail> {
     let (top, clk) = (name(alloc, "m")?, name(alloc, "clk")?);
     let clock = Some(&clk);
-    let by = ReadBy { top: &top, clock };
+    let by = ReadBy {
+        format: Format::Verilog,
+        top: &top,
+        clock,
+    };
     match Verilog.read(alloc, TOGGLE, &by) {
         Ok(found) => Ok(found),
         Err(_) => Err(Fail::new("no design")),

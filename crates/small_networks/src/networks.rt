@@ -9,7 +9,7 @@ ghost use Rattle.plain_list.specs.Network.{IsNetwork, whole_of};
 use crate::error::NetworkErr;
 use crate::letters::name;
 use design_core::{Driver, Part, Signal, SignalKind};
-use front_end::{FrontEnd, Ordered, ReadBy};
+use front_end::{Format, FrontEnd, Ordered, ReadBy};
 use plain_list::laws::is_network;
 use std::alloc::Global;
 use verilog_front_end::Verilog;
@@ -32,6 +32,7 @@ fn read(alloc: Global, text: &[u8]) -> Result<Ordered, NetworkErr>
 {
     let top = name(alloc, "m")?;
     let by = ReadBy {
+        format: Format::Verilog,
         top: &top,
         clock: None,
     };

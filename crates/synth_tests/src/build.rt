@@ -4,7 +4,7 @@ ghost use Rattle.std.specs.Prelude.{IfOk};
 ghost use Rattle.front_end.specs.Means.{IsReady};
 
 use bit_circuit::{Circuit, blast};
-use front_end::{FrontEnd, Ordered, ReadBy};
+use front_end::{Format, FrontEnd, Ordered, ReadBy};
 use gate_base::{Literal, Node};
 use loc_base::{Bits, Name};
 use std::alloc::Global;
@@ -33,6 +33,7 @@ pub(super) fn read(alloc: Global, text: &str) -> Result<Ordered, Fail>
 {
     let top = name(alloc, "m")?;
     let by = ReadBy {
+        format: Format::Verilog,
         top: &top,
         clock: None,
     };
@@ -49,7 +50,11 @@ pub(super) fn read_clocked(alloc: Global, text: &str) -> Result<Ordered, Fail>
     let top = name(alloc, "m")?;
     let clk = name(alloc, "clk")?;
     let clock = Some(&clk);
-    let by = ReadBy { top: &top, clock };
+    let by = ReadBy {
+        format: Format::Verilog,
+        top: &top,
+        clock,
+    };
     match Verilog.read(alloc, text.as_bytes(), &by) {
         Ok(ready) => Ok(ready),
         Err(_) => Err(Fail::new("no design")),

@@ -1,7 +1,7 @@
 //! What is printed of a text: its design, a line for each signal and each place, and one each for the drivers, the clocked blocks, the
 //! ports and the order.
 use design_core::{Clocked, Design, Driver, Place, PlaceKind, Signal, SignalKind};
-use front_end::{FrontEnd, ReadBy};
+use front_end::{Format, FrontEnd, ReadBy};
 use loc_base::{Name, NoMemory};
 use printed_text::{push_bytes, push_number, push_value};
 use std::alloc::Global;
@@ -122,7 +122,11 @@ pub fn printed(alloc: Global, text: &[u8], is_clocked: bool) -> Result<Vec<u8>, 
     let name = Name::new(alloc, b"clk")?.unwrap();
     let clock = if is_clocked { Some(&name) } else { None };
     let mut lines = Vec::new(alloc);
-    let by = ReadBy { top: &top, clock };
+    let by = ReadBy {
+        format: Format::Verilog,
+        top: &top,
+        clock,
+    };
     match Verilog.read(alloc, text, &by) {
         Ok(found) => {
             push_design(&mut lines, &found.design)?;

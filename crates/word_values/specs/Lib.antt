@@ -3,6 +3,7 @@ pub mod Tables
 pub mod Values
 pub mod Paths
 pub mod Numbers
+pub mod Formats
 pub mod Sources
 pub mod Standing
 pub mod Answers

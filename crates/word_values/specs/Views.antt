@@ -16,6 +16,7 @@ numbers_view numbers = record {
 abbrev pub sources_view : Sources → TextsAsked
 sources_view sources = record {
   design = sources.design.now;
+  format = sources.format;
   top = sources.top.now;
   traces = map (λ word. word.now) sources.traces.now;
 }

@@ -1,6 +1,7 @@
 //! How the words of a command are read: the values that they give to the arguments of its table, and what a value means.
 #![tactic(auto)]
 
+mod formats;
 mod given;
 mod kinds;
 mod numbers;
@@ -10,6 +11,7 @@ mod table;
 mod usage;
 mod values;
 
+pub use formats::is_format_known;
 pub use given::{Given, given_by};
 pub use kinds::{are_kinds, kinds_in};
 pub use numbers::{Numbers, numbers_in, workers_in};

@@ -3,13 +3,16 @@ ghost use Rattle.std.specs.Prelude.{◌≡◌, option_map};
 ghost use Rattle.word_values.specs.Sources.{are_source_names, sources_in};
 ghost use Rattle.word_values.specs.Views.{sources_view};
 
+use crate::formats::format_in;
 use crate::given::Given;
 use crate::values::{are_file_names, is_file_name, is_name};
+use front_end::Format;
 
-/// The names of the design's text, of the module that is the top, and of the traces' texts.
+/// The name of the design's text and its format, the names of the module that is the top and of the traces' texts.
 #[derive(Clone, Copy)]
 pub struct Sources<'m, 'a> {
     pub design: &'a str,
+    pub format: Format,
     pub top: &'a str,
     pub traces: &'m [&'a str],
 }
@@ -20,6 +23,7 @@ pub fn sources_in<'m, 'a>(given: &'m Given<'a>) -> Option<Sources<'m, 'a>>
 {
     Some(Sources {
         design: given.value("design")?,
+        format: format_in(given),
         top: given.value("top")?,
         traces: given.values("trace")?,
     })

@@ -8,7 +8,7 @@ use bit_circuit::{Circuit, blast};
 use clause_base::Form;
 use clause_form::form;
 use design_core::{Design, Trace};
-use front_end::{FrontEnd, Ordered, ReadBy};
+use front_end::{Format, FrontEnd, Ordered, ReadBy};
 use io_ports::{FileShelf, Shelf};
 use std::alloc::Global;
 use std::time::Instant;
@@ -85,6 +85,7 @@ pub fn read_parts(rt: &HostRuntime, request: &Request) -> Result<Parts, Failure>
     let alloc = rt.alloc();
     let text = FileShelf::new(rt, alloc).load(alloc, request.design.as_str(), MOST_BYTES)?;
     let by = ReadBy {
+        format: Format::Verilog,
         top: &request.top,
         clock: request.clock.as_ref(),
     };
