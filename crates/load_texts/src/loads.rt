@@ -20,7 +20,7 @@ ghost use Rattle.load_texts.specs.Texts.{KeepsNext, LoadCounts, Loads, LoadsDesi
 use crate::faults::{DesignFault, LoadFault, TraceFault};
 use crate::imprint::Imprint;
 use crate::sources::{name_at, read_by};
-use crate::telling::{tell_dump, tell_refused, tell_unread};
+use crate::telling::{tell_design, tell_dump, tell_unread};
 use design_core::{Design, Trace};
 use front_end::{FrontEnd, Ordered};
 use io_ports::{LoadErr, Shelf};
@@ -103,7 +103,7 @@ fn read_design<F: FrontEnd, N: Notes>(
     match design.front.read(alloc, bytes, &read_by(design.sources)) {
         Ok(ordered) => Ok(ordered),
         Err(refusal) => {
-            tell_refused(design.sources.texts.design.as_str(), bytes, &refusal, notes);
+            tell_design(design.sources, bytes, &refusal, notes);
             Err(DesignFault::Text(refusal))
         }
     }

@@ -3,9 +3,11 @@ ghost use Rattle.std.specs.Prelude.{◌≡◌};
 ghost use Rattle.refusal.specs.Codes.{code_status};
 ghost use Rattle.load_texts.specs.Dumps.{dump_status};
 
+use front_end::Format;
 use io_ports::FaultKind;
 use loc_base::Span;
 use refusal::{Code, Note, Notes, Refusal};
+use requests::Sources;
 use vcd_traces::VcdErr;
 
 /// Tells that the text under a name can't be read.
@@ -14,7 +16,7 @@ pub(crate) fn tell_unread<N: Notes>(name: &str, cause: FaultKind, notes: &mut N)
 }
 
 /// Tells that the text under a name is refused.
-pub(crate) fn tell_refused<N: Notes>(name: &str, text: &[u8], refusal: &Refusal, notes: &mut N) {
+fn tell_refused<N: Notes>(name: &str, text: &[u8], refusal: &Refusal, notes: &mut N) {
     if !matches!(refusal.code, Code::Memory) {
         notes.note(&Note::Refused {
             name,
@@ -22,6 +24,27 @@ pub(crate) fn tell_refused<N: Notes>(name: &str, text: &[u8], refusal: &Refusal,
             refusal,
         });
     }
+}
+
+/// What is told of a design that is refused. A span of an and-inverter graph counts lines, and the text is told by the first of them.
+fn told(format: Format, refusal: &Refusal) -> Refusal {
+    match (format, refusal.code) {
+        (Format::Aiger, Code::At(code, lines)) => {
+            Refusal::of(Code::Line(code, u64::from(lines.from)), refusal)
+        }
+        _ => *refusal,
+    }
+}
+
+/// Tells that the design's text is refused.
+pub(crate) fn tell_design<N: Notes>(
+    sources: &Sources<'_>,
+    text: &[u8],
+    refusal: &Refusal,
+    notes: &mut N,
+) {
+    let name = sources.texts.design.as_str();
+    tell_refused(name, text, &told(sources.texts.format, refusal), notes);
 }
 
 /// The code of a word that has no place in a dump, at an offset.
