@@ -8,17 +8,17 @@ use thiserror::Error;
 /// Why a text means no design. Lines are counted from 1.
 #[derive(Clone, Copy, Debug, PartialEq, Eq, Error)]
 pub enum AigerErr {
-    #[error("the text has more than 16777216 bytes")]
+    #[error("more than 16,777,216 bytes")]
     TooLong,
-    #[error("line 1 is no header `aag M I L O A`")]
+    #[error("no header `aag M I L O A`")]
     Header,
-    #[error("line {0} is missing or isn't of its shape")]
+    #[error("a line that is missing or isn't of its shape")]
     Shape(u64),
-    #[error("line {0} has a literal that is too great, defined wrongly or not defined")]
+    #[error("a literal that is too great, defined wrongly or not defined")]
     Literal(u64),
-    #[error("line {0} has a symbol without its place, or gives a port the name of another one")]
+    #[error("a symbol without its place or its name, or a second symbol or port of one name")]
     Naming(u64),
-    #[error("the design has more places, signals or drivers than are handled")]
+    #[error("more than 65,536 places, 1,048,576 signals, or 1,048,576 drivers and clocked blocks")]
     Places,
     #[error("out of memory")]
     NoMemory,
