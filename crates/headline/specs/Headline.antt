@@ -9,10 +9,10 @@ use Rattle.design_core.specs.declared.values.SetWithValues.{SetWithValues}
 use Rattle.design_core.specs.Explained.{AreValuesOf, Explains}
 use Rattle.design_core.specs.Listing.{IsFront, IsList}
 use Rattle.suspect_map.specs.declared.group.Group.{Group}
-use Rattle.verilog_front_end.specs.Meaning.{Means}
 use Rattle.vcd_traces.specs.Samples.{HasSamples}
 use Rattle.report_doc.specs.Lines.{set_lines}
 use Rattle.requests.specs.Asked.{SourcesAsked}
+use Rattle.localise_cmd.specs.Formats.{MeansIn}
 use Rattle.headline.specs.Runs.{FindRun, WordsRun}
 
 -- ---- what is looked at
@@ -30,10 +30,10 @@ groups_of s = map (λ (group : Group). group.places) s.suspects
 abbrev pub IsTextAnd : Option (List ℕ) → (List ℕ → Type 0) → Type 0
 IsTextAnd text P = IsSomeAnd text (λ bytes. (length bytes ≤ 1073741824) × P bytes)
 
--- the text under the design's name means the design, each text under a trace's name holds that trace of it, in order, and the suspects
--- are those that kinds make of the design's places
+-- the text under the design's name means the design in the format that is asked for, each text under a trace's name holds that trace of
+-- it, in order, and the suspects are those that kinds make of the design's places
 pub record IsMeant (of : WordsRun) (sources : SourcesAsked) (kinds : List (List ℕ)) (s : Subject) : Type 0 where
-  pub design : IsTextAnd (of.run.texts sources.texts.design) (λ text. Means text sources.texts.top sources.clock s.design)
+  pub design : IsTextAnd (of.run.texts sources.texts.design) (λ text. MeansIn sources.texts.format text sources.texts.top sources.clock s.design)
   pub traces : AllZip (λ name trace. IsTextAnd (of.run.texts name) (λ text. HasSamples text s.design sources.clock trace))
       sources.texts.traces s.traces
   pub suspects : s.suspects ≡ of.suspecting kinds s.design.places.items

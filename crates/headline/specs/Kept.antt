@@ -2,11 +2,11 @@
 use Rattle.std.specs.Prelude.{ℕ, ◌≡◌, List, Ok, true}
 use Rattle.command_words.specs.Words.{asked as asked_by}
 use Rattle.requests.specs.Asked.{Asked, find}
-use Rattle.verilog_front_end.specs.FrontEnd.{HasError, means_by}
 use Rattle.localise_cmd.specs.Commands.{KeepsWords, Tools, tools_of}
+use Rattle.localise_cmd.specs.Formats.{HasError, means_by}
 use Rattle.headline.specs.Runs.{FindRun, WordsRun}
 
--- a run works with these kinds, and its designs are in Verilog
+-- a run works with these kinds, and its designs are in the format that the words name
 abbrev pub tools_for : WordsRun → Tools
 tools_for of = tools_of means_by HasError of.known of.suspecting
 
