@@ -14,14 +14,15 @@ use std::env::Env;
 use std::process::ExitCode;
 use std::thread::Threads;
 use std::{env, io};
-use suspect_map::{Blocks, Gates, Granularity, InstanceOutputs, Modules, Statements};
+use suspect_map::{Ands, Blocks, Gates, Granularity, InstanceOutputs, Modules, Statements};
 
 /// The arguments that the system gives.
 fn arguments(rt: &HostRuntime) -> io::Result<Vec<String>> {
     Ok(env::args(rt)?.collect(rt.alloc())?)
 }
 
-/// Carries out the arguments, with the five kinds of suspects of Verilog texts. `threads` is the runtime, as what starts threads.
+/// Carries out the arguments, with the five kinds of suspects of Verilog texts and that of and-inverter graphs. `threads` is the runtime,
+/// as what starts threads.
 fn status_of<R: Env + Threads + Sync>(threads: &R, rt: &HostRuntime) -> Result<u8, AllocError> {
     let alloc = rt.alloc();
     let mut kinds: Vec<Box<dyn Granularity>> = Vec::new(alloc);
@@ -30,6 +31,7 @@ fn status_of<R: Env + Threads + Sync>(threads: &R, rt: &HostRuntime) -> Result<u
     kinds.push(Box::new(alloc, Gates)?)?;
     kinds.push(Box::new(alloc, InstanceOutputs)?)?;
     kinds.push(Box::new(alloc, Modules)?)?;
+    kinds.push(Box::new(alloc, Ands)?)?;
     let mut shelf = FileShelf::new(rt, alloc);
     let mut out = OutSink::new(rt);
     let mut notes = StandardError::new(alloc, rt.stderr());

@@ -2,6 +2,7 @@
 #![tactic(auto)]
 
 mod asking;
+mod formats;
 mod kinds;
 mod lines;
 mod program;

@@ -5,7 +5,7 @@ ghost use Rattle.command_contract.specs.Contract.{counts_of, run_of};
 ghost use Rattle.suspect_map.specs.Choose.{joined};
 ghost use Rattle.localise_cmd.specs.Commands.{tools_of};
 ghost use Rattle.localise_cmd.specs.Given.{AreWords, KeepsGiven};
-ghost use Rattle.verilog_front_end.specs.FrontEnd.{HasError, means_by};
+ghost use Rattle.localise_cmd.specs.Formats.{HasError, means_by};
 
 use crate::run::run_words;
 use io_ports::{Shelf, Sink};

@@ -3,9 +3,10 @@ ghost use Rattle.std.specs.Prelude.{◌&&◌, map, string_bytes};
 ghost use Rattle.command_contract.specs.Contract.{counts_of, run_of};
 ghost use Rattle.suspect_map.specs.Choose.{joined};
 ghost use Rattle.localise_cmd.specs.Commands.{KeepsWords, tools_of};
-ghost use Rattle.verilog_front_end.specs.FrontEnd.{HasError, means_by};
+ghost use Rattle.localise_cmd.specs.Formats.{HasError, means_by};
 
 use crate::asking::request_by;
+use crate::formats::AnyFormat;
 use crate::lines::refuse;
 use check_cmd::check;
 use command_words::{WordsErr, page_text};
@@ -20,15 +21,14 @@ use sim_cmd::simulate;
 use std::alloc::Global;
 use std::thread::Threads;
 use suspect_map::Granularity;
-use verilog_front_end::Verilog;
 
 /// Carries out the words behind the program's name, and answers the status of the program.
 ///
 /// | words | what is done |
 /// |---|---|
-/// | `find DESIGN TOP TRACE.. [--clock NAME] [--size K] [--budget B] [--sets M] [--suspects A,B] [--workers N] [--log NAME] [--report NAME] [--waves PREFIX]` | lists each minimal set of suspects, with a log and a report, and with waves of each set where they are wanted (`find_cmd`) |
-/// | `sim DESIGN TOP TRACE.. [--clock NAME]` | simulates the traces (`sim_cmd`) |
-/// | `check DESIGN TOP REPORT LOG TRACE.. [--workers N]` | judges a list by its report and its log (`check_cmd`) |
+/// | `find DESIGN TOP TRACE.. [--clock NAME] [--size K] [--budget B] [--sets M] [--suspects A,B] [--workers N] [--log NAME] [--report NAME] [--waves PREFIX] [--format F]` | lists each minimal set of suspects, with a log and a report, and with waves of each set where they are wanted (`find_cmd`) |
+/// | `sim DESIGN TOP TRACE.. [--clock NAME] [--format F]` | simulates the traces (`sim_cmd`) |
+/// | `check DESIGN TOP REPORT LOG TRACE.. [--workers N] [--format F]` | judges a list by its report and its log (`check_cmd`) |
 /// | `make NUMBER [--size K] [--budget B] [--sets M] [--suspects A,B] [--workers N] [--log NAME] [--report NAME] [--design NAME] [--trace NAME]` | writes an input that it makes, and lists its sets (`make_cmd`) |
 /// | `help [COMMAND]`, `--help`, `-h`, `--version` | prints a page, or the versions of what is written (`page_text` of `command_words`) |
 ///
@@ -44,8 +44,8 @@ use verilog_front_end::Verilog;
 /// | 7 | out of memory | `memory`, `front N memory`, or none |
 /// | 8 | `check`: the report's table isn't the design's, or it isn't shown that its sets are the whole list or a front of it | `no top`, `no suspect S`, or `no` and the first condition that fails |
 ///
-/// The kinds of suspects that `--suspects` may name are those that are given. Texts of designs are in Verilog. What is told to a
-/// person beside the output goes to the notes, of which no clause says anything.
+/// The kinds of suspects that `--suspects` may name are those that are given. The design is in Verilog, or with `--format aiger` in ASCII
+/// AIGER. What is told to a person beside the output goes to the notes, of which no clause says anything.
 pub fn run_words<R: Threads + Sync, S: Shelf, O: Sink, G: Gate + Sync, N: Notes>(
     rt: &R,
     alloc: Global,
@@ -65,14 +65,14 @@ pub fn run_words<R: Threads + Sync, S: Shelf, O: Sink, G: Gate + Sync, N: Notes>
         result }
 {
     let tools = Tools {
-        front: &Verilog,
+        front: &AnyFormat,
         kinds,
         runtime: rt,
         gate,
     };
     match request_by(alloc, words, kinds) {
         Ok(Request::Find(request)) => find(alloc, &tools, &request, shelf, out, notes),
-        Ok(Request::Sim(request)) => simulate(alloc, &Verilog, &request, shelf, out, notes),
+        Ok(Request::Sim(request)) => simulate(alloc, &AnyFormat, &request, shelf, out, notes),
         Ok(Request::Check(request)) => check(alloc, &tools, &request, shelf, out, notes),
         Ok(Request::Make(request)) => make(alloc, &tools, &request, shelf, out, notes),
         Ok(Request::Help(request)) => print_line(page_text(request.page), 0, out),

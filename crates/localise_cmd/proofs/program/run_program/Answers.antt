@@ -4,7 +4,7 @@ use Rattle.std.specs.Result.{result_ok}
 use Rattle.std.proofs.lemmas.Bool.{and_parts}
 use Rattle.command_contract.specs.Contract.{Run, counts_of, run_of}
 use Rattle.suspect_map.specs.Choose.{joined}
-use Rattle.verilog_front_end.specs.FrontEnd.{HasError, means_by}
+use Rattle.localise_cmd.specs.Formats.{HasError, means_by}
 use Rattle.localise_cmd.specs.Commands.{tools_of}
 use Rattle.localise_cmd.proofs.Cases.{memory-given}
 use Rattle.localise_cmd.proofs.program.run_program.Goals as goal

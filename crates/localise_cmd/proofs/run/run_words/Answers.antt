@@ -6,7 +6,7 @@ use Rattle.suspect_map.specs.Choose.{joined}
 use Rattle.requests.specs.Asked.{find, sim, check, make, help}
 use Rattle.requests.specs.Views.{check_asked, find_asked, help_asked, make_asked, sim_asked}
 use Rattle.command_words.specs.Words.{asked}
-use Rattle.verilog_front_end.specs.FrontEnd.{HasError, means_by}
+use Rattle.localise_cmd.specs.Formats.{HasError, means_by}
 use Rattle.localise_cmd.specs.Commands.{KeepsWords, case_of, tools_of}
 use Rattle.localise_cmd.proofs.Keeping.{help-keeps, memory-keeps, usage-keeps}
 use Rattle.localise_cmd.proofs.Cases.{allows-memory, asked-keeps, no_request-keeps}
