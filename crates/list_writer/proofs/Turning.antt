@@ -182,7 +182,7 @@ module _ (asked : Asked) (old new : DebugState) (found now_found : List SetWithV
           })
 
       at : CutsTurn turn → SearchCut (searched_of asked new now_found now_steps (outputs was is printed now_printed) told) sets
-      at (searching done) = record {
+      at (searching nothing done) = record {
         portions = before.portions;
         found = found-in-new asked old found steps left before.portions before.going new now_left t.holds t.searches;
         cut = λ tells. nothing-more (done (same ∙ tells)) (before.done tells);

@@ -166,9 +166,9 @@ pub record FailsTurn (t : Turn) : Type 0 where
   pub finds : FindsSet t.old t.new set
   pub stops : t.told ≡ true → StopsIn (set_writes t.asked (portion_of t set)) t.o
 
--- memory was wanted by the search, or for the writes of a set
+-- memory was wanted by the search, which found nothing then, or for the writes of a set
 pub data CutsTurn (t : Turn) : Type 0 where
-  searching : (t.told ≡ true → AreDone [] t.o) → CutsTurn t
+  searching : FindsNothing t.old t.new → (t.told ≡ true → AreDone [] t.o) → CutsTurn t
   writing : (set : SetWithValues) → FindsSet t.old t.new set → (t.told ≡ true → AreBegun (set_writes t.asked (portion_of t set)) t.o)
       → CutsTurn t
 
