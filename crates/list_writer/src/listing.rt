@@ -53,11 +53,12 @@ struct Listing<'a, D> {
 
 impl<'a, D: Search + Drop> Listing<'a, D> {
     /// Writes a set that was found, and keeps it.
-    fn take<S: Shelf, O: Sink>(
+    fn take<S: Shelf, O: Sink, N: Notes>(
         &mut self,
         set: SetWithValues,
         shelf: &mut S,
         out: &mut O,
+        notes: &mut N,
     ) -> Result<(), WriteErr>
         requires begun { S.tells shelf.old ≡ true → IsSome (S.written shelf.old self.old.job.log.now) }
         requires members { All (IsMemberOf (asked_of self.old.job).problem.groups) set.members }
@@ -86,8 +87,8 @@ impl<'a, D: Search + Drop> Listing<'a, D> {
             log,
             before: self.steps,
         };
-        put_steps(self.alloc, &self.job, &news, shelf)?;
-        print_set(self.alloc, &self.job, &set, out)?;
+        put_steps(self.alloc, &self.job, &news, shelf, notes)?;
+        print_set(self.alloc, &self.job, &set, out, notes)?;
         self.steps = steps;
         self.found.push(set).unwrap();
         Ok(())
@@ -95,10 +96,11 @@ impl<'a, D: Search + Drop> Listing<'a, D> {
 
     /// Searches for the next set and writes it; an ending where there is none. Where a slice of the budget is spent and others are left,
     /// there is neither a set nor an ending.
-    fn advance<S: Shelf, O: Sink>(
+    fn advance<S: Shelf, O: Sink, N: Notes>(
         &mut self,
         shelf: &mut S,
         out: &mut O,
+        notes: &mut N,
     ) -> Result<Option<Ending>, Stop>
         requires room { HasRoom (D.state self.old.search) self.old.left }
         requires problem { (D.state self.old.search).problem ≡ (asked_of self.old.job).problem }
@@ -118,7 +120,7 @@ impl<'a, D: Search + Drop> Listing<'a, D> {
         match next_in_slice(&mut self.search, &mut self.left) {
             Ok(Found::Set(set)) => {
                 let count = self.found.len();
-                stopped(self.take(set, shelf, out), Some(count))?;
+                stopped(self.take(set, shelf, out, notes), Some(count))?;
                 Ok(None)
             }
             Ok(Found::End) => Ok(Some(Ending::Complete)),
@@ -166,7 +168,7 @@ impl<'a, D: Search + Drop> Listing<'a, D> {
     {
         let mut sizes = Sizes::new();
         while self.found.len() < self.job.sets as usize {
-            match self.advance(shelf, out)? {
+            match self.advance(shelf, out, notes)? {
                 None => self.tell_progress(&mut sizes, notes),
                 Some(ending) => return Ok(ending),
             }
@@ -241,7 +243,12 @@ impl<'a, D: Search + Drop> Listing<'a, D> {
     }
 
     /// Writes the report.
-    fn put_report<S: Shelf>(&self, ending: Ending, shelf: &mut S) -> Result<(), WriteErr>
+    fn put_report<S: Shelf, N: Notes>(
+        &self,
+        ending: Ending,
+        shelf: &mut S,
+        notes: &mut N,
+    ) -> Result<(), WriteErr>
         requires { CanBeReported (asked_of self.now.job) self.now.found.items }
         ensures tells { S.tells shelf.new ≡ S.tells shelf.old }
         ensures texts { S.texts shelf.new ≡ S.texts shelf.old }
@@ -254,15 +261,15 @@ impl<'a, D: Search + Drop> Listing<'a, D> {
         // The text first, so that the report isn't begun where there is no memory for it.
         match text_of_report(self.alloc, &self.job, &self.found, ending) {
             Ok(text) => {
-                begin_text(shelf, self.job.report)?;
-                put_piece(shelf, self.job.report, text.as_slice())
+                begin_text(shelf, self.job.report, notes)?;
+                put_piece(shelf, self.job.report, text.as_slice(), notes)
             }
             Err(NoMemory) => Err(WriteErr::NoMemory),
         }
     }
 
     /// Writes the waves, where they are asked for.
-    fn put_waves<S: Shelf>(&self, shelf: &mut S) -> Result<(), WriteErr>
+    fn put_waves<S: Shelf, N: Notes>(&self, shelf: &mut S, notes: &mut N) -> Result<(), WriteErr>
         requires waved { CanBeWaved (waved_for (asked_of self.now.job)) (asked_of self.now.job).problem.order }
         requires values { HaveValues (waved_for (asked_of self.now.job)) self.now.found.items }
         ensures tells { S.tells shelf.new ≡ S.tells shelf.old }
@@ -280,6 +287,7 @@ impl<'a, D: Search + Drop> Listing<'a, D> {
                 &waves_under(&self.job, prefix),
                 &self.found,
                 shelf,
+                notes,
             ),
         }
     }
@@ -311,14 +319,14 @@ impl<'a, D: Search + Drop> Listing<'a, D> {
             log: self.search.log(),
             before: self.steps,
         };
-        put_steps(self.alloc, &self.job, &rest, shelf)?;
+        put_steps(self.alloc, &self.job, &rest, shelf, notes)?;
         notes.note(&Note::Written { name: self.job.log });
-        self.put_report(ending, shelf)?;
+        self.put_report(ending, shelf, notes)?;
         notes.note(&Note::Written {
             name: self.job.report,
         });
-        self.put_waves(shelf)?;
-        print_ending(self.alloc, ending, self.found.len(), out)
+        self.put_waves(shelf, notes)?;
+        print_ending(self.alloc, ending, self.found.len(), out, notes)
     }
 
     /// Lists the sets, and writes all that is due.
@@ -344,8 +352,8 @@ impl<'a, D: Search + Drop> Listing<'a, D> {
             (outputs (S.written shelf.old) (S.written shelf.new) (O.written out.old) (O.written out.new)) result }
         ensures causes { StopCauses (counts_of (S.faults shelf.old) (S.faults shelf.new) (O.faults out.old) (O.faults out.new)) result }
     {
-        stopped(begin_log(&self.job, shelf), None)?;
-        stopped(put_head(self.alloc, &self.job, shelf), Some(0))?;
+        stopped(begin_log(&self.job, shelf, notes), None)?;
+        stopped(put_head(self.alloc, &self.job, shelf, notes), Some(0))?;
         let ending = self.search_on(shelf, out, notes)?;
         let sets = Some(self.found.len());
         if self.check(workers, ending).is_err() {
@@ -367,13 +375,18 @@ fn is_front(ending: Ending) -> bool
 }
 
 /// Prints that memory was wanted, behind so many sets that are printed.
-fn tell_memory<O: Sink>(alloc: Global, sets: Option<usize>, out: &mut O) -> Outcome
+fn tell_memory<O: Sink, N: Notes>(
+    alloc: Global,
+    sets: Option<usize>,
+    out: &mut O,
+    notes: &mut N,
+) -> Outcome
     ensures tells { O.tells out.new ≡ O.tells out.old }
     ensures left { O.tells out.old ≡ true → (written : List ℕ → Option (List ℕ))
         → TellsMemory sets (on_sink written (O.written out.old) (O.written out.new)) result }
     ensures cause { MemoryCause (O.faults out.old) (O.faults out.new) result }
 {
-    match print_memory(alloc, sets, out) {
+    match print_memory(alloc, sets, out, notes) {
         Ok(()) => Outcome::Memory,
         Err(WriteErr::Failed) => Outcome::Failed,
         Err(WriteErr::NoMemory) => Outcome::Memory,
@@ -420,6 +433,6 @@ pub fn list<R: Threads + Sync, G: Gate + Sync, D: Search + Drop, S: Shelf, O: Si
     match listing.run(workers, shelf, out, notes) {
         Ok(ending) => Outcome::Ended(ending),
         Err(Stop::Failed) => Outcome::Failed,
-        Err(Stop::Memory(sets)) => tell_memory(alloc, sets, out),
+        Err(Stop::Memory(sets)) => tell_memory(alloc, sets, out, notes),
     }
 }

@@ -15,13 +15,18 @@ use design_core::SetWithValues;
 use io_ports::{Shelf, Sink};
 use loc_base::NoMemory;
 use log_portions::{head_text, portion};
+use refusal::Notes;
 use report_doc::set_lines;
 use report_doc::types::Ending;
 use std::alloc::Global;
 use write_order::{WriteErr, begin_text, print_piece, put_piece};
 
 /// Begins the log.
-pub(crate) fn begin_log<S: Shelf>(job: &Job, shelf: &mut S) -> Result<(), WriteErr>
+pub(crate) fn begin_log<S: Shelf, N: Notes>(
+    job: &Job,
+    shelf: &mut S,
+    notes: &mut N,
+) -> Result<(), WriteErr>
     ensures tells { S.tells shelf.new ≡ S.tells shelf.old }
     ensures texts { S.texts shelf.new ≡ S.texts shelf.old }
     ensures left { S.tells shelf.old ≡ true → (printed : List ℕ)
@@ -29,12 +34,17 @@ pub(crate) fn begin_log<S: Shelf>(job: &Job, shelf: &mut S) -> Result<(), WriteE
     ensures begun { S.tells shelf.old ≡ true → OnOk result (IsSome (S.written shelf.new job.now.log.now)) }
     ensures cause { WriteCause (S.faults shelf.old) (S.faults shelf.new) result }
 {
-    begin_text(shelf, job.log)
+    begin_text(shelf, job.log, notes)
 }
 
 /// Puts the head of the log.
 #[tactic(auto, using(crate::proofs::Putting::put_rules))]
-pub(crate) fn put_head<S: Shelf>(alloc: Global, job: &Job, shelf: &mut S) -> Result<(), WriteErr>
+pub(crate) fn put_head<S: Shelf, N: Notes>(
+    alloc: Global,
+    job: &Job,
+    shelf: &mut S,
+    notes: &mut N,
+) -> Result<(), WriteErr>
     requires begun { S.tells shelf.old ≡ true → IsSome (S.written shelf.old job.now.log.now) }
     ensures tells { S.tells shelf.new ≡ S.tells shelf.old }
     ensures texts { S.texts shelf.new ≡ S.texts shelf.old }
@@ -46,7 +56,7 @@ pub(crate) fn put_head<S: Shelf>(alloc: Global, job: &Job, shelf: &mut S) -> Res
     ensures cause { WriteCause (S.faults shelf.old) (S.faults shelf.new) result }
 {
     match head_text(alloc, &job.inputs) {
-        Ok(head) => put_piece(shelf, job.log, &head),
+        Ok(head) => put_piece(shelf, job.log, &head, notes),
         Err(NoMemory) => Err(WriteErr::NoMemory),
     }
 }
@@ -60,11 +70,12 @@ pub(crate) struct Written<'a> {
 
 /// Puts the lines of the steps that aren't written.
 #[tactic(auto, using(crate::proofs::Putting::put_rules))]
-pub(crate) fn put_steps<S: Shelf>(
+pub(crate) fn put_steps<S: Shelf, N: Notes>(
     alloc: Global,
     job: &Job,
     written: &Written,
     shelf: &mut S,
+    notes: &mut N,
 ) -> Result<(), WriteErr>
     requires begun { S.tells shelf.old ≡ true → IsSome (S.written shelf.old job.now.log.now) }
     ensures tells { S.tells shelf.new ≡ S.tells shelf.old }
@@ -76,18 +87,19 @@ pub(crate) fn put_steps<S: Shelf>(
     ensures cause { WriteCause (S.faults shelf.old) (S.faults shelf.new) result }
 {
     match portion(alloc, written.log, written.before) {
-        Ok(text) => put_piece(shelf, job.log, &text),
+        Ok(text) => put_piece(shelf, job.log, &text, notes),
         Err(NoMemory) => Err(WriteErr::NoMemory),
     }
 }
 
 /// Prints the lines of a set.
 #[tactic(auto, using(crate::proofs::Putting::put_rules))]
-pub(crate) fn print_set<O: Sink>(
+pub(crate) fn print_set<O: Sink, N: Notes>(
     alloc: Global,
     job: &Job,
     set: &SetWithValues,
     out: &mut O,
+    notes: &mut N,
 ) -> Result<(), WriteErr>
     requires members { All (IsMemberOf (asked_of job.now).problem.groups) set.now.members }
     requires within { AreWithin (asked_of job.now).problem.design.places.items (asked_of job.now).problem.groups }
@@ -98,18 +110,19 @@ pub(crate) fn print_set<O: Sink>(
 {
     let question = &job.question;
     match set_lines(alloc, set, question.groups, &question.design.places) {
-        Ok(lines) => print_piece(out, lines.as_slice()),
+        Ok(lines) => print_piece(out, lines.as_slice(), notes),
         Err(NoMemory) => Err(WriteErr::NoMemory),
     }
 }
 
 /// Prints the line of an ending, with the number of sets.
 #[tactic(auto, using(crate::proofs::Putting::put_rules))]
-pub(crate) fn print_ending<O: Sink>(
+pub(crate) fn print_ending<O: Sink, N: Notes>(
     alloc: Global,
     ending: Ending,
     count: usize,
     out: &mut O,
+    notes: &mut N,
 ) -> Result<(), WriteErr>
     ensures tells { O.tells out.new ≡ O.tells out.old }
     ensures left { O.tells out.old ≡ true → (written : List ℕ → Option (List ℕ))
@@ -117,17 +130,18 @@ pub(crate) fn print_ending<O: Sink>(
     ensures cause { PrintCause (O.faults out.old) (O.faults out.new) result }
 {
     match ending_line(alloc, ending, count) {
-        Ok(line) => print_piece(out, &line),
+        Ok(line) => print_piece(out, &line, notes),
         Err(NoMemory) => Err(WriteErr::NoMemory),
     }
 }
 
 /// Prints that memory was wanted.
 #[tactic(auto, using(crate::proofs::Putting::put_rules))]
-pub(crate) fn print_memory<O: Sink>(
+pub(crate) fn print_memory<O: Sink, N: Notes>(
     alloc: Global,
     sets: Option<usize>,
     out: &mut O,
+    notes: &mut N,
 ) -> Result<(), WriteErr>
     ensures tells { O.tells out.new ≡ O.tells out.old }
     ensures left { O.tells out.old ≡ true → (written : List ℕ → Option (List ℕ))
@@ -135,7 +149,7 @@ pub(crate) fn print_memory<O: Sink>(
     ensures cause { PrintCause (O.faults out.old) (O.faults out.new) result }
 {
     match memory_line(alloc, sets) {
-        Ok(line) => print_piece(out, &line),
+        Ok(line) => print_piece(out, &line, notes),
         Err(NoMemory) => Err(WriteErr::NoMemory),
     }
 }

@@ -58,8 +58,8 @@ fn write_text<S: Shelf, N: Notes>(
         → Leaves (text_writes name.now text.now) (on_shelf (S.written shelf.old) (S.written shelf.new) printed) result }
     ensures cause { WriteCause (S.faults shelf.old) (S.faults shelf.new) result }
 {
-    begin_text(shelf, name)?;
-    put_piece(shelf, name, text.as_slice())?;
+    begin_text(shelf, name, notes)?;
+    put_piece(shelf, name, text.as_slice(), notes)?;
     notes.note(&Note::Written { name });
     Ok(())
 }

@@ -17,6 +17,7 @@ use cycle_sim::Sim;
 use design_core::{SetWithValues, Trace, Values};
 use io_ports::Shelf;
 use loc_base::{Bits, Bytes, NoMemory};
+use refusal::Notes;
 use std::alloc::Global;
 use vcd_waves::{Wave, wave_text};
 use write_order::{WriteErr, begin_text, put_piece};
@@ -109,11 +110,12 @@ impl Writer<'_> {
     }
 
     /// Writes the wave of a trace with the values of the set of a number.
-    fn put_wave<S: Shelf>(
+    fn put_wave<S: Shelf, N: Notes>(
         &mut self,
         shown: &Shown,
         number: usize,
         shelf: &mut S,
+        notes: &mut N,
     ) -> Result<(), WriteErr>
         requires writer { IsWriter self.old }
         requires shown { IsShown (waved_of self.old.waves) shown.now }
@@ -135,16 +137,17 @@ impl Writer<'_> {
         let Ok(name) = wave_name(self.alloc, self.waves.prefix, number, shown.trace + 1) else {
             return Err(WriteErr::NoMemory);
         };
-        begin_text(shelf, name.as_str())?;
-        put_piece(shelf, name.as_str(), text.as_slice())
+        begin_text(shelf, name.as_str(), notes)?;
+        put_piece(shelf, name.as_str(), text.as_slice(), notes)
     }
 
     /// Writes the waves of the set of a number, for each trace.
-    fn put_set<S: Shelf>(
+    fn put_set<S: Shelf, N: Notes>(
         &mut self,
         values: &Values,
         number: usize,
         shelf: &mut S,
+        notes: &mut N,
     ) -> Result<(), WriteErr>
         requires writer { IsWriter self.old }
         requires values { AreValuesFor self.old.waves.design.now self.old.waves.traces.now values.now }
@@ -166,7 +169,7 @@ impl Writer<'_> {
                 trace: j,
                 first,
             };
-            self.put_wave(&shown, number, shelf)?;
+            self.put_wave(&shown, number, shelf, notes)?;
             first += cycle_count(trace_at(traces, j));
         }
         Ok(())
@@ -181,11 +184,12 @@ fn are_due(waves: &Waves, sets: &[SetWithValues]) -> bool
 }
 
 /// Writes the waves of sets, of which there are some.
-fn put_all<S: Shelf>(
+fn put_all<S: Shelf, N: Notes>(
     alloc: Global,
     waves: &Waves,
     sets: &[SetWithValues],
     shelf: &mut S,
+    notes: &mut N,
 ) -> Result<(), WriteErr>
     requires can { CanBeWaved (waved_of waves.now) waves.now.order.now }
     requires values { HaveValues (waved_of waves.now) sets.now }
@@ -207,18 +211,19 @@ fn put_all<S: Shelf>(
         sim,
     };
     for s in 0..sets.len() {
-        writer.put_set(&set_at(sets, s).values, s + 1, shelf)?;
+        writer.put_set(&set_at(sets, s).values, s + 1, shelf, notes)?;
     }
     Ok(())
 }
 
 /// Writes the waves of sets: by set and then trace, each made, begun and put before the next. In each the outputs are those that the
 /// run with the set's values gives, all of them checked, and the places of the set stand in a scope of their own.
-pub fn put_waves<S: Shelf>(
+pub fn put_waves<S: Shelf, N: Notes>(
     alloc: Global,
     waves: &Waves,
     sets: &[SetWithValues],
     shelf: &mut S,
+    notes: &mut N,
 ) -> Result<(), WriteErr>
     requires can { CanBeWaved (waved_of waves.now) waves.now.order.now }
     requires values { HaveValues (waved_of waves.now) sets.now }
@@ -230,7 +235,7 @@ pub fn put_waves<S: Shelf>(
     ensures cause { WriteCause (S.faults shelf.old) (S.faults shelf.new) result }
 {
     if are_due(waves, sets) {
-        put_all(alloc, waves, sets, shelf)
+        put_all(alloc, waves, sets, shelf, notes)
     } else {
         Ok(())
     }

@@ -3,6 +3,7 @@ ghost use Rattle.std.specs.Prelude.{◌≡◌, [], ◌∷◌, ℕ, List, true, O
 ghost use Rattle.write_order.specs.Writes.{Leaves, PrintCause, WriteCause, begin_text, on_shelf, on_sink, print_piece, put_piece};
 
 use io_ports::{PutErr, Shelf, Sink, SinkFault};
+use refusal::{Note, Notes};
 use thiserror::Error;
 
 /// Why a write isn't carried out.
@@ -16,9 +17,13 @@ pub enum WriteErr {
     NoMemory,
 }
 
-/// Makes the text under a name empty.
+/// Makes the text under a name empty. Where that fails it is told.
 #[tactic(auto, using(crate::proofs::Carried::one_write))]
-pub fn begin_text<S: Shelf>(shelf: &mut S, name: &str) -> Result<(), WriteErr>
+pub fn begin_text<S: Shelf, N: Notes>(
+    shelf: &mut S,
+    name: &str,
+    notes: &mut N,
+) -> Result<(), WriteErr>
     ensures tells { S.tells shelf.new ≡ S.tells shelf.old }
     ensures texts { S.texts shelf.new ≡ S.texts shelf.old }
     ensures left { S.tells shelf.old ≡ true → (printed : List ℕ)
@@ -28,14 +33,22 @@ pub fn begin_text<S: Shelf>(shelf: &mut S, name: &str) -> Result<(), WriteErr>
 {
     match shelf.begin(name) {
         Ok(()) => Ok(()),
-        Err(PutErr::Failed(_)) => Err(WriteErr::Failed),
+        Err(PutErr::Failed(cause)) => {
+            notes.note(&Note::Unwritten { name, cause });
+            Err(WriteErr::Failed)
+        }
         Err(PutErr::NoMemory) => Err(WriteErr::NoMemory),
     }
 }
 
-/// Puts a piece behind the text under a name that was begun.
+/// Puts a piece behind the text under a name that was begun. Where that fails it is told.
 #[tactic(auto, using(crate::proofs::Carried::one_write))]
-pub fn put_piece<S: Shelf>(shelf: &mut S, name: &str, piece: &[u8]) -> Result<(), WriteErr>
+pub fn put_piece<S: Shelf, N: Notes>(
+    shelf: &mut S,
+    name: &str,
+    piece: &[u8],
+    notes: &mut N,
+) -> Result<(), WriteErr>
     requires begun { S.tells shelf.old ≡ true → IsSome (S.written shelf.old name.now) }
     ensures tells { S.tells shelf.new ≡ S.tells shelf.old }
     ensures texts { S.texts shelf.new ≡ S.texts shelf.old }
@@ -46,14 +59,21 @@ pub fn put_piece<S: Shelf>(shelf: &mut S, name: &str, piece: &[u8]) -> Result<()
 {
     match shelf.put(name, piece) {
         Ok(()) => Ok(()),
-        Err(PutErr::Failed(_)) => Err(WriteErr::Failed),
+        Err(PutErr::Failed(cause)) => {
+            notes.note(&Note::Unwritten { name, cause });
+            Err(WriteErr::Failed)
+        }
         Err(PutErr::NoMemory) => Err(WriteErr::NoMemory),
     }
 }
 
-/// Prints a piece.
+/// Prints a piece. Where that fails it is told.
 #[tactic(auto, using(crate::proofs::Carried::one_write))]
-pub fn print_piece<O: Sink>(out: &mut O, piece: &[u8]) -> Result<(), WriteErr>
+pub fn print_piece<O: Sink, N: Notes>(
+    out: &mut O,
+    piece: &[u8],
+    notes: &mut N,
+) -> Result<(), WriteErr>
     ensures tells { O.tells out.new ≡ O.tells out.old }
     ensures left { O.tells out.old ≡ true → (written : List ℕ → Option (List ℕ))
         → Leaves (print_piece piece.now ∷ []) (on_sink written (O.written out.old) (O.written out.new)) result }
@@ -61,7 +81,11 @@ pub fn print_piece<O: Sink>(out: &mut O, piece: &[u8]) -> Result<(), WriteErr>
 {
     match out.put(piece) {
         Ok(()) => Ok(()),
-        Err(SinkFault::Failed(_)) => Err(WriteErr::Failed),
+        Err(SinkFault::Failed(cause)) => {
+            // The output has no name.
+            notes.note(&Note::Unwritten { name: "", cause });
+            Err(WriteErr::Failed)
+        }
         Err(SinkFault::NoMemory) => Err(WriteErr::NoMemory),
     }
 }
