@@ -1,15 +1,15 @@
-//! The check of the whole log of a list, by several workers.
+//! The check of the whole log of a list.
 ghost use Rattle.std.specs.Prelude.{◌≡◌, IfOk, IsTrue};
 ghost use Rattle.clause_base.specs.Literal.{has_distinct_variables};
 ghost use Rattle.set_enum.specs.Sets.{block_of};
-ghost use Rattle.list_writer.specs.Checks.{AreSets, CanBeChecked, blocks_for};
+ghost use Rattle.list_writer.specs.Checks.{AreSets, CanBeChecked, IsCheckOf, blocks_for};
 ghost use Rattle.list_writer.specs.Jobs.{IsUpTo};
 
 use crate::search::Search;
+use crate::verdict::{Checked, check_search};
 use clause_base::{Clause, Lit};
 use design_core::SetWithValues;
 use loc_base::{Gate, NoMemory, Workers};
-use proof_check::{Claim, check_log_parallel};
 use std::alloc::Global;
 use std::thread::Threads;
 
@@ -40,25 +40,21 @@ fn blocks_of(alloc: Global, found: &[SetWithValues]) -> Result<Vec<Clause>, NoMe
     Ok(blocks)
 }
 
-/// Checks the log after the form, with the blocks of the sets that were found. It is accepted, so that nothing but want of memory
-/// is answered.
-pub(crate) fn check_log<R: Threads + Sync, G: Gate + Sync, D: Search>(
+/// Checks the log after the form, with the blocks of the sets that were found. It is accepted, so that else nothing but want of
+/// memory is answered.
+pub(crate) fn check_log<'a, R: Threads + Sync, G: Gate + Sync, D: Search>(
     alloc: Global,
     workers: &Workers<R, G>,
-    search: &D,
+    search: &'a D,
     found: &[SetWithValues],
-) -> Result<(), NoMemory>
+) -> Result<Checked<'a>, NoMemory>
     requires workers { IsUpTo 64 workers.now.count }
     requires can { CanBeChecked (D.state search.now) found.now }
+    ensures { IfOk result (IsCheckOf (D.state search.now).form (D.state search.now).log) }
 {
     let blocks = blocks_of(alloc, found)?;
-    let claim = Claim {
-        form: search.form(),
-        blocks: &blocks,
-        log: search.log(),
-    };
-    match check_log_parallel(alloc, workers, &claim)? {
-        None => Ok(()),
-        Some(_) => unreachable!(),
+    match check_search(alloc, workers, search, &blocks)? {
+        Some(checked) => Ok(checked),
+        None => unreachable!(),
     }
 }

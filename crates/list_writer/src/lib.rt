@@ -13,6 +13,7 @@ mod report;
 mod search;
 mod slice;
 mod stop;
+mod verdict;
 mod waving;
 mod writes;
 

@@ -11,7 +11,7 @@ ghost use Rattle.list_writer.specs.Lines.{ending_status};
 ghost use Rattle.list_writer.specs.Going.{WriteCauses, closing_writes, outputs, report_writes, searched_of, turn_of};
 ghost use Rattle.list_writer.specs.Jobs.{IsJob, IsUpTo, asked_of};
 ghost use Rattle.list_writer.specs.Outcomes.{Leaves as Ends, OutcomeCause};
-ghost use Rattle.list_writer.specs.Checks.{CanBeChecked};
+ghost use Rattle.list_writer.specs.Checks.{CanBeChecked, IsVerdictOn};
 ghost use Rattle.list_writer.specs.Reporting.{CanBeReported};
 ghost use Rattle.list_writer.specs.Texts.{report_for, waved_for, waves};
 ghost use Rattle.set_waves.specs.Names.{IsWave};
@@ -25,6 +25,7 @@ use crate::report::text_of_report;
 use crate::search::Search;
 use crate::slice::next_in_slice;
 use crate::stop::{Stop, stopped};
+use crate::verdict::Verdict;
 use crate::waving::waves_under;
 use crate::writes::{
     Written, begin_log, print_ending, print_memory, print_set, put_head, put_steps,
@@ -232,13 +233,24 @@ impl<'a, D: Search + Drop> Listing<'a, D> {
         &self,
         workers: &Workers<R, G>,
         ending: Ending,
-    ) -> Result<(), NoMemory>
+    ) -> Result<Verdict<'_>, NoMemory>
         requires workers { IsUpTo 64 workers.now.count }
         requires can { CanBeChecked (D.state self.now.search) self.now.found.items }
+        ensures ending { IfOk result (λ verdict. verdict.ending ≡ ending) }
+        ensures shown { IfOk result (IsVerdictOn (D.state self.now.search)) }
     {
         match ending {
-            Ending::Complete => check_log(self.alloc, workers, &self.search, &self.found),
-            Ending::Budget | Ending::Sets | Ending::Earlier => Ok(()),
+            Ending::Complete => {
+                let checked = check_log(self.alloc, workers, &self.search, &self.found)?;
+                Ok(Verdict {
+                    ending,
+                    checked: Some(checked),
+                })
+            }
+            Ending::Budget | Ending::Sets | Ending::Earlier => Ok(Verdict {
+                ending,
+                checked: None,
+            }),
         }
     }
 
@@ -295,12 +307,13 @@ impl<'a, D: Search + Drop> Listing<'a, D> {
     /// Writes what stands behind the search: the rest of the log, the report, the waves, and the last line.
     fn close<S: Shelf, O: Sink, N: Notes>(
         &self,
-        ending: Ending,
+        verdict: &Verdict,
         shelf: &mut S,
         out: &mut O,
         notes: &mut N,
     ) -> Result<(), WriteErr>
         requires begun { S.tells shelf.old ≡ true → IsSome (S.written shelf.old self.now.job.log.now) }
+        requires shown { IsVerdictOn (D.state self.now.search) verdict.now }
         requires report { CanBeReported (asked_of self.now.job) self.now.found.items }
         requires waved { CanBeWaved (waved_for (asked_of self.now.job)) (asked_of self.now.job).problem.order }
         requires values { HaveValues (waved_for (asked_of self.now.job)) self.now.found.items }
@@ -310,9 +323,9 @@ impl<'a, D: Search + Drop> Listing<'a, D> {
         ensures left { S.tells shelf.old ≡ true → O.tells out.old ≡ true
             → (runs : Runs) → AreRuns (waved_for (asked_of self.now.job)) self.now.found.items runs
             → Leaves (closing_writes (asked_of self.now.job) self.now.found.items
-            (drop self.now.steps (D.state self.now.search).log) ending runs)
+            (drop self.now.steps (D.state self.now.search).log) verdict.now.ending runs)
             (outputs (S.written shelf.old) (S.written shelf.new) (O.written out.old) (O.written out.new)) result }
-        ensures report { OnOk result (IsReport (report_for (asked_of self.now.job) self.now.found.items ending)) }
+        ensures report { OnOk result (IsReport (report_for (asked_of self.now.job) self.now.found.items verdict.now.ending)) }
         ensures causes { WriteCauses (counts_of (S.faults shelf.old) (S.faults shelf.new) (O.faults out.old) (O.faults out.new)) result }
     {
         let rest = Written {
@@ -321,12 +334,12 @@ impl<'a, D: Search + Drop> Listing<'a, D> {
         };
         put_steps(self.alloc, &self.job, &rest, shelf, notes)?;
         notes.note(&Note::Written { name: self.job.log });
-        self.put_report(ending, shelf, notes)?;
+        self.put_report(verdict.ending, shelf, notes)?;
         notes.note(&Note::Written {
             name: self.job.report,
         });
         self.put_waves(shelf, notes)?;
-        print_ending(self.alloc, ending, self.found.len(), out, notes)
+        print_ending(self.alloc, verdict.ending, self.found.len(), out, notes)
     }
 
     /// Lists the sets, and writes all that is due.
@@ -356,10 +369,10 @@ impl<'a, D: Search + Drop> Listing<'a, D> {
         stopped(put_head(self.alloc, &self.job, shelf, notes), Some(0))?;
         let ending = self.search_on(shelf, out, notes)?;
         let sets = Some(self.found.len());
-        if self.check(workers, ending).is_err() {
+        let Ok(verdict) = self.check(workers, ending) else {
             return Err(Stop::Memory(sets));
-        }
-        stopped(self.close(ending, shelf, out, notes), sets)?;
+        };
+        stopped(self.close(&verdict, shelf, out, notes), sets)?;
         Ok(ending)
     }
 }

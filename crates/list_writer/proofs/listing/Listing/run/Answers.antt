@@ -95,8 +95,8 @@ check-requires-clause-can g c κs within =
     can-be-checked asked s c.search_on.new.self.found.items c.search_on.new.self.steps c.in_ok-ending.ending ends.portions ends.ended
     c.requires.job.few
 
-pub returns-then-is_err-clause-left : goal.returns-then-is_err-clause-left
-returns-then-is_err-clause-left g c = λ told_shelf told_sink.
+pub returns-in_default-clause-left : goal.returns-in_default-clause-left
+returns-in_default-clause-left g c = λ told_shelf told_sink.
     let job = c.args.self.now.job in
     let asked = asked_of job in
     let state = g.D.Search.state in
@@ -200,11 +200,13 @@ returns-in_err-stopped-3-clause-left g c =
     let runs : Runs = some.0 in
     let are : AreRuns (waved_for asked) (found_of ends.portions) runs = some.1 in
     let left : Leaves (closing_writes asked found (drop steps s.log) c.in_ok-ending.ending runs) (outputs w3 w4 p3 p4) c.close.result =
-    subst (λ (j : Job). AreRuns (waved_for (asked_of j)) found runs
-    → Leaves (closing_writes (asked_of j) found (drop steps s.log) c.in_ok-ending.ending runs) (outputs w3 w4 p3 p4) c.close.result)
+    subst (λ (e : Ending). Leaves (closing_writes asked found (drop steps s.log) e runs) (outputs w3 w4 p3 p4) c.close.result)
+    c.in-Ok.ensures.ending
+    (subst (λ (j : Job). AreRuns (waved_for (asked_of j)) found runs
+    → Leaves (closing_writes (asked_of j) found (drop steps s.log) c.in-Ok.verdict.ending runs) (outputs w3 w4 p3 p4) c.close.result)
     c.in_ok-ending.ensures.job
     (c.close.ensures.left (c.in_ok-ending.ensures.tells_shelf ∙ told-2) (c.in_ok-ending.ensures.tells_sink ∙ told_sink) runs)
-    (subst (λ (f : List SetWithValues). AreRuns (waved_for asked) f runs) (sym ends.ended.found_are) are) in
+    (subst (λ (f : List SetWithValues). AreRuns (waved_for asked) f runs) (sym ends.ended.found_are) are)) in
     close-stopped asked s found steps c.in_ok-ending.ending ends.portions ends.ended is runs are w0 w3 w4 p0 p3 p4 opening-done c.close.result
     c.in_err-stopped-3.field-0.0 (ap (λ (n : ℕ). stopped c.close.result (Some n)) (sym many) ∙ sym c.stopped-3.ensures
     ∙ c.in_err-stopped-3.was) left)
@@ -251,23 +253,26 @@ returns-clause-left g c = λ told_shelf told_sink.
     let runs : Runs = some.0 in
     let are : AreRuns (waved_for asked) (found_of ends.portions) runs = some.1 in
     let left : Leaves (closing_writes asked found (drop steps s.log) c.in_ok-ending.ending runs) (outputs w3 w4 p3 p4) c.close.result =
-    subst (λ (j : Job). AreRuns (waved_for (asked_of j)) found runs
-    → Leaves (closing_writes (asked_of j) found (drop steps s.log) c.in_ok-ending.ending runs) (outputs w3 w4 p3 p4) c.close.result)
+    subst (λ (e : Ending). Leaves (closing_writes asked found (drop steps s.log) e runs) (outputs w3 w4 p3 p4) c.close.result)
+    c.in-Ok.ensures.ending
+    (subst (λ (j : Job). AreRuns (waved_for (asked_of j)) found runs
+    → Leaves (closing_writes (asked_of j) found (drop steps s.log) c.in-Ok.verdict.ending runs) (outputs w3 w4 p3 p4) c.close.result)
     c.in_ok-ending.ensures.job
     (c.close.ensures.left (c.in_ok-ending.ensures.tells_shelf ∙ told-2) (c.in_ok-ending.ensures.tells_sink ∙ told_sink) runs)
-    (subst (λ (f : List SetWithValues). AreRuns (waved_for asked) f runs) (sym ends.ended.found_are) are) in
+    (subst (λ (f : List SetWithValues). AreRuns (waved_for asked) f runs) (sym ends.ended.found_are) are)) in
     let report : IsReport (report_for asked (found_of ends.portions) c.in_ok-ending.ending) =
     subst (λ (f : List SetWithValues). IsReport (report_for asked f c.in_ok-ending.ending)) ends.ended.found_are
     (subst (λ (j : Job). IsReport (report_for (asked_of j) found c.in_ok-ending.ending)) c.in_ok-ending.ensures.job
-    (stopped-on_ok (IsReport (report_for (asked_of c.search_on.new.self.job) found c.in_ok-ending.ending)) c.close.result
-    (Some c.len.result) c.in_ok-stopped-3.field-0 (sym c.stopped-3.ensures ∙ c.in_ok-stopped-3.was) c.close.ensures.report)) in
+    (subst (λ (e : Ending). IsReport (report_for (asked_of c.search_on.new.self.job) found e)) c.in-Ok.ensures.ending
+    (stopped-on_ok (IsReport (report_for (asked_of c.search_on.new.self.job) found c.in-Ok.verdict.ending)) c.close.result
+    (Some c.len.result) c.in_ok-stopped-3.field-0 (sym c.stopped-3.ensures ∙ c.in_ok-stopped-3.was) c.close.ensures.report))) in
     close-done asked s found steps c.in_ok-ending.ending ends.portions ends.ended is runs are w0 w3 w4 p0 p3 p4 opening-done report
     (stopped-ok (closing_writes asked found (drop steps s.log) c.in_ok-ending.ending runs) (outputs w3 w4 p3 p4) c.close.result
     (Some c.len.result)
     c.in_ok-stopped-3.field-0 (sym c.stopped-3.ensures ∙ c.in_ok-stopped-3.was) left)
 
-pub returns-then-is_err-clause-causes : goal.returns-then-is_err-clause-causes
-returns-then-is_err-clause-causes g c =
+pub returns-in_default-clause-causes : goal.returns-in_default-clause-causes
+returns-in_default-clause-causes g c =
     let faults = g.S.Shelf.faults in
     let begun = stopped-same (faults c.args.shelf.now) (faults c.begin_log.new.shelf) c.begin_log.result None c.in_ok-stopped.field-0
     (sym c.stopped.ensures ∙ c.in_ok-stopped.was) c.begin_log.ensures.cause in
