@@ -12,7 +12,7 @@ use suspect_map::Group;
 
 /// What of a report's top and suspects isn't as it is asked of.
 #[derive(Clone, Copy, Debug)]
-pub(crate) enum TableFault {
+pub enum TableFault {
     /// Its top is another one.
     Top,
     /// The suspect of that number, from 1, is another one, is lacking, or is one too many.

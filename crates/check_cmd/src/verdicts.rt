@@ -15,7 +15,7 @@ use std::alloc::Global;
 
 /// What is judged of a report and its log.
 #[derive(Clone, Copy, Debug)]
-pub(crate) enum Judgement {
+pub enum Judgement {
     /// Its top or a suspect is another than it is asked of.
     OfTable { fault: TableFault },
     /// Both are those, and this is judged of its list.

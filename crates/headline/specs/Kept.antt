@@ -1,10 +1,10 @@
 -- What is promised of each run of `run_words`, as a run of this crate has it.
 use Rattle.std.specs.Prelude.{ℕ, ◌≡◌, List, Ok, true}
 use Rattle.command_words.specs.Words.{asked as asked_by}
-use Rattle.requests.specs.Asked.{Asked, find}
+use Rattle.requests.specs.Asked.{Asked, check, find}
 use Rattle.localise_cmd.specs.Commands.{KeepsWords, Tools, tools_of}
 use Rattle.localise_cmd.specs.Formats.{HasError, means_by}
-use Rattle.headline.specs.Runs.{FindRun, WordsRun}
+use Rattle.headline.specs.Runs.{CheckRun, FindRun, WordsRun}
 
 -- a run works with these kinds, and its designs are in the format that the words name
 abbrev pub tools_for : WordsRun → Tools
@@ -18,3 +18,6 @@ pub record IsKept (of : WordsRun) (asked : Asked) : Type 0 where
 
 abbrev pub IsKeptFind : FindRun → Type 0
 IsKeptFind r = IsKept r.of (find r.asked)
+
+abbrev pub IsKeptCheck : CheckRun → Type 0
+IsKeptCheck r = IsKept r.of (check r.asked)

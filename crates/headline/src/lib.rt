@@ -4,4 +4,4 @@
 
 mod laws;
 
-pub use laws::{front_is_meant, list_is_meant};
+pub use laws::{front_is_meant, list_is_meant, yes_is_meant};
