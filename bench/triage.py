@@ -71,7 +71,7 @@ def is_right(program, name, text, dump):
             with open(os.path.join(room, file), "wb") as made:
                 made.write(it)
         words = [program, "sim", os.path.join(room, "m.v"), name, os.path.join(room, "dump.vcd"), *CLOCK]
-        return subprocess.run(words, stdout=subprocess.PIPE, text=True).stdout.endswith("trace 1 ok\n")
+        return subprocess.run(words, capture_output=True, text=True).stdout.endswith("trace 1 ok\n")
 
 
 def causes_of(program, name, text, bugs, unit, room):

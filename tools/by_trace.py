@@ -22,6 +22,8 @@ All pairs that stand are looked at before the first `find` begins. Where all dum
 of suspects. --sets counts for each dump, and the joined list may be longer; where the joining itself gets too large (100,000,000 pairs of
 sets in a step, or 1,000,000 unions) the line `limit join` is printed and no set.
 
+What a run of the program says on standard error is handed on where it refuses or fails, each line behind the dump that it is of.
+
 --only N looks at the dump N alone, and neither checks nor joins: for a scheduler that starts the runs. --join searches no dump: the pairs
 have to be there. The other options are those of `find`, for each dump; --program is the program (`localise`). Behind `--` all words are
 names. Two runs of this script at once in one folder, with one prefix, have to be of different dumps. A run that is asked to end (SIGINT,
@@ -72,12 +74,13 @@ class Answer:
 
 # ---- the program's answers
 
-def run(asked, *words):
-    """The status of a run of the program, and the last line that it prints."""
+def run(asked, number, *words):
+    """The status of a run of the program for a dump, and the last line that it prints. What it says of a refusal is kept for that dump."""
     try:
-        status, last = asked.children.last_line([asked.program, *words])
+        status, last, said = asked.children.last_line([asked.program, *words])
     except (OSError, ValueError) as error:
         raise ReportError("%s: can't be started: %s" % (asked.program, getattr(error, "strerror", None) or error)) from None
+    asked.said.setdefault(number, []).extend(said)
     if status < 0:
         raise ReportError("%s %s: ended by signal %d" % (asked.program, words[0], -status))
     return status, last
@@ -97,7 +100,7 @@ def inputs_of(asked, number):
 
 def simulated(asked, number):
     """What `sim` says of the dump: its list is that of the empty set where it is right."""
-    status, last = run(asked, "sim", *inputs_of(asked, number), *options(asked, "clock"))
+    status, last = run(asked, number, "sim", *inputs_of(asked, number), *options(asked, "clock"))
     is_right = status == 0 and last == "trace 1 ok"
     return Answer(number, status, "ok" if is_right else last, "sim", [[]] if is_right else None)
 
@@ -122,7 +125,7 @@ def search(asked, number, names):
     with room_beside(asked) as room:
         made = [os.path.join(room, name) for name in ("report", "log")]
         words = [*inputs_of(asked, number), *options(asked, *OPTIONS), "--report", word_of(made[0]), "--log", word_of(made[1])]
-        status, last = run(asked, "find", *words)
+        status, last = run(asked, number, "find", *words)
         if status not in (0, 1):
             return Answer(number, status, last, "find")
         take_names(made, names)
@@ -151,7 +154,7 @@ def judged(asked, number, names):
     """What `check` says of the dump's pair, of which no byte may differ when it has said so."""
     before, report = prints_of(names), own_report(asked, number, names)
     design, top, trace = inputs_of(asked, number)
-    status, last = run(asked, "check", design, top, *map(word_of, names), trace, *options(asked, "workers"))
+    status, last = run(asked, number, "check", design, top, *map(word_of, names), trace, *options(asked, "workers"))
     if prints_of(names) != before or status == 0 and last != "yes %d" % len(report["sets"]):
         raise ReportError("%s or %s was changed while it was checked" % names)
     sets = None if status else [it["members"] for it in report["sets"]]
@@ -188,7 +191,7 @@ def kinds_answer(asked):
     with room_beside(asked) as room:
         made = [word_of(os.path.join(room, name)) for name in ("report", "log")]
         words = [*inputs_of(asked, 1), *options(asked, "clock", "size", "suspects", "workers"), "--sets", "1"]
-        status, last = run(asked, "find", *words, "--report", made[0], "--log", made[1])
+        status, last = run(asked, 1, "find", *words, "--report", made[0], "--log", made[1])
         if status in (0, 1) and [it["members"] for it in read_report(made[0])["sets"]] != [[]]:
             raise ReportError("find says %r of it, and sim that it is right" % last)
     return Answer(1, 0 if status in (0, 1) else status, last, "find")
@@ -270,7 +273,9 @@ def say(words, *of):
 
 
 def tell(asked, it):
-    """Says on standard error what is known of a dump, and gives it back."""
+    """Says on standard error what is known of a dump, behind what the program said of a refusal, and gives it back."""
+    for line in asked.said.pop(it.number, []):
+        say("%s: %s", dump_text(asked, it.number), line)
     say("%s: %s", dump_text(asked, it.number), it.by if it.line == "" else "%s, by %s" % (it.line, it.by))
     return it
 
@@ -346,7 +351,7 @@ def asked_of(words):
         parser.error("--%s: %s" % (name, REFUSED[name]))
     if asked.only and asked.only > len(asked.traces):
         parser.error("--only: there is no dump %d: %d are named" % (asked.only, len(asked.traces)))
-    asked.children, asked.digests, asked.tables = Children(), {}, {}
+    asked.children, asked.digests, asked.tables, asked.said = Children(), {}, {}, {}
     return asked
 
 

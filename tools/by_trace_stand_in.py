@@ -24,7 +24,7 @@ class FakeProgram:
         self.calls, self.given, self.before_check, self.before_find = [], [], None, None
         self.lock, self.now, self.most = threading.Lock(), 0, 0
 
-    def run(self, asked, command, design, top, *words):
+    def run(self, asked, number, command, design, top, *words):
         with self.lock:
             self.now += 1
             self.most = max(self.most, self.now)

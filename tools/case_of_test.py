@@ -9,12 +9,14 @@ there. A suspect that explains that too explains anything, and says little.
 import os
 import re
 import subprocess
+import sys
 import tempfile
 from dataclasses import dataclass, field
 from typing import Optional
 
 import cut_dump
 from last_cycle import NotThere, bits_of, with_last
+from running import of_refusal
 from whole_files import Problem, digest
 
 MOST = "4097"       # (there are at most 4,096 suspects, so a list of single ones never ends at this)
@@ -70,12 +72,20 @@ def run_find(asked, room, dumps, size, *further):
     words = [asked.program, "find", asked.design, asked.top, *(os.path.join(room, it) for it in dumps)]
     words += ["--size", size, *sets, *asked.options, *effort, *further] + (["--clock", asked.clock] if asked.clock else [])
     words += ["--report", os.path.join(room, "report.json"), "--log", os.path.join(room, "log")]
-    ran = subprocess.run(words, stdin=subprocess.DEVNULL, stdout=subprocess.PIPE, text=True, errors="backslashreplace")
-    last = (ran.stdout.strip("\n").split("\n") or [""])[-1]
+    ran = subprocess.run(words, stdin=subprocess.DEVNULL, capture_output=True)
+    printed = ran.stdout.decode(errors="backslashreplace")
+    last = printed.strip("\n").split("\n")[-1]
+    tell(asked.about, of_refusal(ran.returncode, ran.stderr.replace(os.fsencode(os.path.join(room, "")), b"")))
     judge("find", ran.returncode, last, [*asked.options, *effort])
     if ran.returncode > 1:
         raise NoAnswer(last)
-    return last, ran.stdout
+    return last, printed
+
+
+def tell(about, said):
+    """Hands on what a run said of a refusal or a fault, each line behind what it is about."""
+    for line in said:
+        print("triage.py: %s: %s" % (about, line), file=sys.stderr)
 
 
 def judge(command, status, last, options=()):
@@ -239,7 +249,7 @@ def looked_at(asked):
         text, said = cut_dump.read(asked)
         return Case("passes") if said.miss is None else failing(asked, text, said)
     except cut_dump.Refused as refused:
-        line, status = refused.args
-        last = line.decode(errors="replace").strip().split("\n")[-1]
-        judge("sim", status, last)
+        last = refused.line.split("\n")[-1]
+        tell(asked.about, refused.said)
+        judge("sim", refused.status, last)
         raise NoAnswer(last) from None

@@ -10,10 +10,11 @@ itself (PROGRAM, or `localise` on the path), so that design, top and clock mean 
 
 The short dump goes to standard output, and what was cut to standard error. The status is 1 where there is nothing to cut at:
 no output is wrong, or there are fewer cycles; 2 where the words are wrong; else, where the design or the dump isn't read, that
-of `sim`, with the line that it prints.
+of `sim`, with the line that it prints, behind what it says of it on standard error.
 """
 
 import argparse
+import os
 import re
 import subprocess
 import sys
@@ -21,13 +22,20 @@ import tempfile
 from dataclasses import dataclass
 from typing import Optional
 
+sys.path.insert(0, os.path.dirname(os.path.abspath(__file__)))
+from running import of_refusal  # noqa: E402
+
 NO_CYCLE, TOO_MANY = b"input T4 1\n", b"limit Z3\n"
 FOLLOWED = b"bBrRsS"
 MOST_CYCLES = 100_000
 
 
 class Refused(Exception):
-    """The line and the status with which `sim` ended."""
+    """The line and the status with which `sim` ended, and the lines of its standard error."""
+
+    def __init__(self, line, status, said=()):
+        super().__init__(line)
+        self.line, self.status, self.said = line.decode(errors="replace").strip(), status, said
 
 
 def stamps(text):
@@ -62,14 +70,14 @@ def simulated(asked, text):
             file.write(text)
         words = [asked.program, "sim", asked.design, asked.top, f"{room}/dump.vcd"]
         words += ["--clock", asked.clock] if asked.clock else []
-        # (what `sim` tells a person beside its lines, these lines say too)
-        ran = subprocess.run(words, stdin=subprocess.DEVNULL, stdout=subprocess.PIPE, stderr=subprocess.DEVNULL)
+        ran = subprocess.run(words, stdin=subprocess.DEVNULL, capture_output=True)
     if ran.stdout == NO_CYCLE:
         return Simulation(b"", 0)
     if ran.stdout == TOO_MANY:
         return Simulation(b"", MOST_CYCLES + 1)
     if ran.returncode:
-        raise Refused(ran.stdout, ran.returncode)
+        said = ran.stderr.replace(os.fsencode(words[4]), os.fsencode(asked.dump))
+        raise Refused(ran.stdout, ran.returncode, of_refusal(ran.returncode, said))
     cycles, miss = len(re.findall(rb"^1 \d+ ", ran.stdout, re.M)), re.search(rb"^trace 1 miss (\d+) (.*)$", ran.stdout, re.M)
     return Simulation(ran.stdout, cycles, int(miss[1]), miss[2].decode(errors="replace")) if miss else Simulation(ran.stdout, cycles)
 
@@ -132,9 +140,9 @@ def main():
     try:
         short, said = cut(asked)
     except Refused as refused:
-        line, status = refused.args
-        print(f"{asked.dump}: {line.decode(errors='replace').strip()}", file=sys.stderr)
-        return status
+        for line in [*refused.said, refused.line]:
+            print(f"{asked.dump}: {line}", file=sys.stderr)
+        return refused.status
     sys.stdout.buffer.write(short or b"")
     print(f"{asked.dump}: {said}", file=sys.stderr)
     return 0 if short else 1

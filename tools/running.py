@@ -3,11 +3,15 @@
 import os
 import signal
 import subprocess
+import tempfile
 import threading
 
 from report import ReportError
 
 ENDING = (signal.SIGINT, signal.SIGTERM, signal.SIGHUP)
+
+
+ANSWERS = (0, 1, 8)     # (the statuses of the program that aren't of a refusal or a fault)
 
 
 class Stopped(BaseException):
@@ -20,11 +24,11 @@ class Children:
     def __init__(self):
         self.lock, self.going, self.ended = threading.Lock(), set(), False
 
-    def begin(self, words):
+    def begin(self, words, error):
         with self.lock:
             if self.ended:
                 raise ReportError("not begun: this run was asked to end")
-            child = subprocess.Popen(words, stdout=subprocess.PIPE, errors="backslashreplace")
+            child = subprocess.Popen(words, stdout=subprocess.PIPE, stderr=error, errors="backslashreplace")
             self.going.add(child)
             return child
 
@@ -35,13 +39,22 @@ class Children:
                 child.terminate()
 
     def last_line(self, words):
-        """The status of a run, and the last line that it prints."""
-        child = self.begin(words)
-        with child:
-            last = last_of(child)
-        with self.lock:
-            self.going.discard(child)
-        return child.returncode, last
+        """The status of a run, the last line that it prints, and what it says of a refusal or a fault, in lines."""
+        with tempfile.TemporaryFile() as error:
+            child = self.begin(words, error)
+            with child:
+                last = last_of(child)
+            with self.lock:
+                self.going.discard(child)
+            error.seek(0)
+            return child.returncode, last, of_refusal(child.returncode, error.read())
+
+
+def of_refusal(status, error):
+    """The lines that a run left on standard error, where it ended in a refusal or a fault; none else. (What it tells of an answer, the
+    answer says too, and it counts the dumps of that run alone.)"""
+    text = error.decode(errors="backslashreplace").strip("\n")
+    return text.split("\n") if text and status not in ANSWERS else []
 
 
 def last_of(child):

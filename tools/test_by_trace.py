@@ -24,6 +24,13 @@ from by_trace_stand_in import InAFolder, WithoutProgram  # noqa: E402
 TOP = os.path.dirname(HERE)
 PROGRAM = os.environ.get("LOCALISE", os.path.join(TOP, "crates", "localise", "out", "localise"))
 EXAMPLE = os.path.join(TOP, "examples", "multiplexer")
+# (a program that tells of each dump, and refuses one)
+TELLER = """#!/bin/sh
+echo about $4 >&2
+if [ $1 = check ]; then echo no closing; exit 8; fi
+if [ $4 = b.vcd ]; then printf '  under\\n  ^\\n' >&2; echo input T4 1; exit 3; fi
+echo trace 1 ok
+"""
 # (a program whose `sim` says that a dump fails, and whose `find` notes its number, and sleeps)
 SLEEPER = """#!/bin/sh
 if [ $1 = sim ]; then echo trace 1 miss 0 y; exit 0; fi
@@ -204,6 +211,17 @@ class Words(InAFolder):
         self.write("m.v", "")
         self.dumps = ["m.v"]
         self.refused(r"trace 1 \(m.v\): ./program sim: ended by signal 9")
+
+    def test_what_a_refusal_says_stands_behind_its_dump_and_nothing_else_is_said(self):
+        self.write("program", TELLER), os.chmod("program", 0o755)
+        self.dumps = ["a.vcd", "b.vcd"]
+        for name in ["m.v", *self.dumps]:
+            self.write(name, name)
+        status, printed, error = self.begin()
+        self.assertEqual((status, printed), (3, "trace 2 input T4 1\n"))
+        of = ["about b.vcd", "  under", "  ^", "input T4 1, by sim"]
+        lines = ["trace 1 (a.vcd): ok, by sim"] + ["trace 2 (b.vcd): " + it for it in of]
+        self.assertEqual(sorted(error.splitlines()[:-1]), sorted("by_trace.py: " + it for it in lines))
 
     def test_a_run_that_is_asked_to_end(self):
         self.write("program", SLEEPER % os.getcwd()), os.chmod("program", 0o755)

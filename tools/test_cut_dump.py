@@ -19,7 +19,11 @@ STAND_IN = f"""#!{sys.executable}
 import sys
 sys.path.insert(0, {HERE!r})
 import cut_dump
+print("about", sys.argv[4], file=sys.stderr)
 text = open(sys.argv[4], "rb").read()
+if b"refused" in text:
+    print("input T2 1")
+    sys.exit(3)
 ends = cut_dump.stamps(text)
 pieces = [text[a:b] for a, b in zip(ends, ends[1:])]
 if not pieces:
@@ -81,6 +85,7 @@ class Cuts(unittest.TestCase):
             file.write(HEAD + body)
         command = [sys.executable, f"{HERE}/cut_dump.py", "d.v", "m", f"{self.room.name}/d.vcd", *words]
         ran = subprocess.run([*command, "--program", self.program], capture_output=True)
+        self.said = ran.stderr.decode().replace(self.room.name + "/", "")
         return ran.returncode, ran.stdout.removeprefix(HEAD)
 
     def test_it_ends_at_the_miss(self):
@@ -96,6 +101,11 @@ class Cuts(unittest.TestCase):
     def test_where_there_is_nothing_to_cut_at(self):
         self.assertEqual(self.cut(b"#0 0!\n#1 0!\n"), (1, b""))
         self.assertEqual(self.cut(b"#0 1!\n", "--cycles", "2"), (1, b""))
+        self.assertEqual(self.said, "d.vcd: it has 1 cycles, and not 2\n")
+
+    def test_what_is_said_of_a_refusal_names_the_dump(self):
+        self.assertEqual(self.cut(b"#0 0!\n$comment refused $end\n"), (3, b""))
+        self.assertEqual(self.said, "d.vcd: about d.vcd\nd.vcd: input T2 1\n")
 
 
 if __name__ == "__main__":

@@ -257,6 +257,28 @@ class Cases(Room):
         self.assertIn("t.case: is of another run: its dump's digest differs", errors)
 
 
+class Told(unittest.TestCase):
+    """What the program says on standard error, with a small script for it."""
+
+    def said(self, status):
+        """What is handed on of a run with this status."""
+        with tempfile.TemporaryDirectory() as room, contextlib.redirect_stderr(io.StringIO()) as errors:
+            program = os.path.join(room, "program")
+            with open(program, "w") as file:
+                file.write("#!/bin/sh\necho line\necho \"$4: why\" >&2\nexit %d\n" % status)
+            os.chmod(program, 0o755)
+            asked = argparse.Namespace(program=program, design="m.v", top="m", clock="", options=[], effort=[], about="t.vcd")
+            try:
+                case_of_test.run_find(asked, room, ["dump.vcd"], "1")
+            except (case_of_test.NoAnswer, case_of_test.Killed):
+                pass
+        return errors.getvalue()
+
+    def test_a_refusal_and_a_fault_are_handed_on_behind_the_dump_and_no_answer_is(self):
+        self.assertEqual([self.said(it) for it in (0, 1)], ["", ""])
+        self.assertEqual([self.said(it) for it in (4, 7)], ["triage.py: t.vcd: dump.vcd: why\n"] * 2)
+
+
 # ---- a regression
 
 class Night(Room):

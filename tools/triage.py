@@ -13,7 +13,8 @@ its files that end in `.case`; FILE has further names, one a line. `ask` asks fo
 leaves a folder. `page` prints what is known, and writes it as a page or as JSON.
 
 Options that aren't named here are handed through to `find`, as they are given. Each file, and the folder, is there whole or not at all,
-and what stands is not made again: the same command goes on after a break.
+and what stands is not made again: the same command goes on after a break. What the program says on standard error where it refuses
+or fails is handed on, each line behind the dump (or the bin) that it is of.
 
 The status is 0; 1 where a run of the program was ended by a signal or for lack of room, or the dump can't be read (the same command tries
 again), and of `bins` where no test fails; 2 where the arguments are wrong, or another file can't be read or is of another run, which
@@ -86,7 +87,7 @@ def out_of(asked):
 
 def make_case(asked):
     """Leaves the case of a test. A dump that can't be read may be there later, so it is tried again as what was killed is."""
-    asked.out, case = out_of(asked), None
+    asked.out, asked.about, case = out_of(asked), asked.dump, None
     try:
         text = load(asked.dump)
     except Problem as problem:
@@ -130,7 +131,8 @@ def asked_of_bins(asked, bins):
     if digest(load(question["design"])) != question["design_digest"]:
         raise Problem("%s: was changed since the cases were made" % question["design"])
     same = {name: question[name] for name in ("design", "top", "clock", "options")}
-    return argparse.Namespace(program=asked.program, effort=asked.effort, **same)
+    about = "the least number of places" if asked.what == "least" else "bin " + asked.what
+    return argparse.Namespace(program=asked.program, effort=asked.effort, about=about, **same)
 
 
 def make_answer(asked):
