@@ -7,8 +7,8 @@ Printed is a line for each member of each set, sets in the order of the list:
 
     DESIGN:LINE: set {1,2}: KIND N LABEL
 
-which editors take as a list of errors, with DESIGN as it is given here; or with `--format github` the same as an annotation of
-GitHub's actions. With `--trace`, once for each dump in the order of the run, it is looked at whether the report is of just this
+which editors take as a list of errors, with DESIGN as it is given here, or where the text has `line` directives (as tools/join.py writes
+them) with the file and the line that they say; or with `--format github` the same as an annotation of GitHub's actions. With `--trace`, once for each dump in the order of the run, it is looked at whether the report is of just this
 design and these dumps, by the digest in it. With `--html` a page is written too: the text with its suspects marked, the list of
 sets, and of each the values that make the dumps right. It is one file and loads nothing. `--only` chooses the sets that it has (counted
 from 1), `--cycles` the cycles.
@@ -24,6 +24,7 @@ import sys
 
 sys.path.insert(0, os.path.dirname(os.path.abspath(__file__)))
 import page  # noqa: E402
+from line_map import LineMap  # noqa: E402
 from report import ReportError, design_lines, misfits, read_report, set_text  # noqa: E402
 
 
@@ -32,15 +33,15 @@ def members_of(report):
     return [(set_text(found), number, report["suspects"][number - 1]) for found in report["sets"] for number in found["members"]]
 
 
-def quickfix_line(file, found, number, suspect):
-    return "%s:%d: set %s: %s %d %s" % (file, suspect["line"], found, suspect["kind"], number, suspect["label"])
+def quickfix_line(place, found, number, suspect):
+    return "%s:%d: set %s: %s %d %s" % (*place, found, suspect["kind"], number, suspect["label"])
 
 
-def github_line(file, found, number, suspect):
+def github_line(place, found, number, suspect):
     """A workflow command: what ends a property or a line in it stands there as a percent sign and two digits."""
-    name, title = (re.sub("[%\r\n:,]", lambda it: "%%%02X" % ord(it.group()), text) for text in (file, "localise: set " + found))
+    name, title = (re.sub("[%\r\n:,]", lambda it: "%%%02X" % ord(it.group()), text) for text in (place[0], "localise: set " + found))
     said = "%s %d %s" % (suspect["kind"], number, suspect["label"].replace("%", "%25"))
-    return "::warning file=%s,line=%d,title=%s::%s" % (name, suspect["line"], title, said)
+    return "::warning file=%s,line=%d,title=%s::%s" % (name, place[1], title, said)
 
 
 FORMATS = {"quickfix": quickfix_line, "github": github_line}
@@ -95,8 +96,9 @@ def annotate(asked):
     wrong = misfits(report, asked.design, lines, asked.trace)
     if asked.html is not None:
         write_page(asked, report, lines)
+    places = LineMap(asked.design, lines)
     for found, number, suspect in members_of(report):
-        print(FORMATS[asked.format](asked.design, found, number, suspect))
+        print(FORMATS[asked.format](places.at(suspect["line"]), found, number, suspect))
     for line in wrong:
         print("annotate.py: " + line, file=sys.stderr)
     return 1 if wrong else 0

@@ -1,12 +1,15 @@
 """The page of a report: one file of HTML and CSS, which loads nothing. Its sets are links to their values; a small script shows those of
-the chosen set alone and marks its lines. Without it the values of all sets stand one under the other."""
+the chosen set alone and marks its lines. Without it the values of all sets stand one under the other. Where the text has `line` directives,
+each line has the file and the number that they say."""
 
 import html
 import os
 from dataclasses import dataclass
+from functools import cached_property
 from itertools import groupby
 from typing import Optional
 
+from line_map import LineMap, directive_of
 from report import ending_words, set_places, set_text
 
 SETS = 1000         # sets on a page, where --only chooses none
@@ -24,6 +27,11 @@ class Wanted:
     checked: bool
     only: Optional[list]
     cycles: Optional[tuple]
+
+    @cached_property
+    def places(self):
+        """Which line of which file each line is."""
+        return LineMap(self.design, self.lines)
 
 
 def shown(text):
@@ -104,22 +112,22 @@ def dump_html(rows, first, heads, name, room):
     return said, len(fits) * len(heads)
 
 
-def heads_of(report, found):
+def heads_of(report, found, places):
     """The heads of the columns: the member that a value is of where the report says it, else the place's number among those of the set."""
     of = set_places(report, found)
-    places = max((len(row) for cycles in found["values"] for row in cycles), default=0)
+    most = max((len(row) for cycles in found["values"] for row in cycles), default=0)
     if of is None:
-        return ["place %d of %d" % (number, places) for number in range(1, places + 1)]
-    if len(found["members"]) == 1 and places > 1:
+        return ["place %d of %d" % (number, most) for number in range(1, most + 1)]
+    if len(found["members"]) == 1 and most > 1:
         return ["%d, place %d" % (it, number) for number, it in enumerate(of, 1)]
-    return ["%d, line %d" % (it, report["suspects"][it - 1]["line"]) for it in of]
+    return ["%d, %s" % (it, shown(places.text(report["suspects"][it - 1]["line"]))) for it in of]
 
 
 def values_html(report, found, wanted, room):
     """What is said of a set's values, and how many there are."""
     if not found["members"]:
         return "<p>Nothing has to be freed: the design gives what the dumps want.</p>\n", 0
-    heads, said, used = heads_of(report, found), [], 0
+    heads, said, used = heads_of(report, found, wanted.places), [], 0
     if set_places(report, found) is None:
         said.append('<p class="note">The places ascend. Which of them belong to which member, the report doesn\'t say.</p>\n')
     for number, rows in enumerate(found["values"], 1):
@@ -130,21 +138,21 @@ def values_html(report, found, wanted, room):
     return "".join(said), used
 
 
-def member_html(report, number, lines):
+def member_html(report, number, wanted):
     """A member of a set, with its line."""
-    suspect = report["suspects"][number - 1]
+    suspect, lines = report["suspects"][number - 1], wanted.lines
     text = "<b>%d</b> %s %s, " % (number, shown(suspect["kind"]), shown(suspect["label"]))
     if not 1 <= suspect["line"] <= len(lines):
         return "<li>%sline %d, which the text doesn't have</li>\n" % (text, suspect["line"])
     code = lines[suspect["line"] - 1].strip()
-    return '<li>%s<a href="#L%d">line %d</a> <code>%s</code></li>\n' % (text, suspect["line"], suspect["line"], shown(code))
+    return '<li>%s<a href="#L%d">%s</a> <code>%s</code></li>\n' % (text, suspect["line"], shown(wanted.places.text(suspect["line"])), shown(code))
 
 
 def section_html(report, number, wanted, room):
     """The section of a set, numbered from 1, and how many values it has."""
     found = report["sets"][number - 1]
     said, used = values_html(report, found, wanted, room)
-    members = "".join(member_html(report, it, wanted.lines) for it in found["members"])
+    members = "".join(member_html(report, it, wanted) for it in found["members"])
     members = '<ul class="members">\n%s</ul>\n' % members if members else ""
     lines = " ".join(str(it) for it in lines_of(report, found))
     head = '<section class="values" id="v%d" aria-labelledby="h%d" data-lines="%s">\n<h3 id="h%d">Set %s</h3>\n' % (number, number, lines, number, set_text(found))
@@ -153,19 +161,17 @@ def section_html(report, number, wanted, room):
 
 # ---- the list of sets
 
-def where_text(report, found):
+def where_text(report, found, places):
     lines = lines_of(report, found)
-    if not lines:
-        return "nothing has to be freed"
-    return ("line %s" if len(lines) == 1 else "lines %s") % ", ".join(map(str, lines))
+    return places.texts(lines) if lines else "nothing has to be freed"
 
 
-def choices_html(report, numbers):
+def choices_html(report, numbers, places):
     if not report["sets"]:
         return "<p>There is none: no set of at most %s makes the dumps right%s.</p>\n" % (
             many(report["size"], "suspect"), "" if report["ending"] == "complete" else ", as far as was searched")
     links = "".join('<li><a href="#v%d">%s</a> %s</li>\n' % (
-        it, set_text(report["sets"][it - 1]), where_text(report, report["sets"][it - 1])) for it in numbers)
+        it, set_text(report["sets"][it - 1]), shown(where_text(report, report["sets"][it - 1], places))) for it in numbers)
     left = len(report["sets"]) - len(numbers)
     note = '<p class="note">%s of the report %s not on this page: <code>--only</code> chooses others.</p>\n' % (
         many(left, "further set"), "is" if left == 1 else "are") if left else ""
@@ -190,17 +196,27 @@ def who_html(report, member, numbers):
     return '<span class="who">%s %d in%s%s</span>' % (shown(report["suspects"][member - 1]["kind"]), member, sets, more)
 
 
-def line_html(report, number, text, members):
+def line_html(report, name, text, members):
+    """A line; `name` is by what it is found, and what it is counted as where that isn't one more than the line before."""
     code = "<code>%s</code>" % shown(text)
     if not members:
-        return '<li id="L%d">%s</li>\n' % (number, code)
+        return '<li %s>%s</li>\n' % (name, code)
     who = "".join(who_html(report, it, sets) for it, sets in sorted(members.items()))
-    return '<li id="L%d" class="marked"><div>%s<span class="beside">%s</span></div></li>\n' % (number, code, who)
+    return '<li %s class="marked"><div>%s<span class="beside">%s</span></div></li>\n' % (name, code, who)
+
+
+def file_html(number, said):
+    """A directive: it heads the lines of its file."""
+    return '<li id="L%d" class="file">%s, line %d</li>\n' % (number, shown(said[1]), said[0])
 
 
 def text_html(report, lines, numbers):
-    at = suspects_at(report, numbers)
-    return '<ol class="text">\n%s</ol>\n' % "".join(line_html(report, it, text, at.get(it)) for it, text in enumerate(lines, 1))
+    at, counted, rows = suspects_at(report, numbers), "", []
+    for number, text in enumerate(lines, 1):
+        said = directive_of(text)
+        rows.append(file_html(number, said) if said else line_html(report, 'id="L%d"%s' % (number, counted), text, at.get(number)))
+        counted = ' value="%d"' % said[0] if said else ""
+    return '<ol class="text">\n%s</ol>\n' % "".join(rows)
 
 
 # ---- the page
@@ -237,6 +253,7 @@ summary { cursor: pointer; padding: .15rem 0; }
 @counter-style plain { system: extends decimal; suffix: " "; }
 ol.text { list-style: plain; margin: .4rem 0; padding: 0 0 0 5ch; }
 ol.text li { padding-left: .6rem; border-left: 5px solid transparent; min-height: 1.45em; } ol.text li::marker { color: var(--faint); }
+ol.text li.file { color: var(--faint); border-top: 1px solid var(--rule); margin-top: .6rem; } ol.text li.file::marker { content: ""; }
 ol.text code { white-space: pre-wrap; tab-size: 4; overflow-wrap: anywhere; }
 ol.text li.marked { background: var(--marked); border-left: 5px double var(--bar); } ol.text li.marked::marker { color: var(--ink); font-weight: 700; }
 li.marked > div { display: flex; flex-wrap: wrap; justify-content: space-between; gap: 0 1rem; }
@@ -324,7 +341,7 @@ def page_of(report, wanted, wrong):
     title = "%s: %s of %s" % (shown(os.path.basename(wanted.design)), many(len(report["sets"]), "set"), shown(report["top"]))
     head = '<meta charset="utf-8">\n<meta name="viewport" content="width=device-width, initial-scale=1">\n<title>%s</title>\n<style>%s</style>\n' \
         '<script>document.documentElement.classList.add("scripted");</script>\n' % (title, STYLE)
-    side = '<div class="side">\n<h2>Sets</h2>\n%s%s%s</div>\n' % (choices_html(report, numbers), about, "".join(sections))
+    side = '<div class="side">\n<h2>Sets</h2>\n%s%s%s</div>\n' % (choices_html(report, numbers, wanted.places), about, "".join(sections))
     marks = "<p class=\"note\">A line that has a member of a set is marked, those of the chosen set more so; beside it stand the suspect's number and its sets.</p>\n"
     design = '<div class="design">\n<h2>The design</h2>\n%s%s</div>\n' % (marks if numbers else "", text_html(report, wanted.lines, numbers))
     script = "<script>%s</script>\n" % SCRIPT if numbers else ""

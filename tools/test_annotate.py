@@ -29,6 +29,9 @@ REPORT = {"clock": "", "ending": "complete", "inputs": "0" * 64, "kinds": ["stmt
           "suspects": [SUSPECT, {"kind": "stmt", "label": "m", "line": 4}],
           "sets": [{"members": [1], "values": [[["1"]]]}, {"members": [2], "values": [[["0"]]]}]}
 VOID = {"meta", "br"}
+# (the same lines, 3 and 4, are those of two files)
+JOINED = '`line 7 "a.v" 0\nwire n;\nassign n = a | b;\n`line 1 "b <c>.v" 0\nassign y = ~n;\n'
+IN_FILES = dict(REPORT, suspects=[SUSPECT, dict(SUSPECT, line=5)])
 
 
 class Reader(html.parser.HTMLParser):
@@ -256,6 +259,24 @@ class Pages(Annotating):
         self.assertIn("no set of at most 2 suspects makes the dumps right.", read.said)
         _, read = self.page_of(changed(sets=[{"members": [], "values": [[[]]]}]))
         self.assertIn("Nothing has to be freed", read.said)
+
+
+class JoinedFiles(Annotating):
+    """A text with `line` directives."""
+
+    def test_lines_name_their_files(self):
+        self.write("m.v", JOINED), self.write("r.json", json.dumps(IN_FILES))
+        self.assertEqual(self.run_script("r.json", "m.v")[1], "a.v:8: set {1}: stmt 1 m\nb <c>.v:1: set {2}: stmt 2 m\n")
+        said = self.run_script("r.json", "m.v", "--format", "github")[1]
+        self.assertIn("::warning file=a.v,line=8,title=", said)
+
+    def test_a_page_counts_as_the_files_do(self):
+        text, read = self.page_of(IN_FILES, JOINED)
+        for said in ("{1} a.v:8", "{2} b <c>.v:1", "1, a.v:8", "a.v, line 7", "b <c>.v, line 1"):
+            self.assertIn(said, read.said)
+        self.assertIn('<li id="L2" value="7">', text)
+        self.assertIn('<li id="L5" value="1" class="marked">', text)
+        self.assertIn('<a href="#L5">b &lt;c&gt;.v:1</a>', text)
 
 
 class Colours(unittest.TestCase):

@@ -46,8 +46,8 @@ def link_to(path, folder, text):
 
 def suspect_html(row, before=""):
     code = " <code>%s</code>" % shown(row["text"]) if row["text"] else ""
-    return '<li><b>%d</b> %s, line %d, %s%s <span class="note">%s%s</span></li>\n' % (
-        row["number"], shown(row["kind"]), row["line"], shown(row["label"]), code, before, hits_text(row, "explains"))
+    return '<li><b>%d</b> %s, %s, %s%s <span class="note">%s%s</span></li>\n' % (
+        row["number"], shown(row["kind"]), shown(row["where"]), shown(row["label"]), code, before, hits_text(row, "explains"))
 
 
 def mostly_html(it):

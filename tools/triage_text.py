@@ -5,6 +5,7 @@ of each thing: certified is what a list of `find` says that is whole, likely is 
 import os
 
 from bins_of_tests import counts_text
+from line_map import LineMap
 
 FORM = "localise-triage 1"
 SHOWN = 20          # suspects of a bin, and tests of a kind, that the text names
@@ -26,17 +27,18 @@ def why_none(bins):
 
 # ---- what is known
 
-def suspect_entry(row, bins, lines):
+def suspect_entry(row, bins, lines, places):
     what = bins["suspects"][str(row["number"])]
     text = lines[what["line"] - 1].strip() if 1 <= what["line"] <= len(lines) else ""
-    return {**what, **row, "text": text}
+    return {**what, **row, "text": text, "where": places.text(what["line"])}
 
 
 def bin_entry(it, bins, answers, lines):
     answer = answers.get(it["number"])
     joint = answer and {name: answer[name] for name in ("folder", "line", "units")} | {"dumps": len(answer["dumps"])}
     tests = [{name: unit[name] for name in ("dump", "cycle", "outputs")} for unit in it["units"]]
-    suspects = {name: [suspect_entry(row, bins, lines) for row in it[name]] for name in ("suspects", "mostly")}
+    places = LineMap(bins["question"]["design"], lines)
+    suspects = {name: [suspect_entry(row, bins, lines, places) for row in it[name]] for name in ("suspects", "mostly")}
     same = {name: it[name] for name in ("number", "family", "tests", "first_outputs", "look_at")}
     return {**same, **suspects, "dumps": tests, "joint": joint}
 
@@ -82,7 +84,7 @@ def hits_text(row, verb):
 
 def suspect_line(row, before=""):
     code = ": " + row["text"] if row["text"] else ""
-    return "  %5d %s line %d %s%s   [%s%s]\n" % (row["number"], row["kind"], row["line"], row["label"], code, before, hits_text(row, "and"))
+    return "  %5d %s %s %s%s   [%s%s]\n" % (row["number"], row["kind"], row["where"], row["label"], code, before, hits_text(row, "and"))
 
 
 def mostly_line(row, it):
