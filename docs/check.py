@@ -27,7 +27,7 @@ import messages
 
 HERE = os.path.dirname(os.path.abspath(__file__))
 TOP = os.path.dirname(HERE)
-DOCUMENTS = ["walkthrough.md", "annotate.md", "waves.md", "long-tests.md", "reading-the-list.md", "regression.md"]
+DOCUMENTS = ["walkthrough.md", "from-a-test.md", "design-text.md", "annotate.md", "waves.md", "long-tests.md", "reading-the-list.md", "regression.md"]
 # What a machine happens to have: in the gate (which sets CI) these are passed over, so that it says the same everywhere.
 ENGINES = {"parallel", "sbatch", "snakemake", "yosys"}
 STARTED = {"from_yosys.py": "yosys"}    # (what a script starts)
