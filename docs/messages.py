@@ -1,4 +1,4 @@
-"""Holds the tables of codes in formats.md against the errors in the sources: the same codes, each with the same messages.
+"""Holds the tables of codes in formats.md against the errors in the sources of the program: the same codes, each with the same messages.
 
 The message of an error's variant is its `#[error("..")]`; the variant's code is the first one in the arm of a `match` that has the
 variant on its left (`LexErr::BadByte(span) => Code::At("L1", span)`), or in the function that the arm calls. A row of a table
@@ -21,10 +21,23 @@ FUNCTION = re.compile(r"\bfn (\w+)[^\n]*\n(.*?\n)(?:    )?\}\n", re.S)
 UNMATCHED = {("ChooseErr", "UnknownKind"): "U1"}
 
 
+def crates_of(program):
+    """A program's crate and those below it, by crates.txt."""
+    with open(os.path.join(TOP, "crates.txt"), encoding="utf-8") as file:
+        below = {name: uses.split() for name, found, uses in (line.strip().partition(":") for line in file) if found}
+    found, left = set(), [program]
+    while left:
+        name = left.pop()
+        if name in below and name not in found:
+            found.add(name)
+            left += below[name]
+    return sorted(found)
+
+
 def sources():
-    """The texts of all sources but those of tests."""
-    for path in sorted(glob.glob(os.path.join(TOP, "crates", "*", "src", "**", "*.rt"), recursive=True)):
-        if "_tests" not in path[len(TOP) :]:
+    """The texts of the program's sources."""
+    for name in crates_of("localise"):
+        for path in sorted(glob.glob(os.path.join(TOP, "crates", name, "src", "**", "*.rt"), recursive=True)):
             with open(path, encoding="utf-8") as file:
                 yield file.read()
 
