@@ -1,0 +1,4 @@
+pub mod Passing
+pub mod OperandsWithin
+pub mod FunctionLaws
+pub mod Examples
