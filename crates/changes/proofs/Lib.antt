@@ -1,0 +1,4 @@
+pub mod ReachedLaws
+pub mod CycleAlike
+pub mod ChangeLaws
+pub mod Examples
