@@ -12,8 +12,8 @@ use Rattle.localise_cmd.proofs.program.run_program.Goals as goal
 pub returns-in-Ok : goal.returns-in-Ok
 returns-in-Ok g c = record {
   words = map string_bytes c.in-Ok.words.items;
-  are_words = rw c.in-Ok.field-0-is at c.words_of.ensures;
-  keeps = c.run_words.ensures;
+  are_words = c.in-Ok.ensures;
+  keeps = rw c.as_slice.ensures.value at c.run_words.ensures;
 }
 
 pub returns-in-Err : goal.returns-in-Err

@@ -5,5 +5,5 @@ use Rattle.localise_cmd.proofs.program.words_of.Goals as goal
 
 pub returns-in-Ok : goal.returns-in-Ok
 returns-in-Ok g c =
-    rw c.in-Ok.field-0-is
+    rw c.in-Ok.is
     (ap (map string_bytes) c.behind_name.ensures ∙ sym (drop-map string_bytes 1 c.in-Ok.arguments.items))
