@@ -48,8 +48,8 @@ fn first_unseen(members: &[u32], seen: &Seen) -> Option<u32>
 
 /// What the log doesn't show of the front: nothing where it shows that no set is missing before the last one; 0 where it doesn't show
 /// that there is no smaller one; else the least suspect that the set passes over and that isn't shown absent. The same for every number
-/// of workers and every gate. The log is cut into as many pieces as there are workers, or fewer, each of which passes the gate once; a
-/// step takes time in proportion to its clause at most.
+/// of workers and every gate. The log is cut into as many pieces as there are workers, each of which passes the gate once; a step takes
+/// time in proportion to its clause at most.
 #[tactic(auto, using(crate::proofs::Whole::whole_rules))]
 pub fn shows<R: Threads + Sync, G: Gate + Sync>(
     alloc: Global,

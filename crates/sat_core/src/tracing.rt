@@ -44,6 +44,9 @@ pub(crate) fn explain_all(alloc: Global, trail: &Trail, vars: &[u32]) -> Result<
     ensures { IfOk result (AllZip (IsDerivedFor trail.now) vars.now) }
 {
     let mut log = Log::new(alloc);
+    if vars.is_empty() {
+        return Ok(log);
+    }
     let mut tracing = Tracing::new(alloc, trail)?;
     for var in vars {
         tracing.explain(trail, *var, &mut log)?;
