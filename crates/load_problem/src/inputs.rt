@@ -12,6 +12,7 @@ ghost use Rattle.load_problem.specs.Within.{HasTooMany, digest_text};
 ghost use Rattle.load_problem.specs.Means.{IsDigestOf, Means};
 ghost use Rattle.load_problem.specs.Refusals.{IsReady, Refused};
 
+use crate::limits::limited;
 use crate::tools::Tools;
 use debug_core::Question;
 use design_core::{Design, Place, Trace};
@@ -19,7 +20,7 @@ use front_end::{FrontEnd, Ordered};
 use io_ports::Shelf;
 use load_texts::{DesignRead, TracesRead, load_design, load_traces};
 use loc_base::{Digest, Gate, Name};
-use refusal::{Code, LastLine, Notes};
+use refusal::{Code, LastLine, Notes, Refusal};
 use requests::Wanted;
 use run_digest::inputs_digest;
 use std::alloc::Global;
@@ -64,11 +65,12 @@ impl Inputs {
 }
 
 /// The suspects of the kinds that are asked for.
-fn choose(
+fn choose<N: Notes>(
     alloc: Global,
     kinds: &[Box<dyn Granularity>],
     names: &[Name],
     places: &[Place],
+    notes: &mut N,
 ) -> Result<Groups, LastLine>
     requires known { unknown (λ kind. called kind) kinds.now names.now ≡ None }
     requires few { length places.now < 2 ^ 32 }
@@ -83,7 +85,10 @@ fn choose(
     match chosen(alloc, kinds, names, places) {
         Ok(groups) => Ok(groups),
         Err(ChooseErr::UnknownKind { name: _ }) => unreachable!(),
-        Err(ChooseErr::Suspects) => Err(LastLine::of_code(alloc, Code::Limit("Z4"))),
+        Err(ChooseErr::Suspects) => {
+            let refusal = Refusal::of(Code::Limit("Z4"), &ChooseErr::Suspects);
+            Err(limited(alloc, &refusal, notes))
+        }
         Err(ChooseErr::NoMemory) => Err(LastLine::Memory),
     }
 }
@@ -138,6 +143,7 @@ pub fn read<F: FrontEnd, R: Threads + Sync, G: Gate + Sync, S: Shelf, N: Notes>(
         tools.kinds,
         wanted.suspects,
         design.places.as_slice(),
+        notes,
     )?;
     let traces: TracesRead<Digest> = load_traces(alloc, &wanted.sources, design, shelf, notes)?;
     let digest = digest_of(wanted, read.imprint, &traces.imprints);

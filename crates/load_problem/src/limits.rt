@@ -1,12 +1,23 @@
-//! Why a problem has no form, and the line that says so.
+//! Which limit a problem passes, and the line that says so.
 ghost use Rattle.std.specs.Prelude.{◌≡◌};
 ghost use Rattle.refusal.specs.Codes.{code_line, code_status};
 ghost use Rattle.refusal.specs.Ends.{HasStatus, Says};
 ghost use Rattle.load_problem.specs.Refusals.{problem_line, problem_status};
 
 use debug_core::DebugErr;
-use refusal::{Code, LastLine};
+use refusal::{Code, LastLine, Note, Notes, Refusal};
 use std::alloc::Global;
+
+/// The line that ends a run which passes a limit, that is told; or which wants memory.
+pub(crate) fn limited<N: Notes>(alloc: Global, refusal: &Refusal, notes: &mut N) -> LastLine
+    ensures says { Says result (code_status refusal.now.code) (code_line refusal.now.code) }
+    ensures status { HasStatus result }
+{
+    if let Code::Limit(_) = refusal.code {
+        notes.note(&Note::Limited { refusal });
+    }
+    refusal.last_line(alloc)
+}
 
 /// The code of a limit of the form.
 fn problem_code(fault: DebugErr) -> Code
@@ -21,10 +32,10 @@ fn problem_code(fault: DebugErr) -> Code
     }
 }
 
-/// The line that ends a run whose problem has no form.
-pub fn problem_line(alloc: Global, fault: DebugErr) -> LastLine
+/// The line that ends a run whose problem has no form. The limit that it passes is told.
+pub fn problem_line<N: Notes>(alloc: Global, fault: DebugErr, notes: &mut N) -> LastLine
     ensures says { Says result (problem_status fault) (problem_line fault) }
     ensures status { HasStatus result }
 {
-    LastLine::of_code(alloc, problem_code(fault))
+    limited(alloc, &Refusal::of(problem_code(fault), &fault), notes)
 }

@@ -5,9 +5,9 @@ use Rattle.loc_base.specs.Bits.{value_of, width_of}
 use Rattle.loc_base.specs.declared.span.Span.{Span}
 use Rattle.refusal.specs.Codes.{code_span}
 use Rattle.refusal.specs.declared.notes.Note.{Note}
-use Rattle.refusal.specs.declared.notes.Note.TheVariants.{Usage, Refused, Unread, Unwritten, Scope, Missed, Progress, Written}
+use Rattle.refusal.specs.declared.notes.Note.TheVariants.{Usage, Refused, Limited, Unread, Unwritten, Scope, Missed, Progress, Written}
 use Rattle.note_text.specs.Places.{IsLineStart, is_newline}
-use Rattle.note_text.specs.Texts.{Begins, code_word, error_text, moment_text, output_text, spot_text, usage_text, values_text}
+use Rattle.note_text.specs.Texts.{Begins, code_word, error_text, moment_text, output_text, spot_text, synopsis_text, values_text, wrong_text}
 
 -- a text is refused at a span: `NAME:LINE:COLUMN: error CODE`, where the span begins, or at the text's end where it begins behind that
 pub record TellsPlace (name source code : List ℕ) (span : Span) (old new : List ℕ) : Type 0 where
@@ -23,10 +23,17 @@ abbrev pub TellsRefused : List ℕ → List ℕ → List ℕ → Option Span →
 TellsRefused name source code (Some span) old new = TellsPlace name source code span old new
 TellsRefused name source code None old new = Begins name old new
 
+-- the arguments are refused: `localise: WORD`, or no word where none is known to be wrong; last how the command is called
+pub record TellsUsage (word synopsis old new : List ℕ) : Type 0 where
+  pub said : List ℕ
+  pub begins : Begins (codes "localise" ++ wrong_text word) old said
+  pub ends : new ≡ said ++ synopsis_text synopsis
+
 abbrev pub Tells : Note → List ℕ → List ℕ → Type 0
-Tells (Usage word) old new = new ≡ old ++ usage_text word.now
+Tells (Usage cause word synopsis) old new = TellsUsage word.now synopsis.now old new
 Tells (Refused name text refusal) old new =
     TellsRefused name.now text.now (code_word refusal.now.code) (code_span refusal.now.code) old new
+Tells (Limited refusal) old new = Begins (codes "error " ++ code_word refusal.now.code) old new
 Tells (Unread name cause) old new = Begins (codes "cannot read " ++ name.now) old new
 Tells (Unwritten name cause) old new = Begins (codes "cannot write ") old new
 Tells (Missed trace cycle output wanted given) old new =

@@ -1,5 +1,5 @@
 -- What is printed of a note, in pieces.
-use Rattle.std.specs.Prelude.{ℕ, ◌≡◌, ◌++◌, ◌&&◌, ◌||◌, ◌==◌, List, [], codes, decimal, if◌then◌else◌, nat_le}
+use Rattle.std.specs.Prelude.{ℕ, ◌≡◌, ◌++◌, ◌&&◌, ◌||◌, ◌==◌, List, [], ◌∷◌, codes, decimal, if◌then◌else◌, nat_le}
 use Rattle.printed_text.specs.Numerals.{newline, value_text}
 use Rattle.refusal.specs.declared.code.Code.{Code}
 use Rattle.refusal.specs.declared.code.Code.TheVariants.{Bare, At, Line, Limit, Memory}
@@ -51,6 +51,11 @@ abbrev pub values_text : ℕ → ℕ → ℕ → ℕ → List ℕ
 values_text width given wanted_width wanted =
     codes " is " ++ literal_text width given ++ codes ", wanted " ++ literal_text wanted_width wanted ++ newline
 
--- `usage: WORD`, and where the arguments are explained
-abbrev pub usage_text : List ℕ → List ℕ
-usage_text word = codes "usage: " ++ word ++ newline ++ codes "docs/formats.md lists the arguments" ++ newline
+-- `: WORD` of an argument that is wrong, or nothing where none is known
+abbrev pub wrong_text : List ℕ → List ℕ
+wrong_text [] = []
+wrong_text (byte ∷ bytes) = codes ": " ++ byte ∷ bytes
+
+-- how the command is called, and where its arguments are explained
+abbrev pub synopsis_text : List ℕ → List ℕ
+synopsis_text synopsis = synopsis ++ newline ++ codes "localise help COMMAND explains the arguments" ++ newline

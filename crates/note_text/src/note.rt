@@ -2,23 +2,47 @@
 ghost use Rattle.std.specs.Prelude.{◌≡◌, ◌++◌, OnOk, codes, decimal};
 ghost use Rattle.loc_base.specs.Bits.{value_of, width_of};
 ghost use Rattle.note_text.specs.Tells.{Tells};
-ghost use Rattle.note_text.specs.Texts.{Begins, moment_text, output_text, usage_text, values_text};
+ghost use Rattle.note_text.specs.Texts.{Begins, moment_text, output_text, synopsis_text, values_text, wrong_text};
 
 use crate::literal::push_literal;
-use crate::refused::{Refused, push_refused, push_words};
+use crate::refused::{Refused, push_code, push_refused, push_words};
 use io_ports::FaultKind;
 use loc_base::{Bits, Name, NoMemory};
 use printed_text::{push_bytes, push_number};
-use refusal::Note;
+use refusal::{Note, Refusal};
 use std::alloc::Global;
 
-/// Appends `usage: WORD`, and where the arguments are explained.
-fn push_usage(text: &mut Vec<u8>, word: &str) -> Result<(), NoMemory>
-    ensures { OnOk result (text.new.items ≡ text.old.items ++ usage_text word.now) }
+/// Appends the argument that is wrong, where it is known.
+fn push_wrong(text: &mut Vec<u8>, word: &str) -> Result<(), NoMemory>
+    ensures { OnOk result (text.new.items ≡ text.old.items ++ wrong_text word.now) }
 {
-    push_bytes(text, b"usage: ")?;
-    push_bytes(text, word.as_bytes())?;
-    push_bytes(text, b"\ndocs/formats.md lists the arguments\n")
+    if word.is_empty() {
+        return Ok(());
+    }
+    push_bytes(text, b": ")?;
+    push_bytes(text, word.as_bytes())
+}
+
+/// Appends how a command is called, and where its arguments are explained.
+fn push_synopsis(text: &mut Vec<u8>, synopsis: &[u8]) -> Result<(), NoMemory>
+    ensures { OnOk result (text.new.items ≡ text.old.items ++ synopsis_text synopsis.now) }
+{
+    push_bytes(text, synopsis)?;
+    push_bytes(text, b"\nlocalise help COMMAND explains the arguments\n")
+}
+
+/// Appends what is wrong with the arguments.
+fn push_usage(
+    alloc: Global,
+    text: &mut Vec<u8>,
+    cause: &Refusal,
+    word: &str,
+) -> Result<(), NoMemory>
+    ensures { OnOk result (Begins (codes "localise" ++ wrong_text word.now) text.old.items text.new.items) }
+{
+    push_bytes(text, b"localise")?;
+    push_wrong(text, word)?;
+    push_words(alloc, text, cause)
 }
 
 /// Appends that a text can't be read.
@@ -92,7 +116,14 @@ pub fn push_note(alloc: Global, text: &mut Vec<u8>, note: &Note<'_>) -> Result<(
     ensures { OnOk result (Tells note.now text.old.items text.new.items) }
 {
     match *note {
-        Note::Usage { word } => push_usage(text, word),
+        Note::Usage {
+            cause,
+            word,
+            synopsis,
+        } => {
+            push_usage(alloc, text, cause, word)?;
+            push_synopsis(text, synopsis)
+        }
         Note::Refused {
             name,
             text: source,
@@ -105,6 +136,7 @@ pub fn push_note(alloc: Global, text: &mut Vec<u8>, note: &Note<'_>) -> Result<(
             };
             push_refused(alloc, text, &refused)
         }
+        Note::Limited { refusal } => push_code(alloc, text, refusal),
         Note::Unread { name, cause } => push_unread(alloc, text, name, cause),
         Note::Unwritten { name, cause } => push_unwritten(alloc, text, name, cause),
         Note::Missed {

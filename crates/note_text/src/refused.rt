@@ -1,5 +1,5 @@
 //! What is printed of a text that is refused.
-ghost use Rattle.std.specs.Prelude.{◌≡◌, ◌≤◌, ◌+◌, ◌-◌, ◌<◌, ◌^◌, ◌++◌, [], OnOk};
+ghost use Rattle.std.specs.Prelude.{◌≡◌, ◌≤◌, ◌+◌, ◌-◌, ◌<◌, ◌^◌, ◌++◌, [], OnOk, codes};
 ghost use Rattle.refusal.specs.Codes.{code_span};
 ghost use Rattle.note_text.specs.Tells.{TellsPlace, TellsRefused};
 ghost use Rattle.note_text.specs.Texts.{Begins, code_word, error_text, line_text, spot_text};
@@ -40,6 +40,19 @@ fn word_of(code: Code) -> &'static str
         Code::Bare(word) | Code::At(word, _) | Code::Line(word, _) | Code::Limit(word) => word,
         Code::Memory => "memory",
     }
+}
+
+/// Appends `error CODE: WORDS` and the end of the line.
+pub(crate) fn push_code(
+    alloc: Global,
+    text: &mut Vec<u8>,
+    refusal: &Refusal,
+) -> Result<(), NoMemory>
+    ensures { OnOk result (Begins (codes "error " ++ code_word refusal.now.code) text.old.items text.new.items) }
+{
+    push_bytes(text, b"error ")?;
+    push_bytes(text, word_of(refusal.code).as_bytes())?;
+    push_words(alloc, text, refusal)
 }
 
 /// Appends `: error CODE: WORDS` and the end of the line.

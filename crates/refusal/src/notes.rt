@@ -7,14 +7,20 @@ use loc_base::{Bits, Name};
 /// One thing that is told.
 #[derive(Clone, Copy)]
 pub enum Note<'a> {
-    /// The arguments are refused: the one that is wrong, or no bytes where one is missing.
+    /// The arguments are refused: why, the one that is wrong, where it is known, or else no bytes, and how the command is called.
     Usage {
+        cause: &'a Refusal,
         word: &'a str,
+        synopsis: &'a [u8],
     },
     /// The text under a name is refused.
     Refused {
         name: &'a str,
         text: &'a [u8],
+        refusal: &'a Refusal,
+    },
+    /// What was read is refused as a whole: it passes a limit, or a report's kinds of suspects aren't there.
+    Limited {
         refusal: &'a Refusal,
     },
     /// The text under a name can't be read.
