@@ -1,5 +1,6 @@
 pub mod Texts
-pub mod Tokens
+pub mod Ascii
+pub mod Sent
 pub mod Newline
 pub mod Same
 pub mod Plain

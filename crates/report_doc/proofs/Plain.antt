@@ -15,7 +15,7 @@ use Rattle.json.proofs.Printed.Trees.{ArePrintable-json_tokens, value-json_token
 use Rattle.serde_json.specs.Data.{Data, string}
 use Rattle.serde_json.specs.View.{items_of}
 use Rattle.serde_json.specs.Read.{of_json, of_items, max_depth, read}
-use Rattle.serde_json.specs.Written.{outline, items_outline}
+use Rattle.serde_json.specs.Written.{compact_text, outline, items_outline}
 use Rattle.serde_json.proofs.Numbers.{number_of-decimal}
 use Rattle.serde_json.proofs.Texts.{print-outline}
 use Rattle.report_doc.specs.declared.types.Report.{Report}
@@ -24,10 +24,8 @@ use Rattle.report_doc.specs.declared.types.ReportSuspect.{ReportSuspect}
 use Rattle.report_doc.specs.Document.{report_data, set_data, suspect_data, text_of, trace_data}
 use Rattle.report_doc.specs.Json.{IsJsonOf, number_data, list_data}
 use Rattle.report_doc.specs.Shape.{IsReport, IsSet, IsSuspect, IsWord}
-use Rattle.report_doc.specs.Writing.{report_tokens}
 use Rattle.report_doc.proofs.Newline.{tokens-newline}
 use Rattle.report_doc.proofs.Same.{report_same}
-use Rattle.report_doc.proofs.Tokens.{report_tokens-same}
 
 -- the value is read back from what is written of it, and nests no deeper than n
 pub record IsPlain (d : Data) (n : ℕ) : Type 0 where
@@ -107,20 +105,19 @@ IsUtf8-newline : IsUtf8 (10 ∷ [])
 IsUtf8-newline = IsUtf8-from_ascii (10 ∷ []) (IsAscii-cons 10 [] (omega arith) IsAscii-nil)
 
 -- the JSON of a report's text is the report's
-pub is_json : (r : Report) → IsReport r → IsUtf8 (print (json_tokens (outline (report_data r)))) → IsJsonOf (report_data r) (text_of r)
+pub is_json : (r : Report) → IsReport r → IsUtf8 (compact_text (report_data r)) → IsJsonOf (report_data r) (text_of r)
 is_json r h utf8 =
     let d = report_data r in
     let plain = plain_report r h in
     let deep : IsPlain d 127 = record { back = plain.back; numbers = plain.numbers; shallow = omega (arith, plain.shallow) } in
     let same : print (json_tokens (outline d)) ++ 10 ∷ [] ≡ text_of r = ap (λ s. s ++ 10 ∷ []) (print-outline d) in
-    (subst IsUtf8 same (IsUtf8-append _ _ utf8 IsUtf8-newline), subst (λ s. read s ≡ Some d) same (read_line d deep))
+    (IsUtf8-append _ _ utf8 IsUtf8-newline, subst (λ s. read s ≡ Some d) same (read_line d deep))
 
--- the bytes that are written, and a newline
-pub whole_text : (r : Report) (json text : List ℕ) → IsReport r → json ≡ print (report_tokens r) → IsUtf8 json → text ≡ json ++ 10 ∷ [] → (text ≡ text_of r) × IsJsonOf (report_data r) text
+-- the JSON that is written, and a newline
+pub whole_text : (r : Report) (json text : List ℕ) → IsReport r → json ≡ compact_text (report_data r) → IsUtf8 json → text ≡ json ++ 10 ∷ [] → (text ≡ text_of r) × IsJsonOf (report_data r) text
 whole_text r json text h is utf8 e =
-    let printed : json ≡ print (json_tokens (outline (report_data r))) = is ∙ ap print (report_tokens-same r) in
-    let same : text ≡ text_of r = e ∙ ap (λ s. s ++ 10 ∷ []) (printed ∙ print-outline (report_data r)) in
-    (same, subst (IsJsonOf (report_data r)) (sym same) (is_json r h (subst IsUtf8 printed utf8)))
+    let same : text ≡ text_of r = e ∙ ap (λ s. s ++ 10 ∷ []) is in
+    (same, subst (IsJsonOf (report_data r)) (sym same) (is_json r h (subst IsUtf8 is utf8)))
 
 -- the text is that of no other report
 pub only_text : (r other : Report) (text : List ℕ) → IsReport r → IsReport other → IsJsonOf (report_data r) text → IsJsonOf (report_data other) text → other ≡ r

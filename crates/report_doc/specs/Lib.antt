@@ -3,4 +3,4 @@ pub mod Shape
 pub mod Document
 pub mod Lines
 pub mod Errors
-pub mod Writing
+pub mod Sending

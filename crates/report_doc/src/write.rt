@@ -1,23 +1,25 @@
-ghost use Rattle.std.specs.Prelude.{◌≡◌, ◌<◌, ◌*◌, ◌∷◌, [], ◌++◌, length, slice_index_or, All, IfOk, IfSome, OnOk, IsAscii, IsUtf8};
+ghost use Rattle.std.specs.Prelude.{◌≡◌, ◌<◌, ◌*◌, [], length, slice_index_or, string_bytes, All, IfOk, IfSome, OnOk, IsAscii};
 ghost use Rattle.hex.specs.Hex.{encode_lower, IsBytes};
-ghost use Rattle.json.specs.Print.{print};
+ghost use Rattle.serde_json.specs.Data.{string};
+ghost use Rattle.serde_json.specs.Events.{SendsValue};
+ghost use Rattle.serde_json.specs.Written.{compact_text};
 ghost use Rattle.loc_base.specs.Name.{IsName};
-ghost use Rattle.report_doc.specs.Document.{clock_text, ending_text, report_data, text_of};
-ghost use Rattle.report_doc.specs.Json.{IsJsonOf};
-ghost use Rattle.report_doc.specs.Shape.{AreValues, CanBeWritten, IsDigest, IsHexText, IsReport, IsSuspect, IsWord};
-ghost use Rattle.report_doc.specs.Writing.{Adds, cycle_tokens, end_tokens, ending_tokens, inputs_tokens, list_tokens, number_tokens, report_tokens, set_tokens, sets_tokens, suspect_tokens, text_tokens, top_tokens, trace_tokens, version_tokens};
+ghost use Rattle.report_doc.specs.Document.{clock_text, ending_text, report_data, set_data, suspect_data, text_of, trace_data};
+ghost use Rattle.report_doc.specs.Json.{IsJsonOf, list_data, number_data};
+ghost use Rattle.report_doc.specs.Shape.{CanBeWritten, IsDigest, IsReport, IsSuspect, IsWord};
+ghost use Rattle.report_doc.specs.Sending.{AreAscii, HasParts, SendsEnd, SendsEnding, SendsFound, SendsInputs};
 ghost use Rattle.report_doc.specs.declared.types.Report.{Report as SpecReport};
 
 use crate::cycle_texts::CycleTexts;
 use crate::types::{Ending, Report, ReportSet, ReportSuspect};
 use hex::encode_to_slice;
-use json::Writer;
 use loc_base::{Bytes, Digest, Items, Name, NoMemory};
 use printed_text::push_bytes;
+use serde::{Described, Serialize, Serializer};
 use std::alloc::Global;
 
 /// The text of bytes that are ASCII.
-#[tactic(auto, using(crate::proofs::Tokens::ascii))]
+#[tactic(auto, using(crate::proofs::Ascii::ascii))]
 fn text_of_bytes(bytes: &[u8]) -> &str
     requires { IsAscii bytes.now }
     ensures { result.now ≡ bytes.now }
@@ -29,7 +31,7 @@ fn text_of_bytes(bytes: &[u8]) -> &str
 }
 
 /// The bytes of a name.
-#[tactic(auto, using(crate::proofs::Tokens::ascii))]
+#[tactic(auto, using(crate::proofs::Ascii::ascii))]
 fn text_of_name(name: &Name) -> &str
     ensures text { result.now ≡ name.now }
     ensures name { IsName name.now }
@@ -37,24 +39,20 @@ fn text_of_name(name: &Name) -> &str
     text_of_bytes(name.as_bytes())
 }
 
-fn put_name(out: &mut Writer, name: &Name) -> Result<(), NoMemory>
-    ensures adds { OnOk result (Adds out.old out.new (text_tokens name.now)) }
+fn send_name<S: Serializer>(out: &mut S, name: &Name) -> Result<(), S::Error>
+    ensures sends { OnOk result (SendsValue (string name.now) (S.written out.old) (S.written out.new)) }
     ensures name { IsName name.now }
 {
-    out.string(text_of_name(name))?;
-    Ok(())
+    out.str(text_of_name(name))
 }
 
-fn put_clock(out: &mut Writer, clock: &Option<Name>) -> Result<(), NoMemory>
-    ensures adds { OnOk result (Adds out.old out.new (text_tokens (clock_text clock.now))) }
+fn send_clock<S: Serializer>(out: &mut S, clock: &Option<Name>) -> Result<(), S::Error>
+    ensures sends { OnOk result (SendsValue (string (clock_text clock.now)) (S.written out.old) (S.written out.new)) }
     ensures name { IfSome clock.now IsName }
 {
     match clock {
-        Some(name) => put_name(out, name),
-        None => {
-            out.string("")?;
-            Ok(())
-        }
+        Some(name) => send_name(out, name),
+        None => out.str(""),
     }
 }
 
@@ -80,246 +78,226 @@ fn spell(bytes: &[u8], digits: &mut [u8])
     }
 }
 
-#[tactic(auto, using(crate::proofs::Tokens::ascii))]
-fn put_digest(out: &mut Writer, digest: &Digest) -> Result<(), NoMemory>
-    ensures adds { OnOk result (Adds out.old out.new (text_tokens (encode_lower digest.now.bytes))) }
+#[tactic(auto, using(crate::proofs::Ascii::ascii))]
+fn send_digest<S: Serializer>(out: &mut S, digest: &Digest) -> Result<(), S::Error>
+    ensures sends { OnOk result (SendsValue (string (encode_lower digest.now.bytes)) (S.written out.old) (S.written out.new)) }
     ensures digest { IsDigest digest.now }
 {
     let mut digits = [0u8; 64];
     spell(digest.bytes.as_slice(), &mut digits);
-    out.string(text_of_bytes(digits.as_slice()))?;
-    Ok(())
+    out.str(text_of_bytes(digits.as_slice()))
 }
 
-fn put_names(out: &mut Writer, names: &[Name]) -> Result<(), NoMemory>
-    ensures adds { OnOk result (Adds out.old out.new (list_tokens text_tokens names.now)) }
+fn send_names<S: Serializer>(out: &mut S, names: &[Name]) -> Result<(), S::Error>
+    ensures sends { OnOk result (SendsValue (list_data string names.now) (S.written out.old) (S.written out.new)) }
     ensures names { OnOk result (All IsName names.now) }
 {
-    out.begin_array()?;
+    out.begin_seq(Some(names.len()))?;
     for name in names {
-        put_name(out, name)?;
+        send_name(out, name)?;
     }
-    out.end_array()?;
-    Ok(())
+    out.end_seq()
 }
 
-fn put_number(out: &mut Writer, number: u32) -> Result<(), NoMemory>
-    ensures { OnOk result (Adds out.old out.new (number_tokens number)) }
+fn send_number<S: Serializer>(out: &mut S, number: u32) -> Result<(), S::Error>
+    ensures { OnOk result (SendsValue (number_data number) (S.written out.old) (S.written out.new)) }
 {
-    out.u64(u64::from(number))?;
-    Ok(())
+    out.u64(u64::from(number))
 }
 
-fn put_numbers(out: &mut Writer, numbers: &[u32]) -> Result<(), NoMemory>
-    ensures adds { OnOk result (Adds out.old out.new (list_tokens number_tokens numbers.now)) }
+fn send_numbers<S: Serializer>(out: &mut S, numbers: &[u32]) -> Result<(), S::Error>
+    ensures sends { OnOk result (SendsValue (list_data number_data numbers.now) (S.written out.old) (S.written out.new)) }
     ensures words { OnOk result (All IsWord numbers.now) }
 {
-    out.begin_array()?;
+    out.begin_seq(Some(numbers.len()))?;
     for number in numbers {
-        put_number(out, *number)?;
+        send_number(out, *number)?;
     }
-    out.end_array()?;
-    Ok(())
+    out.end_seq()
 }
 
-#[tactic(auto, using(crate::proofs::Tokens::ascii))]
-fn put_text(out: &mut Writer, text: &[u8]) -> Result<(), NoMemory>
-    requires { IsHexText text.now }
-    ensures { OnOk result (Adds out.old out.new (text_tokens text.now)) }
+#[tactic(auto, using(crate::proofs::Ascii::ascii))]
+fn send_text<S: Serializer>(out: &mut S, text: &[u8]) -> Result<(), S::Error>
+    requires { IsAscii text.now }
+    ensures { OnOk result (SendsValue (string text.now) (S.written out.old) (S.written out.new)) }
 {
-    out.string(text_of_bytes(text))?;
-    Ok(())
+    out.str(text_of_bytes(text))
 }
 
-fn put_cycle(out: &mut Writer, cycles: &CycleTexts, cycle: usize) -> Result<(), NoMemory>
+fn send_cycle<S: Serializer>(out: &mut S, cycles: &CycleTexts, cycle: usize) -> Result<(), S::Error>
     requires cycle { cycle < length cycles.now }
-    requires values { All IsHexText (slice_index_or cycles.now cycle []) }
-    ensures { OnOk result (Adds out.old out.new (cycle_tokens (slice_index_or cycles.now cycle []))) }
+    requires texts { All IsAscii (slice_index_or cycles.now cycle []) }
+    ensures { OnOk result (SendsValue (list_data string (slice_index_or cycles.now cycle [])) (S.written out.old) (S.written out.new)) }
 {
-    out.begin_array()?;
+    out.begin_seq(Some(cycles.count(cycle)))?;
     for place in 0..cycles.count(cycle) {
-        put_text(out, cycles.text(cycle, place))?;
+        send_text(out, cycles.text(cycle, place))?;
     }
-    out.end_array()?;
-    Ok(())
+    out.end_seq()
 }
 
-fn put_trace(out: &mut Writer, cycles: &CycleTexts) -> Result<(), NoMemory>
-    requires { AreValues cycles.now }
-    ensures { OnOk result (Adds out.old out.new (trace_tokens cycles.now)) }
+fn send_trace<S: Serializer>(out: &mut S, cycles: &CycleTexts) -> Result<(), S::Error>
+    requires { All (All IsAscii) cycles.now }
+    ensures { OnOk result (SendsValue (trace_data cycles.now) (S.written out.old) (S.written out.new)) }
 {
-    out.begin_array()?;
+    out.begin_seq(Some(cycles.len()))?;
     for cycle in 0..cycles.len() {
-        put_cycle(out, cycles, cycle)?;
+        send_cycle(out, cycles, cycle)?;
     }
-    out.end_array()?;
-    Ok(())
+    out.end_seq()
 }
 
-fn put_traces(out: &mut Writer, traces: &[CycleTexts]) -> Result<(), NoMemory>
-    requires { All AreValues traces.now }
-    ensures { OnOk result (Adds out.old out.new (list_tokens trace_tokens traces.now)) }
+fn send_traces<S: Serializer>(out: &mut S, traces: &[CycleTexts]) -> Result<(), S::Error>
+    requires { All (All (All IsAscii)) traces.now }
+    ensures { OnOk result (SendsValue (list_data trace_data traces.now) (S.written out.old) (S.written out.new)) }
 {
-    out.begin_array()?;
+    out.begin_seq(Some(traces.len()))?;
     for trace in traces {
-        put_trace(out, trace)?;
+        send_trace(out, trace)?;
     }
-    out.end_array()?;
-    Ok(())
+    out.end_seq()
 }
 
-fn put_set(out: &mut Writer, set: &ReportSet) -> Result<(), NoMemory>
-    requires { All AreValues set.now.values }
-    ensures adds { OnOk result (Adds out.old out.new (set_tokens set.now)) }
+fn send_set<S: Serializer>(out: &mut S, set: &ReportSet) -> Result<(), S::Error>
+    requires { All (All (All IsAscii)) set.now.values }
+    ensures sends { OnOk result (SendsValue (set_data set.now) (S.written out.old) (S.written out.new)) }
     ensures members { OnOk result (All IsWord set.now.members) }
 {
-    out.begin_object()?;
+    out.begin_map(Some(2))?;
     out.key("members")?;
-    put_numbers(out, set.members.as_slice())?;
+    send_numbers(out, set.members.as_slice())?;
     out.key("values")?;
-    put_traces(out, set.values.as_slice())?;
-    out.end_object()?;
-    Ok(())
+    send_traces(out, set.values.as_slice())?;
+    out.end_map()
 }
 
-fn put_sets(out: &mut Writer, sets: &[ReportSet]) -> Result<(), NoMemory>
-    requires { All (λ set. All AreValues set.values) sets.now }
-    ensures adds { OnOk result (Adds out.old out.new (list_tokens set_tokens sets.now)) }
+fn send_sets<S: Serializer>(out: &mut S, sets: &[ReportSet]) -> Result<(), S::Error>
+    requires { All AreAscii sets.now }
+    ensures sends { OnOk result (SendsValue (list_data set_data sets.now) (S.written out.old) (S.written out.new)) }
     ensures members { OnOk result (All (λ set. All IsWord set.members) sets.now) }
 {
-    out.begin_array()?;
+    out.begin_seq(Some(sets.len()))?;
     for set in sets {
-        put_set(out, set)?;
+        send_set(out, set)?;
     }
-    out.end_array()?;
-    Ok(())
+    out.end_seq()
 }
 
-fn put_suspect(out: &mut Writer, suspect: &ReportSuspect) -> Result<(), NoMemory>
-    ensures adds { OnOk result (Adds out.old out.new (suspect_tokens suspect.now)) }
+fn send_suspect<S: Serializer>(out: &mut S, suspect: &ReportSuspect) -> Result<(), S::Error>
+    ensures sends { OnOk result (SendsValue (suspect_data suspect.now) (S.written out.old) (S.written out.new)) }
     ensures suspect { OnOk result (IsSuspect suspect.now) }
 {
-    out.begin_object()?;
+    out.begin_map(Some(3))?;
     out.key("kind")?;
-    put_name(out, &suspect.kind)?;
+    send_name(out, &suspect.kind)?;
     out.key("label")?;
-    put_name(out, &suspect.label)?;
+    send_name(out, &suspect.label)?;
     out.key("line")?;
-    put_number(out, suspect.line)?;
-    out.end_object()?;
-    Ok(())
+    send_number(out, suspect.line)?;
+    out.end_map()
 }
 
-fn put_suspects(out: &mut Writer, suspects: &[ReportSuspect]) -> Result<(), NoMemory>
-    ensures adds { OnOk result (Adds out.old out.new (list_tokens suspect_tokens suspects.now)) }
+fn send_suspects<S: Serializer>(out: &mut S, suspects: &[ReportSuspect]) -> Result<(), S::Error>
+    ensures sends { OnOk result (SendsValue (list_data suspect_data suspects.now) (S.written out.old) (S.written out.new)) }
     ensures suspects { OnOk result (All IsSuspect suspects.now) }
 {
-    out.begin_array()?;
+    out.begin_seq(Some(suspects.len()))?;
     for suspect in suspects {
-        put_suspect(out, suspect)?;
+        send_suspect(out, suspect)?;
     }
-    out.end_array()?;
-    Ok(())
+    out.end_seq()
 }
 
 /// The clock and the ending.
-fn put_ending(out: &mut Writer, r: &Report) -> Result<(), NoMemory>
-    ensures adds { OnOk result (Adds out.old out.new (ending_tokens r.now)) }
+fn send_ending<S: Serializer>(out: &mut S, r: &Report) -> Result<(), S::Error>
+    ensures sends { OnOk result (SendsEnding r.now (S.written out.old) (S.written out.new)) }
     ensures clock { OnOk result (IfSome r.now.clock IsName) }
 {
     out.key("clock")?;
-    put_clock(out, &r.clock)?;
+    send_clock(out, &r.clock)?;
     out.key("ending")?;
-    out.string(word_of(r.ending))?;
-    Ok(())
+    out.str(word_of(r.ending))
 }
 
 /// The inputs and the kinds.
-fn put_inputs(out: &mut Writer, r: &Report) -> Result<(), NoMemory>
-    ensures adds { OnOk result (Adds out.old out.new (inputs_tokens r.now)) }
+fn send_inputs<S: Serializer>(out: &mut S, r: &Report) -> Result<(), S::Error>
+    ensures sends { OnOk result (SendsInputs r.now (S.written out.old) (S.written out.new)) }
     ensures inputs { OnOk result (IsDigest r.now.inputs) }
     ensures kinds { OnOk result (All IsName r.now.kinds) }
 {
     out.key("inputs")?;
-    put_digest(out, &r.inputs)?;
+    send_digest(out, &r.inputs)?;
     out.key("kinds")?;
-    put_names(out, r.kinds.as_slice())?;
-    Ok(())
+    send_names(out, r.kinds.as_slice())
 }
 
 /// The sets and their size.
-fn put_found(out: &mut Writer, r: &Report) -> Result<(), NoMemory>
-    requires { All (λ set. All AreValues set.values) r.now.sets }
-    ensures adds { OnOk result (Adds out.old out.new (sets_tokens r.now)) }
+fn send_found<S: Serializer>(out: &mut S, r: &Report) -> Result<(), S::Error>
+    requires { All AreAscii r.now.sets }
+    ensures sends { OnOk result (SendsFound r.now (S.written out.old) (S.written out.new)) }
     ensures members { OnOk result (All (λ set. All IsWord set.members) r.now.sets) }
 {
     out.key("sets")?;
-    put_sets(out, r.sets.as_slice())?;
+    send_sets(out, r.sets.as_slice())?;
     out.key("size")?;
-    put_number(out, r.size)?;
-    Ok(())
+    send_number(out, r.size)
 }
 
-/// The version, and the end.
-fn put_version(out: &mut Writer) -> Result<(), NoMemory>
-    ensures { OnOk result (Adds out.old out.new version_tokens) }
-{
-    out.key("version")?;
-    put_number(out, 1)?;
-    out.end_object()?;
-    Ok(())
-}
-
-/// The top, the version, and the end.
-fn put_top(out: &mut Writer, r: &Report) -> Result<(), NoMemory>
-    ensures adds { OnOk result (Adds out.old out.new (top_tokens r.now)) }
-    ensures top { OnOk result (IsName r.now.top) }
-{
-    out.key("top")?;
-    put_name(out, &r.top)?;
-    put_version(out)?;
-    Ok(())
-}
-
-/// The members from the suspects on, and the end.
-fn put_end(out: &mut Writer, r: &Report) -> Result<(), NoMemory>
-    ensures adds { OnOk result (Adds out.old out.new (end_tokens r.now)) }
+/// The suspects, the top and the version.
+fn send_end<S: Serializer>(out: &mut S, r: &Report) -> Result<(), S::Error>
+    ensures sends { OnOk result (SendsEnd r.now (S.written out.old) (S.written out.new)) }
     ensures suspects { OnOk result (All IsSuspect r.now.suspects) }
     ensures top { OnOk result (IsName r.now.top) }
 {
     out.key("suspects")?;
-    put_suspects(out, r.suspects.as_slice())?;
-    put_top(out, r)?;
-    Ok(())
+    send_suspects(out, r.suspects.as_slice())?;
+    out.key("top")?;
+    send_name(out, &r.top)?;
+    out.key("version")?;
+    send_number(out, 1)
 }
 
-fn put_members(out: &mut Writer, r: &Report) -> Result<(), NoMemory>
-    requires { CanBeWritten r.now }
-    ensures adds { OnOk result (Adds out.old out.new (report_tokens r.now)) }
-    ensures clock { OnOk result (IfSome r.now.clock IsName) }
-    ensures inputs { OnOk result (IsDigest r.now.inputs) }
-    ensures kinds { OnOk result (All IsName r.now.kinds) }
-    ensures members { OnOk result (All (λ set. All IsWord set.members) r.now.sets) }
-    ensures suspects { OnOk result (All IsSuspect r.now.suspects) }
-    ensures top { OnOk result (IsName r.now.top) }
+fn send_report<S: Serializer>(out: &mut S, r: &Report) -> Result<(), S::Error>
+    requires { All AreAscii r.now.sets }
+    ensures sends { OnOk result (SendsValue (report_data r.now) (S.written out.old) (S.written out.new)) }
+    ensures parts { OnOk result (HasParts r.now) }
 {
-    out.begin_object()?;
-    put_ending(out, r)?;
-    put_inputs(out, r)?;
-    put_found(out, r)?;
-    put_end(out, r)?;
-    Ok(())
+    out.begin_map(Some(9))?;
+    send_ending(out, r)?;
+    send_inputs(out, r)?;
+    send_found(out, r)?;
+    send_end(out, r)?;
+    out.end_map()
+}
+
+/// A report whose values are texts, as `serde` takes it.
+#[derive(Clone, Copy)]
+struct Document<'r> {
+    report: &'r Report,
+    ghost texts: { All AreAscii report.now.sets },
+}
+
+impl Described for Document<'_> {
+    ghost writes = { λ document old new. SendsValue (report_data document.report.now) old new × HasParts document.report.now };
+}
+
+impl Serialize for Document<'_> {
+    fn serialize<S: Serializer>(&self, out: &mut S) -> Result<(), S::Error> {
+        send_report(out, self.report)
+    }
 }
 
 /// The JSON of a report.
-fn json_of(alloc: Global, r: &Report) -> Result<Vec<u8>, NoMemory>
+#[tactic(auto, using(crate::proofs::Ascii::ascii))]
+fn json_of(alloc: Global, r: &Report) -> Result<String, NoMemory>
     requires { CanBeWritten r.now }
-    ensures json { IfOk result (λ json. (json.items ≡ print (report_tokens r.now)) × IsUtf8 json.items) }
+    ensures json { IfOk result (λ json. string_bytes json ≡ compact_text (report_data r.now)) }
     ensures report { OnOk result (IsReport r.now) }
 {
-    let mut out = Writer::new(Vec::new(alloc));
-    put_members(&mut out, r)?;
-    Ok(out.into_inner())
+    match serde_json::to_string(alloc, &Document { report: r }) {
+        Ok(json) => Ok(json),
+        Err(_) => Err(NoMemory),
+    }
 }
 
 /// The text of a report. It is JSON with the value of this report, and of no other.
@@ -330,7 +308,7 @@ pub fn report_text(alloc: Global, r: &Report) -> Result<Bytes, NoMemory>
     ensures json { IfOk result (λ text. IsJsonOf (report_data r.now) text) }
     ensures reads_back { IfOk result (λ text. (other : SpecReport) → IsReport other → IsJsonOf (report_data other) text → other ≡ r.now) }
 {
-    let mut text = json_of(alloc, r)?;
+    let mut text = json_of(alloc, r)?.into_bytes();
     push_bytes(&mut text, b"\n")?;
     Ok(Items::from_vec(text))
 }

@@ -1,16 +1,18 @@
-use Rattle.std.proofs.Common.{◌∙◌}
+use Rattle.std.proofs.Common.{◌++◌, ◌∷◌, [], ℕ, ◌∙◌, ap, Vec, Global}
+use Rattle.std.specs.Prelude.{string_bytes}
+use Rattle.std.proofs.lemmas.Str.{IsUtf8-string_bytes}
 use Rattle.report_doc.proofs.Plain.{only_text, whole_text}
 use Rattle.report_doc.proofs.write.report_text.Goals as goal
 
-pub returns-clause-text : goal.returns-clause-text
-returns-clause-text c =
-    (whole_text c.args.r.now c.in_ok-text.text.items c.from_vec.result c.in_ok-text.ensures.report c.in_ok-text.ensures.json.0 c.in_ok-text.ensures.json.1 (c.from_vec.ensures ∙ c.in_ok-push_bytes.ensures)).0
-
-pub returns-clause-json : goal.returns-clause-json
-returns-clause-json c =
-    (whole_text c.args.r.now c.in_ok-text.text.items c.from_vec.result c.in_ok-text.ensures.report c.in_ok-text.ensures.json.0 c.in_ok-text.ensures.json.1 (c.from_vec.ensures ∙ c.in_ok-push_bytes.ensures)).1
-
-pub returns-clause-reads_back : goal.returns-clause-reads_back
-returns-clause-reads_back c = λ other is one.
-    let text = whole_text c.args.r.now c.in_ok-text.text.items c.from_vec.result c.in_ok-text.ensures.report c.in_ok-text.ensures.json.0 c.in_ok-text.ensures.json.1 (c.from_vec.ensures ∙ c.in_ok-push_bytes.ensures) in
-    only_text c.args.r.now other c.from_vec.result c.in_ok-text.ensures.report is text.1 one
+pub returns : goal.returns
+returns c =
+    let json = c.in_ok-json_of.field-0 in
+    let is = c.in_ok-json_of.ensures in
+    let whole = whole_text c.args.r.now (string_bytes json) c.from_vec.result is.report is.json (IsUtf8-string_bytes json)
+    (c.from_vec.ensures ∙ c.in_ok-push_bytes.ensures ∙ ap (λ (v : Vec ℕ Global). v.items ++ 10 ∷ []) c.into_bytes-text.ensures.value) in
+    record {
+      text = whole.0;
+      report = is.report;
+      json = whole.1;
+      reads_back = λ other report one. only_text c.args.r.now other c.from_vec.result is.report report whole.1 one;
+    }
