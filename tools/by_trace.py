@@ -2,7 +2,7 @@
 """Lists the sets that can explain several dumps from the lists of each dump by itself, which are made side by side.
 
     tools/by_trace.py DESIGN TOP TRACE.. [--clock NAME] [--size K] [--suspects A,B] [--budget B] [--sets M] [--workers N]
-        [--jobs N] [--prefix P] [--program FILE] [--only N | --join]
+        [--format F] [--jobs N] [--prefix P] [--program FILE] [--only N | --join]
 
 What is printed are the sets that one run of `localise find` on all dumps lists, as it prints them, and `complete N by trace`. For each
 dump, at most --jobs at once (1):
@@ -52,7 +52,7 @@ from report import ReportError, read_report, set_text  # noqa: E402
 from running import Children, Stopped, stop_at_signals, word_of  # noqa: E402
 from trace_pairs import dump_text, lacking, names_of, new_names, own_report, prints_of, standing  # noqa: E402
 
-OPTIONS = ("clock", "size", "suspects", "budget", "sets", "workers")
+OPTIONS = ("clock", "format", "size", "suspects", "budget", "sets", "workers")
 REFUSED = {
     "log": "each dump has its own log and report: --prefix names them",
     "report": "each dump has its own log and report: --prefix names them",
@@ -100,7 +100,7 @@ def inputs_of(asked, number):
 
 def simulated(asked, number):
     """What `sim` says of the dump: its list is that of the empty set where it is right."""
-    status, last = run(asked, number, "sim", *inputs_of(asked, number), *options(asked, "clock"))
+    status, last = run(asked, number, "sim", *inputs_of(asked, number), *options(asked, "clock", "format"))
     is_right = status == 0 and last == "trace 1 ok"
     return Answer(number, status, "ok" if is_right else last, "sim", [[]] if is_right else None)
 
@@ -154,7 +154,7 @@ def judged(asked, number, names):
     """What `check` says of the dump's pair, of which no byte may differ when it has said so."""
     before, report = prints_of(names), own_report(asked, number, names)
     design, top, trace = inputs_of(asked, number)
-    status, last = run(asked, number, "check", design, top, *map(word_of, names), trace, *options(asked, "workers"))
+    status, last = run(asked, number, "check", design, top, *map(word_of, names), trace, *options(asked, "format", "workers"))
     if prints_of(names) != before or status == 0 and last != "yes %d" % len(report["sets"]):
         raise ReportError("%s or %s was changed while it was checked" % names)
     sets = None if status else [it["members"] for it in report["sets"]]
@@ -190,7 +190,7 @@ def kinds_answer(asked):
     """What a short `find` says of the first dump, which passes: whether there are such suspects."""
     with room_beside(asked) as room:
         made = [word_of(os.path.join(room, name)) for name in ("report", "log")]
-        words = [*inputs_of(asked, 1), *options(asked, "clock", "size", "suspects", "workers"), "--sets", "1"]
+        words = [*inputs_of(asked, 1), *options(asked, "clock", "format", "size", "suspects", "workers"), "--sets", "1"]
         status, last = run(asked, 1, "find", *words, "--report", made[0], "--log", made[1])
         if status in (0, 1) and [it["members"] for it in read_report(made[0])["sets"]] != [[]]:
             raise ReportError("find says %r of it, and sim that it is right" % last)
@@ -325,7 +325,8 @@ def words_parser():
     parser = argparse.ArgumentParser(description=__doc__, formatter_class=argparse.RawDescriptionHelpFormatter, allow_abbrev=False)
     parser.add_argument("design", metavar="DESIGN"), parser.add_argument("top", metavar="TOP")
     parser.add_argument("traces", metavar="TRACE", nargs="+")
-    parser.add_argument("--clock", default=""), parser.add_argument("--suspects", default="stmt", type=lambda text: text.split(","))
+    parser.add_argument("--clock", default=""), parser.add_argument("--format", choices=("verilog", "aiger"))
+    parser.add_argument("--suspects", default="stmt", type=lambda text: text.split(","))
     parser.add_argument("--size", default=2, type=number_in(0, 8))
     parser.add_argument("--budget", default=200000, type=number_in(1, 10000000))
     parser.add_argument("--sets", default=1000, type=number_in(1, 100000)), parser.add_argument("--workers", type=number_in(1, 64))

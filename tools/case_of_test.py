@@ -65,6 +65,12 @@ def parted(words, names):
     return some, others
 
 
+def value_of(words, name):
+    """The value of an option, where it stands, as it stands last."""
+    some, _ = parted(words, (name,))
+    return some[-1].removeprefix(name + "=") if some else None
+
+
 def run_find(asked, room, dumps, size, *further):
     """The last line and all that `find` prints of dumps in a folder, where it leaves its report and its log."""
     effort = asked.effort if "--sets" not in further else parted(asked.effort, ("--sets",))[1]

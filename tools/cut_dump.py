@@ -1,11 +1,11 @@
 #!/usr/bin/env python3
 """Cuts a dump after a cycle: after its first wrong output, or after so many cycles.
 
-usage: tools/cut_dump.py DESIGN TOP DUMP [--clock C] [--cycles N | --after-miss K] [--program PROGRAM] > SHORT
+usage: tools/cut_dump.py DESIGN TOP DUMP [--clock C] [--format F] [--cycles N | --after-miss K] [--program PROGRAM] > SHORT
 
 The first N cycles of a dump are a dump. With --after-miss K (0 where nothing is said) it ends K cycles after the first cycle in
 which an output isn't what the dump wants; with --cycles N it has N cycles. Which stamps make a cycle is asked of `localise sim`
-itself (PROGRAM, or `localise` on the path), so that design, top and clock mean here what they mean there. Of a dump of more than
+itself (PROGRAM, or `localise` on the path), so that design, top, clock and format mean here what they mean there. Of a dump of more than
 100,000 cycles, which it doesn't read, the first 100,000 are looked at.
 
 The short dump goes to standard output, and what was cut to standard error. The status is 1 where there is nothing to cut at:
@@ -70,6 +70,7 @@ def simulated(asked, text):
             file.write(text)
         words = [asked.program, "sim", asked.design, asked.top, f"{room}/dump.vcd"]
         words += ["--clock", asked.clock] if asked.clock else []
+        words += ["--format", asked.format] if asked.format else []
         ran = subprocess.run(words, stdin=subprocess.DEVNULL, capture_output=True)
     if ran.stdout == NO_CYCLE:
         return Simulation(b"", 0)
@@ -116,6 +117,7 @@ def parsed():
     for name in ("design", "top", "dump"):
         parser.add_argument(name)
     parser.add_argument("--clock")
+    parser.add_argument("--format", choices=("verilog", "aiger"))
     parser.add_argument("--program", default="localise")
     where = parser.add_mutually_exclusive_group()
     where.add_argument("--cycles", type=int)

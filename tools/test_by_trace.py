@@ -195,6 +195,19 @@ class Runs(WithoutProgram):
         self.assertEqual({(it.get("--sets"), it.get("--workers"), it.get("--budget")) for it in self.words("find")}, {("7", "3", "9")})
         self.assertEqual({it.get("--workers") for it in self.words("check")}, {"3"})
 
+    def test_the_format_is_handed_on_to_each_run(self):
+        for prefix, words in (("p", ()), ("q", ("--format", "aiger"))):
+            with self.subTest(words):
+                self.fake.given.clear()
+                self.assertEqual(self.begin("--prefix", prefix, *words)[0], 0)
+                runs = [it.get("--format") for command in ("sim", "find", "check") for it in self.words(command)]
+                self.assertEqual((len(runs), set(runs)), (7, {words[1] if words else None}))
+
+    def test_the_format_where_all_dumps_pass(self):
+        self.dump("pass", "pass")
+        self.assertEqual(self.begin("--format", "aiger")[0], 0)
+        self.assertEqual([it.get("--format") for it in self.words("find")], ["aiger"])
+
 
 class Words(InAFolder):
     def test_no_program(self):

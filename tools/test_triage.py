@@ -214,6 +214,14 @@ class Cases(Room):
         case, _ = self.case("t", {"y": [2]}, "--suspects", "block", "--x-inputs=free", "--scope", "u.v")
         self.assertEqual(case["options"], ["--suspects", "block", "--x-inputs=free", "--scope", "u.v"])
 
+    def test_the_format_is_handed_to_sim_too(self):
+        formats = set()
+        with unittest.mock.patch("cut_dump.simulated", lambda asked, text: formats.add(asked.format) or fake_sim(asked, text)):
+            for name, words in (("none", []), ("word", ["--format", "aiger"]), ("joined", ["--format=aiger"])):
+                formats.clear()
+                case, _ = self.case(name, {"y": [2]}, *words)
+                self.assertEqual((case["options"], formats), (words, {"aiger" if words else None}))
+
     def test_more_effort_tries_an_unfinished_test_again_and_no_other(self):
         for name, ending in (("front", "front 1 budget"), ("whole", "complete 1")):
             self.case(name, {"y": [2], "ending": ending})

@@ -1,7 +1,7 @@
 #!/usr/bin/env python3
 """Sorts the failing tests of a regression by their bugs: which tests belong together, how many bugs there are at least, where each may be.
 
-    tools/triage.py case DESIGN TOP DUMP OUT [--clock NAME] [--program FILE] [OPTION OF find]..
+    tools/triage.py case DESIGN TOP DUMP OUT [--clock NAME] [--format F] [--program FILE] [OPTION OF find]..
     tools/triage.py bins OUT CASE.. [--names FILE]
     tools/triage.py ask OUT BINS N|least [--program FILE] [--budget B] [--sets M] [--workers N]
     tools/triage.py page BINS [ASKED..] [--html OUT] [--json OUT]
@@ -12,7 +12,7 @@ is a folder, NAME.case in it for a dump NAME.vcd. `bins` puts the tests into bin
 its files that end in `.case`; FILE has further names, one a line. `ask` asks for all tests of bin N together, or for the least number of places that have to be wrong; it
 leaves a folder. `page` prints what is known, and writes it as a page or as JSON.
 
-Options that aren't named here are handed through to `find`, as they are given. Each file, and the folder, is there whole or not at all,
+Options that aren't named here are handed through to `find`, as they are given, and --format to `sim` too. Each file, and the folder, is there whole or not at all,
 and what stands is not made again: the same command goes on after a break. What the program says on standard error where it refuses
 or fails is handed on, each line behind the dump (or the bin) that it is of.
 
@@ -32,7 +32,7 @@ import asked_bin  # noqa: E402
 import bins_of_tests  # noqa: E402
 import triage_page  # noqa: E402
 import triage_text  # noqa: E402
-from case_of_test import Case, Killed, case_of, parted  # noqa: E402
+from case_of_test import Case, Killed, case_of, parted, value_of  # noqa: E402
 from report import design_lines  # noqa: E402
 from whole_files import Problem, digest, json_text, load, read_json, write_whole  # noqa: E402
 
@@ -220,6 +220,7 @@ def asked_of(words):
     parser = parser_of()
     asked, further = parser.parse_known_args(words)
     asked.effort, asked.options = parted(further, EFFORT)
+    asked.format = value_of(asked.options, "--format")
     for name in (word.partition("=")[0] for word in asked.options):
         if name in REFUSED:
             parser.error("%s: %s" % (name, REFUSED[name]))
