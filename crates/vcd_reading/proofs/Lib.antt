@@ -7,4 +7,6 @@ pub mod ListSteps
 pub mod PortSteps
 pub mod NameLaws
 pub mod IndexLaws
+pub mod BitSteps
+pub mod PlaceLaws
 pub mod OneReading

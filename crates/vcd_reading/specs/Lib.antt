@@ -3,6 +3,7 @@ pub mod Reals
 pub mod Pieces
 pub mod Header
 pub mod HeaderView
+pub mod Bits
 pub mod Scopes
 pub mod NameView
 pub mod PortView
@@ -11,3 +12,4 @@ pub mod Changes
 pub mod Reading
 pub mod Outcomes
 pub mod Found
+pub mod PlaceView

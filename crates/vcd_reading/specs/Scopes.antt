@@ -1,29 +1,48 @@
--- The variables of a design's ports (IEEE 1364-2005, 18.2.3): those of the first scope that declares every port.
-use Rattle.std.specs.Prelude.{ℕ, zero, suc, Bool, false, not, ◌&&◌, ◌||◌, ◌==◌, nat_lt, if◌then◌else◌, List, [], ◌∷◌, ◌++◌, length, map, Option, Some, None, is_some, slice_get}
+-- The variables of a design's ports (IEEE 1364-2005, 18.2.3): those of the first scope that declares every port. A scope
+-- declares a port by its name, or, where it has no variable of that name, as a bit of a variable that the name says.
+use Rattle.std.specs.Prelude.{ℕ, zero, suc, Bool, false, not, ◌&&◌, ◌||◌, ◌==◌, nat_lt, nat_le, if◌then◌else◌, List, [], ◌∷◌, ◌++◌, length, map, Option, Some, None, is_some, slice_get}
 use Rattle.std.specs.List.{list_any, list_all, find, position_or_len}
-use Rattle.std.specs.Option.{option_and_then, option_map_or, option_or}
+use Rattle.std.specs.Option.{option_and_then, option_map, option_map_or, option_or}
 use Rattle.design_core.specs.declared.signal.Signal.{Signal}
 use Rattle.design_core.specs.declared.design.Design.{Design}
 use Rattle.design_core.specs.Valuation.{width_at}
 use Rattle.vcd_reading.specs.Commands.{same_bytes}
-use Rattle.vcd_words.specs.Times.{time_of}
+use Rattle.vcd_words.specs.Times.{time_of, time_in}
 use Rattle.vcd_reading.specs.Header.{is_real_type, Header, Variable}
+use Rattle.vcd_reading.specs.Bits.{BitName, bit_in}
+use Rattle.vcd_reading.specs.declared.part.Part.{Part}
+use Rattle.vcd_reading.specs.declared.part.Part.TheVariants.{Whole, Bit}
 
--- a port of the top: the number of its signal, its width and its name
+-- a port of the top: the number of its signal, its width, its name, and the bit of a variable that it may be
 pub record Port : Type 0 where
   pub signal : ℕ
   pub width : ℕ
   pub name : List ℕ
+  pub bit : Option BitName
 
 abbrev pub name_at : Design → ℕ → List ℕ
 name_at d s = option_map_or (λ (signal : Signal). signal.path) (slice_get d.signals.items s) []
 
-abbrev pub port_at : Design → ℕ → Port
-port_at d s = record { signal = s; width = width_at d.signals.items s; name = name_at d s }
+-- a port of one bit may be that of a variable, by its name
+abbrev pub port_bit : ℕ → List ℕ → Option BitName
+port_bit width name = if width == 1 then bit_in name else None
 
--- the clock is the port of one bit that has its name
+abbrev pub port_at : Design → ℕ → Port
+port_at d s = record {
+  signal = s;
+  width = width_at d.signals.items s;
+  name = name_at d s;
+  bit = port_bit (width_at d.signals.items s) (name_at d s);
+}
+
+-- the clock is the port of one bit that has its name, and no bit of another variable
 abbrev pub clock_port : Design → List ℕ → Port
-clock_port d name = record { signal = position_or_len (λ (signal : Signal). same_bytes signal.path name) d.signals.items; width = 1; name = name }
+clock_port d name = record {
+  signal = position_or_len (λ (signal : Signal). same_bytes signal.path name) d.signals.items;
+  width = 1;
+  name = name;
+  bit = None;
+}
 
 abbrev pub input_ports : Design → List Port
 input_ports d = map (port_at d) d.inputs.items
@@ -47,9 +66,37 @@ is_named scope name v = option_map_or (λ s. s == scope) v.scope false && same_b
 abbrev pub variable_in : Header → ℕ → List ℕ → Option Variable
 variable_in h scope name = find (is_named scope name) h.variables
 
+-- where the bits of a port stand: a variable, and which of its bits they are
+pub record Place : Type 0 where
+  pub variable : Variable
+  pub part : Part
+
+abbrev pub whole : Variable → Place
+whole v = record { variable = v; part = Whole }
+
+-- whether a variable of a size has bits, of which one has a number: 2 to 128 of them
+abbrev pub has_bit : Variable → ℕ → ℕ → Bool
+has_bit v number size = nat_lt number size && nat_lt 1 size && nat_le size 128 && not (is_real_type v.type_word)
+
+abbrev pub bit_of_size : Variable → ℕ → ℕ → Option Place
+bit_of_size v number size = if has_bit v number size then Some (record { variable = v; part = Bit number size }) else None
+
+-- the bit of a variable that has a number, if any
+abbrev pub bit_of : ℕ → Variable → Option Place
+bit_of number v = option_and_then (bit_of_size v number) (time_in v.size)
+
+-- where a bit stands in a scope, if it does
+abbrev pub bit_place : Header → ℕ → BitName → Option Place
+bit_place h scope bit = option_and_then (bit_of bit.number) (variable_in h scope bit.name)
+
+-- where a port stands in a scope, if it does: it is the variable of its name, else the bit that it may be
+abbrev pub place_in : Header → ℕ → Port → Option Place
+place_in h scope port =
+    option_or (option_map whole (variable_in h scope port.name)) (option_and_then (bit_place h scope) port.bit)
+
 -- whether a scope declares every port
 abbrev pub declares : Header → List Port → ℕ → Bool
-declares h ports scope = list_all (λ port. is_some (variable_in h scope port.name)) ports
+declares h ports scope = list_all (λ port. is_some (place_in h scope port)) ports
 
 -- the least number below another that passes a test
 abbrev pub least_below : (ℕ → Bool) → ℕ → Option ℕ
@@ -60,17 +107,21 @@ least_below test (suc n) = option_or (least_below test n) (if test n then Some n
 abbrev pub scope_of : Header → List Port → Option ℕ
 scope_of h ports = least_below (declares h ports) (length h.scopes)
 
--- the variable of a port in a scope, if any
-abbrev pub port_variable : Header → Option ℕ → Port → Option Variable
-port_variable h scope port = option_and_then (λ s. variable_in h s port.name) scope
+-- where a port stands in a scope, if there is a scope
+abbrev pub port_place : Header → Option ℕ → Port → Option Place
+port_place h scope port = option_and_then (λ s. place_in h s port) scope
 
 -- the code of a port's variable in that scope
 abbrev pub code_of : Header → List Port → Port → List ℕ
-code_of h ports port = option_map_or (λ (v : Variable). v.code) (port_variable h (scope_of h ports) port) []
+code_of h ports port = option_map_or (λ (p : Place). p.variable.code) (port_place h (scope_of h ports) port) []
+
+-- which of its bits are the port's
+abbrev pub part_of : Header → List Port → Port → Part
+part_of h ports port = option_map_or (λ (p : Place). p.part) (port_place h (scope_of h ports) port) Whole
 
 -- whether the variable of a port has a code
 abbrev pub has_code : Header → List Port → List ℕ → Port → Bool
-has_code h ports code port = option_map_or (λ (v : Variable). same_bytes v.code code) (port_variable h (scope_of h ports) port) false
+has_code h ports code port = option_map_or (λ (p : Place). same_bytes p.variable.code code) (port_place h (scope_of h ports) port) false
 
 -- whether a code is declared
 abbrev pub is_declared : Header → List ℕ → Bool
@@ -80,11 +131,23 @@ is_declared h code = list_any (λ (v : Variable). same_bytes v.code code) h.vari
 abbrev pub is_of_port : Header → List Port → List ℕ → Bool
 is_of_port h ports code = list_any (has_code h ports code) ports
 
--- whether a number of digits is more than a port of a code has
-abbrev pub is_too_long : Header → List Port → List ℕ → ℕ → Bool
-is_too_long h ports code digits = list_any (λ port. has_code h ports code port && nat_lt port.width digits) ports
+-- how many digits a value of a port's variable may have: the bits of the port, or all of the variable of which it is one
+abbrev pub most_digits : ℕ → Part → ℕ
+most_digits width Whole = width
+most_digits width (Bit number size) = size
 
--- whether a port's variable is a real one or has another width
+-- whether a port's variable has a code and may not have so many digits
+abbrev pub is_shorter : Header → List Port → List ℕ → ℕ → Port → Bool
+is_shorter h ports code digits port = has_code h ports code port && nat_lt (most_digits port.width (part_of h ports port)) digits
+
+-- whether a number of digits is more than a variable of a port of a code may have
+abbrev pub is_too_long : Header → List Port → List ℕ → ℕ → Bool
+is_too_long h ports code digits = list_any (is_shorter h ports code digits) ports
+
+-- whether a port that is a whole variable has a real one or one of another width
+abbrev pub misfits : ℕ → Variable → Part → Bool
+misfits width v Whole = is_real_type v.type_word || not (time_of v.size == width)
+misfits width v (Bit number size) = false
+
 abbrev pub is_unfit : Header → List Port → Port → Bool
-is_unfit h ports port =
-    option_map_or (λ (v : Variable). is_real_type v.type_word || not (time_of v.size == port.width)) (port_variable h (scope_of h ports) port) false
+is_unfit h ports port = option_map_or (λ (p : Place). misfits port.width p.variable p.part) (port_place h (scope_of h ports) port) false

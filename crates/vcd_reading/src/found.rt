@@ -3,11 +3,12 @@ ghost use Rattle.std.specs.Prelude.{◌≡◌, IfOk, length, map};
 ghost use Rattle.vcd_reading.specs.Header.{Header as TheHeader};
 ghost use Rattle.vcd_reading.specs.HeaderView.{variable_of};
 ghost use Rattle.vcd_reading.specs.PortView.{ports_in};
-ghost use Rattle.vcd_reading.specs.Scopes.{declares, scope_of};
+ghost use Rattle.vcd_reading.specs.Scopes.{scope_of};
 ghost use Rattle.vcd_reading.specs.Found.{IsIndex};
 
 use crate::header::Variable;
 use crate::names::{Key, Names};
+use crate::place::Scope;
 use crate::ports::Port;
 use loc_base::NoMemory;
 use std::alloc::Global;
@@ -29,29 +30,23 @@ pub fn index<'a>(alloc: Global, variables: &[Variable<'a>]) -> Result<Names<'a>,
     Ok(names)
 }
 
-/// Whether a scope declares every port.
-fn declares(names: &Names<'_>, ports: &[Port<'_>], scope: usize) -> bool
-    ensures { (h : TheHeader) → IsIndex h.variables names.now → result ≡ declares h (ports_in ports.now) scope }
-{
-    for port in ports {
-        let key = Key {
-            scope,
-            name: port.name,
-        };
-        if names.find(key).is_none() {
-            return false;
-        }
-    }
-    true
-}
-
 /// The first of some scopes that declares every port.
-pub fn scope_of(names: &Names<'_>, ports: &[Port<'_>], scopes: usize) -> Option<usize>
-    ensures { (h : TheHeader) → IsIndex h.variables names.now → length h.scopes ≡ scopes → result ≡ scope_of h (ports_in ports.now) }
+pub fn scope_of<'b, 'a>(
+    variables: &'b [Variable<'a>],
+    names: &'b Names<'a>,
+    ports: &[Port<'_>],
+    scopes: usize,
+) -> Option<usize>
+    ensures { (h : TheHeader) → h.variables ≡ map variable_of variables.now → IsIndex h.variables names.now → length h.scopes ≡ scopes → result ≡ scope_of h (ports_in ports.now) }
 {
-    for scope in 0..scopes {
-        if declares(names, ports, scope) {
-            return Some(scope);
+    for number in 0..scopes {
+        let scope = Scope {
+            variables,
+            names,
+            number,
+        };
+        if scope.declares(ports) {
+            return Some(number);
         }
     }
     None

@@ -2,6 +2,7 @@
 //! header, and the scope whose variables are a design's ports.
 #![tactic(auto)]
 
+mod bits;
 mod commands;
 mod error;
 mod found;
@@ -9,9 +10,12 @@ mod header;
 mod header_reader;
 mod kinds;
 mod names;
+mod part;
+mod place;
 mod ports;
 mod reals;
 
+pub use bits::BitName;
 pub use commands::Command;
 pub use error::VcdErr;
 pub use found::{index, scope_of};
@@ -19,4 +23,6 @@ pub use header::{Header, Variable, bytes_at, is_real_type, section_end};
 pub use header_reader::{Front, read_header};
 pub use kinds::{Kind, change_at};
 pub use names::{Key, Names};
+pub use part::Part;
+pub use place::{Place, Scope};
 pub use ports::{Port, top_ports};

@@ -1,23 +1,32 @@
 //! The ports of a design's top, as a dump names them.
 ghost use Rattle.std.specs.Prelude.{◌≡◌, ◌++◌, ◌<◌, ◌^◌, OnOk, IfOk, length, map};
 ghost use Rattle.std.specs.List.{position_or_len};
-ghost use Rattle.std.specs.Option.{option_copied};
+ghost use Rattle.std.specs.Option.{option_copied, option_map};
 ghost use Rattle.design_core.specs.Valuation.{width_at};
 ghost use Rattle.design_core.specs.declared.signal.Signal.{Signal as TheSignal};
 ghost use Rattle.vcd_reading.specs.Commands.{same_bytes};
-ghost use Rattle.vcd_reading.specs.Scopes.{name_at, port_at, clock_port, ports_of};
-ghost use Rattle.vcd_reading.specs.PortView.{port_of, ports_in};
+ghost use Rattle.vcd_reading.specs.Scopes.{name_at, port_at, port_bit, clock_port, ports_of};
+ghost use Rattle.vcd_reading.specs.PortView.{bit_of, port_of, ports_in};
 
+use crate::bits::{BitName, bit_in};
 use design_core::{Design, Signal};
 use loc_base::{Name, NoMemory};
 use std::alloc::Global;
 
-/// A port: the number of its signal, its width and its name.
+/// A port: the number of its signal, its width, its name, and the bit of a variable that it may be.
 #[derive(Clone, Copy)]
 pub struct Port<'a> {
     pub signal: u32,
     pub width: u8,
     pub name: &'a [u8],
+    pub bit: Option<BitName<'a>>,
+}
+
+/// The bit of a variable that a port of one bit may be, by its name.
+fn port_bit(width: u8, name: &[u8]) -> Option<BitName<'_>>
+    ensures { option_map bit_of result ≡ port_bit width name.now }
+{
+    if width == 1 { bit_in(name) } else { None }
 }
 
 /// The port of a signal.
@@ -29,11 +38,13 @@ fn port_at(design: &Design, signal: u32) -> Port<'_>
             signal,
             width: 0,
             name: &[],
+            bit: None,
         },
         Some(found) => Port {
             signal,
             width: found.width,
             name: found.path.as_bytes(),
+            bit: port_bit(found.width, found.path.as_bytes()),
         },
     }
 }
@@ -76,6 +87,7 @@ fn clock_port<'a>(design: &'a Design, name: &'a Name) -> Port<'a>
         signal: signal_named(design.signals.as_slice(), name.as_bytes()),
         width: 1,
         name: name.as_bytes(),
+        bit: None,
     }
 }
 

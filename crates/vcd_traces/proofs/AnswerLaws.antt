@@ -8,9 +8,9 @@ use Rattle.design_core.specs.declared.design.Design.{Design}
 use Rattle.design_core.specs.declared.trace.Trace.{Trace}
 use Rattle.vcd_reading.specs.declared.error.VcdErr.{VcdErr}
 use Rattle.vcd_reading.specs.declared.error.VcdErr.TheVariants.{Syntax, MissingPort, PortWidth, NoCycle, UnknownInput, Cycles, NoMemory}
-use Rattle.vcd_reading.specs.Header.{Header, Variable}
+use Rattle.vcd_reading.specs.Header.{Header}
 use Rattle.vcd_reading.specs.Commands.{same_bytes}
-use Rattle.vcd_reading.specs.Scopes.{Port, ports_of, scope_of, port_variable, has_code, is_unfit}
+use Rattle.vcd_reading.specs.Scopes.{Port, Place, ports_of, scope_of, port_place, has_code, is_unfit}
 use Rattle.vcd_reading.specs.Events.{Event}
 use Rattle.vcd_reading.specs.Changes.{Past, stamps_of}
 use Rattle.vcd_reading.specs.Reading.{ReadsText}
@@ -32,7 +32,7 @@ use Rattle.vcd_traces.specs.Answers.{Answers, IsSameTrace, IsOnly, IsOnlyFault}
 none_has : (h : Header) (ports : List Port) (code : List ℕ) (seen : List Port) → scope_of h ports ≡ None → list_any (has_code h ports code) seen ≡ false
 none_has h ports code [] none = refl
 none_has h ports code (port ∷ seen) none =
-    let P : Option ℕ → Type 0 = λ s. (option_map_or (λ (v : Variable). same_bytes v.code code) (port_variable h s port) false || list_any (has_code h ports code) seen) ≡ false in
+    let P : Option ℕ → Type 0 = λ s. (option_map_or (λ (p : Place). same_bytes p.variable.code code) (port_place h s port) false || list_any (has_code h ports code) seen) ≡ false in
     subst P (sym none) (none_has h ports code seen none)
 
 pub table_none : (h : Header) (ports : List Port) (table : Table) → scope_of h ports ≡ None → IsTableOf h ports [] table → IsTable h ports table

@@ -19,7 +19,7 @@ use Rattle.vcd_traces.specs.declared.codes.Role.{Role}
 use Rattle.vcd_traces.specs.declared.codes.Role.TheVariants.{Other, Port as OfPort}
 use Rattle.vcd_reading.proofs.ByteLaws.{differ}
 use Rattle.vcd_reading.specs.Header.{Header}
-use Rattle.vcd_reading.specs.Scopes.{Port, has_code, is_declared}
+use Rattle.vcd_reading.specs.Scopes.{Port, has_code, is_declared, most_digits, part_of}
 use Rattle.vcd_reading.specs.Changes.{Past, changed, passed_over, with_event}
 use Rattle.vcd_reading.specs.Events.{Event}
 use Rattle.vcd_traces.specs.Running.{Follows, changed_to}
@@ -76,7 +76,7 @@ pub changes_other : (ports : List Port) (past : Past) (table : Table) (level : L
     → role_of table.codes code.word ≡ Some Other → changed ports past level digits at code ≡ Ok (with_event past code.word level)
 changes_other ports past table level digits at code t has =
     cond-false _ _ _ (declared_with past.header ports table code.word Other t has)
-    ∙ cond-false _ _ _ (any_less (has_code past.header ports code.word) (λ port. nat_lt port.width digits) ports (t.role code.word Other has))
+    ∙ cond-false _ _ _ (any_less (has_code past.header ports code.word) (λ port. nat_lt (most_digits port.width (part_of past.header ports port)) digits) ports (t.role code.word Other has))
 
 pub changes_long : (ports : List Port) (past : Past) (table : Table) (level : Level) (digits at : ℕ) (code : Placed) (cell limit : ℕ) → IsTable past.header ports table
     → role_of table.codes code.word ≡ Some (OfPort cell limit) → nat_lt limit digits ≡ true → changed ports past level digits at code ≡ Err at

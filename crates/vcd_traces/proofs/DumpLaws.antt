@@ -11,6 +11,7 @@ use Rattle.design_core.specs.declared.design.Design.{Design}
 use Rattle.design_core.specs.declared.trace.Trace.{Trace}
 use Rattle.vcd_reading.specs.declared.header as code
 use Rattle.vcd_reading.specs.declared.names.Names.{Names}
+use Rattle.vcd_reading.specs.declared.place.Scope.{Scope}
 use Rattle.vcd_reading.specs.declared.ports as port_code
 use Rattle.vcd_reading.specs.Header.{Header}
 use Rattle.vcd_reading.specs.HeaderView.{variable_of}
@@ -28,14 +29,13 @@ use Rattle.vcd_traces.specs.declared.table.Table.{Table}
 use Rattle.vcd_traces.specs.declared.reader.Reading.{Reading}
 use Rattle.vcd_traces.specs.declared.reader.Plan.{Plan}
 use Rattle.vcd_traces.specs.declared.sites.Site.{Site}
-use Rattle.vcd_traces.specs.declared.sites.Scope.{Scope}
 use Rattle.vcd_traces.specs.Samples.{Watches, watches_of}
 use Rattle.vcd_traces.specs.Table.{cell_codes, IsTable, IsTableOf}
 use Rattle.vcd_traces.specs.Plan.{cell_code, watch_in, has_cell, Holds, IsPlan, IsWatched}
 use Rattle.vcd_traces.specs.Going.{Going, Gone, Ends}
 use Rattle.vcd_traces.specs.Dump.{dump_header, IsFront, AreFound, EndsWith, Comes}
 use Rattle.vcd_traces.specs.Ports.{fits, HasPorts}
-use Rattle.vcd_traces.specs.Sites.{site_port, site_fits, watches_from, IsScope, IsSite, AreSites}
+use Rattle.vcd_traces.specs.Sites.{site_port, site_fits, watches_from, IsFirst, IsSite, AreSites}
 use Rattle.vcd_traces.specs.Answers.{Answers}
 use Rattle.vcd_traces.proofs.PortLaws.{ports_count, ports_fit, watched_from}
 use Rattle.vcd_reading.proofs.ReadSteps.{at_map}
@@ -118,24 +118,24 @@ plan_found d clock dump sites variables table watched found are tabled each =
 -- the scope that is found
 pub scope_is : (dump : Dump) (ports : List port_code.Port.Port) (names : Names) (variables : List code.Variable.Variable) (scopes : List (Option ℕ)) (found : Option ℕ)
     → variables ≡ dump.front.header.variables.items → scopes ≡ dump.front.header.scopes.items → IsIndex (map variable_of variables) names
-    → ((h : Header) → IsIndex h.variables names → length h.scopes ≡ length scopes → found ≡ scope_of h (ports_in ports))
+    → ((h : Header) → h.variables ≡ map variable_of variables → IsIndex h.variables names → length h.scopes ≡ length scopes → found ≡ scope_of h (ports_in ports))
     → found ≡ scope_of (dump_header dump) (ports_in ports)
 scope_is dump ports names variables scopes found are all index each =
     let P : List code.Variable.Variable → Type 0 = λ l. IsIndex (map variable_of l) names in
-    each (dump_header dump) (subst P are index) (ap length (sym all))
+    each (dump_header dump) (ap (map variable_of) (sym are)) (subst P are index) (ap length (sym all))
 
 pub scope_found : (dump : Dump) (ports : List port_code.Port.Port) (scope : Scope) → scope.variables.now ≡ dump.front.header.variables.items
     → IsIndex (map variable_of scope.variables.now) scope.names.now → scope_of (dump_header dump) (ports_in ports) ≡ Some scope.number
-    → IsScope (dump_header dump) (ports_in ports) scope
+    → IsFirst (dump_header dump) (ports_in ports) scope
 scope_found dump ports scope are index first =
     let P : List code.Variable.Variable → Type 0 = λ l. IsIndex (map variable_of l) scope.names.now in
-    record { variables = ap (map variable_of) (sym are); index = subst P are index; first = first }
+    record { of_header = record { variables = ap (map variable_of) (sym are); index = subst P are index }; first = first }
 
 pub is_scope : (dump : Dump) (ports : List port_code.Port.Port) (scope : Scope) (scopes : List (Option ℕ)) (found : Option ℕ)
     → scope.variables.now ≡ dump.front.header.variables.items → scopes ≡ dump.front.header.scopes.items
     → IsIndex (map variable_of scope.variables.now) scope.names.now
-    → ((h : Header) → IsIndex h.variables scope.names.now → length h.scopes ≡ length scopes → found ≡ scope_of h (ports_in ports)) → found ≡ Some scope.number
-    → IsScope (dump_header dump) (ports_in ports) scope
+    → ((h : Header) → h.variables ≡ map variable_of scope.variables.now → IsIndex h.variables scope.names.now → length h.scopes ≡ length scopes → found ≡ scope_of h (ports_in ports)) → found ≡ Some scope.number
+    → IsFirst (dump_header dump) (ports_in ports) scope
 is_scope dump ports scope scopes found are all index each is =
     scope_found dump ports scope are index
     (sym (scope_is dump ports scope.names.now scope.variables.now scopes found are all index each) ∙ is)

@@ -2,6 +2,10 @@
 use Rattle.std.proofs.Common.{◌≡◌, ℕ, true, false, List, [], ◌∷◌, map, refl, Some, None, Err}
 use Rattle.std.specs.Prelude.{codes}
 use Rattle.vcd_reading.specs.Commands.{named_command, is_dump, is_end}
+use Rattle.vcd_reading.specs.declared.part.Part.TheVariants.{Whole, Bit}
+use Rattle.vcd_reading.specs.Bits.{bit_in}
+use Rattle.vcd_reading.specs.Header.{Header, Variable, is_real_type}
+use Rattle.vcd_reading.specs.Scopes.{Port, code_of, is_too_long, place_in, port_bit, scope_of}
 use Rattle.vcd_reading.specs.Pieces.{behind_end}
 use Rattle.vcd_reading.specs.Events.{Event, rises}
 use Rattle.vcd_reading.specs.Changes.{Past}
@@ -17,7 +21,7 @@ to_unknown time code unknowns = record { time = Some time; code = code; level = 
 
 -- a counter of two bits: it counts at each rising edge of its clock
 abbrev count_port : Watch
-count_port = record { signal = 1; width = 2; code = codes "q" }
+count_port = record { signal = 1; width = 2; code = codes "q"; part = Whole }
 
 abbrev counter : Watches
 counter = record { clock = Some (codes "!"); inputs = []; outputs = count_port ∷ [] }
@@ -69,3 +73,82 @@ time_falls = refl
 pub ends_in_a_section : ReadsText [] (codes "$comment none") (Err 13)
 unfolding named_command is_dump is_end behind_end
 ends_in_a_section = at_fault refl
+
+-- ---- bits of variables
+-- `data_3_` may be bit 3 of `data`; a name may have an `_` itself
+pub a_name_of_a_bit : bit_in (codes "data_3_") ≡ Some (record { name = codes "data"; number = 3 })
+a_name_of_a_bit = refl
+
+pub a_name_with_an_underscore : bit_in (codes "my_bus_127_") ≡ Some (record { name = codes "my_bus"; number = 127 })
+a_name_with_an_underscore = refl
+
+-- no number of more than 127, none with a 0 in front, none at all, and nothing behind the last `_`
+pub a_number_too_great : bit_in (codes "data_128_") ≡ None
+a_number_too_great = refl
+
+pub a_zero_in_front : bit_in (codes "data_03_") ≡ None
+a_zero_in_front = refl
+
+pub no_number : bit_in (codes "data__") ≡ None
+no_number = refl
+
+pub no_last_underscore : bit_in (codes "data_3") ≡ None
+no_last_underscore = refl
+
+-- a header that declares `data` in a scope, of eight bits, and in a scope after it also `data_3_`
+abbrev declared_bits : ℕ → List ℕ → List ℕ → List ℕ → Variable
+declared_bits scope size code name = record { scope = Some scope; type_word = codes "wire"; size = size; code = code; name = name }
+
+abbrev two_scopes : Header
+two_scopes = record {
+  scopes = None ∷ None ∷ [];
+  current = None;
+  variables = declared_bits 0 (codes "8") (codes "#") (codes "data") ∷ declared_bits 1 (codes "8") (codes "#") (codes "data")
+      ∷ declared_bits 1 (codes "1") (codes "$") (codes "data_3_") ∷ [];
+  ended = true;
+}
+
+-- ports of one bit
+abbrev named_port : List ℕ → Port
+named_port name = record { signal = 0; width = 1; name = name; bit = port_bit 1 name }
+
+-- in the first scope `data_3_` is bit 3 of `data`, in the second the variable of its name
+pub a_bit_of_a_variable : place_in two_scopes 0 (named_port (codes "data_3_")) ≡ Some (record {
+  variable = declared_bits 0 (codes "8") (codes "#") (codes "data");
+  part = Bit 3 8;
+})
+unfolding is_real_type
+a_bit_of_a_variable = refl
+
+pub a_name_before_a_bit : place_in two_scopes 1 (named_port (codes "data_3_")) ≡ Some (record {
+  variable = declared_bits 1 (codes "1") (codes "$") (codes "data_3_");
+  part = Whole;
+})
+a_name_before_a_bit = refl
+
+-- `data` has no bit 8
+pub no_such_bit : place_in two_scopes 0 (named_port (codes "data_8_")) ≡ None
+no_such_bit = refl
+
+-- the first scope declares every bit, and a value may have as many digits as `data` has bits
+pub the_first_scope : scope_of two_scopes (named_port (codes "data_3_") ∷ named_port (codes "data_0_") ∷ []) ≡ Some 0
+unfolding is_real_type
+the_first_scope = refl
+
+pub eight_digits : is_too_long two_scopes (named_port (codes "data_3_") ∷ []) (codes "#") 8 ≡ false
+unfolding is_real_type
+eight_digits = refl
+
+pub nine_digits : is_too_long two_scopes (named_port (codes "data_3_") ∷ []) (codes "#") 9 ≡ true
+unfolding is_real_type
+nine_digits = refl
+
+-- bit 3 of 8 is 1, and bit 2 is 0
+abbrev bit_port : ℕ → Watch
+bit_port number = record { signal = 0; width = 1; code = codes "#"; part = Bit number 8 }
+
+pub bit_3 : (sample None (to_bits 0 (codes "#") 8 ∷ []) 0 (bit_port 3)).ones ≡ 1
+bit_3 = refl
+
+pub bit_2 : (sample None (to_bits 0 (codes "#") 8 ∷ []) 0 (bit_port 2)).ones ≡ 0
+bit_2 = refl

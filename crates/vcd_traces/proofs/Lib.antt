@@ -1,9 +1,11 @@
 pub mod RunningLaws
 pub mod ChangeLaws
 pub mod TableLaws
+pub mod DeclaredPlaces
 pub mod SiteLaws
 pub mod SizeLaws
 pub mod WatchLaws
+pub mod PartLaws
 pub mod RowLaws
 pub mod KeptLaws
 pub mod MomentLaws

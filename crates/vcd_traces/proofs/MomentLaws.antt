@@ -13,7 +13,7 @@ use Rattle.vcd_traces.specs.declared.moment as code
 use Rattle.vcd_traces.specs.declared.running.Running.{Running}
 use Rattle.vcd_traces.specs.declared.rows.Watched.{Watched}
 use Rattle.vcd_reading.specs.Events.{Event, level_after, is_low, is_high, rises}
-use Rattle.vcd_traces.specs.Samples.{Watch, Watches, sample, is_unknown, known_bits, level_at, moments}
+use Rattle.vcd_traces.specs.Samples.{Watch, Watches, sample, is_unknown, known_bits, level_at, moments, part_level}
 use Rattle.vcd_traces.specs.Running.{Follows, are_past, before_of}
 use Rattle.vcd_traces.specs.Levels.{KeepsAll}
 use Rattle.vcd_traces.specs.Moment.{kept_of, kept_level, kept_sample, has_unknown, kept_rises, kept_is_cycle}
@@ -90,7 +90,7 @@ sample_is : (w : Watches) (cells : List (List ℕ)) (time : ℕ) (events : List 
     → (watch : code.Watch.Watch) → has_cell cells watch ≡ true
     → kept_sample (moment_of watched running time) watch ≡ sample w.clock events time (watch_in cells watch)
 sample_is w cells time events running watched end watch within =
-    ap (cut_level watch.width)
+    ap (λ l. cut_level watch.width (part_level watch.part l))
     (kept_level_is w.clock cells time events running (moment_of watched running time) watch.cell refl
     (sym (ap is_some end.watches.clock ∙ same_some (cell_code cells) watched.clock)) refl end.past end.count end.each
     (ltb-true watch.cell (length cells) within))

@@ -1,4 +1,4 @@
--- The variables of ports are found in their scope.
+-- The places of ports are found in their scope.
 use Rattle.std.proofs.Common.{◌≡◌, ℕ, zero, suc, ◌+◌, ◌<◌, ◌≤◌, Bool, true, false, ◌||◌, if◌then◌else◌, List, [], ◌∷◌, ◌++◌, length, map, take, get_or, sym, ◌∙◌, ap, subst, inl, inr, arith, Option, Some, None, is_some}
 use Rattle.std.specs.Prelude.{slice_get, All, nat_lt}
 use Rattle.std.specs.List.{list_any, list_all}
@@ -13,55 +13,20 @@ use Rattle.std.proofs.lemmas.Option.{slice_get-map, slice_get_past}
 use Rattle.loc_base.proofs.ShelfBools.{or-true}
 use Rattle.loc_base.proofs.ShelfLists.{slice_get-at}
 use Rattle.vcd_reading.specs.declared.ports as code
-use Rattle.vcd_reading.specs.declared.header.Variable as code_variable
+use Rattle.vcd_reading.specs.declared.place as lent
 use Rattle.vcd_reading.specs.Commands.{same_bytes}
-use Rattle.vcd_reading.specs.Header.{Header, Variable}
-use Rattle.vcd_reading.specs.HeaderView.{variable_of}
-use Rattle.vcd_reading.specs.NameView.{number_at}
+use Rattle.vcd_reading.specs.Header.{Header}
+use Rattle.vcd_reading.specs.PlaceView.{place_of}
 use Rattle.vcd_reading.specs.PortView.{port_of, ports_in}
-use Rattle.vcd_reading.specs.Scopes.{Port, is_named, variable_in, port_variable, declares, least_below, scope_of, has_code}
-use Rattle.vcd_reading.specs.Found.{place_of}
+use Rattle.vcd_reading.specs.Scopes.{Port, Place, place_in, port_place, declares, least_below, scope_of, has_code, most_digits}
 use Rattle.vcd_reading.proofs.ByteLaws.{same_self}
-use Rattle.vcd_reading.proofs.IndexLaws.{place_finds}
 use Rattle.vcd_traces.specs.declared.table.Table.{Table}
 use Rattle.vcd_traces.specs.declared.sites.Site.{Site}
-use Rattle.vcd_traces.specs.declared.sites.Scope.{Scope}
 use Rattle.vcd_traces.specs.Samples.{with_lesser, least_port}
 use Rattle.vcd_traces.specs.Table.{role_of, with_role, cell_codes, given_role, with_cell, IsTableOf}
-use Rattle.vcd_traces.specs.Sites.{site_port, IsScope, IsSite, AreSites}
-use Rattle.vcd_traces.proofs.TableLaws.{is_declared_of, table_more}
-
--- an element that is lent, or none
-pub lent_at : {X : Type 0} (xs : List X) (n : ℕ) (r : Option (Bor X)) → is_some r ≡ nat_lt n (length xs) → IfSome r (λ x. x.now ≡ get_or xs n x.now)
-    → option_copied r ≡ slice_get xs n
-lent_at xs n None some is = sym (slice_get_past xs n (past n (length xs) some))
-  where
-    past : (n m : ℕ) → false ≡ nat_lt n m → m ≤ n
-    past n m test = grind (arith, nat_tests)
-lent_at xs n (Some x) some is = sym (slice_get-at xs n x.now (within n (length xs) some) is)
-  where
-    within : (n m : ℕ) → true ≡ nat_lt n m → n < m
-    within n m test = grind (arith, nat_tests)
-
--- the variable of a name is that of its number
-pub variable_found : (h : Header) (ports : List Port) (scope : Scope) (name : List ℕ) → IsScope h ports scope
-    → option_and_then (slice_get (map variable_of scope.variables.now)) (number_at scope.names.now scope.number name) ≡ variable_in h scope.number name
-variable_found h ports scope name is =
-    ap (option_and_then (slice_get (map variable_of scope.variables.now))) (is.index scope.number name)
-    ∙ ap (λ l. option_and_then (slice_get l) (place_of (is_named scope.number name) h.variables)) (sym is.variables)
-    ∙ place_finds (is_named scope.number name) h.variables
-
-pub variable_at : (h : Header) (ports : List Port) (scope : Scope) (name : List ℕ) (n : ℕ) (found : Option code_variable.Variable) → IsScope h ports scope
-    → number_at scope.names.now scope.number name ≡ Some n → found ≡ slice_get scope.variables.now n
-    → option_map variable_of found ≡ variable_in h scope.number name
-variable_at h ports scope name n found is number at =
-    ap (option_map variable_of) at ∙ sym (slice_get-map variable_of scope.variables.now n)
-    ∙ ap (option_and_then (slice_get (map variable_of scope.variables.now))) (sym number) ∙ variable_found h ports scope name is
-
-pub variable_none : (h : Header) (ports : List Port) (scope : Scope) (name : List ℕ) → IsScope h ports scope
-    → number_at scope.names.now scope.number name ≡ None → None ≡ variable_in h scope.number name
-variable_none h ports scope name is number =
-    ap (option_and_then (slice_get (map variable_of scope.variables.now))) (sym number) ∙ variable_found h ports scope name is
+use Rattle.vcd_traces.specs.Sites.{site_port, IsFirst, IsSite, AreSites}
+use Rattle.vcd_traces.proofs.DeclaredPlaces.{place_declared}
+use Rattle.vcd_traces.proofs.TableLaws.{table_more}
 
 -- the first scope that declares every port does
 least_passes : (test : ℕ → Bool) (n k : ℕ) → least_below test n ≡ Some k → test k ≡ true
@@ -94,35 +59,35 @@ any_map_at f test (x ∷ xs) zero d within passes = ap (λ b. b || list_any test
 any_map_at f test (x ∷ xs) (suc i) d within passes =
     ap (λ b. test (f x) || b) (any_map_at f test xs i d (omega (arith, within)) passes) ∙ or-true (test (f x))
 
--- so each port has a variable there
-pub has_variable : (h : Header) (ports : List code.Port.Port) (scope : Scope) (i : ℕ) (d : code.Port.Port) → IsScope h (ports_in ports) scope
-    → i < length ports → is_some (variable_in h scope.number (get_or ports i d).name.now) ≡ true
-has_variable h ports scope i d is within =
-    all_map_at port_of (λ (port : Port). is_some (variable_in h scope.number port.name)) ports i d within
+-- so each port has a place there
+has_place : (h : Header) (ports : List code.Port.Port) (scope : lent.Scope.Scope) (i : ℕ) (d : code.Port.Port) → IsFirst h (ports_in ports) scope
+    → i < length ports → is_some (place_in h scope.number (port_of (get_or ports i d))) ≡ true
+has_place h ports scope i d is within =
+    all_map_at port_of (λ (port : Port). is_some (place_in h scope.number port)) ports i d within
     (least_passes (declares h (ports_in ports)) (length h.scopes) scope.number is.first)
 
 -- there is no port without one
-pub sites_lack : (h : Header) (ports : List code.Port.Port) (scope : Scope) (i : ℕ) (d : code.Port.Port) (found : Option code_variable.Variable)
-    → IsScope h (ports_in ports) scope → i < length ports → found ≡ None
-    → option_map variable_of found ≡ variable_in h scope.number (get_or ports i d).name.now → ⊥
-sites_lack h ports scope i d found is within none variable =
-    false≢true (ap is_some (sym (ap (option_map variable_of) none) ∙ variable) ∙ has_variable h ports scope i d is within)
+pub sites_lack : (h : Header) (ports : List code.Port.Port) (scope : lent.Scope.Scope) (i : ℕ) (d : code.Port.Port) (found : Option lent.Place.Place)
+    → IsFirst h (ports_in ports) scope → i < length ports → found ≡ None
+    → option_map place_of found ≡ place_in h scope.number (port_of (get_or ports i d)) → ⊥
+sites_lack h ports scope i d found is within none place =
+    false≢true (ap is_some (sym (ap (option_map place_of) none) ∙ place) ∙ has_place h ports scope i d is within)
 
--- a port with the variable that is found
-pub site_found : (h : Header) (ports : List code.Port.Port) (scope : Scope) (i : ℕ) (site : Site) → IsScope h (ports_in ports) scope → i < length ports
-    → get_or ports i site.port ≡ site.port → variable_in h scope.number site.port.name.now ≡ Some (variable_of site.variable)
+-- a port with the place that is found
+site_found : (h : Header) (ports : List code.Port.Port) (scope : lent.Scope.Scope) (i : ℕ) (site : Site) → IsFirst h (ports_in ports) scope → i < length ports
+    → get_or ports i site.port ≡ site.port → place_in h scope.number (site_port site) ≡ Some (place_of site.place)
     → IsSite h (ports_in ports) site
 site_found h ports scope i site is within at found =
-    let variable : port_variable h (scope_of h (ports_in ports)) (site_port site) ≡ Some (variable_of site.variable) =
-    ap (λ s. port_variable h s (site_port site)) is.first ∙ found in
-    let test : Port → Bool = has_code h (ports_in ports) site.variable.code.now in
+    let place : port_place h (scope_of h (ports_in ports)) (site_port site) ≡ Some (place_of site.place) =
+    ap (λ s. port_place h s (site_port site)) is.first ∙ found in
+    let test : Port → Bool = has_code h (ports_in ports) site.place.variable.code.now in
     let has : test (site_port site) ≡ true =
-    ap (λ o. option_map_or (λ (v : Variable). same_bytes v.code site.variable.code.now) o false) variable ∙ same_self site.variable.code.now in
+    ap (λ o. option_map_or (λ (p : Place). same_bytes p.variable.code site.place.variable.code.now) o false) place ∙ same_self site.place.variable.code.now in
     let P : code.Port.Port → Type 0 = λ p. test (port_of p) ≡ true in
     record {
-      variable = variable;
+      place = place;
       of_port = any_map_at port_of test ports i site.port within (subst P (sym at) has);
-      declared = is_declared_of h (scope_of h (ports_in ports)) (site_port site) (variable_of site.variable) variable;
+      declared = place_declared h (scope_of h (ports_in ports)) (site_port site) (place_of site.place) place;
     }
 
 pub site_more : (h : Header) (ports seen : List Port) (sites : List Site) (site : Site) → AreSites h ports seen sites → IsSite h ports site
@@ -136,17 +101,17 @@ site_more h ports seen sites site are one = record {
     only zero d within = one
     only (suc k) d within = absurd (omega (arith, within))
 
--- one more port, with its variable
-pub sites_more : (h : Header) (ports : List code.Port.Port) (scope : Scope) (i : ℕ) (d : code.Port.Port) (sites : List Site) (v : code_variable.Variable)
-    (found : Option code_variable.Variable) → IsScope h (ports_in ports) scope → i < length ports → found ≡ Some v
-    → option_map variable_of found ≡ variable_in h scope.number (get_or ports i d).name.now → AreSites h (ports_in ports) (ports_in (take i ports)) sites
-    → AreSites h (ports_in ports) (ports_in (take (i + 1) ports)) (sites ++ (record { port = get_or ports i d; variable = v }) ∷ [])
-sites_more h ports scope i d sites v found is within some variable are =
-    let site : Site = record { port = get_or ports i d; variable = v } in
+-- one more port, with its place
+pub sites_more : (h : Header) (ports : List code.Port.Port) (scope : lent.Scope.Scope) (i : ℕ) (d : code.Port.Port) (sites : List Site) (p : lent.Place.Place)
+    (found : Option lent.Place.Place) → IsFirst h (ports_in ports) scope → i < length ports → found ≡ Some p
+    → option_map place_of found ≡ place_in h scope.number (port_of (get_or ports i d)) → AreSites h (ports_in ports) (ports_in (take i ports)) sites
+    → AreSites h (ports_in ports) (ports_in (take (i + 1) ports)) (sites ++ (record { port = get_or ports i d; place = p }) ∷ [])
+sites_more h ports scope i d sites p found is within some place are =
+    let site : Site = record { port = get_or ports i d; place = p } in
     let P : List Port → Type 0 = λ l. AreSites h (ports_in ports) l (sites ++ site ∷ []) in
     subst P (sym (map_more port_of ports i d within))
     (site_more h (ports_in ports) (ports_in (take i ports)) sites site are
-    (site_found h ports scope i site is within (get_or_default ports i _ d within) (sym variable ∙ ap (option_map variable_of) some)))
+    (site_found h ports scope i site is within (get_or_default ports i _ d within) (sym place ∙ ap (option_map place_of) some)))
 
 -- the least port, with one more
 pub least_more : (test : Port → Bool) (sites : List Site) (i : ℕ) (d : Site) → i < length sites
@@ -155,17 +120,22 @@ least_more test sites i d within =
     ap (least_port test) (map_more site_port sites i d within) ∙ fold-append (with_lesser test) None (map site_port (take i sites)) (site_port (get_or sites i d) ∷ [])
 
 -- the table with the next port
-pub table_site : (h : Header) (ports : List Port) (sites : List Site) (i : ℕ) (d : Site) (old new : Table) → i < length sites → All (IsSite h ports) sites
+pub table_site : (h : Header) (ports : List Port) (sites : List Site) (i : ℕ) (d : Site) (most : ℕ) (old new : Table) → i < length sites → All (IsSite h ports) sites
     → IsTableOf h ports (map site_port (take i sites)) old
+    → most ≡ most_digits (get_or sites i d).port.width (get_or sites i d).place.part
     → ((other : List ℕ) → role_of new.codes other
-    ≡ with_role (get_or sites i d).variable.code.now (given_role (role_of old.codes (get_or sites i d).variable.code.now) (length (cell_codes old)) (get_or sites i d).port.width) (role_of old.codes) other)
-    → cell_codes new ≡ with_cell (role_of old.codes (get_or sites i d).variable.code.now) (cell_codes old) (get_or sites i d).variable.code.now
+    ≡ with_role (get_or sites i d).place.variable.code.now (given_role (role_of old.codes (get_or sites i d).place.variable.code.now) (length (cell_codes old)) most) (role_of old.codes) other)
+    → cell_codes new ≡ with_cell (role_of old.codes (get_or sites i d).place.variable.code.now) (cell_codes old) (get_or sites i d).place.variable.code.now
     → IsTableOf h ports (map site_port (take (i + 1) sites)) new
-table_site h ports sites i d old new within all before roles cells =
+table_site h ports sites i d most old new within all before is roles cells =
     let site = get_or sites i d in
+    let code = site.place.variable.code.now in
     let P : List Port → Type 0 = λ l. IsTableOf h ports l new in
+    let R : ℕ → Type 0 =
+    λ n. (other : List ℕ) → role_of new.codes other ≡ with_role code (given_role (role_of old.codes code) (length (cell_codes old)) n) (role_of old.codes) other in
     subst P (sym (map_more site_port sites i d within))
-    (table_more h ports (map site_port (take i sites)) (site_port site) (variable_of site.variable) old new before (all i d within).variable (all i d within).declared roles cells)
+    (table_more h ports (map site_port (take i sites)) (site_port site) (place_of site.place) old new before (all i d within).place (all i d within).declared
+    (subst R is roles) cells)
 
 pub table_whole : (h : Header) (ports : List Port) (sites : List Site) (i : ℕ) (table : Table) → length sites ≤ i
     → IsTableOf h ports (map site_port (take i sites)) table → IsTableOf h ports (map site_port sites) table

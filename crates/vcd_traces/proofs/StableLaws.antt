@@ -7,7 +7,7 @@ use Rattle.std.proofs.lemmas.Bool.Decides.{nat_tests}
 use Rattle.vcd_words.specs.declared.level.Level.{Level}
 use Rattle.vcd_words.specs.Levels.{cut_level}
 use Rattle.vcd_reading.specs.Events.{Event, level_before, level_after, is_before, is_up_to, is_low, is_high, rises}
-use Rattle.vcd_traces.specs.Samples.{Watch, Watches, sample, is_unknown, known_bits, level_at, moments, unknown_in, unknown_from}
+use Rattle.vcd_traces.specs.Samples.{Watch, Watches, sample, is_unknown, known_bits, level_at, moments, part_level, unknown_in, unknown_from}
 use Rattle.vcd_traces.specs.Rows.{Kept, joined}
 use Rattle.vcd_traces.specs.Kept.{row_at, rows_at, AreKept}
 use Rattle.vcd_traces.specs.Plan.{have_ended}
@@ -95,7 +95,7 @@ find_agrees f g (x ∷ xs) agree =
 
 sample_stable : (w : Watches) (events : List Event) (event : Event) (stamp : ℕ) → is_after event.time stamp ≡ true → (watch : Watch)
     → sample w.clock (events ++ event ∷ []) stamp watch ≡ sample w.clock events stamp watch
-sample_stable w events event stamp after watch = ap (cut_level watch.width) (level_stable w.clock watch.code events event stamp after)
+sample_stable w events event stamp after watch = ap (λ l. cut_level watch.width (part_level watch.part l)) (level_stable w.clock watch.code events event stamp after)
 
 row_stable : (w : Watches) (events : List Event) (event : Event) (stamp : ℕ) → is_after event.time stamp ≡ true
     → row_at w (events ++ event ∷ []) stamp ≡ row_at w events stamp

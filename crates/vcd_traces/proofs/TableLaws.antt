@@ -1,15 +1,16 @@
 -- One more port in the table of codes.
 use Rattle.std.proofs.Common.{◌≡◌, ℕ, zero, suc, Bool, true, false, ◌&&◌, ◌||◌, if◌then◌else◌, min, List, [], ◌∷◌, ◌++◌, length, refl, sym, ◌∙◌, ap, subst, inl, inr, arith, Option, Some, None, is_some, nat_lt}
 use Rattle.std.specs.Prelude.{slice_get}
-use Rattle.std.specs.List.{list_any, find}
+use Rattle.std.specs.List.{list_any}
 use Rattle.std.specs.Option.{option_and_then, option_map_or}
 use Rattle.std.proofs.lemmas.Bool.{cases_Bool, cond-true, cond-false, false≢true}
 use Rattle.std.proofs.lemmas.Bool.Decides.{nat_tests}
 use Rattle.std.proofs.lemmas.List.Folds.{list_any-append}
 use Rattle.loc_base.proofs.ShelfBools.{or-false, or-true}
 use Rattle.vcd_reading.specs.Commands.{same_bytes}
-use Rattle.vcd_reading.specs.Header.{Header, Variable}
-use Rattle.vcd_reading.specs.Scopes.{Port, is_named, scope_of, port_variable, has_code, is_declared}
+use Rattle.vcd_reading.specs.Header.{Header}
+use Rattle.vcd_reading.specs.declared.part.Part.TheVariants.{Whole}
+use Rattle.vcd_reading.specs.Scopes.{Port, Place, scope_of, port_place, part_of, has_code, is_declared, is_shorter, most_digits}
 use Rattle.vcd_reading.proofs.ByteLaws.{same_means, same_self}
 use Rattle.vcd_traces.specs.declared.codes.Role.{Role}
 use Rattle.vcd_traces.specs.declared.codes.Role.TheVariants.{Other, Port as OfPort}
@@ -26,10 +27,6 @@ any_here test seen port here = any_more test seen port ∙ ap (λ b. list_any te
 
 any_away : (test : Port → Bool) (seen : List Port) (port : Port) → test port ≡ false → list_any test (seen ++ port ∷ []) ≡ list_any test seen
 any_away test seen port away = any_more test seen port ∙ ap (λ b. list_any test seen || b) away ∙ or-false (list_any test seen)
-
--- the ports of a code that have fewer bits than some digits
-abbrev too_long : Header → List Port → List ℕ → ℕ → Port → Bool
-too_long h ports code digits port = has_code h ports code port && nat_lt port.width digits
 
 less_both : (a b n : ℕ) → (nat_lt a n || nat_lt b n) ≡ nat_lt (min a b) n
 less_both a b n = grind (arith, nat_tests)
@@ -55,23 +52,23 @@ cell_was P (z ∷ xs) (suc k) x y at old last = cell_was P xs k x y at old (λ h
 -- the role of the code of the one more port
 role_here : (h : Header) (ports seen : List Port) (port : Port) (code : List ℕ) (cells : List (List ℕ)) (old : Option Role)
     → has_code h ports code port ≡ true → is_some old ≡ true → ((role : Role) → old ≡ Some role → IsRole h ports seen cells code role)
-    → IsRole h ports (seen ++ port ∷ []) (with_cell old cells code) code (given_role old (length cells) port.width)
+    → IsRole h ports (seen ++ port ∷ []) (with_cell old cells code) code (given_role old (length cells) (most_digits port.width (part_of h ports port)))
 role_here h ports seen port code cells None here some is = absurd (false≢true some)
 role_here h ports seen port code cells (Some Other) here some is =
     let none : list_any (has_code h ports code) seen ≡ false = is Other refl in (
       any_here (has_code h ports code) seen port here,
       λ digits.
-          any_more (too_long h ports code digits) seen port
-          ∙ ap (λ b. b || too_long h ports code digits port) (any_less (has_code h ports code) (λ (p : Port). nat_lt p.width digits) seen none)
-          ∙ ap (λ b. b && nat_lt port.width digits) here,
+          any_more (is_shorter h ports code digits) seen port
+          ∙ ap (λ b. b || is_shorter h ports code digits port) (any_less (has_code h ports code) (λ (p : Port). nat_lt (most_digits p.width (part_of h ports p)) digits) seen none)
+          ∙ ap (λ b. b && nat_lt (most_digits port.width (part_of h ports port)) digits) here,
       cell_next cells code,
     )
 role_here h ports seen port code cells (Some (OfPort cell limit)) here some is =
     let facts = is (OfPort cell limit) refl in (
       any_here (has_code h ports code) seen port here,
       λ digits.
-          any_more (too_long h ports code digits) seen port ∙ ap (λ b. b || too_long h ports code digits port) (facts.1 digits)
-          ∙ ap (λ b. nat_lt limit digits || (b && nat_lt port.width digits)) here ∙ less_both limit port.width digits,
+          any_more (is_shorter h ports code digits) seen port ∙ ap (λ b. b || is_shorter h ports code digits port) (facts.1 digits)
+          ∙ ap (λ b. nat_lt limit digits || (b && nat_lt (most_digits port.width (part_of h ports port)) digits)) here ∙ less_both limit (most_digits port.width (part_of h ports port)) digits,
       facts.2,
     )
 
@@ -82,7 +79,7 @@ role_away : (h : Header) (ports seen : List Port) (port : Port) (code : List ℕ
 role_away h ports seen port code cells more Other away stays is = any_away (has_code h ports code) seen port away ∙ is
 role_away h ports seen port code cells more (OfPort cell limit) away stays is = (
   any_away (has_code h ports code) seen port away ∙ is.0,
-  λ digits. any_away (too_long h ports code digits) seen port (ap (λ b. b && nat_lt port.width digits) away) ∙ is.1 digits,
+  λ digits. any_away (is_shorter h ports code digits) seen port (ap (λ b. b && nat_lt (most_digits port.width (part_of h ports port)) digits) away) ∙ is.1 digits,
   stays cell is.2,
 )
 
@@ -93,11 +90,11 @@ with_stays (Some Other) cells code other k at = cell_stays cells k other code at
 with_stays (Some (OfPort cell limit)) cells code other k at = at
 
 -- each cell is that of its code: where the one more port's code gets the next cell
-next_cell : (o new : Option Role) (cells : List (List ℕ)) (code other : List ℕ) (k width : ℕ) (roles : List ℕ → Option Role)
-    → option_and_then cell_of (roles code) ≡ None → new ≡ with_role code (OfPort (length cells) width) roles other
+next_cell : (o new : Option Role) (cells : List (List ℕ)) (code other : List ℕ) (k most : ℕ) (roles : List ℕ → Option Role)
+    → option_and_then cell_of (roles code) ≡ None → new ≡ with_role code (OfPort (length cells) most) roles other
     → ((q : List ℕ) (j : ℕ) → slice_get cells j ≡ Some q → option_and_then cell_of (roles q) ≡ Some j)
     → slice_get (cells ++ code ∷ []) k ≡ Some other → option_and_then cell_of new ≡ Some k
-next_cell o new cells code other k width roles none is each at =
+next_cell o new cells code other k most roles none is each at =
     cell_was (option_and_then cell_of new ≡ Some k) cells k other code at
     (λ old.
     elim (cases_Bool (same_bytes code other)) [
@@ -115,11 +112,11 @@ next_cell o new cells code other k width roles none is each at =
     none_some k e = cc
 
 -- where it keeps the one that it has
-same_cell : (new : Option Role) (cells : List (List ℕ)) (code other : List ℕ) (k cell limit width : ℕ) (roles : List ℕ → Option Role)
-    → roles code ≡ Some (OfPort cell limit) → new ≡ with_role code (OfPort cell (min limit width)) roles other
+same_cell : (new : Option Role) (cells : List (List ℕ)) (code other : List ℕ) (k cell limit most : ℕ) (roles : List ℕ → Option Role)
+    → roles code ≡ Some (OfPort cell limit) → new ≡ with_role code (OfPort cell (min limit most)) roles other
     → ((q : List ℕ) (j : ℕ) → slice_get cells j ≡ Some q → option_and_then cell_of (roles q) ≡ Some j)
     → slice_get cells k ≡ Some other → option_and_then cell_of new ≡ Some k
-same_cell new cells code other k cell limit width roles has is each at =
+same_cell new cells code other k cell limit most roles has is each at =
     elim (cases_Bool (same_bytes code other)) [
       | inl same ↦
           let P : List ℕ → Type 0 = λ q. option_and_then cell_of (roles q) ≡ Some k in
@@ -128,77 +125,65 @@ same_cell new cells code other k cell limit width roles has is each at =
       | inr away ↦ ap (option_and_then cell_of) (is ∙ cond-false _ _ _ away) ∙ each other k at
     ]
 
-each_cell : (o new : Option Role) (cells : List (List ℕ)) (code other : List ℕ) (k width : ℕ) (roles : List ℕ → Option Role) → roles code ≡ o
-    → new ≡ with_role code (given_role o (length cells) width) roles other
+each_cell : (o new : Option Role) (cells : List (List ℕ)) (code other : List ℕ) (k most : ℕ) (roles : List ℕ → Option Role) → roles code ≡ o
+    → new ≡ with_role code (given_role o (length cells) most) roles other
     → ((q : List ℕ) (j : ℕ) → slice_get cells j ≡ Some q → option_and_then cell_of (roles q) ≡ Some j)
     → slice_get (with_cell o cells code) k ≡ Some other → option_and_then cell_of new ≡ Some k
-each_cell None new cells code other k width roles has is each at =
-    next_cell None new cells code other k width roles (ap (option_and_then cell_of) has) is each at
-each_cell (Some Other) new cells code other k width roles has is each at =
-    next_cell None new cells code other k width roles (ap (option_and_then cell_of) has) is each at
-each_cell (Some (OfPort cell limit)) new cells code other k width roles has is each at =
-    same_cell new cells code other k cell limit width roles has is each at
+each_cell None new cells code other k most roles has is each at =
+    next_cell None new cells code other k most roles (ap (option_and_then cell_of) has) is each at
+each_cell (Some Other) new cells code other k most roles has is each at =
+    next_cell None new cells code other k most roles (ap (option_and_then cell_of) has) is each at
+each_cell (Some (OfPort cell limit)) new cells code other k most roles has is each at =
+    same_cell new cells code other k cell limit most roles has is each at
 
 -- the table with one more port
-pub table_more : (h : Header) (ports seen : List Port) (port : Port) (v : Variable) (old new : Table) → IsTableOf h ports seen old
-    → port_variable h (scope_of h ports) port ≡ Some v → is_declared h v.code ≡ true
+pub table_more : (h : Header) (ports seen : List Port) (port : Port) (p : Place) (old new : Table) → IsTableOf h ports seen old
+    → port_place h (scope_of h ports) port ≡ Some p → is_declared h p.variable.code ≡ true
     → ((other : List ℕ) → role_of new.codes other
-    ≡ with_role v.code (given_role (role_of old.codes v.code) (length (cell_codes old)) port.width) (role_of old.codes) other)
-    → cell_codes new ≡ with_cell (role_of old.codes v.code) (cell_codes old) v.code → IsTableOf h ports (seen ++ port ∷ []) new
-table_more h ports seen port v old new t variable declared roles cells =
-    let o = role_of old.codes v.code in
-    let given = given_role o (length (cell_codes old)) port.width in
+    ≡ with_role p.variable.code (given_role (role_of old.codes p.variable.code) (length (cell_codes old)) (most_digits port.width p.part)) (role_of old.codes) other)
+    → cell_codes new ≡ with_cell (role_of old.codes p.variable.code) (cell_codes old) p.variable.code → IsTableOf h ports (seen ++ port ∷ []) new
+table_more h ports seen port p old new t place declared roles cells =
+    let most = most_digits port.width p.part in
+    let o = role_of old.codes p.variable.code in
+    let given = given_role o (length (cell_codes old)) most in
     record {
       declared = λ code.
-          elim (cases_Bool (same_bytes v.code code)) [
+          elim (cases_Bool (same_bytes p.variable.code code)) [
             | inl same ↦
                 let P : List ℕ → Type 0 = λ q. true ≡ is_declared h q in
-                ap is_some (roles code ∙ cond-true _ _ _ same) ∙ subst P (same_means v.code code same) (sym declared)
+                ap is_some (roles code ∙ cond-true _ _ _ same) ∙ subst P (same_means p.variable.code code same) (sym declared)
             | inr away ↦ ap is_some (roles code ∙ cond-false _ _ _ away) ∙ t.declared code
           ];
       role = λ code role is.
-          elim (cases_Bool (same_bytes v.code code)) [
+          elim (cases_Bool (same_bytes p.variable.code code)) [
             | inl same ↦
-                let has : has_code h ports v.code port ≡ true = has_of v.code ∙ same_self v.code in
-                let some : is_some o ≡ true = t.declared v.code ∙ declared in
-                let fact = role_here h ports seen port v.code (cell_codes old) o has some (t.role v.code) in
+                let has : has_code h ports p.variable.code port ≡ true = has_of p.variable.code ∙ same_self p.variable.code in
+                let some : is_some o ≡ true = t.declared p.variable.code ∙ declared in
+                let N : ℕ → Type 0 = λ n. IsRole h ports (seen ++ port ∷ []) (with_cell o (cell_codes old) p.variable.code) p.variable.code (given_role o (length (cell_codes old)) n) in
+                let fact = subst N is_most (role_here h ports seen port p.variable.code (cell_codes old) o has some (t.role p.variable.code)) in
                 let its : Some given ≡ Some role = sym (roles code ∙ cond-true _ _ _ same) ∙ is in
                 let one : given ≡ role = cc in
-                let P : List (List ℕ) → Type 0 = λ l. IsRole h ports (seen ++ port ∷ []) l v.code given in
+                let P : List (List ℕ) → Type 0 = λ l. IsRole h ports (seen ++ port ∷ []) l p.variable.code given in
                 let Q : List ℕ → Type 0 = λ q. IsRole h ports (seen ++ port ∷ []) (cell_codes new) q given in
                 let R : Role → Type 0 = λ r. IsRole h ports (seen ++ port ∷ []) (cell_codes new) code r in
-                subst R one (subst Q (same_means v.code code same) (subst P (sym cells) fact))
+                subst R one (subst Q (same_means p.variable.code code same) (subst P (sym cells) fact))
             | inr away ↦
                 let was : role_of old.codes code ≡ Some role = sym (roles code ∙ cond-false _ _ _ away) ∙ is in
                 let P : List (List ℕ) → Type 0 = λ l. IsRole h ports (seen ++ port ∷ []) l code role in
                 subst P (sym cells)
-                (role_away h ports seen port code (cell_codes old) (with_cell o (cell_codes old) v.code) role (has_of code ∙ away)
-                (λ k at. with_stays o (cell_codes old) v.code code k at) (t.role code role was))
+                (role_away h ports seen port code (cell_codes old) (with_cell o (cell_codes old) p.variable.code) role (has_of code ∙ away)
+                (λ k at. with_stays o (cell_codes old) p.variable.code code k at) (t.role code role was))
           ];
       cell = λ code k at.
           let P : List (List ℕ) → Type 0 = λ l. slice_get l k ≡ Some code in
-          each_cell o (role_of new.codes code) (cell_codes old) v.code code k port.width (role_of old.codes) refl (roles code) t.cell (subst P cells at);
+          each_cell o (role_of new.codes code) (cell_codes old) p.variable.code code k most (role_of old.codes) refl (roles code) t.cell (subst P cells at);
     }
   where
-    has_of : (code : List ℕ) → has_code h ports code port ≡ same_bytes v.code code
-    has_of code = ap (λ o. option_map_or (λ (w : Variable). same_bytes w.code code) o false) variable
+    has_of : (code : List ℕ) → has_code h ports code port ≡ same_bytes p.variable.code code
+    has_of code = ap (λ o. option_map_or (λ (q : Place). same_bytes q.variable.code code) o false) place
 
--- the variable of a port is declared
-found_any : {X : Type 0} (one other : X → Bool) (xs : List X) (x : X) → find one xs ≡ Some x → other x ≡ true → list_any other xs ≡ true
-found_any one other [] x found passes = cc
-found_any one other (y ∷ ys) x found passes =
-    elim (cases_Bool (one y)) [
-      | inl here ↦
-          let same : Some y ≡ Some x = sym (cond-true _ _ _ here) ∙ found in
-          let it : x ≡ y = cc in
-          ap (λ b. b || list_any other ys) (ap other (sym it) ∙ passes)
-      | inr away ↦
-          ap (λ b. other y || b) (found_any one other ys x (sym (cond-false _ _ _ away) ∙ found) passes) ∙ or-true (other y)
-    ]
-
-pub is_declared_of : (h : Header) (scope : Option ℕ) (port : Port) (v : Variable) → port_variable h scope port ≡ Some v → is_declared h v.code ≡ true
-is_declared_of h None port v is = cc
-is_declared_of h (Some s) port v is = found_any (is_named s port.name) (λ (w : Variable). same_bytes w.code v.code) h.variables v is (same_self v.code)
+    is_most : most_digits port.width (part_of h ports port) ≡ most_digits port.width p.part
+    is_most = ap (λ o. most_digits port.width (option_map_or (λ (q : Place). q.part) o Whole)) place
 
 -- before the first port each declared code is one of no port
 pub table_first : (h : Header) (ports : List Port) (table : Table) → cell_codes table ≡ []

@@ -8,6 +8,7 @@ use Rattle.vcd_traces.specs.declared.moment.Moment.{Moment}
 use Rattle.vcd_traces.specs.declared.moment.Watch.{Watch}
 use Rattle.vcd_reading.specs.Events.{is_low, is_high}
 use Rattle.vcd_traces.specs.Running.{before_of}
+use Rattle.vcd_traces.specs.Samples.{part_level}
 
 -- 1 to 128 bits
 abbrev pub has_width : Watch → Bool
@@ -22,7 +23,7 @@ kept_level m cell = option_map_or (kept_of m.clocked m.time) (slice_get m.runnin
 
 -- the bits of a port
 abbrev pub kept_sample : Moment → Watch → Level
-kept_sample m watch = cut_level watch.width (kept_level m watch.cell)
+kept_sample m watch = cut_level watch.width (part_level watch.part (kept_level m watch.cell))
 
 abbrev pub has_unknown : Moment → Watch → Bool
 has_unknown m watch = not ((kept_sample m watch).unknowns == 0)

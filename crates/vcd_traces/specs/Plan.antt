@@ -20,7 +20,7 @@ abbrev pub cell_code : List (List ℕ) → ℕ → List ℕ
 cell_code cells cell = unwrap_or (slice_get cells cell) []
 
 abbrev pub watch_in : List (List ℕ) → code.Watch.Watch → Watch
-watch_in cells watch = record { signal = watch.signal; width = watch.width; code = cell_code cells watch.cell }
+watch_in cells watch = record { signal = watch.signal; width = watch.width; code = cell_code cells watch.cell; part = watch.part }
 
 -- whether a port has a cell
 abbrev pub has_cell : List (List ℕ) → code.Watch.Watch → Bool

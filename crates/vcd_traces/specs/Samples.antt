@@ -1,6 +1,6 @@
 -- The trace that a dump holds of a design's ports (IEEE 1364-2005, clause 18): with a clock the values before each of
 -- its rising edges, without one those after each stamp.
-use Rattle.std.specs.Prelude.{ℕ, ◌≡◌, ◌+◌, ◌-◌, ◌^◌, Bool, not, ◌==◌, nat_lt, if◌then◌else◌, List, [], ◌∷◌, length, map, fold, Option, Some, None, Ok, Err, bit_and}
+use Rattle.std.specs.Prelude.{ℕ, ◌≡◌, ◌+◌, ◌-◌, ◌/◌, ◌^◌, Bool, not, ◌==◌, nat_lt, if◌then◌else◌, List, [], ◌∷◌, length, map, fold, Option, Some, None, Ok, Err, bit_and}
 use Rattle.std.specs.List.{filter, find, flat_map}
 use Rattle.std.specs.Option.{option_or, option_map}
 use Rattle.loc_base.specs.Bits.{width_of, value_of}
@@ -12,16 +12,19 @@ use Rattle.vcd_words.specs.Levels.{cut_level}
 use Rattle.vcd_reading.specs.declared.error.VcdErr.{VcdErr}
 use Rattle.vcd_reading.specs.declared.error.VcdErr.TheVariants.{Syntax, MissingPort, PortWidth, NoCycle, UnknownInput, Cycles}
 use Rattle.vcd_reading.specs.Header.{Header}
-use Rattle.vcd_reading.specs.Scopes.{Port, ports_of, input_ports, output_ports, clock_port, scope_of, code_of, is_unfit}
+use Rattle.vcd_reading.specs.declared.part.Part.{Part}
+use Rattle.vcd_reading.specs.declared.part.Part.TheVariants.{Whole, Bit}
+use Rattle.vcd_reading.specs.Scopes.{Port, ports_of, input_ports, output_ports, clock_port, scope_of, code_of, part_of, is_unfit}
 use Rattle.vcd_reading.specs.Events.{Event, level_before, level_after, rises}
 use Rattle.vcd_reading.specs.Changes.{Past, stamps_of}
 use Rattle.vcd_reading.specs.Reading.{ReadsText}
 
--- a port that is sampled: the number of its signal, its width, and the code of its variable
+-- a port that is sampled: the number of its signal, its width, the code of its variable, and which bits of that are its
 pub record Watch : Type 0 where
   pub signal : ℕ
   pub width : ℕ
   pub code : List ℕ
+  pub part : Part
 
 -- what is sampled: the code of the clock, if there is one, and the inputs and outputs
 pub record Watches : Type 0 where
@@ -39,9 +42,14 @@ abbrev pub level_at : Option (List ℕ) → List ℕ → List Event → ℕ → 
 level_at None code events time = level_after time code events
 level_at (Some clock) code events time = level_before time code events
 
+-- the bits of a level that are a port's
+abbrev pub part_level : Part → Level → Level
+part_level Whole level = level
+part_level (Bit number size) level = record { ones = level.ones / 2 ^ number; unknowns = level.unknowns / 2 ^ number }
+
 -- the bits of a port at a cycle
 abbrev pub sample : Option (List ℕ) → List Event → ℕ → Watch → Level
-sample clock events time watch = cut_level watch.width (level_at clock watch.code events time)
+sample clock events time watch = cut_level watch.width (part_level watch.part (level_at clock watch.code events time))
 
 -- whether a port has an unknown bit at a cycle
 abbrev pub is_unknown : Option (List ℕ) → List Event → ℕ → Watch → Bool
@@ -79,9 +87,9 @@ pub record AreSamples (w : Watches) (events : List Event) (times : List ℕ) (tr
   pub value_widths : map (λ (checked : Checked). width_of checked.value) trace.expected.items
       ≡ flat_map (λ time. map (λ (watch : Watch). watch.width) w.outputs) times
 
--- what is sampled of a design: each port by the variable of its name in the first scope that declares every port
+-- what is sampled of a design: each port where it stands in the first scope that declares every port
 abbrev pub watch_of : Header → List Port → Port → Watch
-watch_of h ports port = record { signal = port.signal; width = port.width; code = code_of h ports port }
+watch_of h ports port = record { signal = port.signal; width = port.width; code = code_of h ports port; part = part_of h ports port }
 
 abbrev pub watches_of : Design → Option (List ℕ) → Header → Watches
 watches_of d clock h = record {

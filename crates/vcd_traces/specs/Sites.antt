@@ -1,32 +1,30 @@
--- The variables of a design's ports, as they are found.
+-- Where a design's ports stand, as it is found.
 use Rattle.std.specs.Prelude.{ℕ, ◌≡◌, Bool, true, List, map, take, drop, Some, All, slice_get}
 use Rattle.std.specs.Option.{option_map}
+use Rattle.vcd_reading.specs.declared.place.Scope.{Scope}
 use Rattle.vcd_reading.specs.Header.{Header}
-use Rattle.vcd_reading.specs.HeaderView.{variable_of}
+use Rattle.vcd_reading.specs.PlaceView.{place_of, IsScope}
 use Rattle.vcd_reading.specs.PortView.{port_of}
-use Rattle.vcd_reading.specs.Scopes.{Port, scope_of, port_variable, is_of_port, is_declared, code_of}
-use Rattle.vcd_reading.specs.Found.{IsIndex}
+use Rattle.vcd_reading.specs.Scopes.{Port, scope_of, port_place, is_of_port, is_declared, code_of}
 use Rattle.vcd_traces.specs.declared.sites.Site.{Site}
-use Rattle.vcd_traces.specs.declared.sites.Scope.{Scope}
 use Rattle.vcd_traces.specs.Ports.{fits}
 use Rattle.vcd_traces.specs.Samples.{Watches, watch_of}
 
--- the first scope that declares every port, with the variables of a header
-pub record IsScope (h : Header) (ports : List Port) (scope : Scope) : Type 0 where
-  pub variables : h.variables ≡ map variable_of scope.variables.now
-  pub index : IsIndex h.variables scope.names.now
+-- the first scope that declares every port
+pub record IsFirst (h : Header) (ports : List Port) (scope : Scope) : Type 0 where
+  pub of_header : IsScope h scope
   pub first : scope_of h ports ≡ Some scope.number
 
 abbrev pub site_port : Site → Port
 site_port site = port_of site.port
 
--- a port with its variable
+-- a port where it stands
 pub record IsSite (h : Header) (ports : List Port) (site : Site) : Type 0 where
-  pub variable : port_variable h (scope_of h ports) (site_port site) ≡ Some (variable_of site.variable)
-  pub of_port : is_of_port h ports site.variable.code.now ≡ true
-  pub declared : is_declared h site.variable.code.now ≡ true
+  pub place : port_place h (scope_of h ports) (site_port site) ≡ Some (place_of site.place)
+  pub of_port : is_of_port h ports site.place.variable.code.now ≡ true
+  pub declared : is_declared h site.place.variable.code.now ≡ true
 
--- some ports with their variables
+-- some ports where they stand
 pub record AreSites (h : Header) (ports seen : List Port) (sites : List Site) : Type 0 where
   pub same : map site_port sites ≡ seen
   pub each : All (IsSite h ports) sites

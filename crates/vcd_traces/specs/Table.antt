@@ -1,5 +1,5 @@
 -- The table of a dump's codes: what each declared code is to the ports.
-use Rattle.std.specs.Prelude.{ℕ, ◌≡◌, true, false, ◌&&◌, min, nat_eq, nat_lt, if◌then◌else◌, List, [], ◌∷◌, ◌++◌, length, get_or, map, Option, Some, None, is_some, slice_get}
+use Rattle.std.specs.Prelude.{ℕ, ◌≡◌, true, false, min, nat_eq, nat_lt, if◌then◌else◌, List, [], ◌∷◌, ◌++◌, length, get_or, map, Option, Some, None, is_some, slice_get}
 use Rattle.std.specs.List.{list_any}
 use Rattle.std.specs.Borrow.{Bor}
 use Rattle.std.specs.HashMap as hash
@@ -11,7 +11,7 @@ use Rattle.vcd_traces.specs.declared.codes.Role.{Role}
 use Rattle.vcd_traces.specs.declared.codes.Role.TheVariants.{Other, Port as OfPort}
 use Rattle.vcd_traces.specs.declared.table.Table.{Table}
 use Rattle.vcd_reading.specs.Header.{Header}
-use Rattle.vcd_reading.specs.Scopes.{Port, has_code, is_declared}
+use Rattle.vcd_reading.specs.Scopes.{Port, has_code, is_declared, is_shorter}
 
 -- the place of a code in a list of so many, where it has one there
 abbrev pub near_place : ℕ → List ℕ → Option ℕ
@@ -38,12 +38,12 @@ cell_of (OfPort cell limit) = Some cell
 abbrev pub cell_codes : Table → List (List ℕ)
 cell_codes table = map (λ (code : Bor (List ℕ)). code.now) table.cells.items
 
--- a code that none of some ports has, or one of those that all have at least some bits, of which one has no more
+-- a code that none of some ports has, or one whose values may have so many digits for each of them that has it, and for one no more
 abbrev pub IsRole : Header → List Port → List Port → List (List ℕ) → List ℕ → Role → Type 0
 IsRole h ports seen cells code Other = list_any (has_code h ports code) seen ≡ false
 IsRole h ports seen cells code (OfPort cell limit) =
     (list_any (has_code h ports code) seen ≡ true)
-    × ((digits : ℕ) → list_any (λ port. has_code h ports code port && nat_lt port.width digits) seen ≡ nat_lt limit digits)
+    × ((digits : ℕ) → list_any (is_shorter h ports code digits) seen ≡ nat_lt limit digits)
     × (slice_get cells cell ≡ Some code)
 
 -- a table has the declared codes and their roles, and a cell for each code of some of the ports
@@ -56,11 +56,11 @@ pub record IsTableOf (h : Header) (ports seen : List Port) (table : Table) : Typ
 abbrev pub IsTable : Header → List Port → Table → Type 0
 IsTable h ports table = IsTableOf h ports ports table
 
--- the role of a code of one more port, of so many bits: it keeps its cell, or gets the next one
+-- the role of a code of one more port, whose values may have so many digits: it keeps its cell, or gets the next one
 abbrev pub given_role : Option Role → ℕ → ℕ → Role
-given_role None next width = OfPort next width
-given_role (Some Other) next width = OfPort next width
-given_role (Some (OfPort cell limit)) next width = OfPort cell (min limit width)
+given_role None next most = OfPort next most
+given_role (Some Other) next most = OfPort next most
+given_role (Some (OfPort cell limit)) next most = OfPort cell (min limit most)
 
 abbrev pub with_cell : Option Role → List (List ℕ) → List ℕ → List (List ℕ)
 with_cell None cells code = cells ++ code ∷ []

@@ -14,12 +14,12 @@ ghost use Rattle.vcd_traces.specs.Answers.{Answers};
 
 use crate::reader::{Plan, Reading};
 use crate::rows::{Rows, Watched};
-use crate::sites::{Scope, Site, least_unfit};
+use crate::sites::{Site, least_unfit, port_sites};
 use crate::table::port_table;
 use crate::watches::watched;
 use design_core::{Design, Trace};
 use std::alloc::Global;
-use vcd_reading::{Front, Port, VcdErr, index, scope_of};
+use vcd_reading::{Front, Port, Scope, VcdErr, index, scope_of};
 
 /// The text of a dump and its header.
 #[derive(Drop)]
@@ -58,7 +58,7 @@ impl<'a> Dump<'a> {
         Err(VcdErr::MissingPort)
     }
 
-    /// Reads a dump by the variables of a design's ports.
+    /// Reads a dump by the places of a design's ports.
     fn sampled(&self, alloc: Global, design: &Design, sites: &[Site<'a>]) -> Result<Trace, VcdErr>
         requires count { length design.now.inputs.items + length design.now.outputs.items ≤ length sites.now }
         requires widths { IsTrue (list_all site_fits sites.now) }
@@ -81,16 +81,18 @@ impl<'a> Dump<'a> {
             → Answers self.now.text.now design.now clock result }
     {
         let variables = self.front.header.variables.as_slice();
-        let names = index(alloc, variables)?;
-        match scope_of(&names, ports, self.front.header.scopes.as_slice().len()) {
+        let table = index(alloc, variables)?;
+        let names = &table;
+        let scopes = self.front.header.scopes.as_slice().len();
+        match scope_of(variables, names, ports, scopes) {
             None => self.without_scope(alloc),
             Some(number) => {
                 let scope = Scope {
                     variables,
-                    names: &names,
+                    names,
                     number,
                 };
-                let sites = scope.sites(alloc, ports)?;
+                let sites = port_sites(alloc, &scope, ports)?;
                 self.sampled(alloc, design, sites.as_slice())
             }
         }

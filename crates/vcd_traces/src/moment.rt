@@ -1,5 +1,5 @@
 //! The bits of ports at a cycle (IEEE 1364-2005, 18.2.2), by the levels that are kept of their variables.
-ghost use Rattle.std.specs.Prelude.{◌≡◌, ◌≤◌, ◌++◌, ◌%◌, ◌^◌, IsTrue, OnOk, map, bit_and};
+ghost use Rattle.std.specs.Prelude.{◌≡◌, ◌≤◌, ◌++◌, ◌/◌, ◌%◌, ◌^◌, IsTrue, OnOk, map, bit_and};
 ghost use Rattle.std.specs.List.{find, list_all};
 ghost use Rattle.std.specs.Option.{option_map};
 ghost use Rattle.loc_base.specs.Bits.{width_of, value_of};
@@ -7,19 +7,21 @@ ghost use Rattle.design_core.specs.declared.trace.Checked.{Checked as TheChecked
 ghost use Rattle.vcd_reading.specs.Events.{is_low as level_is_low, is_high as level_is_high};
 ghost use Rattle.vcd_traces.specs.Moment.{kept_level, kept_sample, kept_is_cycle, has_unknown, has_width};
 ghost use Rattle.vcd_traces.specs.declared.moment.Watch.{Watch as TheWatch};
-ghost use Rattle.vcd_traces.specs.Samples.{known_bits};
+ghost use Rattle.vcd_traces.specs.Samples.{known_bits, part_level};
 
 use crate::running::Running;
 use design_core::Checked;
 use loc_base::{Bits, NoMemory};
+use vcd_reading::Part;
 use vcd_words::Level;
 
-/// A port that is sampled: the number of its signal, its width, and the cell of its variable.
+/// A port that is sampled: the number of its signal, its width, the cell of its variable, and which bits of that are its.
 #[derive(Clone, Copy)]
 pub struct Watch {
     pub signal: u32,
     pub width: u8,
     pub cell: usize,
+    pub part: Part,
 }
 
 /// The end of the stamp at a time, by what is kept of each cell's variable. With a clock the levels before the stamp
@@ -63,6 +65,27 @@ fn is_high(level: Level) -> bool
     level.ones % 2 == 1 && level.unknowns % 2 == 0
 }
 
+/// The bits from a number on.
+#[tactic(auto, using(crate::proofs::PartLaws::none_from))]
+fn bits_from(bits: u128, number: u8) -> u128
+    ensures { result ≡ bits / 2 ^ number }
+{
+    if number < 128 { bits >> number } else { 0 }
+}
+
+/// The bits of a level that are a port's.
+fn part_of(level: Level, part: Part) -> Level
+    ensures { result ≡ part_level part level }
+{
+    match part {
+        Part::Whole => level,
+        Part::Bit { number, .. } => Level {
+            ones: bits_from(level.ones, number),
+            unknowns: bits_from(level.unknowns, number),
+        },
+    }
+}
+
 impl Moment<'_> {
     /// Whether the stamp is a cycle: there is no clock, or it rises.
     pub fn is_cycle(&self, clock: Option<usize>) -> bool
@@ -101,7 +124,7 @@ impl Moment<'_> {
         ensures ones { value_of result.ones ≡ (kept_sample self.now watch.now).ones }
         ensures unknowns { value_of result.unknowns ≡ (kept_sample self.now watch.now).unknowns }
     {
-        let level = self.level(watch.cell);
+        let level = part_of(self.level(watch.cell), watch.part);
         Sample {
             ones: word_of(level.ones).cut(watch.width),
             unknowns: word_of(level.unknowns).cut(watch.width),

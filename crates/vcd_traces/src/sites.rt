@@ -1,64 +1,52 @@
-//! The variables of a design's ports (IEEE 1364-2005, 18.2.3): those in the first scope that declares every port.
+//! Where a design's ports stand (IEEE 1364-2005, 18.2.3): in the first scope that declares every port.
 ghost use Rattle.std.specs.Prelude.{◌≡◌, ◌==◌, List, All, IfOk, map};
-ghost use Rattle.std.specs.Option.{option_map};
 ghost use Rattle.vcd_words.specs.Times.{time_of};
 ghost use Rattle.vcd_reading.specs.Header.{Header as TheHeader};
 ghost use Rattle.vcd_reading.specs.HeaderView.{variable_of};
 ghost use Rattle.vcd_reading.specs.PortView.{ports_in};
-ghost use Rattle.vcd_reading.specs.Scopes.{Port as ThePort, variable_in, is_unfit as says_unfit};
+ghost use Rattle.vcd_reading.specs.Scopes.{Port as ThePort, is_unfit as says_unfit, misfits, most_digits};
 ghost use Rattle.vcd_traces.specs.Samples.{lesser as spec_lesser, least_port};
-ghost use Rattle.vcd_traces.specs.Sites.{site_port, IsScope, IsSite, AreSites};
+ghost use Rattle.vcd_traces.specs.Sites.{site_port, IsFirst, IsSite, AreSites};
 
 use loc_base::NoMemory;
 use std::alloc::Global;
-use vcd_reading::{Key, Names, Port, Variable, is_real_type};
+use vcd_reading::{Part, Place, Port, Scope, is_real_type};
 
-/// A port and its variable.
+/// A port and where it stands.
 #[derive(Clone, Copy)]
 pub struct Site<'a> {
     pub port: Port<'a>,
-    pub variable: Variable<'a>,
+    pub place: Place<'a>,
 }
 
-/// A scope of a header, by its number, with the header's variables.
-#[derive(Clone, Copy)]
-pub struct Scope<'b, 'a> {
-    pub variables: &'b [Variable<'a>],
-    pub names: &'b Names<'a>,
-    pub number: usize,
+impl Site<'_> {
+    /// How many digits a value of the port's variable may have.
+    pub fn most_digits(&self) -> u8
+        ensures { result ≡ most_digits self.now.port.width self.now.place.part }
+    {
+        match self.place.part {
+            Part::Whole => self.port.width,
+            Part::Bit { size, .. } => size,
+        }
+    }
 }
 
-impl<'a> Scope<'_, 'a> {
-    /// The variable of a name in the scope.
-    fn variable(&self, name: &[u8]) -> Option<Variable<'a>>
-        ensures { (h : TheHeader) (ports : List ThePort) → IsScope h ports self.now → option_map variable_of result ≡ variable_in h self.now.number name.now }
-    {
-        let key = Key {
-            scope: self.number,
-            name,
-        };
-        match self.names.find(key) {
-            None => None,
-            Some(number) => self.variables.get(number).copied(),
+/// Some ports with their places in a scope, which declares every one.
+pub fn port_sites<'a>(
+    alloc: Global,
+    scope: &Scope<'_, 'a>,
+    ports: &[Port<'a>],
+) -> Result<Vec<Site<'a>>, NoMemory>
+    ensures { IfOk result (λ sites. (h : TheHeader) → IsFirst h (ports_in ports.now) scope.now → AreSites h (ports_in ports.now) (ports_in ports.now) sites.items) }
+{
+    let mut sites = Vec::new(alloc);
+    for port in ports {
+        if let Some(place) = scope.place(port) {
+            let site = Site { port: *port, place };
+            sites.push(site)?;
         }
     }
-
-    /// Some ports with their variables in the scope, of which it declares every one.
-    pub fn sites(&self, alloc: Global, ports: &[Port<'a>]) -> Result<Vec<Site<'a>>, NoMemory>
-        ensures { IfOk result (λ sites. (h : TheHeader) → IsScope h (ports_in ports.now) self.now → AreSites h (ports_in ports.now) (ports_in ports.now) sites.items) }
-    {
-        let mut sites = Vec::new(alloc);
-        for port in ports {
-            if let Some(variable) = self.variable(port.name) {
-                let site = Site {
-                    port: *port,
-                    variable,
-                };
-                sites.push(site)?;
-            }
-        }
-        Ok(sites)
-    }
+    Ok(sites)
 }
 
 /// Whether decimal digits say a number.
@@ -76,11 +64,23 @@ fn says(digits: &[u8], number: u8) -> bool
     said == u32::from(number)
 }
 
+/// Whether a port of a width that is a whole variable has a real one or one of another width.
+fn misfits(width: u8, place: &Place<'_>) -> bool
+    ensures { result ≡ misfits width (variable_of place.now.variable) place.now.part }
+{
+    match place.part {
+        Part::Whole => {
+            is_real_type(place.variable.type_word) || !says(place.variable.size, width)
+        }
+        Part::Bit { .. } => false,
+    }
+}
+
 /// Whether a port's variable is real or of another width.
 fn is_unfit(site: &Site<'_>) -> bool
     ensures { (h : TheHeader) (ports : List ThePort) → IsSite h ports site.now → result ≡ says_unfit h ports (site_port site.now) }
 {
-    is_real_type(site.variable.type_word) || !says(site.variable.size, site.port.width)
+    misfits(site.port.width, &site.place)
 }
 
 /// The lesser of a number and another, where there is one.

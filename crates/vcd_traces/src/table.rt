@@ -23,21 +23,21 @@ pub struct Table<'a> {
 }
 
 impl<'a> Table<'a> {
-    /// One more port has a code and so many bits: the code keeps its cell, or gets the next one.
-    fn give(&mut self, code: &'a [u8], width: u8) -> Result<(), NoMemory>
+    /// One more port has a code, whose values may have so many digits: the code keeps its cell, or gets the next one.
+    fn give(&mut self, code: &'a [u8], most: u8) -> Result<(), NoMemory>
         ensures roles { OnOk result ((other : List ℕ) → role_of self.new.codes other
-            ≡ with_role code.now (given_role (role_of self.old.codes code.now) (length (cell_codes self.old)) width) (role_of self.old.codes) other) }
+            ≡ with_role code.now (given_role (role_of self.old.codes code.now) (length (cell_codes self.old)) most) (role_of self.old.codes) other) }
         ensures cells { OnOk result (cell_codes self.new ≡ with_cell (role_of self.old.codes code.now) (cell_codes self.old) code.now) }
     {
         match self.codes.find(code) {
             Some(Role::Port { cell, limit }) => {
-                let limit = limit.min(width);
+                let limit = limit.min(most);
                 self.codes.set(code, Role::Port { cell, limit })
             }
             Some(Role::Other) | None => {
                 let cell = self.cells.len();
                 self.cells.push(code)?;
-                self.codes.set(code, Role::Port { cell, limit: width })
+                self.codes.set(code, Role::Port { cell, limit: most })
             }
         }
     }
@@ -80,7 +80,7 @@ pub fn port_table<'a>(
         cells: Vec::new(alloc),
     };
     for site in sites {
-        table.give(site.variable.code, site.port.width)?;
+        table.give(site.place.variable.code, site.most_digits())?;
     }
     Ok(table)
 }

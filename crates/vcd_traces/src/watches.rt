@@ -28,7 +28,8 @@ fn watch(table: &Table<'_>, site: &Site<'_>) -> Watch
     Watch {
         signal: site.port.signal,
         width: site.port.width,
-        cell: table.cell(site.variable.code),
+        cell: table.cell(site.place.variable.code),
+        part: site.place.part,
     }
 }
 
@@ -57,7 +58,7 @@ fn first_cell(table: &Table<'_>, sites: &[Site<'_>]) -> Option<usize>
 {
     match sites.first() {
         None => None,
-        Some(site) => Some(table.cell(site.variable.code)),
+        Some(site) => Some(table.cell(site.place.variable.code)),
     }
 }
 

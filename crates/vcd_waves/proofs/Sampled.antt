@@ -15,14 +15,15 @@ use Rattle.vcd_words.specs.declared.level.Level.{Level}
 use Rattle.vcd_words.specs.Codes.{code_of}
 use Rattle.vcd_words.specs.Levels.{cut_level, level_of, digits_of}
 use Rattle.vcd_words.proofs.LevelLaws.{mean}
+use Rattle.vcd_reading.specs.declared.part.Part.{Part}
 use Rattle.vcd_reading.specs.Scopes.{Port, port_at, clock_port}
 use Rattle.vcd_reading.specs.Scopes as scopes
 use Rattle.vcd_reading.specs.Events.{Event, rises}
 use Rattle.vcd_reading.specs.Changes.{stamps_of}
-use Rattle.vcd_traces.specs.Samples.{Watch, Watches, level_at, sample, watch_of, watches_of, cycles_of}
+use Rattle.vcd_traces.specs.Samples.{Watch, Watches, level_at, part_level, sample, watch_of, watches_of, cycles_of}
 use Rattle.vcd_waves.specs.declared.variable.Variable.{Variable}
 use Rattle.vcd_waves.specs.Lines.{Row, Shown, known, expected, shown_in}
-use Rattle.vcd_waves.proofs.Sites.{port_code}
+use Rattle.vcd_waves.proofs.Sites.{port_code, port_part}
 use Rattle.vcd_waves.proofs.PortOrder.{input_site, output_site, clock_site, input_variable, output_variable, clock_variable, clock_place}
 use Rattle.vcd_waves.proofs.ChangeEvents.{shown_level}
 use Rattle.vcd_waves.proofs.CycleRuns.{events_before, all_stamps}
@@ -165,7 +166,10 @@ input_sample s is t i n bits within number shown =
     let width : width_of bits ≡ width_at s.design.signals.items n =
     sample_width s.design.signals.items s.design.inputs.items (s.rows t).samples i n bits
     (is.samples t within) number shown in
-    ap (λ code. cut_level (width_at s.design.signals.items n)
+    ap (λ (part : Part). cut_level (width_at s.design.signals.items n) (part_level part
+    (level_at (watches s).clock (scopes.code_of (header s) (ports s) (port_at s.design n)) (events s) (moment_at (is_some s.clock) t))))
+    (port_part s.design s.clock (variables s) (freed s) (ports s) (header s) is.known (port_at s.design n) site)
+    ∙ ap (λ code. cut_level (width_at s.design.signals.items n)
     (level_at (watches s).clock code (events s) (moment_at (is_some s.clock) t)))
     (port_code s.design s.clock (variables s) (freed s) (ports s) (header s) is.known (port_at s.design n) site)
     ∙ ap (cut_level (width_at s.design.signals.items n))
@@ -183,7 +187,10 @@ output_sample s is t i n c within number shown =
     let fits : Fits s.design.signals.items n c =
     expected_width s.design.signals.items s.design.outputs.items (s.rows t).expected i n c
     (is.expected t within) number shown in
-    ap (λ code. cut_level (width_at s.design.signals.items n)
+    ap (λ (part : Part). cut_level (width_at s.design.signals.items n) (part_level part
+    (level_at (watches s).clock (scopes.code_of (header s) (ports s) (port_at s.design n)) (events s) (moment_at (is_some s.clock) t))))
+    (port_part s.design s.clock (variables s) (freed s) (ports s) (header s) is.known (port_at s.design n) site)
+    ∙ ap (λ code. cut_level (width_at s.design.signals.items n)
     (level_at (watches s).clock code (events s) (moment_at (is_some s.clock) t)))
     (port_code s.design s.clock (variables s) (freed s) (ports s) (header s) is.known (port_at s.design n) site)
     ∙ ap (cut_level (width_at s.design.signals.items n))

@@ -2,7 +2,7 @@
 use Rattle.std.proofs.Common.{◌≡◌, ℕ, zero, suc, arith, ◌+◌, ◌≤◌, ◌<◌, ◌^◌, ◌==◌, Bool, true, false, not, ◌&&◌, ◌||◌, Option, Some, None, List, [], ◌∷◌, length, map, refl, sym, ◌∙◌, ap, subst, inl, inr, is_some}
 use Rattle.std.specs.Prelude.{codes, decimal, Contains, slice_get, nat_lt, if◌then◌else◌}
 use Rattle.std.specs.List.{list_all, list_any, find, IsDistinct, AllByRecursion}
-use Rattle.std.specs.Option.{option_or, option_map_or}
+use Rattle.std.specs.Option.{option_and_then, option_map, option_or, option_map_or}
 use Rattle.std.proofs.lemmas.Bool.{and_from, and_parts, cond-true, cond-false, cases_eq, or_left, or_right}
 use Rattle.std.proofs.lemmas.Bool.Decides.{nat_tests}
 use Rattle.std.proofs.lemmas.List.Folds.{find-append, list_any-append}
@@ -18,7 +18,9 @@ use Rattle.vcd_words.proofs.TimeLaws.{written}
 use Rattle.vcd_reading.specs.Commands.{same_bytes}
 use Rattle.vcd_reading.specs.Header.{Header, is_real_type}
 use Rattle.vcd_reading.specs.Header as read
-use Rattle.vcd_reading.specs.Scopes.{Port, is_named, variable_in, declares, least_below, scope_of, port_variable, has_code, is_declared, is_too_long, is_unfit}
+use Rattle.vcd_reading.specs.declared.part.Part.{Part}
+use Rattle.vcd_reading.specs.declared.part.Part.TheVariants.{Whole}
+use Rattle.vcd_reading.specs.Scopes.{Port, is_named, variable_in, bit_place, place_in, whole, declares, least_below, scope_of, port_place, part_of, has_code, is_declared, is_shorter, is_too_long, is_unfit, misfits, most_digits}
 use Rattle.vcd_reading.specs.Scopes as scopes
 use Rattle.vcd_reading.proofs.ByteLaws.{same_self}
 use Rattle.vcd_waves.specs.declared.variable.Variable.{Variable}
@@ -141,35 +143,49 @@ found_port d clock vs freed ports h known port site =
     ∙ ap (λ w. Some (declared_by (Some 0) w (code_of site.number) (name_of d clock site.variable))) site.width
     ∙ ap (λ name. Some (declared_by (Some 0) port.width (code_of site.number) name)) site.name
 
+-- it stands there as a whole
+found_place : (d : Design) (clock : Option (List ℕ)) (vs freed : List Variable) (ports : List Port) (h : Header)
+    (known : Known d clock vs freed ports h) (port : Port) (site : Site d clock vs port)
+    → place_in h 0 port ≡ Some (whole (declared_by (Some 0) port.width (code_of site.number) port.name))
+found_place d clock vs freed ports h known port site =
+    ap (λ o. option_or (option_map whole o) (option_and_then (bit_place h 0) port.bit))
+    (found_port d clock vs freed ports h known port site)
+
 pub first_scope : (d : Design) (clock : Option (List ℕ)) (vs freed : List Variable) (ports : List Port) (h : Header)
     → Known d clock vs freed ports h → scope_of h ports ≡ Some 0
 first_scope d clock vs freed ports h known =
     let all : declares h ports 0 ≡ true =
-    all_members (λ (port : Port). is_some (variable_in h 0 port.name)) ports
+    all_members (λ (port : Port). is_some (place_in h 0 port)) ports
     (λ port member. ap (λ o. is_some o)
-    (found_port d clock vs freed ports h known port (known.site port member))) in
+    (found_place d clock vs freed ports h known port (known.site port member))) in
     ap (λ (l : List (Option ℕ)). least_below (declares h ports) (length l)) known.declares.scopes
     ∙ least_zero (declares h ports) (length known.declares.more) all
 
 pub port_found : (d : Design) (clock : Option (List ℕ)) (vs freed : List Variable) (ports : List Port) (h : Header)
     (known : Known d clock vs freed ports h) (port : Port) (site : Site d clock vs port)
-    → port_variable h (scope_of h ports) port ≡ Some (declared_by (Some 0) port.width (code_of site.number) port.name)
+    → port_place h (scope_of h ports) port ≡ Some (whole (declared_by (Some 0) port.width (code_of site.number) port.name))
 port_found d clock vs freed ports h known port site =
-    ap (λ scope. port_variable h scope port) (first_scope d clock vs freed ports h known)
-    ∙ found_port d clock vs freed ports h known port site
+    ap (λ scope. port_place h scope port) (first_scope d clock vs freed ports h known)
+    ∙ found_place d clock vs freed ports h known port site
 
 pub port_code : (d : Design) (clock : Option (List ℕ)) (vs freed : List Variable) (ports : List Port) (h : Header)
     (known : Known d clock vs freed ports h) (port : Port) (site : Site d clock vs port)
     → scopes.code_of h ports port ≡ code_of site.number
 port_code d clock vs freed ports h known port site =
-    ap (λ (o : Option read.Variable). option_map_or (λ (v : read.Variable). v.code) o [])
+    ap (λ (o : Option scopes.Place). option_map_or (λ (p : scopes.Place). p.variable.code) o [])
+    (port_found d clock vs freed ports h known port site)
+
+pub port_part : (d : Design) (clock : Option (List ℕ)) (vs freed : List Variable) (ports : List Port) (h : Header)
+    (known : Known d clock vs freed ports h) (port : Port) (site : Site d clock vs port) → part_of h ports port ≡ Whole
+port_part d clock vs freed ports h known port site =
+    ap (λ (o : Option scopes.Place). option_map_or (λ (p : scopes.Place). p.part) o Whole)
     (port_found d clock vs freed ports h known port site)
 
 port_has : (d : Design) (clock : Option (List ℕ)) (vs freed : List Variable) (ports : List Port) (h : Header)
     (known : Known d clock vs freed ports h) (port : Port) (site : Site d clock vs port) (code : List ℕ)
     → has_code h ports code port ≡ same_bytes (code_of site.number) code
 port_has d clock vs freed ports h known port site code =
-    ap (λ (o : Option read.Variable). option_map_or (λ (v : read.Variable). same_bytes v.code code) o false)
+    ap (λ (o : Option scopes.Place). option_map_or (λ (p : scopes.Place). same_bytes p.variable.code code) o false)
     (port_found d clock vs freed ports h known port site)
 
 -- a port's variable fits it
@@ -187,8 +203,7 @@ same_width width small =
 pub port_fits : (d : Design) (clock : Option (List ℕ)) (vs freed : List Variable) (ports : List Port) (h : Header)
     (known : Known d clock vs freed ports h) (port : Port) (site : Site d clock vs port) → is_unfit h ports port ≡ false
 port_fits d clock vs freed ports h known port site =
-    ap (λ (o : Option read.Variable). option_map_or
-    (λ (v : read.Variable). is_real_type v.type_word || not (time_of v.size == port.width)) o false)
+    ap (λ (o : Option scopes.Place). option_map_or (λ (p : scopes.Place). misfits port.width p.variable p.part) o false)
     (port_found d clock vs freed ports h known port site)
     ∙ ap (λ b. b || not (time_of (decimal port.width) == port.width)) not_real ∙ same_width port.width site.small
 
@@ -198,21 +213,22 @@ short : (d : Design) (clock : Option (List ℕ)) (vs freed : List Variable) (por
     → ((port : Port) (site : Site d clock vs port) → site.number ≡ n → digits ≤ port.width)
     → is_too_long h ports (code_of n) digits ≡ false
 short d clock vs freed ports h known n digits small wide =
-    no_members (λ port. has_code h ports (code_of n) port && nat_lt port.width digits) ports
+    no_members (is_shorter h ports (code_of n) digits) ports
     (λ port member. one port (known.site port member))
   where
     not_less : (a b : ℕ) → a ≤ b → nat_lt b a ≡ false
     not_less a b within = grind (arith, nat_tests)
 
-    one : (port : Port) → Site d clock vs port → (has_code h ports (code_of n) port && nat_lt port.width digits) ≡ false
+    one : (port : Port) → Site d clock vs port → is_shorter h ports (code_of n) digits port ≡ false
     one port site =
         elim (cases_eq site.number n) [
-          | inl same ↦ ap (λ b. has_code h ports (code_of n) port && b)
-              (not_less digits port.width (wide port site same)) ∙ and-false _
+          | inl same ↦ ap (λ (part : Part). has_code h ports (code_of n) port && nat_lt (most_digits port.width part) digits)
+              (port_part d clock vs freed ports h known port site)
+              ∙ ap (λ b. has_code h ports (code_of n) port && b) (not_less digits port.width (wide port site same)) ∙ and-false _
           | inr apart ↦
               let few = known.few in
               let within : site.number < length vs = slice_get_within vs site.number site.variable site.at in
-              ap (λ b. b && nat_lt port.width digits)
+              ap (λ b. b && nat_lt (most_digits port.width (part_of h ports port)) digits)
               (port_has d clock vs freed ports h known port site (code_of n)
               ∙ codes_differ site.number n (omega (arith, few, within)) small apart)
         ]

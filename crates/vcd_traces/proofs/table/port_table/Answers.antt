@@ -16,8 +16,8 @@ loop-site-init c h ports same all =
 
 pub loop-site-preserved : goal.loop-site-preserved
 loop-site-preserved c h ports same all =
-    table_site h ports c.args.sites.now c.loop-site.site-index _ c.loop-site.table c.give.new.self c.loop-site-test.true all
-    (c.loop-site.invariant h ports same all) c.in_ok-give.ensures.roles c.in_ok-give.ensures.cells
+    table_site h ports c.args.sites.now c.loop-site.site-index _ c.most_digits.result c.loop-site.table c.give.new.self c.loop-site-test.true all
+    (c.loop-site.invariant h ports same all) c.most_digits.ensures c.in_ok-give.ensures.roles c.in_ok-give.ensures.cells
 
 pub returns : goal.returns
 returns c h ports same all =

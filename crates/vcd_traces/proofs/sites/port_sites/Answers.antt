@@ -3,20 +3,20 @@ use Rattle.vcd_reading.specs.PortView.{ports_in}
 use Rattle.vcd_traces.specs.declared.sites.Site.{Site}
 use Rattle.vcd_traces.specs.Sites.{AreSites}
 use Rattle.vcd_traces.proofs.SiteLaws.{sites_more, sites_lack}
-use Rattle.vcd_traces.proofs.sites.Scope.sites.Goals as goal
-use Rattle.vcd_traces.proofs.sites.Scope.sites.Goals.{in-Some+in_ok-push, in_default}
+use Rattle.vcd_traces.proofs.sites.port_sites.Goals as goal
+use Rattle.vcd_traces.proofs.sites.port_sites.Goals.{in-Some+in_ok-push, in_default}
 
 pub loop-port-preserved : goal.loop-port-preserved
 loop-port-preserved c h is =
     let ports = c.args.ports.now in
     let i = c.loop-port.port-index in
-    elim c.match-variable.branch [
+    elim c.match-place.branch [
       | in-Some+in_ok-push w ↦
           let P : List Site → Type 0 = λ l. AreSites h (ports_in ports) (ports_in (take (i + 1) ports)) l in
           subst P (sym (ap (λ (v : Vec Site Global). v.items) w.sites-is ∙ w.in_ok-push.ensures.items))
-          (sites_more h ports c.args.self.now i _ c.loop-port.sites.items w.in-Some.variable c.variable.result is c.loop-port-test.true w.in-Some.is
-          (c.variable.ensures h (ports_in ports) is) (c.loop-port.invariant h is))
+          (sites_more h ports c.args.scope.now i _ c.loop-port.sites.items w.in-Some.place c.place.result is c.loop-port-test.true w.in-Some.is
+          (c.place.ensures h is.of_header) (c.loop-port.invariant h is))
       | in_default w ↦
           absurd
-          (sites_lack h ports c.args.self.now i _ c.variable.result is c.loop-port-test.true w.in_default.is (c.variable.ensures h (ports_in ports) is))
+          (sites_lack h ports c.args.scope.now i _ c.place.result is c.loop-port-test.true w.in_default.is (c.place.ensures h is.of_header))
     ]

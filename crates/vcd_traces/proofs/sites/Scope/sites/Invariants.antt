@@ -1,9 +1,0 @@
-use Rattle.std.proofs.Common.{take}
-use Rattle.vcd_reading.specs.Header.{Header}
-use Rattle.vcd_reading.specs.PortView.{ports_in}
-use Rattle.vcd_traces.specs.Sites.{IsScope, AreSites}
-use Rattle.vcd_traces.proofs.sites.Scope.sites.Given as goal
-
-abbrev pub invariant-loop-port : goal.invariant-loop-port
-invariant-loop-port l =
-    (h : Header) → IsScope h (ports_in l.ports) l.self → AreSites h (ports_in l.ports) (ports_in (take l.port-index l.ports)) l.sites.items
