@@ -7,6 +7,9 @@ A variable `data` of eight bits becomes eight variables `data_7_` to `data_0_`, 
 an AIGER file have whose symbols are `data[7]` to `data[0]`. Bits are counted from the lowest, number 0, whatever range the variable is declared
 with, since yosys counts them so. Variables of one bit, reals, and all else stay as they are, but for identifier codes, which are new, and white space.
 
+`localise` finds the bits of variables of 2 to 128 bits itself. This is for wider ones, for names that an AIGER file has otherwise, and for
+`tools/triage.py`, which changes single outputs.
+
 The status is 0; 1 where the text is no dump, which standard error says.
 """
 
