@@ -1,8 +1,7 @@
 -- Worked examples of operands and of bound places, on small designs written down by hand. The path of a signal, its start value
 -- and where lists lie in memory stand for any.
-use Rattle.std.proofs.Common.{◌≡◌, ℕ, ◌^◌, ◌<◌, ◌≤◌, List, [], ◌∷◌, refl, lit<, lit≤}
+use Rattle.std.proofs.Common.{◌≡◌, ℕ, List, [], ◌∷◌, refl, lit<, lit≤}
 use Rattle.std.specs.Prelude.{Bool, true, false, pos, Some, None, Option}
-use Rattle.loc_base.specs.declared.bits.Bits.{Bits}
 use Rattle.loc_base.specs.declared.span.Span.{Span}
 use Rattle.design_core.specs.declared.signal.Signal.{Signal}
 use Rattle.design_core.specs.declared.signal.SignalKind.TheVariants as kind
@@ -17,10 +16,9 @@ use Rattle.design_core.specs.declared.statement.Stmt.TheVariants as stmt
 use Rattle.design_core.specs.declared.driver.Driver.{Driver}
 use Rattle.design_core.specs.declared.driver.Driver.TheVariants as driver
 use Rattle.design_core.specs.declared.driver.Reset.{Reset}
-use Rattle.design_core.specs.declared.driver.Clocked.{Clocked}
 use Rattle.design_core.specs.declared.design.Design.{Design}
 use Rattle.design_core.proofs.Examples.{Any, vec, declared, scalar}
-use Rattle.place_functions.specs.Operands.{operands_of, is_operand, is_own, is_bound}
+use Rattle.place_functions.specs.Operands.{operands_of, is_own, is_bound}
 use Rattle.place_functions.proofs.Passing.{bit_at}
 
 -- ---- the signals: the clock, a, b and y of one bit, and v and w of four

@@ -1,5 +1,5 @@
 -- A set that works by functions works.
-use Rattle.std.proofs.Common.{ℕ, ◌≡◌, List}
+use Rattle.std.proofs.Common.{ℕ, List}
 use Rattle.loc_base.proofs.ShelfLists.{Contains-place}
 use Rattle.design_core.specs.declared.design.Design.{Design}
 use Rattle.design_core.specs.declared.trace.Trace.{Trace}

@@ -1,7 +1,7 @@
 -- What the right side of a place of a well-formed design reads: bits that its signals have, each of which is in the list of the
 -- place's operands.
-use Rattle.std.proofs.Common.{ℕ, ◌≡◌, ◌<◌, ◌+◌, Bool, true, false, not, ◌&&◌, ◌||◌, List, [], ◌∷◌, refl, ap, sym, ◌∙◌, subst, arith, ◌⊎◌, inl, inr, Option, Some, None}
-use Rattle.std.specs.Prelude.{◌==◌, nat_le, IsTrue, Contains}
+use Rattle.std.proofs.Common.{ℕ, ◌≡◌, ◌<◌, ◌+◌, Bool, true, false, ◌&&◌, ◌||◌, List, subst, arith, ◌⊎◌, inl, inr, Option, Some, None}
+use Rattle.std.specs.Prelude.{◌==◌, nat_le}
 use Rattle.std.specs.Option.{option_map_or}
 use Rattle.std.specs.List.{list_any, list_all}
 use Rattle.std.proofs.lemmas.Bool.{or_cases, and_parts, false_from_ne_true, both_ways}
@@ -23,9 +23,8 @@ use Rattle.design_core.specs.Store.{parts_width}
 use Rattle.design_core.specs.Reads.{reads}
 use Rattle.design_core.specs.WellFormed.{is_width, typed_fits, part_fits, place_fits, assignment_fits, label_fits, statement_fits, statements_fit, items_fit, driver_fits, is_reset_values, reset_fits, clocked_fits, IsWellFormed}
 use Rattle.design_core.proofs.ReadsWithin.{reads-below}
-use Rattle.place_functions.specs.declared.signal_bit.SignalBit.{SignalBit}
-use Rattle.place_functions.specs.Operands.{some_value, some_value_of, some_value_in, assigns_from, statement_uses, driver_uses, block_uses, is_operand, operands_of, is_own, is_bound}
-use Rattle.place_functions.proofs.Passing.{bit_at, all-any}
+use Rattle.place_functions.specs.Operands.{some_value_of, some_value_in, assigns_from, statement_uses, driver_uses, block_uses, is_operand, operands_of, is_own, is_bound}
+use Rattle.place_functions.proofs.Passing.{all-any}
 
 -- one of two that hold
 one_of : (p q : Bool) (G : Type 0) → (p || q) ≡ true → (p ≡ true → G) → (q ≡ true → G) → G

@@ -1,10 +1,11 @@
 -- Which bits the right side of a place reads, and which places are bound to them: those whose right side reads no signal that
 -- its own always block assigns by `=`, so that what it reads is what the cycle shows (IEEE 1364-2005, 9.2.1 and 9.2.2).
-use Rattle.std.specs.Prelude.{ℕ, zero, suc, ◌+◌, ◌==◌, Bool, true, false, not, ◌&&◌, ◌||◌, if◌then◌else◌, List, [], ◌∷◌, ◌++◌}
+use Rattle.std.specs.Prelude.{ℕ, zero, suc, ◌+◌, ◌==◌, Bool, false, not, ◌&&◌, ◌||◌, if◌then◌else◌, List, [], ◌∷◌, ◌++◌}
 use Rattle.std.specs.Option.{option_map_or}
 use Rattle.std.specs.List.{list_any}
 use Rattle.design_core.specs.declared.signal.Signal.{Signal}
 use Rattle.design_core.specs.declared.expression.Typed.{Typed}
+use Rattle.design_core.specs.declared.statement.CaseItem.{CaseItem}
 use Rattle.design_core.specs.declared.statement.Stmt.{Stmt, Row_of-Stmt, end_of-Stmt, more_of-Stmt, Row_of-CaseItem, end_of-CaseItem, more_of-CaseItem}
 use Rattle.design_core.specs.declared.statement.Stmt.TheVariants.{Nothing, Block', If', Case', Set}
 use Rattle.design_core.specs.declared.driver.Driver.{Driver}
@@ -39,6 +40,10 @@ assigns_from signals p s b place value = (place == p) && reads signals s b value
 -- whether the right side of a place reads a bit, in a statement
 abbrev pub statement_uses : List Signal → ℕ → ℕ → ℕ → Stmt → Bool
 statement_uses signals p s b statement = some_value (assigns_from signals p s b) statement
+
+-- in an item of a case
+abbrev pub item_uses : List Signal → ℕ → ℕ → ℕ → CaseItem → Bool
+item_uses signals p s b item = statement_uses signals p s b item.body
 
 -- in a driver
 abbrev pub driver_uses : List Signal → ℕ → ℕ → ℕ → Driver → Bool

@@ -3,9 +3,14 @@
 #![tactic(auto)]
 
 mod laws;
+mod note;
+mod note_places;
+mod note_reads;
+mod operands;
 mod signal_bit;
 
 pub use laws::{
     bound_reads_nothing_own, function_front_is_prefix, function_works, same_function_list,
 };
+pub use operands::operands_of;
 pub use signal_bit::SignalBit;
