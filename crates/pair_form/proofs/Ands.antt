@@ -18,7 +18,7 @@ use Rattle.form_laws.proofs.ClauseValues.{none-satisfied, and-says, and-holds}
 use Rattle.form_laws.proofs.Definitions.{HasValues, ordered-at, literal-in}
 
 -- the values that are known stay
-values-known : (e : Source) (known : List Bool) (nodes : List Node) (i : ℕ) → i < length known → get_or (values e known nodes) i false ≡ get_or known i false
+pub values-known : (e : Source) (known : List Bool) (nodes : List Node) (i : ℕ) → i < length known → get_or (values e known nodes) i false ≡ get_or known i false
 unfolding values
 values-known e known [] i within = refl
 values-known e known (node ∷ nodes) i within =
