@@ -1,0 +1,6 @@
+pub mod PairLists
+pub mod SelectorsOn
+pub mod Words
+pub mod Held
+pub mod Models
+pub mod Join

@@ -1,0 +1,11 @@
+//! The law.
+
+ghost use Rattle.function_laws.specs.Encoded.{CanCompare, EncodesFunctions, OfFunctions};
+
+/// For each size j of at most k and each set of at most j suspects: some assignment satisfies the form, the clauses of all pairs and the
+/// bound at j, with the selectors of exactly that set true, exactly where the set works by functions in the design.
+pub fn form_encodes_functions()
+    ghost of: { OfFunctions }
+    requires { CanCompare of }
+    ensures { EncodesFunctions of }
+{}
