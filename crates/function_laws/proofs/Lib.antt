@@ -4,3 +4,4 @@ pub mod Words
 pub mod Held
 pub mod Models
 pub mod Join
+pub mod Further
