@@ -9,6 +9,7 @@ use Rattle.std.proofs.lemmas.List.Elements.{All-contains}
 use Rattle.std.proofs.lemmas.Option.{slice_get_within}
 use Rattle.loc_base.proofs.ShelfLists.{slice_get-some, All-member, Contains-at}
 use Rattle.gate_base.specs.Literals.{IsBelow}
+use Rattle.gate_base.specs.declared.node.Node.{Node}
 use Rattle.gate_base.specs.Meaning.{Source}
 use Rattle.design_core.specs.declared.design.Design.{Design}
 use Rattle.design_core.specs.declared.place.Place.{Place}
@@ -23,7 +24,9 @@ use Rattle.design_core.proofs.NumberLaws.{number-below, number-same}
 use Rattle.design_core.proofs.RunLaws.{run-exists, run-right}
 use Rattle.synth_parts.proofs.Base.{bit-number}
 use Rattle.suspect_map.specs.declared.group.Group.{Group}
+use Rattle.clause_base.specs.Literal.{AreWithin}
 use Rattle.clause_base.specs.Satisfaction.{Satisfies}
+use Rattle.card_counter.specs.InForm.{HasCounter}
 use Rattle.card_counter.specs.Places.{starts, at_least}
 use Rattle.card_counter.proofs.Said.{satisfies-front, satisfies-behind, satisfies-both}
 use Rattle.clause_form.specs.Clauses.{form_clauses}
@@ -38,7 +41,7 @@ use Rattle.form_laws.specs.Designs.{bits_of}
 use Rattle.form_laws.proofs.Definitions.{HasValues}
 use Rattle.form_laws.proofs.Columns.{model_chosen, column-there}
 use Rattle.form_laws.proofs.DesignWorks.{meets-alike-design}
-use Rattle.form_laws.proofs.Equivalence.{bits-are, ends-all, is-within}
+use Rattle.form_laws.proofs.Equivalence.{bits-are, ends-all, has-counter, is-within}
 use Rattle.form_laws.proofs.Moments.{first_of, cycles-within, Located, located}
 use Rattle.form_laws.proofs.Runs.{run-shows, run-long}
 use Rattle.form_laws.proofs.Selecting.{selectors-free}
@@ -48,13 +51,16 @@ use Rattle.place_functions.proofs.OperandsWithin.{operand-below}
 use Rattle.pair_form.specs.declared.pair.Pair.{Pair}
 use Rattle.pair_form.specs.declared.compared.OutputBit.{OutputBit}
 use Rattle.pair_form.specs.declared.compared.Compared.{Compared}
-use Rattle.pair_form.specs.Pairs.{pairs_clauses}
+use Rattle.pair_form.specs.Pairs.{pairs_clauses, pairs_made}
 use Rattle.pair_form.specs.Following.{IsPair, Follows, OfPairs, GoesOn}
-use Rattle.pair_form.specs.AllPairs.{operand_at, bit_at, bits_from, pair_at, all_pairs}
-use Rattle.pair_form.proofs.PairsMean.{pairs-say, adds-following}
+use Rattle.pair_form.specs.AllPairs.{operand_at, bit_at, bits_from, pair_at, all_pairs, function_clauses, function_variables}
+use Rattle.pair_form.proofs.Differing.{grown-length}
+use Rattle.pair_form.proofs.PairsMean.{pairs-grown, pairs-say, adds-following}
+use Rattle.form_laws.proofs.Within.{AreNamed}
 use Rattle.function_laws.specs.Encoded.{OfFunctions, CanCompare, IsCompared, IsEncodedByFunctions, EncodesFunctions}
 use Rattle.function_laws.proofs.PairLists.{all-there, all-all}
-use Rattle.function_laws.proofs.SelectorsOn.{IsOn, member-satisfies, satisfied-member, selectors-below}
+use Rattle.function_laws.proofs.SelectorsOn.{IsOn, member-satisfies, satisfied-member, selectors-hold, selectors-below}
+use Rattle.function_laws.proofs.Named.{AreSuspects, pairs-named, counter-behind, within-behind}
 use Rattle.function_laws.proofs.Words.{map-same, map-at, bits-same, bits-at, satisfies-same, pasted, pasted-at, pasted-below, run-again}
 use Rattle.function_laws.proofs.Models.{kept, base-is, shown, model-has, model-grouped, model-met, counting, chosen-has, chosen-grouped, chosen-satisfies, chosen-bound, chosen-selects, chosen-shown}
 
@@ -482,6 +488,39 @@ module _ (of : OfFunctions) (can : CanCompare of) where
       selects = λ i some low.
           goes.same i (omega (arith, low, base-is asked askable)) ∙ chosen-selects asked askable set (bits set paste) i some low;
     }
+
+  -- ---- the counter of the form, and its variables
+
+  abbrev after : List Node
+  after = pairs_made u.definitions pairs
+
+  abbrev nothing : Source
+  nothing = record { inputs = λ input b. false; states = λ state b. false; frees = λ place. false; chosen = λ moment place b. false }
+
+  longer : length u.definitions ≤ length after
+  longer = grown-length (pairs-grown u.base nothing u.definitions pairs all-are)
+
+  suspects : All (AreSuspects (length groups)) pairs
+  suspects =
+      all-all u groups (AreSuspects (length groups)) of.compared
+      (λ c s t member apart below.
+      selectors-hold (λ x. (1 ≤ x) × (x ≤ length groups)) c.place groups 1 (λ x from low. (from, omega (arith, low))))
+
+  named : All (AreNamed (length groups) u.base (u.base + length after)) (pairs_clauses u.base u.definitions pairs)
+  named =
+      pairs-named (length groups) u.base (length after) nothing u.definitions pairs (kept asked askable).ordered all-are suspects (omega arith)
+
+  pub functions-counter : HasCounter (length groups) asked.k (function_variables u groups of.compared) (function_clauses u groups asked.k of.compared)
+  functions-counter =
+      counter-behind (length groups) asked.k (variables_of u) (function_variables u groups of.compared) u.base (length after)
+      (form_clauses u groups asked.k) (pairs_clauses u.base u.definitions pairs) (base-is asked askable) (omega (arith, longer))
+      (has-counter asked askable) named
+
+  pub functions-within : AreWithin (function_variables u groups of.compared) (function_clauses u groups asked.k of.compared)
+  functions-within =
+      within-behind (length groups) (variables_of u) (function_variables u groups of.compared) u.base (length after)
+      (form_clauses u groups asked.k) (pairs_clauses u.base u.definitions pairs) (omega (arith, base-is asked askable))
+      (omega (arith, base-is asked askable)) (omega (arith, base-is asked askable)) (omega (arith, longer)) (is-within asked askable) named
 
   pub encodes-functions : EncodesFunctions of
   encodes-functions j set size few =

@@ -62,15 +62,21 @@ module _ (a : ℕ → Bool) where
       first-member (list_any (λ p. p == place) g.places) first (selectors_from (first + 1) groups place)
       (λ later. satisfied-member place groups (first + 1) later) holds
 
-first-below : (is : Bool) (first n : ℕ) (rest : List Lit) → first < n → All (λ x. x < n) (vars rest)
-    → All (λ x. x < n) (vars (with_first is first rest))
-first-below true first n rest low all = All-cons (λ x. x < n) first (vars rest) low all
-first-below false first n rest low all = all
+module _ (P : ℕ → Type 0) where
+  first-holds : (is : Bool) (first : ℕ) (rest : List Lit) → P first → All P (vars rest) → All P (vars (with_first is first rest))
+  first-holds true first rest here all = All-cons P first (vars rest) here all
+  first-holds false first rest here all = all
+
+  -- what is true of the numbers of all groups is true of each of them
+  pub selectors-hold : (place : ℕ) (groups : List Group) (first : ℕ) → ((x : ℕ) → first ≤ x → x < first + length groups → P x)
+      → All P (vars (selectors_from first groups place))
+  selectors-hold place [] first each = All-nil P
+  selectors-hold place (g ∷ groups) first each =
+      first-holds (list_any (λ p. p == place) g.places) first (selectors_from (first + 1) groups place) (each first (omega arith) (omega arith))
+      (selectors-hold place groups (first + 1) (λ x from below. each x (omega (arith, from)) (omega (arith, below))))
 
 -- they stand before a variable behind those of all groups
 pub selectors-below : (place : ℕ) (groups : List Group) (first n : ℕ) → first + length groups ≤ n
     → All (λ x. x < n) (vars (selectors_from first groups place))
-selectors-below place [] first n room = All-nil (λ x. x < n)
-selectors-below place (g ∷ groups) first n room =
-    first-below (list_any (λ p. p == place) g.places) first n (selectors_from (first + 1) groups place) (omega (arith, room))
-    (selectors-below place groups (first + 1) n (omega (arith, room)))
+selectors-below place groups first n room =
+    selectors-hold (λ x. x < n) place groups first (λ x from below. omega (arith, from, below, room))
