@@ -4,5 +4,8 @@ pub mod Words
 pub mod Held
 pub mod Models
 pub mod Named
+pub mod Picked
+pub mod ToFunctions
+pub mod ToModel
 pub mod Join
 pub mod Further

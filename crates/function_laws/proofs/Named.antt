@@ -1,5 +1,5 @@
 -- The variables of the clauses of pairs: they name selectors and definitions alone, so the longer form has its counter too.
-use Rattle.std.proofs.Common.{◌≡◌, ◌⊎◌, inl, inr, ℕ, suc, ◌+◌, ◌-◌, ◌<◌, ◌≤◌, Bool, true, false, if◌then◌else◌, List, [], ◌∷◌, ◌++◌, length, drop, get_or, Option, Some, None, refl, sym, ◌∙◌, ap, subst, arith, add-one, append_assoc, length-append}
+use Rattle.std.proofs.Common.{◌≡◌, inl, inr, ℕ, suc, ◌+◌, ◌≤◌, Bool, true, false, if◌then◌else◌, List, [], ◌∷◌, ◌++◌, length, drop, get_or, Option, Some, None, refl, sym, ◌∙◌, ap, subst, arith, add-one, append_assoc, length-append}
 use Rattle.std.specs.Prelude.{All}
 use Rattle.std.specs.Option.{option_and_then}
 use Rattle.std.proofs.Math.Seq.{drop-append_seam}
@@ -8,15 +8,15 @@ use Rattle.gate_base.specs.declared.literal.Literal.{Literal}
 use Rattle.gate_base.specs.declared.literal.Literal.TheVariants.{Known, Of}
 use Rattle.gate_base.specs.declared.node.Node.{Node}
 use Rattle.gate_base.specs.Literals.{IsBelow, opposite}
-use Rattle.gate_base.specs.Nodes.{AddsAnds, AreOrdered, AreOrderedFrom, Word, xor_made}
+use Rattle.gate_base.specs.Nodes.{AddsAnds, AreOrdered, AreOrderedFrom, xor_made}
 use Rattle.gate_base.specs.Meaning.{Source, Grown, Means, bit_value}
-use Rattle.gate_base.proofs.Meaning.{grown-then, xor-means}
+use Rattle.gate_base.proofs.Meaning.{xor-means}
 use Rattle.clause_base.specs.declared.literal.Lit.{Lit}
 use Rattle.clause_base.specs.Literal.{AreWithin, IsWithin, has, negative}
 use Rattle.clause_base.specs.Literal.{opposite as negation}
 use Rattle.card_counter.specs.Places.{starts, IsNoCounter}
 use Rattle.card_counter.specs.InForm.{HasCounter, NamesNoCounter}
-use Rattle.clause_form.specs.Clauses.{simplified, with_literal, nodes_clauses, node_clauses, form_clauses, selector_clauses}
+use Rattle.clause_form.specs.Clauses.{simplified, with_literal, nodes_clauses, node_clauses}
 use Rattle.unroller.specs.Reads.{IsWordBelow}
 use Rattle.form_laws.proofs.Within.{IsNamed, AreNamed, node-named}
 use Rattle.pair_form.specs.declared.pair.Pair.{Pair}

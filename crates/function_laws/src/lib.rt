@@ -4,6 +4,4 @@
 
 mod laws;
 
-pub use laws::{
-    form_encodes_functions, function_form_has_its_counter, further_outputs_work_alike,
-};
+pub use laws::{form_encodes_functions, function_form_has_its_counter, further_outputs_work_alike};
