@@ -1,2 +1,3 @@
 pub mod TextsLaws
 pub mod Transfers
+pub mod UseLaws

@@ -1,5 +1,7 @@
 pub mod FaultPlan
 pub mod Faults
+pub mod FileShelf
+pub mod FileUse
 pub mod MemShelf
 pub mod MemSink
 pub mod Shelf

@@ -2,7 +2,7 @@ use std::io;
 use std::io::ErrorKind;
 use thiserror::Error;
 
-/// Why the system failed at a call, by the kinds that a user meets. No clause speaks of it.
+/// Why a call failed, by the kinds that a user meets: all but `InUse` as the system says. No clause speaks of it.
 #[derive(Clone, Copy, Debug, PartialEq, Eq, Error)]
 pub enum FaultKind {
     /// No file has the name, or a folder on the way to it is missing.
@@ -20,6 +20,9 @@ pub enum FaultKind {
     /// Who read the output has closed it.
     #[error("the reader of the output has closed it")]
     BrokenPipe,
+    /// This run read the file or wrote it, and the name is another one.
+    #[error("it is a file that this run reads or writes under another name")]
+    InUse,
     /// Any other, and each fault of a shelf or a sink in memory.
     #[error("it failed for another reason")]
     Other,

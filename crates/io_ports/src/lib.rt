@@ -6,6 +6,7 @@ mod errors;
 mod fault_kind;
 mod fault_plan;
 mod file_shelf;
+mod file_use;
 mod kept_name;
 mod mem_shelf;
 mod mem_sink;
