@@ -88,6 +88,15 @@ def labels(size):
     )
 
 
+def nested(size):
+    """64 instances one below the other, each within many nested generates."""
+    depth = size // 64
+    begun, ended = lines(depth, "if (1) begin : g%(n)d"), "\n".join(["end"] * depth)
+    inside = ["m%d next(.a(a), .y(y));" % (n + 1) for n in range(63)] + ["assign y = a;"]
+    modules = ["module m%d(input a, output y);\ngenerate\n%s\n%s\n%s\nendgenerate\nendmodule\n" % (n, begun, it, ended) for n, it in enumerate(inside)]
+    return "".join(modules) + "module top(input a, output y);\nm0 next(.a(a), .y(y));\nendmodule\n"
+
+
 FAMILIES = {
     "assignments": (assignments, 65536),
     "loop turns": (turns, 64512),
@@ -97,6 +106,7 @@ FAMILIES = {
     "signals": (signals, 1048576),
     "words": (words, 65536),
     "labels": (labels, 60000),
+    "nested generates": (nested, 7680),
 }
 
 
