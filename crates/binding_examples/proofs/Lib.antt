@@ -1,0 +1,5 @@
+mod BlockExamples
+mod ConnectionExamples
+mod GateExamples
+mod RuleExamples
+pub mod Scene
