@@ -5,6 +5,7 @@ use io_ports::{FaultKind, FileShelf, LoadErr, PutErr, Shelf};
 use std::alloc::Global;
 use std::fs;
 use std::io::ErrorKind;
+use std::os::unix::fs::symlink;
 use std::test::Fail;
 
 #[test]
@@ -38,6 +39,106 @@ fn a_file_over_the_limit_is_too_big_and_no_fault(rt: HostRuntime) -> Result<(), 
     fs::write(&rt, "big.txt", "abcd")?;
     assert!(rt; matches!(shelf.load(rt.alloc(), "big.txt", 3), Err(LoadErr::TooBig)));
     fs::remove_file(&rt, "big.txt")?;
+    Ok(())
+}
+
+#[test]
+fn a_file_longer_than_a_read_gives_is_whole_for_every_reader(rt: HostRuntime) -> Result<(), Fail> {
+    let mut shelf = FileShelf::new(&rt, rt.alloc());
+    let mut long = vec![in rt.alloc(); b'x'; 600_000]?;
+    shelf.begin("long.txt")?;
+    shelf.put("long.txt", long.as_slice())?;
+    shelf.put("long.txt", b"end")?;
+    long.extend_from_slice(b"end")?;
+    let text = shelf.load(rt.alloc(), "long.txt", 600_003)?;
+    assert!(rt; text.as_slice() == long.as_slice());
+    assert!(rt; fs::read(&rt, "long.txt")?.as_slice() == long.as_slice());
+    assert!(rt;
+        matches!(
+            shelf.load(rt.alloc(), "long.txt", 300_000),
+            Err(LoadErr::TooBig)
+        )
+    );
+    assert!(rt;
+        matches!(
+            shelf.load(rt.alloc(), "long.txt", 600_002),
+            Err(LoadErr::TooBig)
+        )
+    );
+    fs::remove_file(&rt, "long.txt")?;
+    Ok(())
+}
+
+/// Other names of the file `used.txt`.
+const OTHER_NAMES: [&str; 3] = ["used.link", "used.hard", "./used.txt"];
+
+/// The file `used.txt` with a text, a link to it, and a second name.
+fn make_used(rt: &HostRuntime) -> Result<(), Fail> {
+    fs::write(rt, "used.txt", "old")?;
+    symlink(rt, "used.txt", "used.link")?;
+    fs::hard_link(rt, "used.txt", "used.hard")?;
+    Ok(())
+}
+
+fn remove_used(rt: &HostRuntime) -> Result<(), Fail> {
+    fs::remove_file(rt, "used.txt")?;
+    fs::remove_file(rt, "used.link")?;
+    fs::remove_file(rt, "used.hard")?;
+    Ok(())
+}
+
+/// The fault of a name whose file is in use under another one.
+const IN_USE: Result<(), PutErr> = Err(PutErr::Failed(FaultKind::InUse));
+
+#[test]
+fn a_loaded_file_is_begun_under_no_name(rt: HostRuntime) -> Result<(), Fail> {
+    let mut shelf = FileShelf::new(&rt, rt.alloc());
+    make_used(&rt)?;
+    shelf.load(rt.alloc(), "used.txt", 3)?;
+    assert!(rt; shelf.begin("used.txt") == IN_USE);
+    for name in &OTHER_NAMES {
+        same(&rt, name, &shelf.can_begin(*name), &IN_USE);
+        same(&rt, name, &shelf.begin(*name), &IN_USE);
+    }
+    assert!(rt; fs::read(&rt, "used.txt")?.as_slice() == b"old".as_slice());
+    remove_used(&rt)
+}
+
+#[test]
+fn a_begun_file_is_begun_again_under_its_own_name_alone(rt: HostRuntime) -> Result<(), Fail> {
+    let mut shelf = FileShelf::new(&rt, rt.alloc());
+    make_used(&rt)?;
+    shelf.begin("used.txt")?;
+    shelf.put("used.txt", b"new")?;
+    for name in &OTHER_NAMES {
+        same(&rt, name, &shelf.can_begin(*name), &IN_USE);
+        same(&rt, name, &shelf.begin(*name), &IN_USE);
+    }
+    assert!(rt; fs::read(&rt, "used.txt")?.as_slice() == b"new".as_slice());
+    shelf.begin("used.txt")?;
+    assert!(rt; fs::read(&rt, "used.txt")?.is_empty());
+    remove_used(&rt)
+}
+
+#[test]
+fn names_that_are_asked_for_have_files_of_their_own(rt: HostRuntime) -> Result<(), Fail> {
+    let mut shelf = FileShelf::new(&rt, rt.alloc());
+    shelf.can_begin("first.txt")?;
+    assert!(rt; shelf.can_begin("./first.txt") == IN_USE);
+    shelf.can_begin("first.txt")?;
+    shelf.can_begin("second.txt")?;
+    assert!(rt; !fs::exists(&rt, "first.txt")?);
+    Ok(())
+}
+
+#[test]
+fn a_file_that_is_gone_is_in_use_no_more(rt: HostRuntime) -> Result<(), Fail> {
+    let mut shelf = FileShelf::new(&rt, rt.alloc());
+    fs::write(&rt, "gone.txt", "old")?;
+    shelf.load(rt.alloc(), "gone.txt", 3)?;
+    fs::rename(&rt, "gone.txt", "kept.txt")?;
+    shelf.begin("kept.txt")?;
+    fs::remove_file(&rt, "kept.txt")?;
     Ok(())
 }
 
