@@ -1,6 +1,6 @@
 -- Worked examples of what places compute, and of what values change.
 use Rattle.std.proofs.Common.{◌≡◌, ℕ, ◌^◌, ◌<◌, ◌≤◌, List, [], ◌∷◌, refl, lit<, lit≤}
-use Rattle.std.specs.Prelude.{Bool, true, false, Some, None}
+use Rattle.std.specs.Prelude.{Bool, true, false, Some, None, option_map}
 use Rattle.loc_base.specs.declared.bits.Bits.{Bits}
 use Rattle.design_core.specs.declared.signal.Signal.{Signal}
 use Rattle.design_core.specs.declared.signal.SignalKind.TheVariants as kind
@@ -16,6 +16,7 @@ use Rattle.design_core.specs.After.{Choice}
 use Rattle.design_core.proofs.Examples.{Any, scalar, none_freed, freed, showing}
 use Rattle.design_core.proofs.CycleExamples.{held}
 use Rattle.changes.specs.Reached.{begun, reached_clocked, reached_in}
+use Rattle.changes.specs.Execution.{executed_in}
 use Rattle.changes.specs.Changes.{change_in}
 
 -- ---- the signals a, x and y of one bit
@@ -53,21 +54,26 @@ in_turn first second = stmt.Block' (tt ∷ tt ∷ []) (more_of-Stmt first (more_
 
 -- ---- if (a) x = y; else x = a;
 abbrev branch : Stmt
-branch = stmt.If' (bit_of a) _ (more_of-Stmt (set 0 x (bit_of y) false) end_of-Stmt) _ (more_of-Stmt (set 1 x (bit_of a) false) end_of-Stmt)
+branch =
+    stmt.If' (bit_of a) _ (more_of-Stmt (set 0 x (bit_of y) false) end_of-Stmt) _
+    (more_of-Stmt (set 1 x (bit_of a) false) end_of-Stmt)
 
 -- where a is 0, the first arm is not taken, and its place computes nothing
-pub an_arm_not_taken_computes_nothing : (any : Any) (choice : Choice) → (reached_in (signals any) choice 0 branch (begun (showing (0 ∷ 0 ∷ 1 ∷ []))) ≡ None)
+pub an_arm_not_taken_computes_nothing : (any : Any) (choice : Choice)
+    → (reached_in (signals any) choice 0 branch (begun (showing (0 ∷ 0 ∷ 1 ∷ []))) ≡ None)
     × (reached_in (signals any) choice 1 branch (begun (showing (0 ∷ 0 ∷ 1 ∷ []))) ≡ Some 0)
 unfolding number
 an_arm_not_taken_computes_nothing any choice = (refl, refl)
 
-pub an_arm_taken_computes_its_value : (any : Any) (choice : Choice) → (reached_in (signals any) choice 0 branch (begun (showing (1 ∷ 0 ∷ 1 ∷ []))) ≡ Some 1)
+pub an_arm_taken_computes_its_value : (any : Any) (choice : Choice)
+    → (reached_in (signals any) choice 0 branch (begun (showing (1 ∷ 0 ∷ 1 ∷ []))) ≡ Some 1)
     × (reached_in (signals any) choice 1 branch (begun (showing (1 ∷ 0 ∷ 1 ∷ []))) ≡ None)
 unfolding number
 an_arm_taken_computes_its_value any choice = (refl, refl)
 
 -- ---- x = 4'd14; in a left side of one bit
-pub what_is_computed_is_cut_to_the_left_side : (any : Any) (choice : Choice) → reached_in (signals any) choice 0 (set 0 x fourteen false) (begun zeros) ≡ Some 0
+pub what_is_computed_is_cut_to_the_left_side : (any : Any) (choice : Choice)
+    → reached_in (signals any) choice 0 (set 0 x fourteen false) (begun zeros) ≡ Some 0
 unfolding number
 what_is_computed_is_cut_to_the_left_side any choice = refl
 
@@ -82,17 +88,27 @@ pub a_place_reads_what_a_freed_one_takes : (any : Any) → (reached_in (signals 
 unfolding number
 a_place_reads_what_a_freed_one_takes any = (refl, refl, refl)
 
+-- and its right side reads there what was assigned before
+pub an_execution_reads_what_was_assigned_before : (any : Any)
+    → (option_map (λ e. number 1 (e.now x)) (executed_in (signals any) (freed 0 1) 1 chain (begun zeros)) ≡ Some 1)
+    × (option_map (λ e. number 1 (e.now x)) (executed_in (signals any) none_freed 1 chain (begun zeros)) ≡ Some 0)
+    × (executed_in (signals any) none_freed 2 chain (begun zeros) ≡ None)
+unfolding number
+an_execution_reads_what_was_assigned_before any = (refl, refl, refl)
+
 -- ---- always @(posedge clk or posedge a) if (a) x <= 1'b0; else x <= y;
 abbrev block : Clocked
 block = record { reset = Some (record { signal = a; level = true; values = set 0 x zero_bit true }); body = set 1 x (bit_of y) true }
 
 -- while the reset is active, the body's place computes nothing, and else the reset's
-pub a_reset_overrules : (any : Any) (choice : Choice) → (reached_clocked (signals any) choice (showing (1 ∷ 0 ∷ 1 ∷ [])) 0 block ≡ Some 0)
+pub a_reset_overrules : (any : Any) (choice : Choice)
+    → (reached_clocked (signals any) choice (showing (1 ∷ 0 ∷ 1 ∷ [])) 0 block ≡ Some 0)
     × (reached_clocked (signals any) choice (showing (1 ∷ 0 ∷ 1 ∷ [])) 1 block ≡ None)
 unfolding number
 a_reset_overrules any choice = (refl, refl)
 
-pub without_a_reset_the_body_computes : (any : Any) (choice : Choice) → (reached_clocked (signals any) choice (showing (0 ∷ 0 ∷ 1 ∷ [])) 0 block ≡ None)
+pub without_a_reset_the_body_computes : (any : Any) (choice : Choice)
+    → (reached_clocked (signals any) choice (showing (0 ∷ 0 ∷ 1 ∷ [])) 0 block ≡ None)
     × (reached_clocked (signals any) choice (showing (0 ∷ 0 ∷ 1 ∷ [])) 1 block ≡ Some 1)
 unfolding number
 without_a_reset_the_body_computes any choice = (refl, refl)

@@ -1,4 +1,11 @@
 pub mod ReachedLaws
 pub mod CycleAlike
 pub mod ChangeLaws
+pub mod ReachedAgrees
+pub mod ExecutionRows
+pub mod StandRows
+pub mod WalkLaws
+pub mod WalkSteps
+pub mod ExecutionLaws
+pub mod MomentLaws
 pub mod Examples
