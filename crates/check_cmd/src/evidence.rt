@@ -49,7 +49,12 @@ pub(crate) struct Evidence {
 }
 
 /// The plan of the form of the problem of inputs, by the greatest size of a set. No clause is made.
-fn plan_in(alloc: Global, inputs: &Inputs, size: u32) -> Result<FormPlan, LastLine>
+fn plan_in<N: Notes>(
+    alloc: Global,
+    inputs: &Inputs,
+    size: u32,
+    notes: &mut N,
+) -> Result<FormPlan, LastLine>
     requires { IsProblem (problem_in inputs.now size) }
     ensures form { IfOk result (λ plan. IsFormFor (problem_in inputs.now size) plan.vars plan.clauses) }
     ensures refused { IfErr result (HasCause (FormRefused (problem_in inputs.now size))) }
@@ -58,7 +63,7 @@ fn plan_in(alloc: Global, inputs: &Inputs, size: u32) -> Result<FormPlan, LastLi
 {
     match plan_of(alloc, &inputs.question(size)) {
         Ok(plan) => Ok(plan),
-        Err(fault) => Err(problem_line(alloc, fault)),
+        Err(fault) => Err(problem_line(alloc, fault, notes)),
     }
 }
 
@@ -126,7 +131,7 @@ fn pose<F: FrontEnd, R: Threads + Sync, G: Gate + Sync, S: Shelf, N: Notes>(
 {
     let report = ask(alloc, tools, request, shelf, notes)?;
     let inputs = read(alloc, tools, &wanted(request, &report), shelf, notes)?;
-    let plan = plan_in(alloc, &inputs, report.size)?;
+    let plan = plan_in(alloc, &inputs, report.size, notes)?;
     Ok(Posed {
         report,
         inputs,

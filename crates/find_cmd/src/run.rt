@@ -73,7 +73,7 @@ pub fn list_read<F: FrontEnd, R: Threads + Sync, G: Gate + Sync, S: Shelf, O: Si
             };
             list(alloc, &workers, Task { job, search }, shelf, out, notes).status()
         }
-        Err(fault) => problem_line(alloc, fault).print(out),
+        Err(fault) => problem_line(alloc, fault, notes).print(out),
     }
 }
 

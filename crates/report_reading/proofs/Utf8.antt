@@ -1,6 +1,6 @@
 -- The text of a report is UTF-8.
 use Rattle.std.proofs.Common.{◌≡◌, ℕ, suc}
-use Rattle.std.proofs.Common.{Bool, true, false, List, [], ◌∷◌, map, Some, None, Option, refl, sym, subst, arith}
+use Rattle.std.proofs.Common.{Bool, true, false, List, [], ◌∷◌, map, Some, None, Option, refl, arith}
 use Rattle.std.specs.Prelude.{All, IfSome, IsUtf8, codes, decimal}
 use Rattle.std.proofs.lemmas.Fmt.{IsAscii-decimal}
 use Rattle.std.proofs.lemmas.Str.{IsUtf8-append, IsUtf8-from_ascii, IsUtf8-nil}
@@ -10,7 +10,6 @@ use Rattle.json.proofs.Printed.Utf8.{are_ascii, IsUtf8-are_ascii, IsUtf8-quoted}
 use Rattle.serde_json.specs.Data.{Data, Members, member, no_members, object, string}
 use Rattle.serde_json.specs.View.{items_of}
 use Rattle.serde_json.specs.Written.{comma_if, compact_text, items_text, members_text}
-use Rattle.serde_json.proofs.Texts.{print-outline}
 use Rattle.loc_base.specs.Name.{IsName}
 use Rattle.loc_base.specs.declared.digest.Digest.{Digest}
 use Rattle.report_doc.specs.declared.types.Ending.{Ending}
@@ -22,7 +21,7 @@ use Rattle.report_doc.specs.Document.{clock_text, ending_text, report_data, set_
 use Rattle.report_doc.specs.Json.{IsJsonOf, list_data, number_data}
 use Rattle.report_doc.specs.Shape.{AreValues, IsHexText, IsReport, IsSet, IsSuspect, IsWord}
 use Rattle.report_doc.proofs.Plain.{is_json}
-use Rattle.report_doc.proofs.Tokens.{IsAscii-name, IsAscii-digits, IsAscii-encode_lower}
+use Rattle.report_doc.proofs.Ascii.{IsAscii-name, IsAscii-digits, IsAscii-encode_lower}
 
 -- the text of the value is UTF-8
 abbrev pub IsText : Data → Type 0
@@ -119,4 +118,4 @@ report_is r h =
 
 -- the text of a report is JSON with its value
 pub text_is_json : (r : Report) → IsReport r → IsJsonOf (report_data r) (text_of r)
-text_is_json r h = is_json r h (subst IsUtf8 (sym (print-outline (report_data r))) (report_is r h))
+text_is_json r h = is_json r h (report_is r h)
