@@ -57,13 +57,13 @@ counted-unfinished s holds unfinished = (
   (λ (place : ℕ). 0),
   record {
     fresh = holds.fresh;
-    from_before = omega arith;
+    from_before = holds.session_within;
     tail_within = omega arith;
-    ends = λ place low within kind. holds.ends unfinished place within kind;
+    ends = λ place low within kind. holds.ends unfinished place low within kind;
     few_ends = omega (
       arith,
-      ap (count_by (λ (step : Step). is_derived_kind step.kind)) (take_all (length s.log) s.log (omega arith)),
-      derived-counted s.log,
+      ap (λ (log : List Step). count_by (λ (step : Step). is_derived_kind step.kind) (drop s.imported log)) (take_all (length s.log) s.log (omega arith)),
+      derived-counted (drop s.imported s.log),
       holds.few_derived unfinished,
     );
     few_shown = omega arith;
@@ -145,15 +145,15 @@ module _ (old : DebugState) (holds : IsDebugger old) where
       absent,
       record {
         fresh = after.fresh;
-        from_before = omega arith;
+        from_before = holds.session_within;
         tail_within = omega (arith, long);
         ends = λ place low within kind.
             subst (λ (s : Step). EndsASize (bounds_of n old.problem.k) s.clause) (sym (before place within))
-            (holds.ends unfinished place within (ap (λ (s : Step). s.kind) (sym (before place within)) ∙ kind));
+            (holds.ends unfinished place low within (ap (λ (s : Step). s.kind) (sym (before place within)) ∙ kind));
         few_ends = omega (
           arith,
-          ap (count_by (λ (step : Step). is_derived_kind step.kind)) (ap (take tail) log-is ∙ take_at old.log old.certificate tail refl),
-          derived-counted old.log,
+          ap (λ (log : List Step). count_by (λ (step : Step). is_derived_kind step.kind) (drop old.imported log)) (ap (take tail) log-is ∙ take_at old.log old.certificate tail refl),
+          derived-counted (drop old.imported old.log),
           holds.few_derived unfinished,
         );
         few_shown = omega (arith, long, few-certificate);

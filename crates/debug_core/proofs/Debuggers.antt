@@ -1,5 +1,5 @@
 -- What holds of a debugger that stands between two calls.
-use Rattle.std.proofs.Common.{◌≡◌, ℕ, ◌+◌, ◌^◌, ◌<◌, Bool, true, false, List, [], ◌∷◌, ◌++◌, length, map}
+use Rattle.std.proofs.Common.{◌≡◌, ℕ, ◌+◌, ◌^◌, ◌<◌, Bool, true, false, List, [], ◌∷◌, ◌++◌, length, map, drop}
 use Rattle.std.proofs.Common.{refl, ap, sym, ◌∙◌, subst, arith}
 use Rattle.std.specs.Prelude.{All, IsTrue, cond, count_by, filter, nat_lt}
 use Rattle.std.proofs.lemmas.Bool.{le-ltb, ltb-true}
@@ -20,6 +20,7 @@ use Rattle.set_enum.specs.Bounds.{bound_of}
 use Rattle.set_enum.specs.EnumState.{EnumState, IsEnum, begun, listed_over}
 use Rattle.set_enum.specs.Sets.{IsBlock, NoneBelow, block_of}
 use Rattle.debug_core.specs.Listed.{Encodes, EncodesListed, Listed}
+use Rattle.debug_core.specs.Sessions.{listed_of}
 use Rattle.debug_core.proofs.Fronts.{empty-front, whole}
 use Rattle.debug_core.proofs.Certified.{each-none, shows-none}
 use Rattle.debug_core.specs.Debugging.{Begins, IsDebugger, IsKept}
@@ -51,23 +52,12 @@ blocks-in P (s ∷ log) all = at (is_block s) (blocks-in P log (All-tail P s.cla
     at true rest = All-cons P s.clause (blocks_of log) (All-head P s.clause (map (λ (x : Step). x.clause) log) all) rest
     at false rest = rest
 
-all-behind : {X : Type 0} (P : X → Type 0) (front rest : List X) → All P (front ++ rest) → All P rest
+pub all-behind : {X : Type 0} (P : X → Type 0) (front rest : List X) → All P (front ++ rest) → All P rest
 all-behind P [] rest all = all
 all-behind P (x ∷ front) rest all = all-behind P front rest (All-tail P x (front ++ rest) all)
 
--- the list as it is made from a problem's form
-abbrev pub listed_of : Problem → List (List Lit) → List (List ℕ) → Listed
-listed_of p clauses listed = record {
-  design = p.design;
-  traces = p.traces;
-  groups = suspects_of p;
-  k = p.k;
-  clauses = clauses;
-  listed = listed;
-}
-
-module _ (p : Problem) (made : Form) (u : Unrolling) (e : EnumState) (certificate : List Step) (finished : Bool)
-    (is : IsStanding p made u e certificate finished) where
+module _ (p : Problem) (made : Form) (u : Unrolling) (e : EnumState) (certificate : List Step) (finished : Bool) (imported : ℕ)
+    (is : IsStanding p made u e certificate finished imported) where
   abbrev n : ℕ
   n = suspect_count p
 
@@ -99,9 +89,9 @@ module _ (p : Problem) (made : Form) (u : Unrolling) (e : EnumState) (certificat
   log-distinct =
       all-behind (λ clause. IsTrue (has_distinct_variables clause)) e.form (map (λ (s : Step). s.clause) e.log) is.over.holds.distinct
 
-  few-learned : count_by is_learned e.log < 3 ^ made.vars
+  few-learned : count_by is_learned (drop imported e.log) < 3 ^ made.vars
   few-learned =
-      few_fresh made.vars made.clauses (map block_of listed) e.log 0 (within p made u is.encoding)
+      few_fresh made.vars made.clauses (map block_of listed) e.log imported (within p made u is.encoding)
       (subst (AreWithin made.vars) blocks-are (blocks-in (IsWithin made.vars) e.log log-within))
       (subst (λ form. AllDistinct (clauses_of form e.log)) is.over.form is.over.holds.distinct)
       accepted is.searched.fresh
@@ -128,7 +118,7 @@ module _ (p : Problem) (made : Form) (u : Unrolling) (e : EnumState) (certificat
       (subst (λ m. IsClosing (bound_of m e.k e.k) e.log) is.over.suspects (is.over.holds.closing (all-closed ended)))
 
   -- what holds of each debugger
-  pub is-debugger : IsDebugger (state_of p made e certificate finished)
+  pub is-debugger : IsDebugger (state_of p made e certificate finished imported)
   is-debugger = record {
     problem = is.encoding.can;
     form = is.encoding.form;
@@ -139,6 +129,7 @@ module _ (p : Problem) (made : Form) (u : Unrolling) (e : EnumState) (certificat
     log_within = log-within;
     distinct = log-distinct;
     chainless = is.over.holds.chainless;
+    session_within = is.searched.session_within;
     fresh = is.searched.fresh;
     few_learned = few-learned;
     few_derived = λ unfinished. omega (arith, is.searched.few unfinished, is.over.holds.sizes, is.over.size);
@@ -152,14 +143,15 @@ module _ (p : Problem) (made : Form) (u : Unrolling) (e : EnumState) (certificat
 -- a debugger of a problem, before any search
 module _ (p : Problem) (made : Form) (u : Unrolling) (n k : ℕ) (is : IsEncodingOf p made u) (many : n ≡ suspect_count p) (size : k ≡ p.k)
     (holds : IsEnum (begun made.vars made.clauses n k)) where
-  pub begun-standing : IsStanding p made u (begun made.vars made.clauses n k) [] false
+  pub begun-standing : IsStanding p made u (begun made.vars made.clauses n k) [] false 0
   begun-standing = record {
     encoding = is;
     over = record { vars = refl; form = refl; suspects = many; size = size; holds = holds };
     searched = record {
+      session_within = omega arith;
       fresh = λ place low within kind. absurd (omega (arith, within));
       few = λ unfinished. omega arith;
-      ends = λ unfinished place within kind. absurd (omega (arith, within));
+      ends = λ unfinished place low within kind. absurd (omega (arith, within));
       front = empty-front (listed_of p made.clauses []);
     };
     certified = record {
@@ -169,5 +161,5 @@ module _ (p : Problem) (made : Form) (u : Unrolling) (n k : ℕ) (is : IsEncodin
     };
   }
 
-  pub begun-begins : Begins p (state_of p made (begun made.vars made.clauses n k) [] false)
-  begun-begins = record { problem = refl; no_step = refl; no_set = refl; goes_on = le-ltb p.k 0 (omega arith); no_certificate = refl; unfinished = refl }
+  pub begun-begins : Begins p (state_of p made (begun made.vars made.clauses n k) [] false 0)
+  begun-begins = record { problem = refl; no_step = refl; no_set = refl; goes_on = le-ltb p.k 0 (omega arith); no_certificate = refl; unfinished = refl; by_itself = refl }

@@ -4,7 +4,7 @@ use Rattle.std.proofs.Common.{refl, ap, sym, ◌∙◌, subst, arith, append_ass
 use Rattle.std.specs.Prelude.{All, nat_lt}
 use Rattle.std.proofs.lemmas.Bool.{cases_lt, lt-ltb, both_ways}
 use Rattle.std.proofs.Math.Seq.{take-add}
-use Rattle.std.proofs.lemmas.List.{append-nil, drop-drop, drop_all, get_or-drop, length-drop, take_more}
+use Rattle.std.proofs.lemmas.List.{append-nil, drop-drop, drop_all, get_or-drop, length-drop, length_push, take_more}
 use Rattle.std.proofs.lemmas.List.Elements.{All-drop}
 use Rattle.loc_base.proofs.ShelfBools.{or-false, or-true}
 use Rattle.clause_base.specs.declared.form.Form.{Form}
@@ -36,8 +36,8 @@ first-is : (steps : List Step) → 0 < length steps → take 1 steps ≡ get_or 
 first-is [] some = absurd (omega (arith, some))
 first-is (step ∷ steps) some = refl
 
-module _ (p : Problem) (made : Form) (u : Unrolling) (e : EnumState) (certificate : List Step) (finished : Bool)
-    (is : IsStanding p made u e certificate finished) (goes_on : nat_lt p.k e.size ≡ false) (some : 0 < length certificate) where
+module _ (p : Problem) (made : Form) (u : Unrolling) (e : EnumState) (certificate : List Step) (finished : Bool) (imported : ℕ)
+    (is : IsStanding p made u e certificate finished imported) (goes_on : nat_lt p.k e.size ≡ false) (some : 0 < length certificate) where
   abbrev step : Step
   step = get_or certificate 0 no_step
 
@@ -70,22 +70,23 @@ module _ (p : Problem) (made : Form) (u : Unrolling) (e : EnumState) (certificat
   blocks = blocks_push e.log step no-block
 
   -- what contracts see then
-  pub state-appended : state_of p made now (drop 1 certificate) true ≡ with_appended (state_of p made e certificate finished) 1
+  pub state-appended : state_of p made now (drop 1 certificate) true imported ≡ with_appended (state_of p made e certificate finished imported) 1
   state-appended =
-      ap (λ blocks. record (state_of p made now (drop 1 certificate) true) { listed = map members_of blocks }) blocks
-      ∙ (ap (λ steps. record (with_appended (state_of p made e certificate finished) 1) { log = e.log ++ steps; finished = true }) (sym (first-is certificate some))
-      ∙ ap (λ b. record (with_appended (state_of p made e certificate finished) 1) { finished = b }) (sym (or-true finished)))
+      ap (λ blocks. record (state_of p made now (drop 1 certificate) true imported) { listed = map members_of blocks }) blocks
+      ∙ (ap (λ steps. record (with_appended (state_of p made e certificate finished imported) 1) { log = e.log ++ steps; finished = true }) (sym (first-is certificate some))
+      ∙ ap (λ b. record (with_appended (state_of p made e certificate finished imported) 1) { finished = b }) (sym (or-true finished)))
 
   module _ (holds : IsEnum (with_imported e (step ∷ []))) where
-    searched : IsSearched p made now true
+    searched : IsSearched p made now true imported
     searched = record {
-      fresh = fresh-grown e.log now.log (pushed-prefix e.log step) made.clauses is.searched.fresh (derived-fresh e.log step made.clauses kept.derived.kind);
+      session_within = omega (arith, is.searched.session_within, length_push e.log step);
+      fresh = fresh-grown e.log now.log (pushed-prefix e.log step) made.clauses imported is.searched.fresh (derived-fresh e.log step made.clauses kept.derived.kind);
       few = λ (wrong : true ≡ false). cc;
       ends = λ (wrong : true ≡ false). cc;
       front = subst (IsFrontOf p) (ap (map members_of) (sym blocks)) is.searched.front;
     }
 
-    certified : IsCertified (state_of p made now (drop 1 certificate) true)
+    certified : IsCertified (state_of p made now (drop 1 certificate) true imported)
     certified = record {
       kept = All-drop (IsKept made.vars made.clauses now.log) 1 certificate
           (kept-more made.vars made.clauses e.log (step ∷ []) certificate is.certified.kept);
@@ -96,7 +97,7 @@ module _ (p : Problem) (made : Form) (u : Unrolling) (e : EnumState) (certificat
           (each-later (suspect_count p) p.k (last_of (map members_of (blocks_of e.log))) certificate is.certified.each);
     }
 
-    pub appended : IsStanding p made u (with_imported e (step ∷ [])) (drop 1 certificate) true
+    pub appended : IsStanding p made u (with_imported e (step ∷ [])) (drop 1 certificate) true imported
     appended = record {
       encoding = is.encoding;
       over = record { vars = is.over.vars; form = is.over.form; suspects = is.over.suspects; size = is.over.size; holds = holds };
@@ -128,11 +129,12 @@ module _ (p : Problem) (made : Form) (u : Unrolling) (s : Search) (now : DebugSt
       get_or-drop s.appended s.certificate 0 no_step ∙ ap (step_at s.certificate) e
 
   pub may-be-next : MayBeTakenOver s.enumerator (step_at s.certificate s.appended)
-  may-be-next = subst (MayBeTakenOver s.enumerator) same-step (may-be-taken p made u s.enumerator rest s.finished is open-now some-now)
+  may-be-next = subst (MayBeTakenOver s.enumerator) same-step (may-be-taken p made u s.enumerator rest s.finished s.imported is open-now some-now)
 
   -- with one step appended
   module _ (after : Search) (taken : after.enumerator ≡ with_imported s.enumerator (step_at s.certificate s.appended ∷ []))
-      (kept : after.certificate ≡ s.certificate) (one_more : after.appended ≡ s.appended + 1) (finished : after.finished ≡ true) where
+      (kept : after.certificate ≡ s.certificate) (one_more : after.appended ≡ s.appended + 1) (finished : after.finished ≡ true)
+      (imported : after.imported ≡ s.imported) where
     less : drop 1 rest ≡ drop after.appended after.certificate
     less = drop-drop 1 s.appended s.certificate ∙ (ap (λ m. drop m s.certificate) (sym one_more) ∙ ap (drop after.appended) (sym kept))
 
@@ -141,17 +143,19 @@ module _ (p : Problem) (made : Form) (u : Unrolling) (s : Search) (now : DebugSt
 
     pub next-stands : IsEnum after.enumerator → Stands p made u after
     next-stands holds =
-        subst (λ (done : Bool). IsStanding p made u after.enumerator (drop after.appended after.certificate) done) (sym finished)
-        (subst (λ (steps : List Step). IsStanding p made u after.enumerator steps true) less
-        (subst (λ (e : EnumState). IsEnum e → IsStanding p made u e (drop 1 rest) true) taken-first
-        (appended p made u s.enumerator rest s.finished is open-now some-now) holds))
+        subst (IsStanding p made u after.enumerator (drop after.appended after.certificate) after.finished) (sym imported)
+        (subst (λ (done : Bool). IsStanding p made u after.enumerator (drop after.appended after.certificate) done s.imported) (sym finished)
+        (subst (λ (steps : List Step). IsStanding p made u after.enumerator steps true s.imported) less
+        (subst (λ (e : EnumState). IsEnum e → IsStanding p made u e (drop 1 rest) true s.imported) taken-first
+        (appended p made u s.enumerator rest s.finished s.imported is open-now some-now) holds)))
 
     pub next-state : state_in p made after ≡ with_appended now 1
     next-state =
-        ap (λ (done : Bool). state_of p made after.enumerator (drop after.appended after.certificate) done) finished
-        ∙ (ap (λ (steps : List Step). state_of p made after.enumerator steps true) (sym less)
-        ∙ (ap (λ (e : EnumState). state_of p made e (drop 1 rest) true) (sym taken-first)
-        ∙ (state-appended p made u s.enumerator rest s.finished is open-now some-now ∙ ap (λ (d : DebugState). with_appended d 1) view)))
+        ap (state_of p made after.enumerator (drop after.appended after.certificate) after.finished) imported
+        ∙ (ap (λ (done : Bool). state_of p made after.enumerator (drop after.appended after.certificate) done s.imported) finished
+        ∙ (ap (λ (steps : List Step). state_of p made after.enumerator steps true s.imported) (sym less)
+        ∙ (ap (λ (e : EnumState). state_of p made e (drop 1 rest) true s.imported) (sym taken-first)
+        ∙ (state-appended p made u s.enumerator rest s.finished s.imported is open-now some-now ∙ ap (λ (d : DebugState). with_appended d 1) view))))
 
 -- ---- step by step
 -- no step

@@ -13,3 +13,4 @@ pub mod Certified
 pub mod Finishing
 pub mod Counting
 pub mod Given
+pub mod Sessions

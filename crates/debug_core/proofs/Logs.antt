@@ -1,9 +1,9 @@
 -- Logs that grow: what holds of the steps that were there and of those that are added holds of all.
-use Rattle.std.proofs.Common.{◌≡◌, ◌⊎◌, inl, inr, ℕ, ◌+◌, ◌<◌, ◌≤◌, List, [], ◌∷◌, ◌++◌, length, take}
+use Rattle.std.proofs.Common.{◌≡◌, ◌⊎◌, inl, inr, ℕ, ◌+◌, ◌<◌, ◌≤◌, List, [], ◌∷◌, ◌++◌, length, take, drop}
 use Rattle.std.proofs.Common.{refl, ap, sym, ◌∙◌, subst, arith}
 use Rattle.std.specs.Prelude.{Bool, cond, count_by}
 use Rattle.std.proofs.lemmas.Bool.{cases_lt}
-use Rattle.std.proofs.lemmas.List.{drop_at, get_or-take, get_or_push, length_push, take-append-drop, take-take, take_at}
+use Rattle.std.proofs.lemmas.List.{drop-append-le, drop_at, get_or-take, get_or_push, length_push, take-append-drop, take-take, take_at}
 use Rattle.std.proofs.lemmas.List.Sums.{sum_by-append}
 use Rattle.clause_base.specs.declared.literal.Lit.{Lit}
 use Rattle.clause_base.specs.declared.log.Step.{Step}
@@ -25,9 +25,9 @@ module _ (old new : List Step) (prefix : take (length old) new ≡ old) where
   before-stays : (place : ℕ) → place < length old → take place old ≡ take place new
   before-stays place low = ap (take place) (sym prefix) ∙ take-take place (length old) new (omega (arith, low))
 
-  pub fresh-grown : (form : List (List Lit)) → LearnedAreFresh form old 0 → LearnedAreFresh form new (length old)
-      → LearnedAreFresh form new 0
-  fresh-grown form first later place low within kind = at (cases_lt place (length old))
+  pub fresh-grown : (form : List (List Lit)) (from : ℕ) → LearnedAreFresh form old from → LearnedAreFresh form new (length old)
+      → LearnedAreFresh form new from
+  fresh-grown form from first later place low within kind = at (cases_lt place (length old))
     where
       at : (place < length old) ⊎ (length old ≤ place) → IsFresh (clauses_of form (take place new)) (step_at new place).clause
       at (inl early) =
@@ -37,8 +37,8 @@ module _ (old new : List Step) (prefix : take (length old) new ≡ old) where
           (first place low early (ap (λ (s : Step). s.kind) here ∙ kind)))
       at (inr late) = later place late within kind
 
-  pub derived-grown : (P : List Lit → Type 0) → DerivedAre P old 0 → DerivedAre P new (length old) → DerivedAre P new 0
-  derived-grown P first later place low within kind = at (cases_lt place (length old))
+  pub derived-grown : (P : List Lit → Type 0) (from : ℕ) → DerivedAre P old from → DerivedAre P new (length old) → DerivedAre P new from
+  derived-grown P from first later place low within kind = at (cases_lt place (length old))
     where
       at : (place < length old) ⊎ (length old ≤ place) → P (step_at new place).clause
       at (inl early) =
@@ -51,6 +51,14 @@ module _ (old new : List Step) (prefix : take (length old) new ≡ old) where
   count-grown p =
       ap (count_by p) (sym (take-append-drop (length old) new) ∙ ap (λ log. log ++ added old new) prefix)
       ∙ sum_by-append (λ x. cond (p x) 1 0) old (added old new)
+
+  -- and of those from a place on
+  pub count-behind : (p : Step → Bool) (from : ℕ) → from ≤ length old
+      → count_by p (drop from new) ≡ count_by p (drop from old) + count_by p (added old new)
+  count-behind p from within =
+      ap (λ log. count_by p (drop from log)) (sym (take-append-drop (length old) new) ∙ ap (λ log. log ++ added old new) prefix)
+      ∙ (ap (count_by p) (drop-append-le from old (added old new) within)
+      ∙ sum_by-append (λ x. cond (p x) 1 0) (drop from old) (added old new))
 
 -- a step behind a log
 module _ (old : List Step) (s : Step) where

@@ -1,10 +1,10 @@
 -- How long the log of a debugger is, that there is room for the next call, and that its blocks are negations of ascending variables.
-use Rattle.std.proofs.Common.{◌≡◌, ℕ, ◌+◌, ◌^◌, ◌<◌, ◌≤◌, true, false, cond, List, [], ◌∷◌, length, map, refl, ap, sym, subst, arith}
+use Rattle.std.proofs.Common.{◌≡◌, ℕ, ◌+◌, ◌^◌, ◌<◌, ◌≤◌, true, false, cond, List, [], ◌∷◌, length, map, take, drop, refl, ap, sym, subst, arith}
 use Rattle.std.specs.Prelude.{All, count_by}
 use Rattle.std.specs.List.Sorted.{IsStrictlyIncreasing}
-use Rattle.std.proofs.lemmas.List.{length-map}
+use Rattle.std.proofs.lemmas.List.{length-drop, length-map, take-append-drop}
 use Rattle.std.proofs.lemmas.List.Elements.{All-cons, All-head, All-nil, All-tail}
-use Rattle.std.proofs.lemmas.List.Sums.{sum_by-cons}
+use Rattle.std.proofs.lemmas.List.Sums.{sum_by-append, sum_by-cons}
 use Rattle.clause_base.specs.declared.literal.Lit.{Lit}
 use Rattle.clause_base.specs.declared.log.Step.{Step}
 use Rattle.clause_base.specs.declared.log.StepKind.{StepKind}
@@ -36,6 +36,14 @@ kinds (s ∷ log) = omega (
   sum_by-cons (λ x. cond (is_derived x) 1 0) s log,
 )
 
+-- those behind a place are as many at most
+blocks-behind : (from : ℕ) (log : List Step) → count_by is_block (drop from log) ≤ count_by is_block log
+blocks-behind from log = omega (
+  arith,
+  ap (count_by is_block) (sym (take-append-drop from log)),
+  sum_by-append (λ s. cond (is_block s) 1 0) (take from log) (drop from log),
+)
+
 -- the negations of ascending variables
 abbrev pub IsPlain : List Lit → Type 0
 IsPlain clause = All (λ l. l.negated ≡ true) clause × IsStrictlyIncreasing (map (λ l. l.var) clause)
@@ -57,11 +65,14 @@ module _ (s : DebugState) (is : IsDebugger s) where
   pub few-clauses : length s.form ≤ 64000000
   few-clauses = omega (arith, clauses-few s.form, is.form.few_literals)
 
-  -- while it has no step of a certificate, the log has its learned steps, at most nine derived ones, and the block of each set
-  pub few-steps : s.finished ≡ false → length s.log ≤ count_by is_learned s.log + 9 + length s.listed
+  -- while it has no step of a certificate behind a session's, the log has the session's steps, its own learned ones, at most nine derived
+  -- ones, and the block of each set
+  pub few-steps : s.finished ≡ false → length s.log ≤ s.imported + count_by is_learned (drop s.imported s.log) + 9 + length s.listed
   few-steps unfinished = omega (
     arith,
-    kinds s.log,
+    kinds (drop s.imported s.log),
+    length-drop s.imported s.log,
+    blocks-behind s.imported s.log,
     blocks_counted s.log,
     ap length is.blocks,
     length-map s.listed block_of,
@@ -69,12 +80,14 @@ module _ (s : DebugState) (is : IsDebugger s) where
     is.problem.size,
   )
 
-  -- the next call finds room, where learned steps, units and sets are few
-  pub has-room : s.finished ≡ false → (budget : ℕ) → count_by is_learned s.log + budget + length s.listed ≤ 4000000000 → HasRoom s budget
+  -- the next call finds room, where the session's steps, learned steps, units and sets are few
+  pub has-room : s.finished ≡ false → (budget : ℕ)
+      → s.imported + count_by is_learned (drop s.imported s.log) + budget + length s.listed ≤ 4000000000 → HasRoom s budget
   has-room unfinished budget few = omega (arith, few, few-clauses, few-steps unfinished, is.few_suspects, is.form.few_variables)
 
   -- form and log together have a number for each clause
-  pub few-numbers : s.finished ≡ false → count_by is_learned s.log + length s.listed ≤ 4000000000 → length s.form + length s.log < 2 ^ 32
+  pub few-numbers : s.finished ≡ false → s.imported + count_by is_learned (drop s.imported s.log) + length s.listed ≤ 4000000000
+      → length s.form + length s.log < 2 ^ 32
   few-numbers unfinished few = omega (arith, few, few-clauses, few-steps unfinished)
 
   pub plain-blocks : All IsPlain (map block_of s.listed)

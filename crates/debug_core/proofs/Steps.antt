@@ -4,7 +4,7 @@ use Rattle.std.proofs.Common.{Result, Ok, Err, refl, ap, sym, ◌∙◌, subst, 
 use Rattle.std.specs.Prelude.{All, count_by, nat_lt}
 use Rattle.std.specs.Option.{unwrap_or}
 use Rattle.std.proofs.lemmas.Bool.{le-ltb, lt-ltb, ltb-true}
-use Rattle.std.proofs.lemmas.List.{length-take, map_push, take-append-drop, take-take}
+use Rattle.std.proofs.lemmas.List.{length-take, length_push, map_push, take-append-drop, take-take}
 use Rattle.loc_base.specs.declared.memory.NoMemory.{NoMemory}
 use Rattle.design_core.specs.declared.values.Values.{Values}
 use Rattle.clause_base.specs.declared.form.Form.{Form}
@@ -35,18 +35,19 @@ use Rattle.debug_core.specs.declared.found.Found.TheVariants as found
 use Rattle.debug_core.proofs.Certified.{certificate-each, certificate-kept, certificate-shows, kept-more, last-push, shows-grown}
 use Rattle.debug_core.specs.Debugging.{DebugState, FindsNothing, IsCertified, IsFrontOf, IsKept, Searches, ShowEach, StaysEnded}
 use Rattle.debug_core.specs.Problems.{Problem, suspect_count, suspects_of}
+use Rattle.debug_core.specs.Sessions.{listed_of}
 use Rattle.debug_core.specs.Standing.{Advances, ExplainsIn, IsOverForm, IsSearched, IsStanding, members_of, state_of}
-use Rattle.debug_core.proofs.Debuggers.{clauses-left, encodes-listed, is-debugger, listed_of, members-block, suspects-long}
-use Rattle.debug_core.proofs.Logs.{block-derived, block-fresh, count-grown, derived-grown, fresh-grown, pushed-added, pushed-prefix}
+use Rattle.debug_core.proofs.Debuggers.{clauses-left, encodes-listed, is-debugger, members-block, suspects-long}
+use Rattle.debug_core.proofs.Logs.{block-derived, block-fresh, count-behind, count-grown, derived-grown, fresh-grown, pushed-added, pushed-prefix}
 
-module _ (p : Problem) (made : Form) (u : Unrolling) (old new : EnumState) (budget left : ℕ) (certificate : List Step) (finished : Bool)
-    (is : IsStanding p made u old certificate finished)
+module _ (p : Problem) (made : Form) (u : Unrolling) (old new : EnumState) (budget left : ℕ) (certificate : List Step) (finished : Bool) (imported : ℕ)
+    (is : IsStanding p made u old certificate finished imported)
     (adds : Adds old new budget left) (holds : IsEnum new) where
   abbrev before : DebugState
-  before = state_of p made old certificate finished
+  before = state_of p made old certificate finished imported
 
   abbrev after : DebugState
-  after = state_of p made new certificate finished
+  after = state_of p made new certificate finished imported
 
   -- ---- a search
 
@@ -62,20 +63,24 @@ module _ (p : Problem) (made : Form) (u : Unrolling) (old new : EnumState) (budg
   blocks : blocks_of new.log ≡ blocks_of old.log
   blocks = blocks_kept old.form old.log new.log budget left adds.derived adds.grows
 
+  longer : length old.log ≤ length new.log
+  longer = omega (arith, ap length (sym adds.grows.prefix), length-take (length old.log) new.log)
+
   bounds-same : bounds_of old.n old.k ≡ bounds_of (suspect_count p) p.k
   bounds-same = ap (λ m. bounds_of m old.k) is.over.suspects ∙ ap (bounds_of (suspect_count p)) is.over.size
 
-  searched : IsSearched p made new finished
+  searched : IsSearched p made new finished imported
   searched = record {
-    fresh = fresh-grown old.log new.log adds.grows.prefix made.clauses is.searched.fresh
+    session_within = omega (arith, is.searched.session_within, longer);
+    fresh = fresh-grown old.log new.log adds.grows.prefix made.clauses imported is.searched.fresh
         (subst (λ form. LearnedAreFresh form new.log (length old.log)) is.over.form adds.grows.fresh);
-    few = λ unfinished. omega (arith, count-grown old.log new.log adds.grows.prefix is_derived, adds.grows.derived_steps, adds.few, is.searched.few unfinished);
-    ends = λ unfinished place inside kind.
-        derived-grown old.log new.log adds.grows.prefix (EndsASize (bounds_of (suspect_count p) p.k))
-        (λ early low there derived. is.searched.ends unfinished early there derived)
+    few = λ unfinished. omega (arith, count-behind old.log new.log adds.grows.prefix is_derived imported is.searched.session_within, adds.grows.derived_steps, adds.few, is.searched.few unfinished);
+    ends = λ unfinished place behind inside kind.
+        derived-grown old.log new.log adds.grows.prefix (EndsASize (bounds_of (suspect_count p) p.k)) imported
+        (λ early low there derived. is.searched.ends unfinished early low there derived)
         (λ late low there derived.
         subst (λ bounds. EndsASize bounds (step_at new.log late).clause) bounds-same (adds.ends late low there derived))
-        place (omega arith) inside kind;
+        place behind inside kind;
     front = subst (IsFrontOf p) (ap (map members_of) (sym blocks)) is.searched.front;
   }
 
@@ -96,7 +101,7 @@ module _ (p : Problem) (made : Form) (u : Unrolling) (old new : EnumState) (budg
     each = subst (λ listed. ShowEach (suspect_count p) p.k (last_of listed) certificate) (sym listed-same) is.certified.each;
   }
 
-  pub kept : IsStanding p made u new certificate finished
+  pub kept : IsStanding p made u new certificate finished imported
   kept = record { encoding = is.encoding; over = over; searched = searched; certified = certified }
 
   pub searches : Searches before after budget left
@@ -106,8 +111,9 @@ module _ (p : Problem) (made : Form) (u : Unrolling) (old new : EnumState) (budg
     form = refl;
     prefix = adds.grows.prefix;
     units = adds.grows.units;
-    fresh = λ place low. searched.fresh place (omega arith);
+    fresh = λ place low. searched.fresh place (omega (arith, low, is.searched.session_within));
     finished = refl;
+    imported = refl;
   }
 
   -- ---- its answers
@@ -128,7 +134,7 @@ module _ (p : Problem) (made : Form) (u : Unrolling) (old new : EnumState) (budg
   module _ (r : Result Next NoMemory) (stays : StaysClosed old new r) where
     pub advances-open : (e : NoMemory) → IsOpen old new → Advances before after budget left (Err e)
     advances-open e is_open = record {
-      holds = is-debugger p made u new certificate finished kept;
+      holds = is-debugger p made u new certificate finished imported kept;
       searches = searches;
       answers = nothing is_open.0;
       ended = stays-open (Err e) is_open.0 (λ closed. (stays closed).1);
@@ -136,7 +142,7 @@ module _ (p : Problem) (made : Form) (u : Unrolling) (old new : EnumState) (budg
 
     pub advances-spent : EnumGives old new left next.Spent → Advances before after budget left (Ok found.Spent)
     advances-spent gives = record {
-      holds = is-debugger p made u new certificate finished kept;
+      holds = is-debugger p made u new certificate finished imported kept;
       searches = searches;
       answers = (gives.0, nothing gives.1);
       ended = stays-open (Ok found.Spent) gives.1 (λ closed. (stays closed).1);
@@ -148,13 +154,13 @@ module _ (p : Problem) (made : Form) (u : Unrolling) (old new : EnumState) (budg
 
     pub advances-closed : EnumGives old new left next.Closed → Advances before after budget left (Ok found.End)
     advances-closed gives = record {
-      holds = is-debugger p made u new certificate finished kept;
+      holds = is-debugger p made u new certificate finished imported kept;
       searches = searches;
       answers = (
         earlier gives.2,
         record { listed = listed-same; ended = lt-ltb p.k new.size (omega (arith, gives.0, is.over.size)) },
       );
-      ended = λ ended. (refl, ap (λ e. state_of p made e certificate finished) (stays (was-closed ended)).1);
+      ended = λ ended. (refl, ap (λ e. state_of p made e certificate finished imported) (stays (was-closed ended)).1);
     }
 
   -- ---- a set that was found, and its block
@@ -185,7 +191,7 @@ module _ (p : Problem) (made : Form) (u : Unrolling) (old new : EnumState) (budg
     -- with the steps of its certificate
     module _ (steps : List Step) (certifies : IsCertificate new set steps) where
       abbrev finally : DebugState
-      finally = state_of p made done steps finished
+      finally = state_of p made done steps finished imported
 
       listed-more : finally.listed ≡ after.listed ++ set ∷ []
       listed-more =
@@ -195,9 +201,9 @@ module _ (p : Problem) (made : Form) (u : Unrolling) (old new : EnumState) (budg
 
       first-left : IsFirst (length (suspects_of p)) p.k (made.clauses ++ map block_of after.listed) set
       first-left =
-          subst (λ m. IsFirst m p.k (made.clauses ++ map block_of after.listed) set) (over.suspects ∙ sym (suspects-long p made u new certificate finished kept))
+          subst (λ m. IsFirst m p.k (made.clauses ++ map block_of after.listed) set) (over.suspects ∙ sym (suspects-long p made u new certificate finished imported kept))
           (subst (λ k. IsFirst new.n k (made.clauses ++ map block_of after.listed) set) over.size
-          (subst (λ clauses. IsFirst new.n new.k clauses set) (clauses-left p made u new certificate finished kept) gives.first))
+          (subst (λ clauses. IsFirst new.n new.k clauses set) (clauses-left p made u new certificate finished imported kept) gives.first))
 
       none-derived : count_by is_derived (added new.log done.log) ≡ 0
       none-derived = ap (count_by is_derived) (pushed-added new.log step)
@@ -208,18 +214,19 @@ module _ (p : Problem) (made : Form) (u : Unrolling) (old new : EnumState) (budg
       front-more : IsFrontOf p finally.listed
       front-more =
           subst (IsFrontOf p) (sym listed-more)
-          (next-front (listed_of p made.clauses after.listed) (encodes-listed p made u new certificate finished kept) searched.front set first-left)
+          (next-front (listed_of p made.clauses after.listed) (encodes-listed p made u new certificate finished imported kept) searched.front set first-left)
 
-      done-searched : IsSearched p made done finished
+      done-searched : IsSearched p made done finished imported
       done-searched = record {
-        fresh = fresh-grown new.log done.log (pushed-prefix new.log step) made.clauses searched.fresh
+        session_within = omega (arith, searched.session_within, length_push new.log step);
+        fresh = fresh-grown new.log done.log (pushed-prefix new.log step) made.clauses imported searched.fresh
             (block-fresh new.log step made.clauses refl);
-        few = λ unfinished. omega (arith, count-grown new.log done.log (pushed-prefix new.log step) is_derived, none-derived, searched.few unfinished);
-        ends = λ unfinished place inside kind.
-            derived-grown new.log done.log (pushed-prefix new.log step) (EndsASize (bounds_of (suspect_count p) p.k))
-            (λ early low there derived. searched.ends unfinished early there derived)
+        few = λ unfinished. omega (arith, count-behind new.log done.log (pushed-prefix new.log step) is_derived imported searched.session_within, none-derived, searched.few unfinished);
+        ends = λ unfinished place behind inside kind.
+            derived-grown new.log done.log (pushed-prefix new.log step) (EndsASize (bounds_of (suspect_count p) p.k)) imported
+            (λ early low there derived. searched.ends unfinished early low there derived)
             (block-derived new.log step (EndsASize (bounds_of (suspect_count p) p.k)) refl)
-            place (omega arith) inside kind;
+            place behind inside kind;
         front = front-more;
       }
 
@@ -251,14 +258,12 @@ module _ (p : Problem) (made : Form) (u : Unrolling) (old new : EnumState) (budg
         done-over : IsOverForm p made done
         done-over = record { vars = over.vars; form = over.form; suspects = over.suspects; size = over.size; holds = done_holds }
 
-        pub done-kept : IsStanding p made u (blocked new) steps finished
+        pub done-kept : IsStanding p made u (blocked new) steps finished imported
         done-kept = record { encoding = is.encoding; over = done-over; searched = done-searched; certified = done-certified }
 
         whole-prefix : take (length old.log) done.log ≡ old.log
         whole-prefix =
-            let low : length old.log ≤ length new.log =
-            omega (arith, ap length (sym adds.grows.prefix), length-take (length old.log) new.log) in
-            sym (take-take (length old.log) (length new.log) done.log low)
+            sym (take-take (length old.log) (length new.log) done.log longer)
             ∙ (ap (take (length old.log)) (pushed-prefix new.log step) ∙ adds.grows.prefix)
 
         done-searches : Searches before finally budget left
@@ -275,14 +280,15 @@ module _ (p : Problem) (made : Form) (u : Unrolling) (old new : EnumState) (budg
             none-learned,
             adds.grows.units,
           );
-          fresh = λ place low. done-searched.fresh place (omega arith);
+          fresh = λ place low. done-searched.fresh place (omega (arith, low, is.searched.session_within));
           finished = refl;
+          imported = refl;
         }
 
         pub advances-set : (r : Result Next NoMemory) → StaysClosed old new r → (values : Values) → 0 < left → ExplainsIn p a set values
-            → Advances before (state_of p made (blocked new) steps finished) budget left (Ok (found.Set (record { members = set; values = values })))
+            → Advances before (state_of p made (blocked new) steps finished imported) budget left (Ok (found.Set (record { members = set; values = values })))
         advances-set r stays values some explains = record {
-          holds = is-debugger p made u done steps finished done-kept;
+          holds = is-debugger p made u done steps finished imported done-kept;
           searches = done-searches;
           answers = (
             some,
@@ -301,7 +307,7 @@ module _ (p : Problem) (made : Form) (u : Unrolling) (old new : EnumState) (budg
     -- want of memory behind the search: the set isn't blocked, and comes again
     pub advances-unblocked : (r : Result Next NoMemory) → StaysClosed old new r → (e : NoMemory) → Advances before after budget left (Err e)
     advances-unblocked r stays e = record {
-      holds = is-debugger p made u new certificate finished kept;
+      holds = is-debugger p made u new certificate finished imported kept;
       searches = searches;
       answers = nothing set-open;
       ended = stays-open (Err e) set-open (λ closed. (stays closed).1);

@@ -27,7 +27,8 @@ use Rattle.debug_core.specs.declared.found.Found.TheVariants as found
 use Rattle.debug_core.specs.Problems.{Problem, IsFormFor, IsProblem, suspect_count, suspects_of}
 
 -- what contracts see of a debugger: its problem, the form and its log, the sets listed so far, whether it has answered that there is no
--- other, what isn't in the log yet of the last set's certificate, and whether the log has any step of a certificate
+-- other, what isn't in the log yet of the last set's certificate, whether the log has any step of a certificate behind a session's, and how
+-- many of its first steps are those of the session that it goes on from: none where it goes on from none
 pub record DebugState : Type 0 where
   pub problem : Problem
   pub vars : ℕ
@@ -37,6 +38,7 @@ pub record DebugState : Type 0 where
   pub ended : Bool
   pub certificate : List Step
   pub finished : Bool
+  pub imported : ℕ
 
 -- the step is derived from form and log, over the variables
 pub record IsKept (vars : ℕ) (form : List (List Lit)) (log : List Step) (step : Step) : Type 0 where
@@ -79,12 +81,13 @@ pub record IsDebugger (s : DebugState) : Type 0 where
   pub log_within : AreWithin s.vars (map (λ step. step.clause) s.log)
   pub distinct : AllDistinct (map (λ step. step.clause) s.log)
   pub chainless : AreChainless s.log
-  -- its learned steps are fresh, so that they are fewer than 3^V; until some step of a certificate is in it, its derived steps are at most
-  -- k + 1, and each ends a size
-  pub fresh : LearnedAreFresh s.form s.log 0
-  pub few_learned : count_by is_learned s.log < 3 ^ s.vars
-  pub few_derived : s.finished ≡ false → count_by is_derived s.log ≤ s.problem.k + 1
-  pub ends : s.finished ≡ false → (place : ℕ) → place < length s.log → (step_at s.log place).kind ≡ Derived
+  -- behind the steps of a session its learned steps are fresh, so that they are fewer than 3^V; until some step of a certificate is there,
+  -- the derived steps are at most k + 1, and each ends a size
+  pub session_within : s.imported ≤ length s.log
+  pub fresh : LearnedAreFresh s.form s.log s.imported
+  pub few_learned : count_by is_learned (drop s.imported s.log) < 3 ^ s.vars
+  pub few_derived : s.finished ≡ false → count_by is_derived (drop s.imported s.log) ≤ s.problem.k + 1
+  pub ends : s.finished ≡ false → (place : ℕ) → s.imported ≤ place → place < length s.log → (step_at s.log place).kind ≡ Derived
       → EndsASize (bounds_of (suspect_count s.problem) s.problem.k) (step_at s.log place).clause
   -- the sets are a front of the problem's list; after the end they are the whole list, and the log is closing
   pub front : IsFrontOf s.problem s.listed
@@ -100,6 +103,7 @@ pub record Begins (p : Problem) (s : DebugState) : Type 0 where
   pub goes_on : s.ended ≡ false
   pub no_certificate : s.certificate ≡ []
   pub unfinished : s.finished ≡ false
+  pub by_itself : s.imported ≡ 0
 
 -- the debugger with so many steps of the certificate, from the first on, behind its log
 abbrev pub with_appended : DebugState → ℕ → DebugState
@@ -112,6 +116,7 @@ with_appended s count = record {
   ended = s.ended;
   certificate = drop count s.certificate;
   finished = s.finished || nat_lt 0 count;
+  imported = s.imported;
 }
 
 -- some steps of the certificate were appended, from the first on
@@ -120,13 +125,13 @@ pub record FinishedSome (old new : DebugState) : Type 0 where
   pub within : count ≤ length old.certificate
   pub is : new ≡ with_appended old count
 
--- the log's learned steps are fresh; its derived steps are at most k + 1, each of which ends a size, and behind all others those by which it
--- shows suspects absent that the last set passes over, another one each
+-- behind the steps of a session the log's learned steps are fresh; its derived steps are at most k + 1, each of which ends a size, and behind
+-- all others those by which it shows suspects absent that the last set passes over, another one each
 abbrev pub HasCountedLog : DebugState → Type 0
 HasCountedLog s =
     let n = suspect_count s.problem in
     IsCounted s.form (bounds_of n s.problem.k) (s.problem.k + 1) n (last_of s.listed) (bound_of n s.problem.k (length (last_of s.listed)))
-    s.log 0
+    s.log s.imported
 
 -- the clauses, the steps, the units, the suspects and 16 more are together fewer than 2^32
 abbrev pub HasRoom : DebugState → ℕ → Type 0
@@ -142,6 +147,7 @@ pub record Searches (old new : DebugState) (budget left : ℕ) : Type 0 where
   pub units : count_by is_learned (added old.log new.log) + left ≡ budget
   pub fresh : LearnedAreFresh old.form new.log (length old.log)
   pub finished : new.finished ≡ old.finished
+  pub imported : new.imported ≡ old.imported
 
 -- a set was found, with its values: it is the next of the list
 pub record FindsSet (old new : DebugState) (set : SetWithValues) : Type 0 where

@@ -1,5 +1,6 @@
 pub mod Listed
 pub mod Problems
 pub mod Debugging
+pub mod Sessions
 pub mod Standing
 pub mod Causes

@@ -67,9 +67,10 @@ ExplainModels e model members values =
 abbrev pub members_of : List Lit → List ℕ
 members_of clause = map (λ (l : Lit). l.var) clause
 
--- what contracts see of a debugger, by its problem, its form, its enumerator, and what is kept of a certificate
-abbrev pub state_of : Problem → Form → EnumState → List Step → Bool → DebugState
-state_of p form e certificate finished = record {
+-- what contracts see of a debugger, by its problem, its form, its enumerator, what is kept of a certificate, and how many steps are a
+-- session's
+abbrev pub state_of : Problem → Form → EnumState → List Step → Bool → ℕ → DebugState
+state_of p form e certificate finished imported = record {
   problem = p;
   vars = form.vars;
   form = form.clauses;
@@ -78,11 +79,12 @@ state_of p form e certificate finished = record {
   ended = nat_lt p.k e.size;
   certificate = certificate;
   finished = finished;
+  imported = imported;
 }
 
 -- the same by its search
 abbrev pub state_in : Problem → Form → Search → DebugState
-state_in p form s = state_of p form s.enumerator (drop s.appended s.certificate) s.finished
+state_in p form s = state_of p form s.enumerator (drop s.appended s.certificate) s.finished s.imported
 
 -- the enumerator is of the form, whose first variables are the suspects'
 pub record IsOverForm (p : Problem) (made : Form) (e : EnumState) : Type 0 where
@@ -92,24 +94,26 @@ pub record IsOverForm (p : Problem) (made : Form) (e : EnumState) : Type 0 where
   pub size : e.k ≡ p.k
   pub holds : IsEnum e
 
--- what has been searched: the learned steps are fresh, each derived step closed a size unless it is of a certificate, and the sets are a front
-pub record IsSearched (p : Problem) (made : Form) (e : EnumState) (finished : Bool) : Type 0 where
-  pub fresh : LearnedAreFresh made.clauses e.log 0
-  pub few : finished ≡ false → count_by is_derived e.log ≤ e.size
-  pub ends : finished ≡ false → (place : ℕ) → place < length e.log → (step_at e.log place).kind ≡ Derived
+-- what has been searched behind the steps of a session: the learned steps are fresh, each derived step closed a size unless it is of a
+-- certificate, and the sets are a front
+pub record IsSearched (p : Problem) (made : Form) (e : EnumState) (finished : Bool) (imported : ℕ) : Type 0 where
+  pub session_within : imported ≤ length e.log
+  pub fresh : LearnedAreFresh made.clauses e.log imported
+  pub few : finished ≡ false → count_by is_derived (drop imported e.log) ≤ e.size
+  pub ends : finished ≡ false → (place : ℕ) → imported ≤ place → place < length e.log → (step_at e.log place).kind ≡ Derived
       → EndsASize (bounds_of (suspect_count p) p.k) (step_at e.log place).clause
   pub front : IsFrontOf p (map members_of (blocks_of e.log))
 
 -- a debugger between two calls
-pub record IsStanding (p : Problem) (made : Form) (u : Unrolling) (e : EnumState) (certificate : List Step) (finished : Bool) : Type 0 where
+pub record IsStanding (p : Problem) (made : Form) (u : Unrolling) (e : EnumState) (certificate : List Step) (finished : Bool) (imported : ℕ) : Type 0 where
   pub encoding : IsEncodingOf p made u
   pub over : IsOverForm p made e
-  pub searched : IsSearched p made e finished
-  pub certified : IsCertified (state_of p made e certificate finished)
+  pub searched : IsSearched p made e finished imported
+  pub certified : IsCertified (state_of p made e certificate finished imported)
 
 -- the same of its search
 abbrev pub Stands : Problem → Form → Unrolling → Search → Type 0
-Stands p made u s = IsStanding p made u s.enumerator (drop s.appended s.certificate) s.finished
+Stands p made u s = IsStanding p made u s.enumerator (drop s.appended s.certificate) s.finished s.imported
 
 -- what an answer says, or want of memory
 abbrev pub Answers : DebugState → DebugState → ℕ → Result Found NoMemory → Type 0

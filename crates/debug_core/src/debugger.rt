@@ -2,6 +2,7 @@ ghost use Rattle.std.specs.Prelude.{◌≡◌, ◌↔◌, ◌<◌, false, length
 ghost use Rattle.card_counter.specs.Shows.{Shows, last_of};
 ghost use Rattle.debug_core.specs.Problems.{IsProblem, IsRefused, problem_of, suspect_count};
 ghost use Rattle.debug_core.specs.Debugging.{Begins, FindsNothing, FinishedSome, Gives, HasCountedLog, HasRoom, IsDebugger, Searches, StaysEnded, with_appended};
+ghost use Rattle.debug_core.specs.Sessions.{GoesOnFrom, MayGoOn};
 ghost use Rattle.debug_core.specs.Standing.{Leaves, Stands, problem_in, state_in};
 
 use crate::encoding::Encoding;
@@ -19,31 +20,25 @@ use std::marker::Model;
 /// The list of the minimal sets of suspects that can explain the traces, one after another, with a log that shows it.
 ///
 /// Contracts see it as a `DebugState`.
+// Its `drop` is derived, since `resume` takes it apart.
+#[derive(Drop)]
 pub struct Debugger<'a> {
     alloc: Global,
     encoding: Encoding<'a>,
     search: Search,
 }
 
-/// A search for sets, and the certificate of the last one, as it was before the set was blocked.
+/// A search for sets, and the certificate of the last one that it found, as it was before the set was blocked.
+#[derive(Drop)]
 pub(crate) struct Search {
     pub(crate) enumerator: Enumerator,
     pub(crate) certificate: Log,
     /// How many of the certificate's steps the log has.
     pub(crate) appended: usize,
-    /// Whether the log has a step of any certificate.
+    /// Whether the log has a step of any certificate that this search found.
     pub(crate) finished: bool,
-}
-
-impl Drop for Search {
-    fn drop(self) {
-        let Search {
-            enumerator: _,
-            certificate: _,
-            appended: _,
-            finished: _,
-        } = self;
-    }
+    /// How many of the log's first steps are those of the session that it goes on from.
+    pub(crate) imported: usize,
 }
 
 impl<'a> Model for Debugger<'a> {
@@ -60,16 +55,6 @@ impl<'a> Model for Debugger<'a> {
     ghost view = { λ d. state_in (problem_in d.encoding) d.encoding.form d.search };
 
     ghost invariant = { λ d. Stands (problem_in d.encoding) d.encoding.form d.encoding.unrolled d.search };
-}
-
-impl Drop for Debugger<'_> {
-    fn drop(self) {
-        let Debugger {
-            alloc: _,
-            encoding: _,
-            search: _,
-        } = self;
-    }
 }
 
 impl<'a> Debugger<'a> {
@@ -90,6 +75,35 @@ impl<'a> Debugger<'a> {
             certificate: Log::new(alloc),
             appended: 0,
             finished: false,
+            imported: 0,
+        };
+        Ok(Debugger {
+            alloc,
+            encoding,
+            search,
+        })
+    }
+
+    /// A debugger that has just begun goes on from a session, whose log is given: the log has these steps, and the sets whose blocks they
+    /// are are listed. The sizes are searched from 0 again. After `NoMemory` it is gone.
+    pub fn resume(self, log: &Log) -> Result<Debugger<'a>, NoMemory>
+        requires { MayGoOn self log.now }
+        ensures goes_on { IfOk result (GoesOnFrom self.entry log.now) }
+        ensures holds { IfOk result IsDebugger }
+    {
+        let Debugger {
+            alloc,
+            encoding,
+            search,
+        } = self;
+        let Search { mut enumerator, .. } = search;
+        enumerator.import(log)?;
+        let search = Search {
+            enumerator,
+            certificate: Log::new(alloc),
+            appended: 0,
+            finished: false,
+            imported: log.len(),
         };
         Ok(Debugger {
             alloc,

@@ -21,6 +21,6 @@ pub use fits::have_few_cycles;
 pub use found::Found;
 pub use list_laws::{
     enumerator_certifies, first_is_next, form_encodes_list, none_left_is_whole,
-    shown_is_listed_front,
+    shown_is_listed_front, shown_is_session,
 };
 pub use question::Question;

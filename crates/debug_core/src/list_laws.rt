@@ -2,6 +2,7 @@
 //! function that does nothing, over values that no code holds.
 
 ghost use Rattle.std.specs.Prelude.{ℕ, List, ◌+◌, ◌++◌, [], ◌∷◌, length};
+ghost use Rattle.card_counter.specs.Shows.{Shows, last_of};
 ghost use Rattle.clause_base.specs.declared.log.Step.{Step};
 ghost use Rattle.design_core.specs.Listing.{IsFront, IsList};
 ghost use Rattle.form_laws.specs.Designs.{IsOfDesign, OfDesign};
@@ -9,7 +10,10 @@ ghost use Rattle.front_cert.specs.Certificates.{IsCertificate as IsCertificateAf
 ghost use Rattle.set_enum.specs.Certificate.{IsCertificate};
 ghost use Rattle.set_enum.specs.EnumState.{EnumState};
 ghost use Rattle.set_enum.specs.Sets.{IsFirst, NoneBelow};
+ghost use Rattle.debug_core.specs.Debugging.{DebugState, IsDebugger};
 ghost use Rattle.debug_core.specs.Listed.{AreGiven, EncodesForm, EncodesListed, IsShownFront, Listed, ListedNext, LoggedList, with_blocks};
+ghost use Rattle.debug_core.specs.Problems.{suspect_count};
+ghost use Rattle.debug_core.specs.Sessions.{IsSession};
 
 /// The form of a design's circuit encodes the sets of at most k suspects that work in the design.
 pub fn form_encodes_list()
@@ -44,6 +48,15 @@ pub fn shown_is_listed_front()
     requires given { AreGiven of.list }
     requires shown { IsShownFront of }
     ensures { IsFront of.list.design of.list.traces of.list.groups of.list.k of.list.listed }
+{}
+
+/// What a debugger leaves whose log shows that no set is missing before the last one, as behind `finish`, is a session: another debugger of the
+/// problem may go on from it.
+pub fn shown_is_session()
+    ghost of: { DebugState }
+    requires holds { IsDebugger of }
+    requires shows { Shows (suspect_count of.problem) of.problem.k (last_of of.listed) of.log }
+    ensures { IsSession of.problem of.form of.listed of.log }
 {}
 
 /// What an enumerator gives as the certificate of a set may stand behind its log, also once that has grown.

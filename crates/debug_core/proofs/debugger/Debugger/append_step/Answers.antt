@@ -16,30 +16,30 @@ pub returns-in_err-take_over-clause-holds : goal.returns-in_err-take_over-clause
 returns-in_err-take_over-clause-holds c =
     let e = c.self.inside.encoding in
     let s = c.self.inside.search in
-    subst (λ x. IsDebugger (state_of (problem_in e) e.form x (drop s.appended s.certificate) s.finished)) (sym c.in_err-take_over.ensures.err)
-    (is-debugger (problem_in e) e.form e.unrolled s.enumerator (drop s.appended s.certificate) s.finished c.self.invariant)
+    subst (λ x. IsDebugger (state_of (problem_in e) e.form x (drop s.appended s.certificate) s.finished s.imported)) (sym c.in_err-take_over.ensures.err)
+    (is-debugger (problem_in e) e.form e.unrolled s.enumerator (drop s.appended s.certificate) s.finished s.imported c.self.invariant)
 
 pub invariant_of-self-2 : goal.invariant_of-self-2
 invariant_of-self-2 c =
     let e = c.self.inside.encoding in
     let s = c.self.inside.search in
-    let after : Search = record { enumerator = c.take_over.new.self; certificate = s.certificate; appended = s.appended + 1; finished = true } in
+    let after : Search = record { enumerator = c.take_over.new.self; certificate = s.certificate; appended = s.appended + 1; finished = true; imported = s.imported } in
     next-stands (problem_in e) e.form e.unrolled s c.args.self.now c.self.view_is c.self.invariant c.requires.goes_on c.requires.some after
-    c.in_ok-take_over.ensures.ok refl refl refl c.take_over.ensures.holds
+    c.in_ok-take_over.ensures.ok refl refl refl refl c.take_over.ensures.holds
 
 pub returns-clause-holds : goal.returns-clause-holds
 returns-clause-holds c =
     let e = c.self.inside.encoding in
     let s = c.self.inside.search in
-    let after : Search = record { enumerator = c.take_over.new.self; certificate = s.certificate; appended = s.appended + 1; finished = true } in
-    is-debugger (problem_in e) e.form e.unrolled c.take_over.new.self (drop (s.appended + 1) s.certificate) true
+    let after : Search = record { enumerator = c.take_over.new.self; certificate = s.certificate; appended = s.appended + 1; finished = true; imported = s.imported } in
+    is-debugger (problem_in e) e.form e.unrolled c.take_over.new.self (drop (s.appended + 1) s.certificate) true s.imported
     (next-stands (problem_in e) e.form e.unrolled s c.args.self.now c.self.view_is c.self.invariant c.requires.goes_on c.requires.some after
-    c.in_ok-take_over.ensures.ok refl refl refl c.take_over.ensures.holds)
+    c.in_ok-take_over.ensures.ok refl refl refl refl c.take_over.ensures.holds)
 
 pub returns-clause-ok : goal.returns-clause-ok
 returns-clause-ok c =
     let e = c.self.inside.encoding in
     let s = c.self.inside.search in
-    let after : Search = record { enumerator = c.take_over.new.self; certificate = s.certificate; appended = s.appended + 1; finished = true } in
+    let after : Search = record { enumerator = c.take_over.new.self; certificate = s.certificate; appended = s.appended + 1; finished = true; imported = s.imported } in
     next-state (problem_in e) e.form e.unrolled s c.args.self.now c.self.view_is c.self.invariant c.requires.goes_on c.requires.some after
-    c.in_ok-take_over.ensures.ok refl refl refl
+    c.in_ok-take_over.ensures.ok refl refl refl refl

@@ -14,7 +14,7 @@ loop-init c =
     let rest : length (drop s.appended s.certificate) ≡ length c.args.self.now.certificate = ap (λ (d : DebugState). length d.certificate) c.self.view_is in
     finishing-none c.args.self.now (c.len-end.result - s.appended)
     (subst IsDebugger c.self.view_is
-    (is-debugger (problem_in e) e.form e.unrolled s.enumerator (drop s.appended s.certificate) s.finished c.self.invariant))
+    (is-debugger (problem_in e) e.form e.unrolled s.enumerator (drop s.appended s.certificate) s.finished s.imported c.self.invariant))
     (omega (arith, c.len-end.ensures.value, length-drop s.appended s.certificate, rest))
 
 pub loop-preserved : goal.loop-preserved
@@ -27,7 +27,7 @@ returns-clause-counted c =
     let e = c.self.inside.encoding in
     let s = c.self.inside.search in
     let before : IsDebugger c.args.self.now = subst IsDebugger c.self.view_is
-    (is-debugger (problem_in e) e.form e.unrolled s.enumerator (drop s.appended s.certificate) s.finished c.self.invariant) in
+    (is-debugger (problem_in e) e.form e.unrolled s.enumerator (drop s.appended s.certificate) s.finished s.imported c.self.invariant) in
     counted c.args.self.now before c.loop.self
     (finishing-done c.args.self.now c.loop.self (c.len-end.result - c.loop.counter) c.loop.invariant (omega (arith, c.loop-test.false)))
     c.loop.invariant.holds

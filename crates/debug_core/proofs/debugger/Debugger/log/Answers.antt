@@ -9,4 +9,4 @@ returns-clause-holds c =
     let inside = c.self.inside in
     subst IsDebugger c.self.view_is
     (is-debugger (problem_in inside.encoding) inside.encoding.form inside.encoding.unrolled inside.search.enumerator
-    (drop inside.search.appended inside.search.certificate) inside.search.finished c.self.invariant)
+    (drop inside.search.appended inside.search.certificate) inside.search.finished inside.search.imported c.self.invariant)

@@ -30,8 +30,8 @@ invariant_of-result c =
     let e = c.in_ok-encoding.encoding in
     let begins = c.in_ok-enumerator.ensures.begins in
     let same = sym c.in_ok-encoding.ensures.question in
-    subst (λ steps. IsStanding (problem_in e) e.form e.unrolled c.in_ok-enumerator.enumerator steps false) (sym c.new-3.ensures)
-    (subst (λ x. IsStanding (problem_in e) e.form e.unrolled x [] false) (sym begins)
+    subst (λ steps. IsStanding (problem_in e) e.form e.unrolled c.in_ok-enumerator.enumerator steps false 0) (sym c.new-3.ensures)
+    (subst (λ x. IsStanding (problem_in e) e.form e.unrolled x [] false 0) (sym begins)
     (begun-standing (problem_in e) e.form e.unrolled c.len-suspects.result c.args.question.now.k c.in_ok-encoding.ensures.encoding
     (c.len-suspects.ensures ∙ ap suspect_count same) (ap (λ (p : Problem). p.k) same)
     (subst IsEnum begins c.in_ok-enumerator.ensures.holds)))
@@ -41,9 +41,9 @@ returns-clause-holds c =
     let e = c.in_ok-encoding.encoding in
     let begins = c.in_ok-enumerator.ensures.begins in
     let same = sym c.in_ok-encoding.ensures.question in
-    is-debugger (problem_in e) e.form e.unrolled c.in_ok-enumerator.enumerator c.new-3.result false
-    (subst (λ steps. IsStanding (problem_in e) e.form e.unrolled c.in_ok-enumerator.enumerator steps false) (sym c.new-3.ensures)
-    (subst (λ x. IsStanding (problem_in e) e.form e.unrolled x [] false) (sym begins)
+    is-debugger (problem_in e) e.form e.unrolled c.in_ok-enumerator.enumerator c.new-3.result false 0
+    (subst (λ steps. IsStanding (problem_in e) e.form e.unrolled c.in_ok-enumerator.enumerator steps false 0) (sym c.new-3.ensures)
+    (subst (λ x. IsStanding (problem_in e) e.form e.unrolled x [] false 0) (sym begins)
     (begun-standing (problem_in e) e.form e.unrolled c.len-suspects.result c.args.question.now.k c.in_ok-encoding.ensures.encoding
     (c.len-suspects.ensures ∙ ap suspect_count same) (ap (λ (p : Problem). p.k) same)
     (subst IsEnum begins c.in_ok-enumerator.ensures.holds))))
