@@ -39,10 +39,16 @@ abbrev pub wanted_of : SourcesAsked → ListingAsked → WantedAsked
 wanted_of sources listing = record { sources = sources; suspects = listing.suspects; size = listing.size }
 
 -- ---- the commands
--- `find`: the prefix of the waves' names, where waves are asked for
+-- a session that a list goes on from: the names of its report and of its log
+pub record SessionNames : Type 0 where
+  pub report : List ℕ
+  pub log : List ℕ
+
+-- `find`: the session that is gone on from, and the prefix of the waves' names, where they are asked for
 pub record FindAsked : Type 0 where
   pub sources : SourcesAsked
   pub listing : ListingAsked
+  pub resume : Option SessionNames
   pub waves : Option (List ℕ)
 
 abbrev pub wanted_for : FindAsked → WantedAsked

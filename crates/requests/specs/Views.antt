@@ -9,11 +9,12 @@ use Rattle.requests.specs.declared.requests.MakeRequest.{MakeRequest}
 use Rattle.requests.specs.declared.requests.Request.{Request}
 use Rattle.requests.specs.declared.requests.Request.TheVariants.{Find, Sim, Check, Make, Help}
 use Rattle.requests.specs.declared.requests.SimRequest.{SimRequest}
+use Rattle.requests.specs.declared.session.SessionNames.{SessionNames as NamesInCode}
 use Rattle.requests.specs.declared.sources.Reading.{Reading}
 use Rattle.requests.specs.declared.sources.Sources.{Sources}
 use Rattle.requests.specs.declared.texts.Texts.{Texts}
 use Rattle.requests.specs.declared.wanted.Wanted.{Wanted}
-use Rattle.requests.specs.Asked.{Asked, CheckAsked, FindAsked, HelpAsked, ListingAsked, MakeAsked, SimAsked, SourcesAsked, TextsAsked, WantedAsked, find, sim, check, make, help}
+use Rattle.requests.specs.Asked.{Asked, CheckAsked, FindAsked, HelpAsked, ListingAsked, MakeAsked, SessionNames, SimAsked, SourcesAsked, TextsAsked, WantedAsked, find, sim, check, make, help}
 
 -- ---- what is read
 abbrev pub texts_asked : Texts → TextsAsked
@@ -50,10 +51,14 @@ listing_asked listing = record {
 }
 
 -- ---- the commands
+abbrev pub session_names : NamesInCode → SessionNames
+session_names names = record { report = string_bytes names.report; log = string_bytes names.log }
+
 abbrev pub find_asked : FindRequest → FindAsked
 find_asked request = record {
   sources = reading_asked request.reading;
   listing = listing_asked request.listing;
+  resume = option_map session_names request.resume;
   waves = option_map string_bytes request.waves;
 }
 

@@ -5,6 +5,7 @@
 mod help;
 mod listing;
 mod requests;
+mod session;
 mod sources;
 mod texts;
 mod wanted;
@@ -12,6 +13,7 @@ mod wanted;
 pub use help::{HelpPage, HelpRequest};
 pub use listing::Listing;
 pub use requests::{CheckRequest, FindRequest, MakeRequest, Request, SimRequest};
+pub use session::SessionNames;
 pub use sources::{Reading, Sources};
 pub use texts::Texts;
 pub use wanted::Wanted;

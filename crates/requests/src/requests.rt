@@ -1,19 +1,17 @@
 //! The request of each command.
-ghost use Rattle.std.specs.Prelude.{◌≡◌};
-ghost use Rattle.requests.specs.Asked.{wanted_for};
-ghost use Rattle.requests.specs.Views.{find_asked, wanted_asked};
-
 use crate::help::HelpRequest;
 use crate::listing::Listing;
+use crate::session::SessionNames;
 use crate::sources::Reading;
 use crate::texts::Texts;
-use crate::wanted::Wanted;
 
 /// What `find` is asked.
 #[derive(Drop)]
 pub struct FindRequest {
     pub reading: Reading,
     pub listing: Listing,
+    /// The session that the list goes on from, if it goes on from one.
+    pub resume: Option<SessionNames>,
     /// The prefix of the waves' names, where waves are asked for: that of set S and trace T is `P-S-T.vcd`.
     pub waves: Option<String>,
 }
@@ -56,17 +54,4 @@ pub enum Request {
     Check(CheckRequest),
     Make(MakeRequest),
     Help(HelpRequest),
-}
-
-impl FindRequest {
-    /// What the list is asked of.
-    pub fn wanted(&self) -> Wanted<'_>
-        ensures { wanted_asked result ≡ wanted_for (find_asked self.now) }
-    {
-        Wanted {
-            sources: self.reading.sources(),
-            suspects: &self.listing.suspects,
-            size: self.listing.size,
-        }
-    }
 }
