@@ -45,6 +45,7 @@ what_stands_where_no_option_is_given
     ≡ Ok (find (record {
       sources = record { texts = record { design = codes "m.v"; format = Verilog; top = codes "m"; traces = codes "t" ∷ [] }; clock = None };
       listing = plain_list (codes "stmt" ∷ []);
+      resume = None;
       waves = None;
     }))
 unfolding clap_on_literals read_by find_arguments path_components path_names
@@ -80,6 +81,7 @@ two_kinds_of_suspects_and_waves
         clock = Some (codes "c");
       };
       listing = plain_list (codes "block" ∷ codes "stmt" ∷ []);
+      resume = None;
       waves = Some (codes "w");
     }))
 unfolding clap_on_literals read_by find_arguments path_components path_names
@@ -88,6 +90,32 @@ two_kinds_of_suspects_and_waves = refl
 waves_among_which_a_trace_would_be : asked (find_words (codes "t-1-1.vcd" ∷ codes "--waves=t" ∷ [])) ≡ Err Name
 unfolding clap_on_literals read_by find_arguments path_components path_names
 waves_among_which_a_trace_would_be = refl
+
+a_session_that_is_gone_on_from
+    : asked (find_words (codes "--resume=a.json" ∷ codes "--resume-log" ∷ codes "a.log" ∷ []))
+    ≡ Ok (find (record {
+      sources = record { texts = record { design = codes "m.v"; format = Verilog; top = codes "m"; traces = codes "t" ∷ [] }; clock = None };
+      listing = plain_list (codes "stmt" ∷ []);
+      resume = Some (record { report = codes "a.json"; log = codes "a.log" });
+      waves = None;
+    }))
+unfolding clap_on_literals read_by find_arguments path_components path_names
+a_session_that_is_gone_on_from = refl
+
+a_session_without_its_log : asked (find_words (codes "--resume=a.json" ∷ [])) ≡ Err Name
+unfolding clap_on_literals read_by find_arguments path_components path_names
+a_session_without_its_log = refl
+
+-- the names that stand where no option is given count like others
+a_session_that_would_be_written_over
+    : asked (find_words (codes "--resume=localise.json" ∷ codes "--resume-log=localise.log" ∷ [])) ≡ Err Name
+unfolding clap_on_literals read_by find_arguments path_components path_names
+a_session_that_would_be_written_over = refl
+
+waves_among_which_a_session_would_be
+    : asked (find_words (codes "--resume=a.json" ∷ codes "--resume-log=./w-1-1.vcd" ∷ codes "--waves=w" ∷ [])) ≡ Err Name
+unfolding clap_on_literals read_by find_arguments path_components path_names
+waves_among_which_a_session_would_be = refl
 
 an_input_of_the_number_10000 : asked (codes "make" ∷ codes "10000" ∷ []) ≡ Err Number
 unfolding clap_on_literals read_by make_arguments path_components path_names

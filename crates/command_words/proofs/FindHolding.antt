@@ -1,5 +1,5 @@
 -- What holds of a list of sets whose names and kinds pass.
-use Rattle.std.proofs.Common.{ℕ, ◌≡◌, ◌≢◌, ◌&&◌, true, not, List, [], ◌∷◌, ◌++◌, Option, Some, None, codes}
+use Rattle.std.proofs.Common.{ℕ, ◌≡◌, ◌≢◌, ◌&&◌, true, not, List, [], ◌++◌, Option, Some, None, codes}
 use Rattle.std.specs.Prelude.{All, IfSome}
 use Rattle.std.specs.List.{list_any}
 use Rattle.std.proofs.lemmas.Bool.{and_parts}
@@ -7,9 +7,10 @@ use Rattle.word_values.specs.Numbers.{AreNumbers}
 use Rattle.word_values.specs.Values.{are_kinds, is_file_name, option_all}
 use Rattle.word_values.specs.Paths.{IsOtherPath, is_same_path, path_begins}
 use Rattle.word_values.proofs.SamePaths.{no_path-All, no_path-begins, paths-apart}
-use Rattle.requests.specs.Asked.{FindAsked}
+use Rattle.requests.specs.Asked.{FindAsked, SessionNames}
 use Rattle.command_words.specs.Listing.{numbers_of}
-use Rattle.command_words.specs.Find.{IsFindAsked, IsWavePrefix, are_find_names, are_written_names, is_own, is_wave_prefix, other_names}
+use Rattle.command_words.specs.Find.{IsFindAsked, IsWavePrefix, are_find_names, are_written_names, is_own, is_wave_prefix, other_names, read_names}
+use Rattle.command_words.specs.Session.{AreSessionNames, are_session_names}
 use Rattle.command_words.specs.Sim.{are_sim_names}
 use Rattle.command_words.proofs.ListingHolding.{listing-holds}
 use Rattle.command_words.proofs.SimHolding.{sim-holds}
@@ -19,8 +20,8 @@ record AreWritten (asked : FindAsked) : Type 0 where
   pub log : is_file_name asked.listing.log ≡ true
   pub report : is_file_name asked.listing.report ≡ true
   pub apart_names : IsOtherPath asked.listing.log asked.listing.report
-  pub own_log : All (λ name. IsOtherPath name asked.listing.log) (asked.sources.texts.design ∷ asked.sources.texts.traces)
-  pub own_report : All (λ name. IsOtherPath name asked.listing.report) (asked.sources.texts.design ∷ asked.sources.texts.traces)
+  pub own_log : All (λ name. IsOtherPath name asked.listing.log) (read_names asked)
+  pub own_report : All (λ name. IsOtherPath name asked.listing.report) (read_names asked)
 
 written-hold : (asked : FindAsked) → are_written_names asked ≡ true → AreWritten asked
 written-hold asked names =
@@ -35,9 +36,15 @@ written-hold asked names =
       log = first.0;
       report = first.1;
       apart_names = paths-apart asked.listing.log asked.listing.report two.1;
-      own_log = no_path-All (asked.sources.texts.design ∷ asked.sources.texts.traces) asked.listing.log own.1;
-      own_report = no_path-All (asked.sources.texts.design ∷ asked.sources.texts.traces) asked.listing.report last.1;
+      own_log = no_path-All (read_names asked) asked.listing.log own.1;
+      own_report = no_path-All (read_names asked) asked.listing.report last.1;
     }
+
+session-holds : (resume : Option SessionNames) → option_all are_session_names resume ≡ true → IfSome resume AreSessionNames
+session-holds None names = tt
+session-holds (Some session) names =
+    let both = and_parts (is_file_name session.report) (is_file_name session.log) names in
+    record { report = both.0; log = both.1 }
 
 waves-hold : (asked : FindAsked) (waves : Option (List ℕ)) → option_all (is_wave_prefix asked) waves ≡ true
     → IfSome waves (IsWavePrefix asked)
@@ -51,16 +58,19 @@ pub find-holds : (known : List (List ℕ)) (asked : FindAsked) → are_find_name
     → asked.listing.suspects ≢ [] → AreNumbers (numbers_of asked.listing) → IsFindAsked known asked
 find-holds known asked names kinds some within =
     let waves = option_all (is_wave_prefix asked) asked.waves in
-    let both = and_parts (are_sim_names asked.sources && are_written_names asked) waves names in
-    let first = and_parts (are_sim_names asked.sources) (are_written_names asked) both.0 in
-    let written = written-hold asked first.1 in
+    let session = option_all are_session_names asked.resume in
+    let all = and_parts (are_sim_names asked.sources && session && are_written_names asked) waves names in
+    let read = and_parts (are_sim_names asked.sources && session) (are_written_names asked) all.0 in
+    let first = and_parts (are_sim_names asked.sources) session read.0 in
+    let written = written-hold asked read.1 in
     record {
       sources = sim-holds asked.sources first.0;
       listing = listing-holds known asked.listing kinds some within;
+      resume = session-holds asked.resume first.1;
       log = written.log;
       report = written.report;
       apart = written.apart_names;
       own_log = written.own_log;
       own_report = written.own_report;
-      waves = waves-hold asked asked.waves both.1;
+      waves = waves-hold asked asked.waves all.1;
     }

@@ -5,3 +5,4 @@ pub mod FindHolding
 mod Examples
 pub mod Commands
 pub mod ListingHolding
+pub mod ReadNames

@@ -2,7 +2,7 @@
 -- given, or the first thing that is wrong with them: the numbers, then the names, then the kinds of suspects.
 use Rattle.std.specs.Prelude.{◌≡◌, true, ℕ, Bool, not, ◌&&◌, List, [], ◌∷◌, ◌++◌, All, IfSome, Option, Some, None, Result, Ok, Err, codes}
 use Rattle.std.specs.List.{list_any}
-use Rattle.requests.specs.Asked.{FindAsked, ListingAsked, SourcesAsked}
+use Rattle.requests.specs.Asked.{FindAsked, ListingAsked, SessionNames, SourcesAsked}
 use Rattle.word_values.specs.declared.usage.Usage.{Usage}
 use Rattle.word_values.specs.declared.usage.Usage.TheVariants.{Number}
 use Rattle.word_values.specs.Arguments.{Arguments, Row, first_of, values_of}
@@ -10,6 +10,7 @@ use Rattle.word_values.specs.Standing.{kinded, named, standing, with_format}
 use Rattle.word_values.specs.Paths.{IsOtherPath, is_path_of_one, is_same_path, path_begins}
 use Rattle.word_values.specs.Values.{is_file_name, option_all}
 use Rattle.command_words.specs.Listing.{IsListingAsked, listing_in}
+use Rattle.command_words.specs.Session.{AreSessionNames, are_session_names, session_in, session_texts}
 use Rattle.command_words.specs.Sim.{IsSimAsked, are_sim_names, sim_in}
 
 -- `find DESIGN TOP TRACE..` and its options
@@ -19,17 +20,22 @@ find_arguments = record {
   words = codes "design" ∷ codes "top" ∷ [];
   rest = Some (codes "trace");
   options = codes "clock" ∷ codes "size" ∷ codes "budget" ∷ codes "sets" ∷ codes "suspects" ∷ codes "workers" ∷ codes "log"
-      ∷ codes "report" ∷ codes "waves" ∷ codes "format" ∷ [];
+      ∷ codes "report" ∷ codes "resume" ∷ codes "resume-log" ∷ codes "waves" ∷ codes "format" ∷ [];
 }
 
 -- ---- what is asked
-abbrev pub find_listed : SourcesAsked → List Row → Option ListingAsked → Result FindAsked Usage
-find_listed sources rows None = Err Number
-find_listed sources rows (Some listing) = Ok (record {
+abbrev pub find_resumed : SourcesAsked → List Row → ListingAsked → Result (Option SessionNames) Usage → Result FindAsked Usage
+find_resumed sources rows listing (Ok resume) = Ok (record {
   sources = sources;
   listing = listing;
+  resume = resume;
   waves = first_of (codes "waves") rows;
 })
+find_resumed sources rows listing (Err usage) = Err usage
+
+abbrev pub find_listed : SourcesAsked → List Row → Option ListingAsked → Result FindAsked Usage
+find_listed sources rows None = Err Number
+find_listed sources rows (Some listing) = find_resumed sources rows listing (session_in rows)
 
 abbrev pub find_of : Result SourcesAsked Usage → List Row → Result FindAsked Usage
 find_of (Ok sources) rows = find_listed sources rows (listing_in rows)
@@ -38,9 +44,13 @@ find_of (Err usage) rows = Err usage
 abbrev pub find_in : List Row → Result FindAsked Usage
 find_in rows = find_of (sim_in rows) rows
 
+-- what is read: the design, the traces, and the texts of a session that is gone on from
+abbrev pub read_names : FindAsked → List (List ℕ)
+read_names asked = asked.sources.texts.design ∷ asked.sources.texts.traces ++ session_texts asked.resume
+
 -- nothing that is read lies there
 abbrev pub is_own : FindAsked → List ℕ → Bool
-is_own asked name = not (is_path_of_one (asked.sources.texts.design ∷ asked.sources.texts.traces) name)
+is_own asked name = not (is_path_of_one (read_names asked) name)
 
 -- the log and the report have names of their own
 abbrev pub are_written_names : FindAsked → Bool
@@ -50,14 +60,16 @@ are_written_names asked =
 
 -- what the names of waves begin with is the name of a file, and with it and `-` no other name begins, as a path
 abbrev pub other_names : FindAsked → List (List ℕ)
-other_names asked = asked.sources.texts.design ∷ asked.listing.log ∷ asked.listing.report ∷ asked.sources.texts.traces
+other_names asked =
+    asked.sources.texts.design ∷ asked.listing.log ∷ asked.listing.report ∷ asked.sources.texts.traces ++ session_texts asked.resume
 
 abbrev pub is_wave_prefix : FindAsked → List ℕ → Bool
 is_wave_prefix asked prefix = is_file_name prefix && not (list_any (path_begins (prefix ++ codes "-")) (other_names asked))
 
 abbrev pub are_find_names : FindAsked → Bool
 are_find_names asked =
-    are_sim_names asked.sources && are_written_names asked && option_all (is_wave_prefix asked) asked.waves
+    are_sim_names asked.sources && option_all are_session_names asked.resume && are_written_names asked
+    && option_all (is_wave_prefix asked) asked.waves
 
 -- the words of the command, itself the first, where kinds of suspects of these names are known
 abbrev pub find_asked : List (List ℕ) → List (List ℕ) → Result FindAsked Usage
@@ -74,10 +86,11 @@ pub record IsWavePrefix (asked : FindAsked) (prefix : List ℕ) : Type 0 where
 pub record IsFindAsked (known : List (List ℕ)) (asked : FindAsked) : Type 0 where
   pub sources : IsSimAsked asked.sources
   pub listing : IsListingAsked known asked.listing
+  pub resume : IfSome asked.resume AreSessionNames
   pub log : is_file_name asked.listing.log ≡ true
   pub report : is_file_name asked.listing.report ≡ true
   -- the log and the report have paths of their own, and so have the waves
   pub apart : IsOtherPath asked.listing.log asked.listing.report
-  pub own_log : All (λ name. IsOtherPath name asked.listing.log) (asked.sources.texts.design ∷ asked.sources.texts.traces)
-  pub own_report : All (λ name. IsOtherPath name asked.listing.report) (asked.sources.texts.design ∷ asked.sources.texts.traces)
+  pub own_log : All (λ name. IsOtherPath name asked.listing.log) (read_names asked)
+  pub own_report : All (λ name. IsOtherPath name asked.listing.report) (read_names asked)
   pub waves : IfSome asked.waves (IsWavePrefix asked)

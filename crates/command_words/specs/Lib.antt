@@ -2,6 +2,7 @@ pub mod Listing
 pub mod Make
 pub mod Check
 pub mod Sim
+pub mod Session
 pub mod Find
 pub mod Views
 pub mod Asked

@@ -1,10 +1,11 @@
 -- What is asked for by values that aren't copied yet: for contracts in the crate alone.
 use Rattle.std.specs.Option.{option_map}
-use Rattle.requests.specs.Asked.{CheckAsked, FindAsked, ListingAsked, MakeAsked, SourcesAsked}
+use Rattle.requests.specs.Asked.{CheckAsked, FindAsked, ListingAsked, MakeAsked, SessionNames, SourcesAsked}
 use Rattle.command_words.specs.declared.check.CheckValues.{CheckValues}
 use Rattle.command_words.specs.declared.find.FindValues.{FindValues}
 use Rattle.command_words.specs.declared.listing.ListingValues.{ListingValues}
 use Rattle.command_words.specs.declared.make.MakeValues.{MakeValues}
+use Rattle.command_words.specs.declared.session.SessionValues.{SessionValues}
 use Rattle.command_words.specs.declared.sim.SimValues.{SimValues}
 use Rattle.word_values.specs.Values.{kinds_in}
 use Rattle.word_values.specs.Views.{sources_view}
@@ -23,10 +24,14 @@ listing_values values = record {
   report = values.report.now;
 }
 
+abbrev pub session_values : SessionValues → SessionNames
+session_values values = record { report = values.report.now; log = values.log.now }
+
 abbrev pub find_values : FindValues → FindAsked
 find_values values = record {
   sources = sim_values values.sources;
   listing = listing_values values.listing;
+  resume = option_map session_values values.resume;
   waves = option_map (λ word. word.now) values.waves;
 }
 

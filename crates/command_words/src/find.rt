@@ -14,6 +14,7 @@ ghost use Rattle.requests.specs.Views.{find_asked as find_asked_of};
 ghost use Rattle.command_words.specs.Views.{find_values};
 
 use crate::listing::{self, ListingValues};
+use crate::session::{self, SessionValues};
 use crate::sim::{self, SimValues};
 use loc_base::NoMemory;
 use requests::FindRequest;
@@ -29,6 +30,7 @@ pub(crate) struct FindValues<'m, 'a> {
     /// What is read, as `sim` has it.
     pub(crate) sources: SimValues<'m, 'a>,
     pub(crate) listing: ListingValues<'a>,
+    pub(crate) resume: Option<SessionValues<'a>>,
     pub(crate) waves: Option<&'a str>,
 }
 
@@ -42,7 +44,17 @@ fn find_table() -> Table<'static>
         words: &["design", "top"],
         rest: Some("trace"),
         options: &[
-            "clock", "size", "budget", "sets", "suspects", "workers", "log", "report", "waves",
+            "clock",
+            "size",
+            "budget",
+            "sets",
+            "suspects",
+            "workers",
+            "log",
+            "report",
+            "resume",
+            "resume-log",
+            "waves",
             "format",
         ],
     }
@@ -60,16 +72,19 @@ fn values_in<'m, 'a>(given: &'m Given<'a>) -> Result<FindValues<'m, 'a>, Usage>
     Ok(FindValues {
         sources,
         listing,
+        resume: session::values_in(given)?,
         waves: given.value("waves"),
     })
 }
 
 /// Whether nothing that is read lies there.
+#[tactic(auto, using(crate::proofs::ReadNames::name_rules))]
 fn is_own(values: &FindValues, name: &str) -> bool
     ensures { result ≡ is_own (find_values values.now) name.now }
 {
     !is_same_path(name, values.sources.texts.design)
         && !is_path_of_one(values.sources.texts.traces, name)
+        && !session::is_path_of_one(values.resume, name)
 }
 
 /// Whether the log and the report have paths of their own.
@@ -93,6 +108,7 @@ fn wave_front(alloc: Global, prefix: &str) -> Result<String, NoMemory>
 }
 
 /// Whether a name other than a wave's begins so, as a path.
+#[tactic(auto, using(crate::proofs::ReadNames::name_rules))]
 fn one_begins_with(values: &FindValues, front: &str) -> bool
     ensures { result ≡ list_any (path_begins front.now) (other_names (find_values values.now)) }
 {
@@ -100,6 +116,7 @@ fn one_begins_with(values: &FindValues, front: &str) -> bool
         || path_begins_with(values.listing.log, front)
         || path_begins_with(values.listing.report, front)
         || one_path_begins_with(values.sources.texts.traces, front)
+        || session::one_begins_with(values.resume, front)
 }
 
 /// Whether the names of waves may begin with it.
@@ -124,7 +141,12 @@ fn are_names(alloc: Global, values: &FindValues) -> Result<bool, NoMemory>
     ensures { IfOk result (λ passes. passes ≡ are_find_names (find_values values.now)) }
 {
     let waves = is_wave_prefix_if(alloc, values)?;
-    Ok(sim::are_names(&values.sources) && are_written_names(values) && waves)
+    Ok(
+        sim::are_names(&values.sources)
+            && session::are_names(values.resume)
+            && are_written_names(values)
+            && waves,
+    )
 }
 
 fn copied(alloc: Global, values: &FindValues, suspects: &[&str]) -> Result<FindRequest, NoMemory>
@@ -136,6 +158,7 @@ fn copied(alloc: Global, values: &FindValues, suspects: &[&str]) -> Result<FindR
     Ok(FindRequest {
         reading: sim::copied(alloc, &values.sources)?,
         listing: listing::copied(alloc, &values.listing, suspects)?,
+        resume: session::copied(alloc, values.resume)?,
         waves: text_if(alloc, values.waves)?,
     })
 }

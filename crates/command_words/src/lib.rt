@@ -8,6 +8,7 @@ mod help;
 mod listing;
 mod make;
 mod pages;
+mod session;
 mod sim;
 mod texts;
 mod words;

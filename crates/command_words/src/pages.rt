@@ -40,8 +40,7 @@ Lists every minimal set of suspects that can explain the dumps: with values of
 their own, chosen anew in each cycle, each dump has the outputs that it wants.
 
   DESIGN, TOP      the file of the design, and its top module
-  DUMP             a VCD file with the ports of the top: the inputs that were
-                   applied, the outputs that are wanted; 1 to 256 of them
+  DUMP             a VCD file of the top's ports, outputs as wanted; 1 to 256
   --format F       the format of the design: verilog or aiger (verilog)
   --clock NAME     the input of the top that is the clock (none)
   --size K         the most suspects in a set, 0 to 8 (2)
@@ -52,12 +51,13 @@ their own, chosen anew in each cycle, each dump has the outputs that it wants.
   --log NAME       the file that the log is written to, for check (localise.log)
   --report NAME    the file that the report is written to (localise.json)
   --waves PREFIX   a wave of each set S and dump T to PREFIX-S-T.vcd (none)
+  --resume R       go on from a list that ended early, by its report R (none)
+  --resume-log L   and by its log L; both stand, or neither (none)
 In parentheses: what stands where an option isn't given.
 
 status 0: the list is whole (complete N). 1: it ended early (front N budget,
-front N sets). 2: the arguments are wrong. 3: a file isn't of a form that is
-read. 4: a limit is passed. 5: a file can't be read. 6: a write failed. 7: out
-of memory.
+front N sets). 2: wrong arguments. 3: a file isn't of a form that is read. 4: a
+limit is passed. 5: a file can't be read. 6: a write failed. 7: out of memory.
 example: localise find uart_tx.v uart_tx uart_tx.vcd --clock clk --size 1
 ";
 

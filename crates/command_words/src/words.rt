@@ -17,7 +17,7 @@ use word_values::{Usage, WordsErr};
 /// What the words behind the program's name ask for, where kinds of suspects of these names are known:
 ///
 /// - `find DESIGN TOP TRACE.. [--clock NAME] [--size K] [--budget B] [--sets M] [--suspects A,B] [--workers N] [--log NAME]
-///   [--report NAME] [--waves PREFIX] [--format F]`
+///   [--report NAME] [--waves PREFIX] [--resume NAME --resume-log NAME] [--format F]`
 /// - `sim DESIGN TOP TRACE.. [--clock NAME] [--format F]`
 /// - `check DESIGN TOP REPORT LOG TRACE.. [--workers N] [--format F]`
 /// - `make NUMBER [--size K] [--budget B] [--sets M] [--suspects A,B] [--workers N] [--log NAME] [--report NAME] [--design NAME]
@@ -26,9 +26,10 @@ use word_values::{Usage, WordsErr};
 ///
 /// There are 1 to 256 traces. The size is 0 to 8 (without the option 2), the budget 1 to 10,000,000 (200,000), the number of sets
 /// 1 to 100,000 (1,000), that of workers 1 to 64 (1), that of an input that is made 0 to 9999. The suspects (`stmt`) are known,
-/// each once. The format of the design is `verilog` (so too without the option) or `aiger`. What is written, the log (`localise.log`), the report (`localise.json`), and for `make` the design (`made.v`) and
-/// the trace (`made.vcd`), have names that are other paths than each other's and than those of what is read; with `--waves` no
-/// other name begins, as a path, with its value and `-`. An option is `--x v` or `--x=v`, stands anywhere behind the command and
+/// each once. The format of the design is `verilog` (so too without the option) or `aiger`. Of a session that is gone on from, the report
+/// and the log are named both, or neither. What is written, the log (`localise.log`), the report (`localise.json`), and for `make` the
+/// design (`made.v`) and the trace (`made.vcd`), have names that are other paths than each other's and than those of what is read; with
+/// `--waves` no other name begins, as a path, with its value and `-`. An option is `--x v` or `--x=v`, stands anywhere behind the command and
 /// once at most; after `--` all words are positional.
 pub fn request(alloc: Global, words: &[String], known: &[&str]) -> Result<Request, WordsErr>
     ensures gives { Gives asked_of (asked (map (λ w. w.now) known.now) (map string_bytes words.now)) result }
