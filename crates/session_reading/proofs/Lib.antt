@@ -1,0 +1,4 @@
+mod Examples
+pub mod Causes
+mod LoadedTexts
+pub mod Compared
