@@ -1,6 +1,7 @@
 -- A list whose log shows that no set is missing before the last one is a front.
 use Rattle.std.proofs.Common.{◌≡◌, ℕ, zero, suc, ◌+◌, ◌<◌, ◌≤◌, ◌^◌, true, false, List, [], ◌∷◌, length, map, Option, Some, None, refl, ap, sym, ◌∙◌, subst, arith}
-use Rattle.std.specs.Prelude.{All, IsTrue, ◌↔◌}
+use Rattle.std.specs.Prelude.{All, Err, IfOk, IsTrue, Ok, Result, ◌↔◌}
+use Rattle.loc_base.specs.declared.memory.NoMemory.{NoMemory}
 use Rattle.std.specs.List.Sorted.{IsStrictlyIncreasing}
 use Rattle.std.proofs.lemmas.List.Elements.{All-nil}
 use Rattle.clause_base.specs.declared.form.Form.{Form}
@@ -18,7 +19,7 @@ use Rattle.debug_core.proofs.Certified.{last-or-none}
 use Rattle.debug_core.proofs.Given.{given-front}
 use Rattle.list_verdict.specs.declared.verdict.Listed.{Listed as Given}
 use Rattle.list_verdict.specs.Claims.{CanBeJudged, Claim, claim_of}
-use Rattle.list_verdict.specs.Conditions.{AreInOrder, AreRight, NoneHolds, ShowsLast, blocks_for}
+use Rattle.list_verdict.specs.Conditions.{AreInOrder, AreRight, NoneHolds, SaysMissingOf, ShowsLast, blocks_for}
 use Rattle.list_verdict.specs.Verdicts.{IsFrontList, members_of}
 use Rattle.list_verdict.proofs.Asked.{bound-fits, form-counter, form-encodes, suspects-long}
 use Rattle.list_verdict.proofs.SetsOf.{all-explained, are-given, blocks-members, each-set, in-order, listed}
@@ -77,24 +78,35 @@ may-be-shown l front can all last n k log =
       steps = omega (arith, ap length log, can.few_steps);
     }
 
-module _ (c : Claim) (n : ℕ) (last : List ℕ) (same : n ≡ suspect_count c.problem) (same_last : last ≡ last_of (members_of c.sets)) where
-  as-last : Shows n c.problem.k last c.log → ShowsLast c
-  as-last shows =
-      subst (λ m. Shows m c.problem.k (last_of (members_of c.sets)) c.log) same (subst (λ members. Shows n c.problem.k members c.log) same_last shows)
+-- what is missing of the last set's members by their own name
+pub says-missing : (c : Claim) (n : ℕ) (last : List ℕ) → n ≡ suspect_count c.problem → last ≡ last_of (members_of c.sets)
+    → (r : Result (Option ℕ) NoMemory) → IfOk r (SaysMissing n c.problem.k last c.log) → IfOk r (SaysMissingOf c)
+says-missing c n last same same_last (Err e) says = tt
+says-missing c n last same same_last (Ok missing) says =
+    subst (λ m. SaysMissing m c.problem.k (last_of (members_of c.sets)) c.log missing) same
+    (subst (λ members. SaysMissing n c.problem.k members c.log missing) same_last says)
 
-  from-last : ShowsLast c → Shows n c.problem.k last c.log
-  from-last shows =
-      subst (λ members. Shows n c.problem.k members c.log) (sym same_last)
-      (subst (λ m. Shows m c.problem.k (last_of (members_of c.sets)) c.log) (sym same) shows)
+module _ (c : Claim) where
+  abbrev count : ℕ
+  count = suspect_count c.problem
 
-  pub shown-yes : (missing : Option ℕ) → missing ≡ None → SaysMissing n c.problem.k last c.log missing → IsTrue true ↔ ShowsLast c
-  shown-yes None is says = (λ yes. as-last says, λ shows. refl)
-  shown-yes (Some x) is says = absurd (cc)
+  abbrev last : List ℕ
+  last = last_of (members_of c.sets)
 
-  unshown : (x : ℕ) → IsUnshown n c.problem.k last c.log x → ¬ Shows n c.problem.k last c.log
+  pub shown-by : (missing : Option ℕ) → missing ≡ None → SaysMissingOf c missing → ShowsLast c
+  shown-by None is says = says
+  shown-by (Some x) is says = absurd (cc)
+
+  pub shown-yes : (missing : Option ℕ) → missing ≡ None → SaysMissingOf c missing → IsTrue true ↔ ShowsLast c
+  shown-yes missing is says = (λ yes. shown-by missing is says, λ shows. refl)
+
+  unshown : (x : ℕ) → IsUnshown count c.problem.k last c.log x → ¬ ShowsLast c
   unshown zero fails shows = fails shows.size
   unshown (suc y) fails shows = fails.fails (shows.passed (suc y) fails.passed)
 
-  pub shown-no : (missing : Option ℕ) (x : ℕ) → missing ≡ Some x → SaysMissing n c.problem.k last c.log missing → IsTrue false ↔ ShowsLast c
+  pub missing-unshown : (x : ℕ) → SaysMissingOf c (Some x) → ¬ ShowsLast c
+  missing-unshown x says = unshown x says
+
+  pub shown-no : (missing : Option ℕ) (x : ℕ) → missing ≡ Some x → SaysMissingOf c missing → IsTrue false ↔ ShowsLast c
   shown-no None x is says = absurd (cc)
-  shown-no (Some y) x is says = (λ no. absurd (cc), λ shows. absurd (unshown y says (from-last shows)))
+  shown-no (Some y) x is says = (λ no. absurd (cc), λ shows. absurd (missing-unshown y says shows))

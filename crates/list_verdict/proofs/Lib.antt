@@ -10,4 +10,5 @@ pub mod Closing
 pub mod SetsOf
 pub mod Whole
 pub mod Fronted
+pub mod Examined
 pub mod Judged

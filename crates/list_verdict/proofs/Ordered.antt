@@ -16,7 +16,8 @@ use Rattle.report_sets.specs.Written.{HasValues, IsWritten}
 use Rattle.debug_core.specs.Problems.{Problem, suspect_count, suspects_of}
 use Rattle.list_verdict.specs.Claims.{Claim, IsSetAt}
 use Rattle.list_verdict.specs.Conditions.{AreInOrder, ComesAfter, IsFirstOutOfOrder, IsInOrder}
-use Rattle.list_verdict.specs.Judging.{AreAscending, AreFound, AreMembers, FoundAt, IsFound, SaysValues}
+use Rattle.list_verdict.specs.Faults.{AreFound, IsFound}
+use Rattle.list_verdict.specs.Judging.{AreAscending, AreMembers, FoundAt, SaysValues}
 use Rattle.list_verdict.proofs.Comparing.{before-trans}
 
 -- ---- lists
@@ -121,19 +122,20 @@ not-valued c place set there other again at is =
     other (subst (HasValues c.problem.design c.problem.traces (suspects_of c.problem)) same is.values)
 
 pub found-at : (c : Claim) (place : ℕ) (set : ReportSet) (found : SetWithValues) → slice_get c.sets place ≡ Some set
-    → AreMembers c.problem set.members → ComesAfter c.sets (place + 1) set
+    → AreMembers c.problem set.members → ComesAfter c.sets (place + 1) set → found.members ≡ set.members
     → IsWritten c.problem.design c.problem.traces (suspects_of c.problem) set found.values → FoundAt c place (Some found)
-found-at c place set found there members after written again at =
+found-at c place set found there members after same written again at =
     subst (λ (s : ReportSet). IsFound c place s found) (got-same c.sets place place set again there at refl)
     (record {
       in_order = record { suspects = members.suspects; size = members.size; after = after; values = (found.values, written) };
+      members = same;
       values = written;
     })
 
 pub found-says : (c : Claim) (place : ℕ) (set : ReportSet) (r : Result (Option SetWithValues) NoMemory) → slice_get c.sets place ≡ Some set
     → AreMembers c.problem set.members → ComesAfter c.sets (place + 1) set → IfOk r (SaysValues c set) → IfOk r (FoundAt c place)
 found-says c place set (Ok None) there members after says = not-valued c place set there says
-found-says c place set (Ok (Some found)) there members after says = found-at c place set found there members after says
+found-says c place set (Ok (Some found)) there members after says = found-at c place set found there members after says.0 says.1
 found-says c place set (Err e) there members after says = tt
 
 -- what values_of answers, by the values that it found
@@ -142,11 +144,12 @@ pub none-said : (c : Claim) (set : ReportSet) (o : Option Values) → o ≡ None
 none-said c set None is none = none
 none-said c set (Some values) is none = cc
 
-pub some-said : (c : Claim) (set : ReportSet) (o : Option Values) (found : SetWithValues) → o ≡ Some found.values
-    → IfSome o (IsWritten c.problem.design c.problem.traces (suspects_of c.problem) set) → SaysValues c set (Some found)
-some-said c set None found is some = cc
-some-said c set (Some values) found is some =
-    subst (IsWritten c.problem.design c.problem.traces (suspects_of c.problem) set) (inner is) some
+pub some-said : (c : Claim) (set : ReportSet) (o : Option Values) (found : SetWithValues) → found.members ≡ set.members
+    → o ≡ Some found.values → IfSome o (IsWritten c.problem.design c.problem.traces (suspects_of c.problem) set)
+    → SaysValues c set (Some found)
+some-said c set None found same is some = cc
+some-said c set (Some values) found same is some =
+    (same, subst (IsWritten c.problem.design c.problem.traces (suspects_of c.problem) set) (inner is) some)
   where
     inner : Some values ≡ Some found.values → values ≡ found.values
     inner e = cc

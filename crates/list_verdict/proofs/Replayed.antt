@@ -13,7 +13,7 @@ use Rattle.report_sets.proofs.Writing.{places-within}
 use Rattle.debug_core.specs.Problems.{IsProblem, suspects_of}
 use Rattle.list_verdict.specs.Claims.{AreItsValues, Claim, IsSetAt}
 use Rattle.list_verdict.specs.Conditions.{AreRight, IsFirstToMiss, IsRightSet}
-use Rattle.list_verdict.specs.Judging.{AreFound, IsFound}
+use Rattle.list_verdict.specs.Faults.{AreFound, IsFound}
 use Rattle.std.proofs.lemmas.Option.{slice_get_within}
 use Rattle.list_verdict.proofs.Ordered.{set-at}
 

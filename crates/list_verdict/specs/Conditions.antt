@@ -1,7 +1,7 @@
 -- The five conditions on a list: the sets are in order, none holds another, each makes the traces right, the log is accepted, and
 -- it closes the list. For each, what it is to hold, and which set or step is named where it doesn't: the first. And in the place of the last
 -- one: that the log shows the list to be a front.
-use Rattle.std.specs.Prelude.{ℕ, ◌≢◌, ◌-◌, ◌<◌, ◌≤◌, IsTrue, List, length, map}
+use Rattle.std.specs.Prelude.{ℕ, ◌≢◌, ◌-◌, ◌<◌, ◌≤◌, IsTrue, List, Option, length, map}
 use Rattle.design_core.specs.declared.values.Values.{Values}
 use Rattle.loc_base.specs.Sets.{is_before}
 use Rattle.design_core.specs.Works.{IsSet, IsWithin}
@@ -9,6 +9,7 @@ use Rattle.clause_base.specs.declared.literal.Lit.{Lit}
 use Rattle.clause_base.specs.Acceptance.{IsAccepted, IsLeastRefused}
 use Rattle.clause_base.specs.Progress.{IsClosing}
 use Rattle.card_counter.specs.Shows.{Shows, last_of}
+use Rattle.front_cert.specs.Unshown.{SaysMissing}
 use Rattle.cycle_sim.specs.declared.miss.Miss.{Miss}
 use Rattle.cycle_sim.specs.Misses.{IsLeastMiss, MeetAll}
 use Rattle.set_enum.specs.Bounds.{bound_of}
@@ -101,3 +102,8 @@ Closes c = IsClosing (bound_of (suspect_count c.problem) c.problem.k c.problem.k
 -- the log shows that no set is missing before the list's last one; where there is no set, there is nothing to show
 abbrev pub ShowsLast : Claim → Type 0
 ShowsLast c = Shows (suspect_count c.problem) c.problem.k (last_of (map (λ set. set.members) c.sets)) c.log
+
+-- nothing is missing where the log shows that, else what it doesn't show first: 0 where not that no set has fewer members than the last one,
+-- else the least suspect that isn't shown absent
+abbrev pub SaysMissingOf : Claim → Option ℕ → Type 0
+SaysMissingOf c missing = SaysMissing (suspect_count c.problem) c.problem.k (last_of (map (λ set. set.members) c.sets)) c.log missing

@@ -21,6 +21,8 @@ use Rattle.cycle_sim.specs.declared.miss.Miss.{Miss}
 use Rattle.proof_check.specs.declared.claim.BadStep.{BadStep}
 use Rattle.list_verdict.specs.declared.verdict.Verdict.{Verdict}
 use Rattle.list_verdict.specs.Conditions.{AreInOrder, AreRight, Holds, IsAcceptedLog, IsFirstOutOfOrder, IsFirstRefusedStep, IsFirstToHold, IsFirstToMiss, IsInOrder, NoneHolds, blocks_for}
+use Rattle.list_verdict.specs.declared.fault.ListFault.{ListFault}
+use Rattle.list_verdict.specs.Faults.{AreFound, IsFault, IsFaultless, IsFound}
 use Rattle.list_verdict.specs.Verdicts.{IsFrontListIf, IsVerdict, IsWholeListIf}
 
 -- ---- order
@@ -29,27 +31,17 @@ pub record AreMembers (p : Problem) (members : List ℕ) : Type 0 where
   pub suspects : IsSet (suspects_of p) members
   pub size : length members ≤ p.k
 
--- the set of a place is in order, and these are its values
-pub record IsFound (c : Claim) (place : ℕ) (set : ReportSet) (found : SetWithValues) : Type 0 where
-  pub in_order : IsInOrder c (place + 1) set
-  pub values : AreItsValues c set found.values
-
 -- what is found of the set of a place: its values where it is in order, else nothing
 abbrev pub FoundAt : Claim → ℕ → Option SetWithValues → Type 0
 FoundAt c place None = (set : ReportSet) → slice_get c.sets place ≡ Some set → ¬ IsInOrder c (place + 1) set
 FoundAt c place (Some found) = (set : ReportSet) → slice_get c.sets place ≡ Some set → IsFound c place set found
 
--- what is found of a set's texts: values that they say, or that they say none
+-- what is found of a set: its members with values that its texts say, or that these say none
 abbrev pub SaysValues : Claim → ReportSet → Option SetWithValues → Type 0
 SaysValues c set None = ¬ HasValues c.problem.design c.problem.traces (suspects_of c.problem) set
-SaysValues c set (Some found) = AreItsValues c set found.values
+SaysValues c set (Some found) = (found.members ≡ set.members) × AreItsValues c set found.values
 
--- the values of so many sets, from the first on, were found
-pub record AreFound (c : Claim) (count : ℕ) (found : List SetWithValues) : Type 0 where
-  pub long : length found ≡ count
-  pub each : (place : ℕ) (set : ReportSet) (f : SetWithValues) → slice_get c.sets place ≡ Some set → slice_get found place ≡ Some f
-      → IsFound c place set f
-
+-- the sets are in order, with these values, or a set is the first that isn't
 abbrev pub Orders : Claim → Order → Type 0
 Orders c (order.In found) = AreInOrder c × AreFound c (length c.sets) found.items
 Orders c (order.OutOf set) = IsFirstOutOfOrder c set
@@ -96,6 +88,11 @@ ValuesSay c (Some (place, miss)) = (place < length c.sets) × IsFirstToMiss c (p
 abbrev pub LogSays : Claim → Option BadStep → Type 0
 LogSays c None = IsAcceptedLog c × Follows c.form (blocks_for c.sets) c.log
 LogSays c (Some bad) = IsFirstRefusedStep c bad.n
+
+-- the first condition that fails, or that none of the first four does
+abbrev pub SaysFault : Claim → Option ListFault → Type 0
+SaysFault c None = IsFaultless c
+SaysFault c (Some fault) = IsFault c fault
 
 -- a form of a plan's variables, that agrees with the plan's clauses where the log names them, and has empty ones else
 pub record IsNamedForm (plan : Planned) (log : List Step) (made : Form) : Type 0 where

@@ -1,4 +1,5 @@
 pub mod Claims
 pub mod Conditions
 pub mod Verdicts
+pub mod Faults
 pub mod Judging

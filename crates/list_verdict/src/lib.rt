@@ -4,6 +4,8 @@
 //! that the list is a front.
 #![tactic(auto)]
 
+mod examination;
+mod fault;
 mod holding;
 mod judgement;
 mod laws;
@@ -13,6 +15,9 @@ mod order;
 mod shown;
 mod verdict;
 
+pub use examination::examine;
+pub use fault::ListFault;
 pub use judgement::judge;
 pub use laws::{shown_is_front_list, shown_is_judged, whole_is_judged, whole_is_list};
+pub use shown::missing_of;
 pub use verdict::{Listed, Verdict};

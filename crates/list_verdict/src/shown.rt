@@ -3,7 +3,7 @@
 ghost use Rattle.std.specs.Prelude.{◌≡◌, ◌<◌, ◌≤◌, ◌↔◌, IfOk, IsTrue, map};
 ghost use Rattle.card_counter.specs.Shows.{last_of};
 ghost use Rattle.list_verdict.specs.Claims.{CanBeJudged, claim_of};
-ghost use Rattle.list_verdict.specs.Conditions.{AreInOrder, ShowsLast};
+ghost use Rattle.list_verdict.specs.Conditions.{AreInOrder, SaysMissingOf, ShowsLast};
 
 use crate::verdict::Listed;
 use front_cert::{Front, shows};
@@ -22,6 +22,30 @@ fn last_members(sets: &[ReportSet]) -> &[u32]
     }
 }
 
+/// What the log doesn't show first, of what shows that no set is missing before the last one: 0 where not that none has fewer members, else
+/// the least suspect that isn't shown absent; nothing where it shows all. The answer is the same for every number of workers and every
+/// gate.
+pub fn missing_of<R: Threads + Sync, G: Gate + Sync>(
+    alloc: Global,
+    workers: &Workers<'_, R, G>,
+    listed: &Listed<'_>,
+) -> Result<Option<u32>, NoMemory>
+    requires can { CanBeJudged listed.now }
+    requires some { 0 < workers.now.count }
+    requires most { workers.now.count ≤ 64 }
+    requires in_order { AreInOrder (claim_of listed.now) }
+    ensures { IfOk result (SaysMissingOf (claim_of listed.now)) }
+{
+    let suspects = listed.question.groups.len() as u32;
+    let front = Front {
+        last: last_members(listed.sets),
+        n: suspects,
+        k: listed.question.k,
+        log: listed.log,
+    };
+    shows(alloc, &front, workers)
+}
+
 /// Whether the log shows that no set is missing before the last one.
 pub(crate) fn shows_last<R: Threads + Sync, G: Gate + Sync>(
     alloc: Global,
@@ -34,14 +58,7 @@ pub(crate) fn shows_last<R: Threads + Sync, G: Gate + Sync>(
     requires in_order { AreInOrder (claim_of listed.now) }
     ensures { IfOk result (λ shown. IsTrue shown ↔ ShowsLast (claim_of listed.now)) }
 {
-    let suspects = listed.question.groups.len() as u32;
-    let front = Front {
-        last: last_members(listed.sets),
-        n: suspects,
-        k: listed.question.k,
-        log: listed.log,
-    };
-    let missing = shows(alloc, &front, workers)?;
+    let missing = missing_of(alloc, workers, listed)?;
     match missing {
         None => Ok(true),
         Some(_) => Ok(false),

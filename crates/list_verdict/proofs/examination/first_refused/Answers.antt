@@ -4,10 +4,10 @@ use Rattle.clause_base.specs.Literal.{AreWithin}
 use Rattle.list_verdict.specs.Claims.{claim_of}
 use Rattle.debug_core.specs.Problems.{problem_of, suspect_count}
 use Rattle.list_verdict.proofs.Asked.{few-suspects, form-within}
-use Rattle.list_verdict.proofs.Judged.{blocks-within}
+use Rattle.list_verdict.proofs.Examined.{blocks-within}
 use Rattle.list_verdict.proofs.NamedForms.{log-says}
 use Rattle.list_verdict.proofs.Ordered.{ascending}
-use Rattle.list_verdict.proofs.judgement.first_refused.Goals as goal
+use Rattle.list_verdict.proofs.examination.first_refused.Goals as goal
 
 pub blocks_of-requires : goal.blocks_of-requires
 blocks_of-requires g c = (ascending (claim_of c.args.listed.now) c.requires.in_order).each

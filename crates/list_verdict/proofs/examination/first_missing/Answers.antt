@@ -2,9 +2,9 @@ use Rattle.std.proofs.Common.{arith}
 use Rattle.debug_core.specs.Problems.{problem_of}
 use Rattle.list_verdict.specs.Claims.{claim_of}
 use Rattle.list_verdict.proofs.Asked.{can-simulate}
-use Rattle.list_verdict.proofs.Judged.{values-say}
+use Rattle.list_verdict.proofs.Examined.{values-say}
 use Rattle.list_verdict.proofs.Replayed.{found-fits}
-use Rattle.list_verdict.proofs.judgement.first_missing.Goals as goal
+use Rattle.list_verdict.proofs.examination.first_missing.Goals as goal
 
 pub replay_all-requires-clause-can : goal.replay_all-requires-clause-can
 replay_all-requires-clause-can g c = λ _ _. can-simulate (problem_of c.args.listed.now.question.now) c.requires.can.problem

@@ -1,5 +1,5 @@
 use Rattle.list_verdict.proofs.NamedForms.{made-named}
-use Rattle.list_verdict.proofs.judgement.named_form.Goals as goal
+use Rattle.list_verdict.proofs.examination.named_form.Goals as goal
 
 pub returns : goal.returns
 returns c =
