@@ -1,0 +1,4 @@
+pub mod Words
+pub mod Unfit
+pub mod Taken
+pub mod Parts
