@@ -4,15 +4,16 @@ use Rattle.std.proofs.Common.{◌++◌, length, map, drop, refl, ap, sym, ◌∙
 use Rattle.std.specs.Prelude.{All, IsTrue, count_by, if◌then◌else◌}
 use Rattle.std.proofs.lemmas.Bool.{ne_eqb}
 use Rattle.std.proofs.Common.{get_or}
-use Rattle.std.proofs.lemmas.List.{get_or-map, length-map, take_all}
+use Rattle.std.proofs.lemmas.List.{get_or-map, length-map}
 use Rattle.std.proofs.lemmas.List.Elements.{All-cons, All-head, All-nil, All-tail}
 use Rattle.clause_base.specs.declared.literal.Lit.{Lit}
 use Rattle.clause_base.specs.declared.log.Step.{Step}
 use Rattle.clause_base.specs.Acceptance.{IsAccepted}
-use Rattle.clause_base.specs.Counted.{is_derived_kind}
+use Rattle.clause_base.specs.Counted.{IsCounted}
 use Rattle.clause_base.specs.Literal.{IsWithin, has_distinct_variables}
 use Rattle.design_core.specs.declared.values.SetWithValues.{SetWithValues}
 use Rattle.sat_core.specs.Outcome.{is_learned}
+use Rattle.set_enum.specs.Bounds.{bound_of, bounds_of}
 use Rattle.set_enum.specs.Sets.{block_of}
 use Rattle.proof_check.specs.Text.{IsDigest, IsLogText}
 use Rattle.log_portions.proofs.Writable.{written}
@@ -30,8 +31,8 @@ use Rattle.set_waves.specs.Waved.{AreRuns, CanBeWaved, HaveValues, Runs}
 use Rattle.set_waves.proofs.Given.{places-within, some-runs}
 use Rattle.list_writer.specs.Texts.{waved_for}
 use Rattle.debug_core.proofs.Rooms.{few-clauses, plain-blocks}
-use Rattle.list_writer.specs.Asked.{Asked}
-use Rattle.list_writer.specs.Found.{EndsAs, IsCountedFor, IsEnded, IsShown, Portion, found_of, log_of, sets_of}
+use Rattle.list_writer.specs.Asked.{Asked, most_sets}
+use Rattle.list_writer.specs.Found.{EndsAs, IsCountedFor, IsEnded, IsShown, Portion, found_of, log_of, own_steps, sets_of}
 use Rattle.list_writer.specs.Going.{HasEnded, ShowsFront}
 use Rattle.list_writer.specs.Lines.{ending_status}
 use Rattle.design_core.specs.declared.trace.Trace.{Trace}
@@ -39,6 +40,7 @@ use Rattle.design_core.specs.Explained.{cycles_before}
 use Rattle.unroller.specs.Unrolls.{cycles_of}
 use Rattle.list_writer.specs.Reporting.{AreReportable, CanBeReported}
 use Rattle.list_writer.specs.Checks.{AreSets, CanBeChecked, blocks_for}
+use Rattle.list_writer.proofs.SoFar.{found-long}
 use Rattle.list_writer.proofs.Steps.{blocks-in, chainless, of-steps, sets-blocks}
 
 -- the cycles of all traces
@@ -50,42 +52,48 @@ cycles-all (trace ∷ traces) =
     (ne_eqb (suc (length traces)) 0 (λ same. omega (arith, same)))
     ∙ ap (λ n. trace.cycles + cycles_before traces n) one ∙ ap (λ n. trace.cycles + n) (cycles-all traces)
 
--- at its end a listing has at most as many sets as were asked for
-pub few-sets-of : (asked : Asked) (portions : List Portion) (log : List Step) (how : Ending) → EndsAs asked (sets_of portions) log how
-    → length (sets_of portions) ≤ asked.sets
-few-sets-of asked portions log Complete ends = omega (arith, ends.2)
-few-sets-of asked portions log Budget ends = omega (arith, ends.1)
-few-sets-of asked portions log Sets ends = omega (arith, ends)
+-- at its end a listing has at most as many sets as were asked for, beside those of the session
+pub few-sets-of : (asked : Asked) (portions : List Portion) (log : List Step) (how : Ending) → EndsAs asked portions log how
+    → length (found_of asked portions) ≤ most_sets asked
+few-sets-of asked portions log Complete ends = omega (arith, ends.2, found-long asked portions)
+few-sets-of asked portions log Budget ends = omega (arith, ends.1, found-long asked portions)
+few-sets-of asked portions log Sets ends = omega (arith, ends, found-long asked portions)
 few-sets-of asked portions log Earlier ends = absurd ends
 
 module _ (asked : Asked) (s : DebugState) (found : List SetWithValues) (steps : ℕ) (ending : Ending) (portions : List Portion)
     (is : HasEnded asked s found steps ending portions) where
   abbrev whole : List Step
-  whole = log_of portions ++ drop steps s.log
+  whole = log_of asked portions ++ drop steps s.log
 
-  accepted : IsAccepted s.form (map block_of (sets_of portions)) s.log
+  accepted : IsAccepted s.form (map block_of (sets_of asked portions)) s.log
   accepted = subst (λ (sets : List (List ℕ)). IsAccepted s.form (map block_of sets) s.log) is.listed is.holds.accepted
 
-  counted-log : IsCountedFor asked.problem s.form (sets_of portions) s.log
+  abbrev CountedAt : Problem → List (List ℕ) → ℕ → Type 0
+  CountedAt p sets from =
+      let n = suspect_count p in
+      IsCounted s.form (bounds_of n p.k) (p.k + 1) n (last_of sets) (bound_of n p.k (length (last_of sets))) s.log from
+
+  counted-log : IsCountedFor asked s.form (sets_of asked portions) s.log
   counted-log =
-      subst (λ (p : Problem). IsCountedFor p s.form (sets_of portions) s.log) is.problem
-      (subst (λ (sets : List (List ℕ)). IsCountedFor s.problem s.form sets s.log) is.listed is.counted)
+      subst (λ (p : Problem). CountedAt p (sets_of asked portions) (length asked.session.log)) is.problem
+      (subst (λ (sets : List (List ℕ)). CountedAt s.problem sets (length asked.session.log)) is.listed
+      (subst (CountedAt s.problem s.listed) is.imported is.counted))
 
   shows-log : ShowsFront s ending → ending_status ending ≡ 1
-      → Shows (suspect_count asked.problem) asked.problem.k (last_of (sets_of portions)) s.log
+      → Shows (suspect_count asked.problem) asked.problem.k (last_of (sets_of asked portions)) s.log
   shows-log shown front =
-      subst (λ (p : Problem). Shows (suspect_count p) p.k (last_of (sets_of portions)) s.log) is.problem
+      subst (λ (p : Problem). Shows (suspect_count p) p.k (last_of (sets_of asked portions)) s.log) is.problem
       (subst (λ (sets : List (List ℕ)). Shows (suspect_count s.problem) s.problem.k (last_of sets) s.log) is.listed (shown front))
 
   few-listed : length s.listed ≡ length found
-  few-listed = ap length is.listed ∙ length-map portions (λ portion. portion.set.members)
-      ∙ sym (ap length is.found_are ∙ length-map portions (λ portion. portion.set))
+  few-listed = ap length is.listed ∙ length-map (found_of asked portions) (λ (set : SetWithValues). set.members)
+      ∙ sym (ap length is.found_are)
 
-  few_found : length found ≤ asked.sets
-  few_found = omega (arith, few-sets-of asked portions s.log ending is.ends, few-listed, ap length is.listed)
+  few_found : length found ≤ most_sets asked
+  few_found = omega (arith, few-sets-of asked portions s.log ending is.ends, ap length is.found_are)
 
-  module _ (few : asked.budget + asked.sets ≤ 4000000000) where
-    few-here : count_by is_learned s.log + length s.listed ≤ 4000000000
+  module _ (few : length asked.session.log + length asked.session.sets + asked.budget + asked.sets ≤ 4000000000) where
+    few-here : length asked.session.log + count_by is_learned (own_steps asked s.log) + length s.listed ≤ 4000000000
     few-here = omega (arith, few, few_found, few-listed, is.within_budget)
 
     -- form and log together have a number for each clause
@@ -97,12 +105,12 @@ module _ (asked : Asked) (s : DebugState) (found : List SetWithValues) (steps : 
     is-ended digest shown = record {
       found = is.so_far;
       no_block = is.no_block;
-      accepted = subst (IsAccepted s.form (map block_of (sets_of portions))) (sym is.joined) accepted;
-      counted = subst (IsCountedFor asked.problem s.form (sets_of portions)) (sym is.joined) counted-log;
-      within_budget = omega (arith, ap (count_by is_learned) is.joined, is.within_budget);
-      ends = subst (λ (log : List Step). EndsAs asked (sets_of portions) log ending) (sym is.joined) is.ends;
+      accepted = subst (IsAccepted s.form (map block_of (sets_of asked portions))) (sym is.joined) accepted;
+      counted = subst (IsCountedFor asked s.form (sets_of asked portions)) (sym is.joined) counted-log;
+      within_budget = omega (arith, ap (λ (log : List Step). count_by is_learned (own_steps asked log)) is.joined, is.within_budget);
+      ends = subst (λ (log : List Step). EndsAs asked portions log ending) (sym is.joined) is.ends;
       shows = subst (λ (log : List Step). ending_status ending ≡ 1
-          → Shows (suspect_count asked.problem) asked.problem.k (last_of (sets_of portions)) log) (sym is.joined) (shows-log shown);
+          → Shows (suspect_count asked.problem) asked.problem.k (last_of (sets_of asked portions)) log) (sym is.joined) (shows-log shown);
       readable = subst (λ (log : List Step). IsLogText (record { inputs = asked.inputs; log = log })) (sym is.joined) (record {
         digest = digest;
         steps = written (record { vars = s.vars; form = s.form; blocks = map block_of s.listed; log = s.log }) (record {
@@ -120,14 +128,14 @@ module _ (asked : Asked) (s : DebugState) (found : List SetWithValues) (steps : 
     -- what holds of each clause of the log holds of its blocks
     of-blocks : (P : List Lit → Type 0) → All P (map (λ (step : Step). step.clause) s.log) → All P (blocks_for found)
     of-blocks P all =
-        subst (All P) (is.holds.blocks ∙ ap (map block_of) is.listed ∙ sets-blocks portions ∙ ap blocks_for (sym is.found_are))
+        subst (All P) (is.holds.blocks ∙ ap (map block_of) is.listed ∙ sets-blocks (found_of asked portions) ∙ ap blocks_for (sym is.found_are))
         (blocks-in P s.log all)
 
     pub can-be-checked : CanBeChecked s found
     can-be-checked = record {
       sets = unmapped found (of-blocks (λ clause. IsTrue (has_distinct_variables clause)) is.holds.distinct);
       accepted = subst (λ (bs : List (List Lit)). IsAccepted s.form bs s.log)
-          (ap (map block_of) is.listed ∙ sets-blocks portions ∙ ap blocks_for (sym is.found_are)) is.holds.accepted;
+          (ap (map block_of) is.listed ∙ sets-blocks (found_of asked portions) ∙ ap blocks_for (sym is.found_are)) is.holds.accepted;
       form_within = is.holds.form_within;
       within = of-blocks (IsWithin s.vars) is.holds.log_within;
       few = omega (arith, is.few, few-here, is.holds.few_suspects, is.holds.form.few_variables);
@@ -194,5 +202,5 @@ module _ (asked : Asked) (s : DebugState) (found : List SetWithValues) (steps : 
               (mapped groups (All-tail (λ (other : Group). All (λ p. p < length asked.problem.design.places.items) other.places)
               group groups all))
 
-  pub runs-of : (runs : Runs) × AreRuns (waved_for asked) (found_of portions) runs
-  runs-of = some-runs (waved_for asked) asked.problem.order (found_of portions) can-be-waved
+  pub runs-of : (runs : Runs) × AreRuns (waved_for asked) (found_of asked portions) runs
+  runs-of = some-runs (waved_for asked) asked.problem.order (found_of asked portions) can-be-waved

@@ -1,8 +1,8 @@
 -- What the steps of the last set's certificate leave of a listing that ended before its list was whole.
-use Rattle.std.proofs.Common.{◌≡◌, ℕ, zero, suc, ◌+◌, ◌<◌, ◌≤◌, Bool, true, false, cond, List, [], ◌∷◌, ◌++◌, length, map, take, drop}
+use Rattle.std.proofs.Common.{◌≡◌, ℕ, zero, suc, ◌+◌, ◌≤◌, Bool, false, cond, List, [], ◌∷◌, ◌++◌, length, map, take, drop}
 use Rattle.std.proofs.Common.{Some, Ok, Err, Result, refl, ap, sym, ◌∙◌, subst, arith, append_assoc}
 use Rattle.std.specs.Prelude.{All, OnOk, count_by, filter}
-use Rattle.std.proofs.lemmas.List.{drop-append-le, length-append, length-map, length-take, take_all}
+use Rattle.std.proofs.lemmas.List.{drop-append-le, length-append, length-take, take_all}
 use Rattle.std.proofs.lemmas.List.Elements.{All-head, All-tail}
 use Rattle.std.proofs.lemmas.List.Sums.{sum_by-append, sum_by-cons}
 use Rattle.clause_base.specs.declared.log.Step.{Step}
@@ -14,17 +14,17 @@ use Rattle.sat_core.specs.SolverState.{blocks_of}
 use Rattle.report_doc.specs.declared.types.Ending.{Ending}
 use Rattle.report_doc.specs.declared.types.Ending.TheVariants.{Complete, Budget, Sets, Earlier}
 use Rattle.write_order.specs.Writes.{AreDone, Outputs, Write}
-use Rattle.debug_core.specs.Debugging.{DebugState, FinishedSome, HasCountedLog, IsDebugger, IsKept, with_appended}
+use Rattle.debug_core.specs.Debugging.{DebugState, FinishedSome, HasCountedLog, IsDebugger, with_appended}
 use Rattle.debug_core.specs.Problems.{suspect_count}
 use Rattle.debug_core.proofs.Counting.{few-certificate}
 use Rattle.debug_core.proofs.Rooms.{few-steps}
 use Rattle.list_writer.specs.declared.stop.Stop.TheVariants.{Memory}
 use Rattle.list_writer.specs.Asked.{Asked}
 use Rattle.list_writer.specs.Due.{prints}
-use Rattle.list_writer.specs.Found.{AreFound, EndsAs, Portion, log_of, sets_of}
-use Rattle.list_writer.specs.Going.{AreCut, HasEnded, IsSearched, SearchCut, SearchEnds, searched_of, sets_writes}
+use Rattle.list_writer.specs.Found.{AreFound, EndsAs, Portion, log_of, own_steps}
+use Rattle.list_writer.specs.Going.{HasEnded, IsSearched, SearchEnds, searched_of, sets_writes}
 use Rattle.list_writer.specs.Lines.{ending_status}
-use Rattle.list_writer.proofs.SoFar.{prints-sets}
+use Rattle.list_writer.proofs.SoFar.{found-long, own-learned, prints-sets}
 use Rattle.list_writer.proofs.Steps.{blocks_of-append}
 
 -- the first of some derived steps are no blocks, and none is learned
@@ -55,11 +55,22 @@ module _ (asked : Asked) (s new : DebugState) (found : List SetWithValues) (step
   none : (blocks_of more ≡ []) × (count_by is_learned more ≡ 0)
   none = derived-take s.certificate count (λ i d low. (has.holds.certified.kept i d low).derived.kind)
 
-  learned : count_by is_learned new.log ≡ count_by is_learned s.log
-  learned = omega (arith, ap (count_by is_learned) log-is, sum_by-append (λ (x : Step). cond (is_learned x) 1 0) s.log more, none.1)
+  session-before : length asked.session.log ≤ length s.log
+  session-before = omega (arith, has.holds.session_within, has.imported)
 
-  found-still : AreFound asked.problem new.form portions
-  found-still = subst (λ form. AreFound asked.problem form portions) (sym (ap (λ (d : DebugState). d.form) is)) has.so_far
+  own-behind : own_steps asked new.log ≡ own_steps asked s.log ++ more
+  own-behind = ap (own_steps asked) log-is ∙ drop-append-le (length asked.session.log) s.log more session-before
+
+  learned : count_by is_learned (own_steps asked new.log) ≡ count_by is_learned (own_steps asked s.log)
+  learned = omega (
+    arith,
+    ap (count_by is_learned) own-behind,
+    sum_by-append (λ (x : Step). cond (is_learned x) 1 0) (own_steps asked s.log) more,
+    none.1,
+  )
+
+  found-still : AreFound asked new.form portions
+  found-still = subst (λ form. AreFound asked form portions) (sym (ap (λ (d : DebugState). d.form) is)) has.so_far
 
   problem-still : new.problem ≡ asked.problem
   problem-still = ap (λ (d : DebugState). d.problem) is ∙ has.problem
@@ -70,16 +81,16 @@ module _ (asked : Asked) (s new : DebugState) (found : List SetWithValues) (step
   behind : drop steps new.log ≡ drop steps s.log ++ more
   behind = ap (drop steps) log-is ∙ drop-append-le steps s.log more has.within
 
-  joined : log_of portions ++ drop steps new.log ≡ new.log
+  joined : log_of asked portions ++ drop steps new.log ≡ new.log
   joined =
-      ap (λ (log : List Step). log_of portions ++ log) behind ∙ sym (append_assoc (log_of portions) (drop steps s.log) more)
+      ap (λ (log : List Step). log_of asked portions ++ log) behind ∙ sym (append_assoc (log_of asked portions) (drop steps s.log) more)
       ∙ ap (λ (log : List Step). log ++ more) has.joined ∙ sym log-is
 
   no-block : blocks_of (drop steps new.log) ≡ []
   no-block =
       ap blocks_of behind ∙ blocks_of-append (drop steps s.log) more ∙ ap (λ bs. bs ++ blocks_of more) has.no_block ∙ none.0
 
-  ends-still : (how : Ending) → ending_status how ≡ 1 → EndsAs asked (sets_of portions) s.log how → EndsAs asked (sets_of portions) new.log how
+  ends-still : (how : Ending) → ending_status how ≡ 1 → EndsAs asked portions s.log how → EndsAs asked portions new.log how
   ends-still Complete one ends = absurd (omega (arith, one))
   ends-still Budget one ends = (learned ∙ ends.0, ends.1)
   ends-still Sets one ends = ends
@@ -109,12 +120,15 @@ module _ (asked : Asked) (s new : DebugState) (found : List SetWithValues) (step
         longer,
         few-more,
         few-steps s has.holds unfinished,
+        own-learned asked s has.imported,
+        has.imported,
         learned,
         ap length listed-still,
         ap (λ (d : DebugState). suspect_count d.problem) is,
       );
       within_budget = omega (arith, learned, has.within_budget);
       ends = ends-still ending front has.ends;
+      imported = ap (λ (d : DebugState). d.imported) is ∙ has.imported;
     }
 
 -- ---- what the search answers then
@@ -134,8 +148,11 @@ module _ (asked : Asked) (s new : DebugState) (found : List SetWithValues) (step
     };
   }
 
-  many : length ends.portions ≡ length found
-  many = sym (ap length ends.ended.found_are ∙ length-map ends.portions (λ portion. portion.set))
+  abbrev before-them : ℕ
+  before-them = length asked.session.sets
+
+  many : before-them + length ends.portions ≡ length found
+  many = sym (ap length ends.ended.found_are ∙ found-long asked ends.portions)
 
   abbrev writes : List Write
   writes = sets_writes asked ends.portions
@@ -151,7 +168,8 @@ module _ (asked : Asked) (s new : DebugState) (found : List SetWithValues) (step
       cut = λ tells. record {
         count = length writes;
         within = omega arith;
-        sets_are = ap Some (sym (ap (count_by prints) (take_all (length writes) writes (omega arith)) ∙ prints-sets asked ends.portions ∙ many));
+        sets_are = ap Some (sym (ap (λ (n : ℕ). before-them + n) (ap (count_by prints) (take_all (length writes) writes (omega arith))
+            ∙ prints-sets asked ends.portions) ∙ many));
         done = subst (λ (ws : List Write). AreDone ws o) (sym (take_all (length writes) writes (omega arith))) (ends.done tells);
       };
     };

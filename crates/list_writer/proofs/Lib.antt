@@ -2,7 +2,9 @@ mod Examples
 pub mod Putting
 pub mod Pairs
 pub mod Steps
+pub mod Sessions
 pub mod SoFar
+pub mod Opening
 pub mod Turning
 pub mod Ended
 pub mod Finished
@@ -11,3 +13,4 @@ pub mod Runs
 pub mod Others
 pub mod Standing
 pub mod Whole
+pub mod Ongoing

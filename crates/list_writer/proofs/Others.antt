@@ -1,7 +1,6 @@
 -- A listing writes under the names of the log, the report and its waves alone.
 use Rattle.std.proofs.Common.{◌≡◌, ◌≢◌, ◌⊎◌, inl, inr, ℕ, zero, suc, ◌+◌, ◌<◌, ◌≤◌, Bool, true, false, List, [], ◌∷◌, ◌++◌, length, take}
 use Rattle.std.proofs.Common.{Option, Some, None, refl, sym, ◌∙◌, subst, cond, arith}
-use Rattle.std.proofs.lemmas.List.{length-map}
 use Rattle.clause_base.specs.declared.log.Step.{Step}
 use Rattle.design_core.specs.declared.trace.Trace.{Trace}
 use Rattle.design_core.specs.declared.values.SetWithValues.{SetWithValues}
@@ -19,20 +18,20 @@ use Rattle.write_order.specs.Writes.{AreDone, IsPartOf, Outputs, Write}
 use Rattle.write_order.specs.Writes.{begin_text, print_piece, put_piece, text_after, text_behind}
 use Rattle.list_writer.specs.declared.outcome.Outcome.{Outcome}
 use Rattle.list_writer.specs.declared.outcome.Outcome.TheVariants as outcome
-use Rattle.list_writer.specs.Asked.{Asked}
-use Rattle.list_writer.specs.Found.{IsEnded, Portion, found_of, log_of, sets_of}
+use Rattle.list_writer.specs.Asked.{Asked, most_sets}
+use Rattle.list_writer.specs.Found.{IsEnded, Portion, found_of, log_of}
 use Rattle.list_writer.specs.Texts.{waved_for}
 use Rattle.list_writer.proofs.Ended.{few-sets-of}
 use Rattle.list_writer.specs.Lines.{ending_line, memory_line}
 use Rattle.list_writer.specs.Due.{IsBody, IsDue, ended, going_on}
 use Rattle.list_writer.specs.Due.{opening, sets_in, short, so_far, texts, wanting, whole}
-use Rattle.list_writer.specs.Going.{sets_writes}
+use Rattle.list_writer.specs.Going.{lines_writes, sets_writes}
 use Rattle.list_writer.specs.Outcomes.{Leaves}
 
 -- a write that names nothing but the log, the report and waves
 abbrev IsOwnName : Asked → List ℕ → Type 0
 IsOwnName asked name =
-    (name ≡ asked.log) ⊎ ((name ≡ asked.report) ⊎ IsWave asked.waves asked.sets (length asked.problem.traces) name)
+    (name ≡ asked.log) ⊎ ((name ≡ asked.report) ⊎ IsWave asked.waves (most_sets asked) (length asked.problem.traces) name)
 
 abbrev IsOwn : Asked → Write → Type 0
 IsOwn asked (begin_text name) = IsOwnName asked name
@@ -73,22 +72,33 @@ module _ (asked : Asked) where
   own-sets [] = tt
   own-sets (portion ∷ portions) = (inl refl, (tt, own-sets portions))
 
+  own-lines : (sets : List SetWithValues) → AreOwn asked (lines_writes asked sets)
+  own-lines [] = tt
+  own-lines (set ∷ sets) = (tt, own-lines sets)
+
   own-opening : (portions : List Portion) → AreOwn asked (opening asked portions)
-  own-opening portions = (inl refl, (inl refl, own-sets portions))
+  own-opening portions = (
+    inl refl,
+    (
+      inl refl,
+      own-append (lines_writes asked asked.session.sets) (sets_writes asked portions) (own-lines asked.session.sets)
+          (own-sets portions),
+    ),
+  )
 
   -- the waves
-  own-set : (prefix : List ℕ) → asked.waves ≡ Some prefix → (s : ℕ) → s < asked.sets → (values : Values) (runs : ℕ → List Valuation)
+  own-set : (prefix : List ℕ) → asked.waves ≡ Some prefix → (s : ℕ) → s < most_sets asked → (values : Values) (runs : ℕ → List Valuation)
       (j : ℕ) (traces : List Trace) → j + length traces ≤ length asked.problem.traces
       → AreOwn asked (set_writes (waved_for asked) prefix (s + 1) values runs j traces)
   own-set prefix is s few values runs j [] within = tt
   own-set prefix is s few values runs j (trace ∷ traces) within =
       let own : IsOwnName asked (wave_name prefix (s + 1) (j + 1)) =
-      inr (inr (subst (λ (p : Option (List ℕ)). IsWave p asked.sets (length asked.problem.traces) (wave_name prefix (s + 1) (j + 1)))
+      inr (inr (subst (λ (p : Option (List ℕ)). IsWave p (most_sets asked) (length asked.problem.traces) (wave_name prefix (s + 1) (j + 1)))
       (sym is) (named s j few (omega (arith, within))))) in
       (own, (own, own-set prefix is s few values runs (j + 1) traces (omega (arith, within))))
     where
-      named : (s j : ℕ) → s < asked.sets → j < length asked.problem.traces
-          → IsWaveName prefix asked.sets (length asked.problem.traces) (wave_name prefix (s + 1) (j + 1))
+      named : (s j : ℕ) → s < most_sets asked → j < length asked.problem.traces
+          → IsWaveName prefix (most_sets asked) (length asked.problem.traces) (wave_name prefix (s + 1) (j + 1))
       named s j few low = record {
         set = s + 1;
         trace = j + 1;
@@ -100,7 +110,7 @@ module _ (asked : Asked) where
       }
 
   own-waves : (prefix : Option (List ℕ)) → asked.waves ≡ prefix → (runs : Runs) (s : ℕ) (sets : List SetWithValues)
-      → s + length sets ≤ asked.sets → AreOwn asked (waves_from asked prefix runs s sets)
+      → s + length sets ≤ most_sets asked → AreOwn asked (waves_from asked prefix runs s sets)
   own-waves None is runs s sets few = tt
   own-waves (Some prefix) is runs s [] few = tt
   own-waves (Some prefix) is runs s (set ∷ sets) few =
@@ -112,20 +122,20 @@ module _ (asked : Asked) where
   own-texts : (form : List (List Lit)) (portions : List Portion) (rest : List Step) (ending : Ending) (runs : Runs)
       → IsEnded asked form portions rest ending → AreOwn asked (texts asked portions rest ending runs)
   own-texts form portions rest ending runs is =
-      let few : length (sets_of portions) ≤ asked.sets = few-sets-of asked portions (log_of portions ++ rest) ending is.ends in (
+      let few : length (found_of asked portions) ≤ most_sets asked =
+      few-sets-of asked portions (log_of asked portions ++ rest) ending is.ends in (
         inl refl,
         (
           inr (inl refl),
           (
             inr (inl refl),
-            waves-own asked.waves refl (own-waves asked.waves refl runs 0 (found_of portions)
-                (omega (arith, few, length-map portions (λ (p : Portion). p.set.members), length-map portions (λ (p : Portion). p.set)))),
+            waves-own asked.waves refl (own-waves asked.waves refl runs 0 (found_of asked portions) (omega (arith, few))),
           ),
         ),
       )
     where
-      waves-own : (prefix : Option (List ℕ)) → asked.waves ≡ prefix → AreOwn asked (waves_from asked prefix runs 0 (found_of portions))
-          → AreOwn asked (waves_of prefix (waved_for asked) runs (found_of portions))
+      waves-own : (prefix : Option (List ℕ)) → asked.waves ≡ prefix → AreOwn asked (waves_from asked prefix runs 0 (found_of asked portions))
+          → AreOwn asked (waves_of prefix (waved_for asked) runs (found_of asked portions))
       waves-own None is own = own
       waves-own (Some prefix) is own = own
 
@@ -138,7 +148,7 @@ module _ (asked : Asked) where
   own-due : (form : List (List Lit)) (due : List Write) → IsDue asked form due → AreOwn asked due
   own-due form due (so_far portions found) = own-opening portions
   own-due form due (whole portions rest ending runs is are) =
-      own-append (opening asked portions ++ texts asked portions rest ending runs) (print_piece (ending_line ending (length portions)) ∷ [])
+      own-append (opening asked portions ++ texts asked portions rest ending runs) (print_piece (ending_line ending (length (found_of asked portions))) ∷ [])
       (own-append (opening asked portions) (texts asked portions rest ending runs) (own-opening portions)
       (own-texts form portions rest ending runs is)) (tt, tt)
   own-due form due (wanting body count is few) =
@@ -146,12 +156,12 @@ module _ (asked : Asked) where
       (own-body form body is)) (tt, tt)
 
   module _ (name : List ℕ) (no_log : name ≢ asked.log) (no_report : name ≢ asked.report)
-      (no_wave : ¬ IsWave asked.waves asked.sets (length asked.problem.traces) name) where
+      (no_wave : ¬ IsWave asked.waves (most_sets asked) (length asked.problem.traces) name) where
     another : (other : List ℕ) → IsOwnName asked other → name ≢ other
     another other (inl log) same = no_log (same ∙ log)
     another other (inr (inl report)) same = no_report (same ∙ report)
     another other (inr (inr wave)) same =
-        no_wave (subst (IsWave asked.waves asked.sets (length asked.problem.traces)) (sym same) wave)
+        no_wave (subst (IsWave asked.waves (most_sets asked) (length asked.problem.traces)) (sym same) wave)
 
     differs : (other : List ℕ) → name ≢ other → bytes_eq name other ≡ false
     differs other apart = at (bytes_eq name other) refl
@@ -181,7 +191,7 @@ module _ (asked : Asked) where
     others-stay o (outcome.Ended ending) is =
         let l = is.listed in
         done-stays (opening asked l.portions ++ texts asked l.portions l.rest l.ending l.runs ++ print_piece (ending_line l.ending
-        (length l.portions)) ∷ [])
+        (length (found_of asked l.portions))) ∷ [])
         o (own-due l.form _ (whole l.portions l.rest l.ending l.runs l.is_ended l.are_runs)) l.done
     others-stay o outcome.Failed is =
         done-stays (take is.stops.count is.due ++ is.stops.part) o

@@ -1,143 +1,53 @@
 -- A listing as a whole: what stands where one of its writes fails, where memory is wanted, and at its end.
-use Rattle.std.proofs.Common.{◌≡◌, ◌⊎◌, inl, inr, ℕ, zero, suc, ◌+◌, ◌<◌, ◌≤◌, ◌^◌}
-use Rattle.std.proofs.Common.{Bool, true, List, [], ◌∷◌, ◌++◌, length, map, take, drop}
-use Rattle.std.proofs.Common.{Option, Some, None, Result, Ok, Err, refl, ap, sym, ◌∙◌, subst, arith, append_assoc}
+use Rattle.std.proofs.Common.{◌≡◌, ◌⊎◌, inl, inr, ℕ, ◌+◌, ◌<◌, ◌≤◌, ◌^◌}
+use Rattle.std.proofs.Common.{Bool, true, List, [], ◌∷◌, ◌++◌, length, take, drop}
+use Rattle.std.proofs.Common.{Option, Some, Result, Ok, Err, refl, ap, sym, ◌∙◌, subst, arith, append_assoc}
 use Rattle.std.specs.Prelude.{OnOk, cond, count_by}
-use Rattle.std.proofs.lemmas.List.{append-nil, length-append, length-map, take-append-le, take_all}
-use Rattle.std.proofs.lemmas.List.Elements.{All-nil}
-use Rattle.std.proofs.lemmas.List.Sums.{sum_by-append, sum_by-cons}
+use Rattle.std.proofs.lemmas.List.{append-nil, length-append, take-append-le, take_all}
+use Rattle.std.proofs.lemmas.List.Sums.{sum_by-append}
 use Rattle.std.proofs.Math.Seq.{take-append-add}
 use Rattle.clause_base.specs.declared.log.Step.{Step}
-use Rattle.clause_base.specs.Acceptance.{IsAccepted}
 use Rattle.design_core.specs.declared.values.SetWithValues.{SetWithValues}
-use Rattle.log_portions.specs.Portions.{head_text}
 use Rattle.report_doc.specs.declared.types.Ending.{Ending}
 use Rattle.report_doc.specs.declared.types.Ending.TheVariants.{Budget}
 use Rattle.report_doc.specs.Shape.{IsReport}
-use Rattle.set_enum.specs.Sets.{block_of}
 use Rattle.write_order.specs.declared.write.WriteErr.{WriteErr}
 use Rattle.write_order.specs.declared.write.WriteErr.TheVariants as write
 use Rattle.command_contract.specs.Contract.{Counts, NoneRose}
 use Rattle.io_ports.specs.Faults.{FaultCounts}
-use Rattle.write_order.specs.Writes.{AreBegun, AreDone, Leaves, Outputs, StopsIn, Write, WriteCause, begin_text, print_piece, put_piece}
-use Rattle.write_order.proofs.Carried.{done-then, stops-then, stops-within}
-use Rattle.debug_core.specs.Debugging.{Begins, DebugState, IsDebugger, IsFrontOf}
+use Rattle.write_order.specs.Writes.{AreBegun, AreDone, Leaves, Outputs, StopsIn, Write, WriteCause, print_piece}
+use Rattle.write_order.proofs.Carried.{done-then, stops-then}
+use Rattle.debug_core.specs.Debugging.{DebugState, IsDebugger}
 use Rattle.debug_core.specs.Problems.{IsFormFor, Problem}
 use Rattle.list_writer.specs.declared.outcome.Outcome.{Outcome}
 use Rattle.list_writer.specs.declared.outcome.Outcome.TheVariants as outcome
 use Rattle.list_writer.specs.declared.stop.Stop.{Stop}
 use Rattle.list_writer.specs.declared.stop.Stop.TheVariants.{Failed, Memory}
 use Rattle.list_writer.specs.Asked.{Asked}
-use Rattle.list_writer.specs.Found.{AreFound, EndsAs, HasItsBlock, IsEnded, IsShown, Portion, found_of, sets_of}
+use Rattle.list_writer.specs.Found.{EndsAs, IsEnded, Portion, found_of}
 use Rattle.list_writer.specs.Lines.{ending_line, memory_line}
 use Rattle.list_writer.specs.Due.{IsCut, IsListedTo, IsStopped, ended, going_on}
-use Rattle.list_writer.specs.Due.{opening, prints, sets_in, so_far, texts, wanting, whole}
+use Rattle.list_writer.specs.Due.{first_writes, opening, prints, sets_in, so_far, texts, wanting, whole}
 use Rattle.list_writer.specs.Going.{AreCut, HasEnded, IsSearched, RunLeaves, SearchCut, SearchEnds}
 use Rattle.list_writer.specs.Going.{SearchFails, Searched, StopCauses, StopsShort, TellsMemory, WriteCauses}
 use Rattle.list_writer.specs.Going.{closing_writes, outputs, searched_of, sets_writes}
 use Rattle.list_writer.specs.Outcomes.{Leaves as Ends}
 use Rattle.list_writer.specs.Stops.{stopped}
 use Rattle.list_writer.specs.Texts.{report_for, waved_for}
+use Rattle.list_writer.proofs.Ended.{runs-of}
+use Rattle.list_writer.proofs.Opening.{first-print}
 use Rattle.list_writer.proofs.Silent.{AreSilent, silent-print, waves-silent}
-use Rattle.list_writer.proofs.SoFar.{prints-sets}
+use Rattle.list_writer.proofs.SoFar.{found-long, own-learned, prints-sets}
 use Rattle.set_waves.specs.Waved.{AreRuns, Runs}
 
 abbrev Texts : Type 0
 Texts = List ℕ → Option (List ℕ)
 
--- the writes before the search
-abbrev pub front : Asked → List Write
-front asked = begin_text asked.log ∷ put_piece asked.log (head_text asked.inputs) ∷ []
-
-front-prints : (asked : Asked) (ws : List Write) → count_by prints (front asked ++ ws) ≡ count_by prints ws
-front-prints asked ws = omega (
-  arith,
-  sum_by-cons (λ w. cond (prints w) 1 0) (begin_text asked.log) (put_piece asked.log (head_text asked.inputs) ∷ ws),
-  sum_by-cons (λ w. cond (prints w) 1 0) (put_piece asked.log (head_text asked.inputs)) ws,
-)
-
--- ---- before the search
-module _ (asked : Asked) (s : DebugState) (holds : IsDebugger s) (begins : Begins asked.problem s) where
-  nothing-found : AreFound asked.problem s.form []
-  nothing-found = record {
-    front = subst (IsFrontOf asked.problem) begins.no_set (subst (λ (p : Problem). IsFrontOf p s.listed) begins.problem holds.front);
-    shown = All-nil (IsShown asked.problem);
-    blocks = All-nil HasItsBlock;
-    accepted = subst (IsAccepted s.form []) begins.no_step
-        (subst (λ (sets : List (List ℕ)). IsAccepted s.form (map block_of sets) s.log) begins.no_set holds.accepted);
-  }
-
-  is-form : IsFormFor asked.problem s.vars s.form
-  is-form = subst (λ (p : Problem). IsFormFor p s.vars s.form) begins.problem holds.form
-
-  -- the log isn't begun
-  pub begin-stops : (o : Outputs) → StopsIn (begin_text asked.log ∷ []) o → IsStopped asked o
-  begin-stops o stop = record {
-    vars = s.vars;
-    form = s.form;
-    is_form = is-form;
-    due = opening asked [];
-    is_due = so_far [] nothing-found;
-    stops = stops-within (begin_text asked.log ∷ []) (put_piece asked.log (head_text asked.inputs) ∷ []) o stop;
-  }
-
-  pub begin-short : (o : Outputs) → AreBegun (begin_text asked.log ∷ []) o → StopsShort asked None o
-  begin-short o begun = at begun.count begun.within begun.done
-    where
-      at : (count : ℕ) → count < 1 → AreDone (take count (begin_text asked.log ∷ [])) o → StopsShort asked None o
-      at zero few done = record {
-        vars = s.vars;
-        form = s.form;
-        is_form = is-form;
-        body = opening asked [];
-        is_body = going_on [] nothing-found;
-        count = 0;
-        within = omega arith;
-        sets_are = refl;
-        done = done;
-      }
-      at (suc count) few done = absurd (omega (arith, few))
-
-  -- its head isn't put
-  module _ (was mid is : Texts) (printed mid_printed now_printed : List ℕ)
-      (before : AreDone (begin_text asked.log ∷ []) (outputs was mid printed mid_printed)) where
-    pub head-stops : StopsIn (put_piece asked.log (head_text asked.inputs) ∷ []) (outputs mid is mid_printed now_printed)
-        → IsStopped asked (outputs was is printed now_printed)
-    head-stops stop = record {
-      vars = s.vars;
-      form = s.form;
-      is_form = is-form;
-      due = opening asked [];
-      is_due = so_far [] nothing-found;
-      stops = stops-then (begin_text asked.log ∷ []) (put_piece asked.log
-          (head_text asked.inputs) ∷ []) was mid is printed mid_printed now_printed before stop;
-    }
-
-    pub head-short : AreBegun (put_piece asked.log (head_text asked.inputs) ∷ []) (outputs mid is mid_printed now_printed)
-        → StopsShort asked (Some 0) (outputs was is printed now_printed)
-    head-short begun = at begun.count begun.within begun.done
-      where
-        at : (count : ℕ) → count < 1 → AreDone (take count (put_piece asked.log (head_text asked.inputs) ∷ []))
-            (outputs mid is mid_printed now_printed)
-            → StopsShort asked (Some 0) (outputs was is printed now_printed)
-        at zero few done = record {
-          vars = s.vars;
-          form = s.form;
-          is_form = is-form;
-          body = opening asked [];
-          is_body = going_on [] nothing-found;
-          count = 1;
-          within = omega arith;
-          sets_are = refl;
-          done = done-then (begin_text asked.log ∷ []) [] was mid is printed mid_printed now_printed before done;
-        }
-        at (suc count) few done = absurd (omega (arith, few))
-
 -- ---- the search, and what stands behind it
 module _ (asked : Asked) (s : DebugState) (found : List SetWithValues) (steps : ℕ) (holds : IsDebugger s)
     (problem : s.problem ≡ asked.problem)
     (was mid is : Texts) (printed mid_printed now_printed : List ℕ) (told : Bool) (tells : told ≡ true)
-    (before : AreDone (front asked) (outputs was mid printed mid_printed)) where
+    (before : AreDone (first_writes asked) (outputs was mid printed mid_printed)) where
   is-form-here : IsFormFor asked.problem s.vars s.form
   is-form-here = subst (λ (p : Problem). IsFormFor p s.vars s.form) problem holds.form
 
@@ -151,14 +61,14 @@ module _ (asked : Asked) (s : DebugState) (found : List SetWithValues) (steps : 
     is_form = is-form-here;
     due = opening asked failed.portions;
     is_due = so_far failed.portions failed.found;
-    stops = stops-then (front asked) (sets_writes asked failed.portions) was mid is printed mid_printed now_printed before
+    stops = stops-then (first_writes asked) (sets_writes asked failed.portions) was mid is printed mid_printed now_printed before
         (failed.stops tells);
   }
 
   pub search-short : (sets : Option ℕ) → SearchCut e sets → StopsShort asked sets (outputs was is printed now_printed)
   search-short sets short = at (short.cut tells)
     where
-      at : AreCut (sets_writes asked short.portions) sets (outputs mid is mid_printed now_printed) → StopsShort asked sets
+      at : AreCut (length asked.session.sets) (sets_writes asked short.portions) sets (outputs mid is mid_printed now_printed) → StopsShort asked sets
           (outputs was is printed now_printed)
       at cut = record {
         vars = s.vars;
@@ -166,20 +76,20 @@ module _ (asked : Asked) (s : DebugState) (found : List SetWithValues) (steps : 
         is_form = is-form-here;
         body = opening asked short.portions;
         is_body = going_on short.portions short.found;
-        count = length (front asked) + cut.count;
-        within = omega (arith, length-append (front asked) (sets_writes asked short.portions), cut.within);
-        sets_are = cut.sets_are ∙ ap Some (sym (front-prints asked (take cut.count (sets_writes asked short.portions))))
-            ∙ ap sets_in (sym (take-append-add (front asked) (sets_writes asked short.portions) cut.count));
-        done = subst (λ (ws : List Write). AreDone ws (outputs was is printed now_printed)) (sym (take-append-add (front asked)
+        count = length (first_writes asked) + cut.count;
+        within = omega (arith, length-append (first_writes asked) (sets_writes asked short.portions), cut.within);
+        sets_are = cut.sets_are ∙ ap Some (sym (first-print asked (take cut.count (sets_writes asked short.portions))))
+            ∙ ap sets_in (sym (take-append-add (first_writes asked) (sets_writes asked short.portions) cut.count));
+        done = subst (λ (ws : List Write). AreDone ws (outputs was is printed now_printed)) (sym (take-append-add (first_writes asked)
             (sets_writes asked short.portions) cut.count))
-            (done-then (front asked) (take cut.count
+            (done-then (first_writes asked) (take cut.count
             (sets_writes asked short.portions)) was mid is printed mid_printed now_printed before cut.done);
       }
 
   -- all sets are written
   pub search-done : (ending : Ending) (ends : SearchEnds e ending) → AreDone (opening asked ends.portions)
       (outputs was is printed now_printed)
-  search-done ending ends = done-then (front asked)
+  search-done ending ends = done-then (first_writes asked)
       (sets_writes asked ends.portions) was mid is printed mid_printed now_printed before (ends.done tells)
 
 module _ (asked : Asked) (s : DebugState) (found : List SetWithValues) (steps : ℕ) (ending : Ending) (portions : List Portion)
@@ -187,11 +97,13 @@ module _ (asked : Asked) (s : DebugState) (found : List SetWithValues) (steps : 
   is-form-there : IsFormFor asked.problem s.vars s.form
   is-form-there = subst (λ (p : Problem). IsFormFor p s.vars s.form) has.problem has.holds.form
 
-  many-there : length portions ≡ length found
-  many-there = sym (ap length has.found_are ∙ length-map portions (λ portion. portion.set))
+  many-there : length asked.session.sets + length portions ≡ length found
+  many-there = sym (ap length has.found_are ∙ found-long asked portions)
 
   opening-prints : count_by prints (opening asked portions) ≡ length found
-  opening-prints = front-prints asked (sets_writes asked portions) ∙ prints-sets asked portions ∙ many-there
+  opening-prints =
+      first-print asked (sets_writes asked portions)
+      ∙ ap (λ (n : ℕ). length asked.session.sets + n) (prints-sets asked portions) ∙ many-there
 
   -- memory was wanted for the check of the log
   pub check-short : (o : Outputs) → AreDone (opening asked portions) o → StopsShort asked (Some (length found)) o
@@ -210,18 +122,15 @@ module _ (asked : Asked) (s : DebugState) (found : List SetWithValues) (steps : 
   }
 
   module _ (is-ended : IsEnded asked s.form portions (drop steps s.log) ending) (runs : Runs)
-      (are : AreRuns (waved_for asked) (found_of portions) runs) where
+      (are : AreRuns (waved_for asked) (found_of asked portions) runs) where
     abbrev rest : List Step
     rest = drop steps s.log
 
     abbrev last : List Write
-    last = print_piece (ending_line ending (length portions)) ∷ []
+    last = print_piece (ending_line ending (length (found_of asked portions))) ∷ []
 
     closing-is : closing_writes asked found rest ending runs ≡ texts asked portions rest ending runs ++ last
-    closing-is =
-        ap (λ (f : List SetWithValues). closing_writes asked f rest ending runs) has.found_are
-        ∙ ap (λ (n : ℕ). texts asked portions rest ending runs ++ print_piece (ending_line ending n) ∷ []) (length-map portions
-        (λ portion. portion.set))
+    closing-is = ap (λ (f : List SetWithValues). closing_writes asked f rest ending runs) has.found_are
 
     module _ (was mid is : Texts) (printed mid_printed now_printed : List ℕ)
         (before : AreDone (opening asked portions) (outputs was mid printed mid_printed)) where
@@ -236,11 +145,10 @@ module _ (asked : Asked) (s : DebugState) (found : List SetWithValues) (steps : 
 
       is-spent : ending ≡ Budget → asked.budget < 3 ^ s.vars
       is-spent same =
-          let spent : EndsAs asked (sets_of portions) s.log Budget =
-          subst (EndsAs asked (sets_of portions) s.log) same has.ends in
-          subst (λ (n : ℕ). n < 3 ^ s.vars) spent.0 has.holds.few_learned
+          let spent : EndsAs asked portions s.log Budget = subst (EndsAs asked portions s.log) same has.ends in
+          subst (λ (n : ℕ). n < 3 ^ s.vars) (own-learned asked s has.imported ∙ spent.0) has.holds.few_learned
 
-      pub close-done : IsReport (report_for asked (found_of portions) ending)
+      pub close-done : IsReport (report_for asked (found_of asked portions) ending)
           → AreDone (closing_writes asked found rest ending runs) (outputs mid is mid_printed now_printed) → IsListedTo asked o ending
       close-done report done = record {
         listed = record {
@@ -277,7 +185,7 @@ module _ (asked : Asked) (s : DebugState) (found : List SetWithValues) (steps : 
 
       -- the writes behind the search that stand before the last line print nothing
       texts-silent : AreSilent (texts asked portions rest ending runs)
-      texts-silent = (refl, (refl, (refl, waves-silent asked (found_of portions) runs)))
+      texts-silent = (refl, (refl, (refl, waves-silent asked (found_of asked portions) runs)))
 
       pub close-short : AreBegun (closing_writes asked found rest ending runs) (outputs mid is mid_printed now_printed)
           → StopsShort asked (Some (length found)) o
@@ -402,30 +310,10 @@ stopped-causes counts (Err write.Failed) sets (Memory n) same causes = absurd (c
 stopped-causes counts (Err write.NoMemory) sets Failed same causes = absurd (cc)
 stopped-causes counts (Err write.NoMemory) sets (Memory n) same causes = causes
 
-module _ (asked : Asked) (s : DebugState) (holds : IsDebugger s) (begins : Begins asked.problem s) where
-  pub begin-stopped : (o : Outputs) (r : Result (Unit {0}) WriteErr) (why : Stop) → stopped r None ≡ Err why
-      → Leaves (begin_text asked.log ∷ []) o r → RunLeaves asked o (Err why)
-  begin-stopped o (Ok x) why same left = absurd (cc)
-  begin-stopped o (Err write.Failed) why same left = stopped-failed asked o why same (begin-stops asked s holds begins o left)
-  begin-stopped o (Err write.NoMemory) why same left = stopped-short asked o None why same (begin-short asked s holds begins o left)
-
-  pub head-stopped : (was mid is : Texts) (printed mid_printed now_printed : List ℕ)
-      → AreDone (begin_text asked.log ∷ []) (outputs was mid printed mid_printed)
-      → (r : Result (Unit {0}) WriteErr) (why : Stop) → stopped r (Some 0) ≡ Err why
-      → Leaves (put_piece asked.log (head_text asked.inputs) ∷ []) (outputs mid is mid_printed now_printed) r
-      → RunLeaves asked (outputs was is printed now_printed) (Err why)
-  head-stopped was mid is printed mid_printed now_printed before (Ok x) why same left = absurd (cc)
-  head-stopped was mid is printed mid_printed now_printed before (Err write.Failed) why same left =
-      stopped-failed asked (outputs was is printed now_printed) why same
-      (head-stops asked s holds begins was mid is printed mid_printed now_printed before left)
-  head-stopped was mid is printed mid_printed now_printed before (Err write.NoMemory) why same left =
-      stopped-short asked (outputs was is printed now_printed) (Some 0) why same
-      (head-short asked s holds begins was mid is printed mid_printed now_printed before left)
-
 -- the search stopped
 pub search-stopped : (asked : Asked) (s : DebugState) (found : List SetWithValues) (steps : ℕ) (was mid is : Texts)
     (printed mid_printed now_printed : List ℕ)
-    (told : Bool) → told ≡ true → AreDone (front asked) (outputs was mid printed mid_printed) → (why : Stop)
+    (told : Bool) → told ≡ true → AreDone (first_writes asked) (outputs was mid printed mid_printed) → (why : Stop)
     → IsSearched (searched_of asked s found steps (outputs mid is mid_printed now_printed) told) (Err why)
     → RunLeaves asked (outputs was is printed now_printed) (Err why)
 search-stopped asked s found steps was mid is printed mid_printed now_printed told tells before Failed searched =
@@ -438,7 +326,7 @@ search-stopped asked s found steps was mid is printed mid_printed now_printed to
 -- what stands behind the search was written, or not
 module _ (asked : Asked) (s : DebugState) (found : List SetWithValues) (steps : ℕ) (ending : Ending) (portions : List Portion)
     (has : HasEnded asked s found steps ending portions) (is-ended : IsEnded asked s.form portions (drop steps s.log) ending)
-    (runs : Runs) (are : AreRuns (waved_for asked) (found_of portions) runs)
+    (runs : Runs) (are : AreRuns (waved_for asked) (found_of asked portions) runs)
     (was mid is : Texts) (printed mid_printed now_printed : List ℕ) (before : AreDone (opening asked portions)
     (outputs was mid printed mid_printed)) where
   pub close-stopped : (r : Result (Unit {0}) WriteErr) (why : Stop) → stopped r (Some (length found)) ≡ Err why
@@ -451,3 +339,32 @@ module _ (asked : Asked) (s : DebugState) (found : List SetWithValues) (steps : 
   close-stopped (Err write.NoMemory) why same left =
       stopped-short asked (outputs was is printed now_printed) (Some (length found)) why same
       (close-short asked s found steps ending portions has is-ended runs are was mid is printed mid_printed now_printed before left)
+
+-- ---- the end
+module _ (asked : Asked) (s : DebugState) (found : List SetWithValues) (steps : ℕ) (ending : Ending) (portions : List Portion)
+    (has : HasEnded asked s found steps ending portions) (is : IsEnded asked s.form portions (drop steps s.log) ending)
+    (was mid now : Texts) (printed mid_printed now_printed : List ℕ)
+    (before : AreDone (opening asked portions) (outputs was mid printed mid_printed)) (r : Result (Unit {0}) WriteErr)
+    (left : (runs : Runs) → AreRuns (waved_for asked) found runs
+    → Leaves (closing_writes asked found (drop steps s.log) ending runs) (outputs mid now mid_printed now_printed) r) where
+  some : (runs : Runs) × AreRuns (waved_for asked) (found_of asked portions) runs
+  some = runs-of asked s found steps ending portions has
+
+  here : Leaves (closing_writes asked found (drop steps s.log) ending some.0) (outputs mid now mid_printed now_printed) r
+  here = left some.0 (subst (λ (sets : List SetWithValues). AreRuns (waved_for asked) sets some.0) (sym has.found_are) some.1)
+
+  -- a write behind the search failed, or memory was wanted for it
+  pub closing-stopped : (why : Stop) → stopped r (Some (length found)) ≡ Err why
+      → RunLeaves asked (outputs was now printed now_printed) (Err why)
+  closing-stopped why same =
+      close-stopped asked s found steps ending portions has is some.0 some.1 was mid now printed mid_printed now_printed before r why same here
+
+  -- all are carried out
+  pub closing-done : OnOk r (IsReport (report_for asked found ending)) → (x : Unit {0}) → stopped r (Some (length found)) ≡ Ok x
+      → IsListedTo asked (outputs was now printed now_printed) ending
+  closing-done report x same =
+      close-done asked s found steps ending portions has is some.0 some.1 was mid now printed mid_printed now_printed before
+      (subst (λ (sets : List SetWithValues). IsReport (report_for asked sets ending)) has.found_are
+      (stopped-on_ok (IsReport (report_for asked found ending)) r (Some (length found)) x same report))
+      (stopped-ok (closing_writes asked found (drop steps s.log) ending some.0) (outputs mid now mid_printed now_printed) r
+      (Some (length found)) x same here)

@@ -1,8 +1,9 @@
 -- What is found so far, and what is known behind a call of the search.
 use Rattle.std.proofs.Common.{◌≡◌, ℕ, ◌+◌, ◌<◌, ◌≤◌, true, false, List, [], ◌∷◌, ◌++◌, length, map, take, drop}
-use Rattle.std.proofs.Common.{refl, ap, sym, ◌∙◌, subst, arith}
+use Rattle.std.proofs.Common.{refl, ap, sym, ◌∙◌, subst, arith, append_assoc}
+use Rattle.std.specs.List.{flat_map}
 use Rattle.std.specs.Prelude.{All, cond, count_by}
-use Rattle.std.proofs.lemmas.List.{append-nil, length-map, length-take, map-append, take-append-drop, take-take, take_all}
+use Rattle.std.proofs.lemmas.List.{append-nil, length-append, length-map, length-take, map-append, take-append-drop, take-take, take_all}
 use Rattle.std.proofs.lemmas.List.Elements.{All-append, All-cons, All-nil}
 use Rattle.std.proofs.lemmas.List.Sums.{sum_by-cons}
 use Rattle.std.proofs.lemmas.Grind.{flat_map-append}
@@ -22,10 +23,11 @@ use Rattle.debug_core.specs.Debugging.{DebugState, FindsSet}
 use Rattle.debug_core.specs.Debugging.{IsDebugger, IsFrontOf, IsListOf, Searches}
 use Rattle.debug_core.specs.Problems.{Problem, suspect_count}
 use Rattle.debug_core.proofs.Counting.{counted-unfinished}
-use Rattle.debug_core.proofs.Logs.{count-grown}
+use Rattle.debug_core.proofs.Logs.{count-behind}
 use Rattle.debug_core.proofs.Rooms.{few-steps}
-use Rattle.list_writer.specs.Asked.{Asked}
-use Rattle.list_writer.specs.Found.{AreFound, EndsAs, HasItsBlock, IsShown, Portion, found_of, log_of, sets_of}
+use Rattle.list_writer.specs.Asked.{Asked, most_sets}
+use Rattle.list_writer.specs.Found.{AreFound, EndsAs, HasItsBlock, IsShown, Portion, found_of, log_of, own_steps, sets_of}
+use Rattle.list_writer.specs.Jobs.{GoesWith}
 use Rattle.log_portions.specs.Portions.{steps_text}
 use Rattle.list_writer.specs.Texts.{lines_of}
 use Rattle.list_writer.specs.Due.{prints, set_writes}
@@ -34,8 +36,11 @@ use Rattle.list_writer.specs.Going.{sets_writes}
 use Rattle.list_writer.proofs.Steps.{append-cancel, append-nothing, blocks_of-append}
 
 -- ---- counts
-members-of : (portions : List Portion) → length (sets_of portions) ≡ length (found_of portions)
-members-of portions = length-map portions (λ portion. portion.set.members) ∙ sym (length-map portions (λ portion. portion.set))
+-- the sets that are listed are those of the session and of the portions
+pub found-long : (asked : Asked) (portions : List Portion) → length (found_of asked portions) ≡ length asked.session.sets + length portions
+found-long asked portions =
+    length-append asked.session.sets (map (λ (portion : Portion). portion.set) portions)
+    ∙ ap (λ (n : ℕ). length asked.session.sets + n) (length-map portions (λ portion. portion.set))
 
 pub prints-sets : (asked : Asked) (portions : List Portion) → count_by prints (sets_writes asked portions) ≡ length portions
 prints-sets asked [] = refl
@@ -51,32 +56,53 @@ pub one-more : (asked : Asked) (portions : List Portion) (portion : Portion)
     → sets_writes asked (portions ++ portion ∷ []) ≡ sets_writes asked portions ++ set_writes asked portion
 one-more asked portions portion = flat_map-append (set_writes asked) portions (portion ∷ [])
 
-drop-whole : (log : List Step) → drop (length log) log ≡ []
+pub drop-whole : (log : List Step) → drop (length log) log ≡ []
 drop-whole [] = refl
 drop-whole (s ∷ log) = drop-whole log
+
+-- the steps that were learned behind those of the session
+pub own-learned : (asked : Asked) (s : DebugState) → s.imported ≡ length asked.session.log
+    → count_by is_learned (drop s.imported s.log) ≡ count_by is_learned (own_steps asked s.log)
+own-learned asked s imported = ap (λ (n : ℕ). count_by is_learned (drop n s.log)) imported
 
 -- ---- what is found
 -- where the log is that of the portions
 pub are-found : (asked : Asked) (s : DebugState) (found : List SetWithValues) (portions : List Portion) → IsDebugger s
-    → s.problem ≡ asked.problem → s.listed ≡ sets_of portions → s.log ≡ log_of portions → found ≡ found_of portions
-    → All (IsShown asked.problem) found → All HasItsBlock portions → AreFound asked.problem s.form portions
+    → s.problem ≡ asked.problem → s.listed ≡ sets_of asked portions → s.log ≡ log_of asked portions → found ≡ found_of asked portions
+    → All (IsShown asked.problem) found → All HasItsBlock portions → AreFound asked s.form portions
 are-found asked s found portions holds problem listed written found_are shown blocks = record {
   front = subst (IsFrontOf asked.problem) listed (subst (λ (p : Problem). IsFrontOf p s.listed) problem holds.front);
   shown = subst (All (IsShown asked.problem)) found_are shown;
   blocks = blocks;
-  accepted = subst (IsAccepted s.form (map block_of (sets_of portions))) written
+  accepted = subst (IsAccepted s.form (map block_of (sets_of asked portions))) written
       (subst (λ (sets : List (List ℕ)). IsAccepted s.form (map block_of sets) s.log) listed holds.accepted);
 }
 
+-- before a search: the sets of the session, with its log
+module _ (asked : Asked) (s : DebugState) (goes : GoesWith asked.problem asked.session s) where
+  pub listed-first : s.listed ≡ sets_of asked []
+  listed-first = goes.listed ∙ ap (map (λ (set : SetWithValues). set.members)) (sym (append-nil asked.session.sets))
+
+  pub log-first : s.log ≡ log_of asked []
+  log-first = goes.log_is ∙ sym (append-nil asked.session.log)
+
+  pub none-own : own_steps asked s.log ≡ []
+  none-own = ap (λ (n : ℕ). drop n s.log) (sym (ap length goes.log_is)) ∙ drop-whole s.log
+
+  pub nothing-found : IsDebugger s → All (IsShown asked.problem) asked.session.sets → AreFound asked s.form []
+  nothing-found holds shown =
+      are-found asked s asked.session.sets [] holds goes.problem listed-first log-first (sym (append-nil asked.session.sets)) shown
+      (All-nil HasItsBlock)
+
 module _ (asked : Asked) (s : DebugState) (found : List SetWithValues) (steps left : ℕ) (portions : List Portion)
     (going : IsGoing asked s found steps left portions) where
-  pub many : length portions ≡ length found
-  many = sym (ap length going.found_are ∙ length-map portions (λ portion. portion.set))
+  pub many : length asked.session.sets + length portions ≡ length found
+  many = sym (ap length going.found_are ∙ found-long asked portions)
 
-  pub many-sets : length (sets_of portions) ≡ length found
-  many-sets = members-of portions ∙ sym (ap length going.found_are)
+  pub many-sets : length (sets_of asked portions) ≡ length found
+  many-sets = length-map (found_of asked portions) (λ (set : SetWithValues). set.members) ∙ sym (ap length going.found_are)
 
-  joined-here : log_of portions ++ drop steps s.log ≡ s.log
+  joined-here : log_of asked portions ++ drop steps s.log ≡ s.log
   joined-here = ap (λ (log : List Step). log ++ drop steps s.log) (sym going.written) ∙ take-append-drop steps s.log
 
   -- a call of the search
@@ -90,31 +116,42 @@ module _ (asked : Asked) (s : DebugState) (found : List SetWithValues) (steps le
     longer : length s.log ≤ length new.log
     longer = omega (arith, sym (ap length searches.prefix) ∙ length-take (length s.log) new.log)
 
-    written-still : take steps new.log ≡ log_of portions
+    written-still : take steps new.log ≡ log_of asked portions
     written-still = sym (take-take steps (length s.log) new.log going.within) ∙ ap (take steps) searches.prefix ∙ going.written
 
-    joined : log_of portions ++ rest ≡ new.log
+    joined : log_of asked portions ++ rest ≡ new.log
     joined = ap (λ (log : List Step). log ++ rest) (sym written-still) ∙ take-append-drop steps new.log
 
-    units : count_by is_learned new.log + now_left ≡ asked.budget
-    units = omega (arith, count-grown s.log new.log searches.prefix is_learned, searches.units, going.units)
+    session-before : length asked.session.log ≤ length s.log
+    session-before = omega (arith, going.holds.session_within, going.imported)
+
+    units : count_by is_learned (own_steps asked new.log) + now_left ≡ asked.budget
+    units = omega (
+      arith,
+      count-behind s.log new.log searches.prefix is_learned (length asked.session.log) session-before,
+      searches.units,
+      going.units,
+    )
 
     -- the blocks of what is written, and those of the steps that aren't
-    blocks-written : map block_of s.listed ≡ blocks_of (log_of portions)
+    blocks-written : map block_of s.listed ≡ blocks_of (log_of asked portions)
     blocks-written =
-        sym going.holds.blocks ∙ sym (ap blocks_of joined-here) ∙ blocks_of-append (log_of portions) (drop steps s.log)
-        ∙ ap (λ (bs : List (List Lit)). blocks_of (log_of portions) ++ bs) going.no_block ∙ append-nil (blocks_of (log_of portions))
+        sym going.holds.blocks ∙ sym (ap blocks_of joined-here) ∙ blocks_of-append (log_of asked portions) (drop steps s.log)
+        ∙ ap (λ (bs : List (List Lit)). blocks_of (log_of asked portions) ++ bs) going.no_block ∙ append-nil (blocks_of (log_of asked portions))
 
     blocks-joined : map block_of s.listed ++ blocks_of rest ≡ map block_of new.listed
     blocks-joined =
         ap (λ (bs : List (List Lit)). bs ++ blocks_of rest) blocks-written
-        ∙ sym (blocks_of-append (log_of portions) rest) ∙ ap blocks_of joined ∙ holds.blocks
+        ∙ sym (blocks_of-append (log_of asked portions) rest) ∙ ap blocks_of joined ∙ holds.blocks
 
     still-unfinished : new.finished ≡ false
     still-unfinished = searches.finished ∙ going.unfinished
 
-    pub found-in-new : AreFound asked.problem new.form portions
-    found-in-new = subst (λ (form : List (List Lit)). AreFound asked.problem form portions) (sym searches.form) going.so_far
+    still-imported : new.imported ≡ length asked.session.log
+    still-imported = searches.imported ∙ going.imported
+
+    pub found-in-new : AreFound asked new.form portions
+    found-in-new = subst (λ (form : List (List Lit)). AreFound asked form portions) (sym searches.form) going.so_far
 
     -- a set was found
     module _ (set : SetWithValues) (finds : FindsSet s new set) where
@@ -132,17 +169,25 @@ module _ (asked : Asked) (s : DebugState) (found : List SetWithValues) (steps le
       abbrev more : List Portion
       more = portions ++ portion ∷ []
 
-      found-more : found ++ set ∷ [] ≡ found_of more
-      found-more = ap (λ (f : List SetWithValues). f ++ set ∷ []) going.found_are
-          ∙ sym (map-append (λ (p : Portion). p.set) portions (portion ∷ []))
+      pushed : found_of asked portions ++ set ∷ [] ≡ found_of asked more
+      pushed =
+          append_assoc asked.session.sets (map (λ (p : Portion). p.set) portions) (set ∷ [])
+          ∙ ap (λ (f : List SetWithValues). asked.session.sets ++ f) (sym (map-append (λ (p : Portion). p.set) portions (portion ∷ [])))
 
-      listed-more : new.listed ≡ sets_of more
+      found-more : found ++ set ∷ [] ≡ found_of asked more
+      found-more = ap (λ (f : List SetWithValues). f ++ set ∷ []) going.found_are ∙ pushed
+
+      listed-more : new.listed ≡ sets_of asked more
       listed-more = finds.listed ∙ ap (λ (sets : List (List ℕ)). sets ++ set.members ∷ []) going.listed
-          ∙ sym (map-append (λ (p : Portion). p.set.members) portions (portion ∷ []))
+          ∙ sym (map-append (λ (one : SetWithValues). one.members) (found_of asked portions) (set ∷ []))
+          ∙ ap (map (λ (one : SetWithValues). one.members)) pushed
 
-      written-more : new.log ≡ log_of more
-      written-more = sym joined ∙ ap (λ (log : List Step). log_of portions ++ log) (sym (append-nil rest))
-          ∙ sym (flat_map-append (λ (p : Portion). p.steps) portions (portion ∷ []))
+      written-more : new.log ≡ log_of asked more
+      written-more =
+          let own : List Step = flat_map (λ (p : Portion). p.steps) portions in
+          sym joined ∙ append_assoc asked.session.log own rest
+          ∙ ap (λ (log : List Step). asked.session.log ++ log) (ap (λ (log : List Step). own ++ log) (sym (append-nil rest))
+          ∙ sym (flat_map-append (λ (p : Portion). p.steps) portions (portion ∷ [])))
 
       shown-more : All (IsShown asked.problem) (found ++ set ∷ [])
       shown-more = All-append (IsShown asked.problem) found (set ∷ []) going.shown
@@ -167,11 +212,12 @@ module _ (asked : Asked) (s : DebugState) (found : List SetWithValues) (steps le
         units = units;
         goes_on = finds.goes_on;
         unfinished = still-unfinished;
+        imported = still-imported;
       }
 
     -- no set was found
     module _ (same : new.listed ≡ s.listed) where
-      listed-here : new.listed ≡ sets_of portions
+      listed-here : new.listed ≡ sets_of asked portions
       listed-here = same ∙ going.listed
 
       no-block : blocks_of rest ≡ []
@@ -192,9 +238,10 @@ module _ (asked : Asked) (s : DebugState) (found : List SetWithValues) (steps le
         units = units;
         goes_on = goes_on;
         unfinished = still-unfinished;
+        imported = still-imported;
       }
 
-      pub has-ended : (ending : Ending) → EndsAs asked (sets_of portions) new.log ending → HasEnded asked new found steps ending portions
+      pub has-ended : (ending : Ending) → EndsAs asked portions new.log ending → HasEnded asked new found steps ending portions
       has-ended ending ends = record {
         holds = holds;
         problem = same-problem;
@@ -206,23 +253,24 @@ module _ (asked : Asked) (s : DebugState) (found : List SetWithValues) (steps le
         joined = joined;
         no_block = no-block;
         counted = counted-unfinished new holds still-unfinished;
-        few = omega (arith, few-steps new holds still-unfinished);
+        few = omega (arith, few-steps new holds still-unfinished, own-learned asked new still-imported, still-imported);
         within_budget = omega (arith, units);
         ends = ends;
+        imported = still-imported;
       }
 
-      pub is-whole : new.ended ≡ true → length found < asked.sets → EndsAs asked (sets_of portions) new.log Complete
+      pub is-whole : new.ended ≡ true → length found < most_sets asked → EndsAs asked portions new.log Complete
       is-whole ended few = (
         subst (IsListOf asked.problem) listed-here (subst (λ (p : Problem). IsListOf p new.listed) same-problem (holds.whole ended)),
         subst (λ (p : Problem). IsClosing (bound_of (suspect_count p) p.k p.k) new.log) same-problem (holds.closing ended),
-        omega (arith, few, many-sets),
+        omega (arith, few, many),
       )
 
-      pub is-spent : now_left ≡ 0 → length found < asked.sets → EndsAs asked (sets_of portions) new.log Budget
-      is-spent none few = (omega (arith, none, units), omega (arith, few, many-sets))
+      pub is-spent : now_left ≡ 0 → length found < most_sets asked → EndsAs asked portions new.log Budget
+      is-spent none few = (omega (arith, none, units), omega (arith, few, many))
 
   -- as many sets were found as were asked for
-  pub enough : asked.sets ≤ length found → length found ≤ asked.sets → HasEnded asked s found steps Sets portions
+  pub enough : most_sets asked ≤ length found → length found ≤ most_sets asked → HasEnded asked s found steps Sets portions
   enough low high = record {
     holds = going.holds;
     problem = going.problem;
@@ -234,7 +282,8 @@ module _ (asked : Asked) (s : DebugState) (found : List SetWithValues) (steps le
     joined = joined-here;
     no_block = going.no_block;
     counted = counted-unfinished s going.holds going.unfinished;
-    few = omega (arith, few-steps s going.holds going.unfinished);
+    few = omega (arith, few-steps s going.holds going.unfinished, own-learned asked s going.imported, going.imported);
     within_budget = omega (arith, going.units);
-    ends = omega (arith, low, high, many-sets);
+    ends = omega (arith, low, high, many);
+    imported = going.imported;
   }

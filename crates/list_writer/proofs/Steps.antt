@@ -1,25 +1,21 @@
 -- Lists, and the steps of logs.
-use Rattle.std.proofs.Common.{◌≡◌, ℕ, Bool, true, false, cond, List, []}
+use Rattle.std.proofs.Common.{◌≡◌, Bool, true, false, cond, List, []}
 use Rattle.std.proofs.Common.{◌∷◌, ◌++◌, map, refl, ap, ◌∙◌, subst, arith}
-use Rattle.std.specs.Prelude.{All, count_by, filter}
+use Rattle.std.specs.Prelude.{All, filter}
 use Rattle.std.proofs.lemmas.List.{get_or-map, length-map, map-append}
 use Rattle.std.proofs.lemmas.List.Elements.{All-cons, All-head, All-tail, filter-append}
-use Rattle.std.proofs.lemmas.List.Sums.{sum_by-cons}
 use Rattle.clause_base.specs.declared.literal.Lit.{Lit}
+use Rattle.design_core.specs.declared.values.SetWithValues.{SetWithValues}
 use Rattle.clause_base.specs.declared.log.Step.{Step}
 use Rattle.clause_base.specs.declared.log.StepKind.{StepKind}
 use Rattle.clause_base.specs.declared.log.StepKind.TheVariants.{Block, Derived, Learned}
 use Rattle.clause_base.specs.Acceptance.{is_block}
-use Rattle.clause_base.specs.Counted.{is_derived_kind}
-use Rattle.sat_core.specs.Outcome.{is_derived}
-use Rattle.sat_core.specs.Outcome.{is_derived_kind as is_derived_there}
 use Rattle.sat_core.specs.SolverState.{blocks_of}
 use Rattle.set_enum.specs.EnumState.{AreChainless}
 use Rattle.set_enum.specs.EnumState.{HasNoChain as HasNoChainThere}
 use Rattle.set_enum.specs.Sets.{block_of}
 use Rattle.log_portions.specs.Portions.{HasNoChain}
 use Rattle.list_writer.specs.Checks.{blocks_for}
-use Rattle.list_writer.specs.Found.{Portion, found_of, sets_of}
 
 -- what stands behind the same front is the same
 pub append-cancel : {A : Type 0} (xs ys zs : List A) → xs ++ ys ≡ xs ++ zs → ys ≡ zs
@@ -60,7 +56,7 @@ blocks-in P (s ∷ log) all = at (is_block s) (blocks-in P log (All-tail P s.cla
     at true rest = All-cons P s.clause (blocks_of log) (All-head P s.clause (map (λ (step : Step). step.clause) log) all) rest
     at false rest = rest
 
--- the blocks of sets, by their portions
-pub sets-blocks : (portions : List Portion) → map block_of (sets_of portions) ≡ blocks_for (found_of portions)
+-- the blocks of sets, by their members
+pub sets-blocks : (found : List SetWithValues) → map block_of (map (λ (set : SetWithValues). set.members) found) ≡ blocks_for found
 sets-blocks [] = refl
-sets-blocks (portion ∷ portions) = ap (λ (blocks : List (List Lit)). block_of portion.set.members ∷ blocks) (sets-blocks portions)
+sets-blocks (set ∷ found) = ap (λ (blocks : List (List Lit)). block_of set.members ∷ blocks) (sets-blocks found)

@@ -3,7 +3,6 @@ use Rattle.std.proofs.Common.{◌≡◌, ℕ, zero, suc, ◌+◌, ◌<◌, ◌�
 use Rattle.std.proofs.Common.{Option, Some, None, refl, ap, sym, ◌∙◌, subst, arith}
 use Rattle.std.specs.Prelude.{All, cond, count_by, Ok, Err}
 use Rattle.std.proofs.lemmas.List.{append-nil, length-append, length_push, take_all}
-use Rattle.std.proofs.lemmas.List.Elements.{All-nil}
 use Rattle.std.proofs.lemmas.List.Sums.{sum_by-append}
 use Rattle.std.proofs.Math.Seq.{take-append-add}
 use Rattle.design_core.specs.declared.values.SetWithValues.{SetWithValues}
@@ -13,13 +12,14 @@ use Rattle.report_doc.specs.declared.types.Ending.{Ending}
 use Rattle.report_doc.specs.declared.types.Ending.TheVariants.{Complete, Budget, Sets, Earlier}
 use Rattle.write_order.specs.Writes.{AreBegun, AreDone, Outputs, StopsIn, Write, put_piece, print_piece}
 use Rattle.write_order.proofs.Carried.{done-then, stops-then}
-use Rattle.debug_core.specs.Debugging.{Begins, DebugState, FindsEnd, FindsNothing, FindsSet}
+use Rattle.debug_core.specs.Debugging.{DebugState, FindsEnd, FindsNothing, FindsSet}
 use Rattle.debug_core.specs.Debugging.{HasRoom, IsDebugger, Searches}
 use Rattle.debug_core.proofs.Rooms.{has-room}
 use Rattle.list_writer.specs.declared.stop.Stop.{Stop}
 use Rattle.list_writer.specs.declared.stop.Stop.TheVariants.{Failed, Memory}
-use Rattle.list_writer.specs.Asked.{Asked}
-use Rattle.list_writer.specs.Found.{HasItsBlock, IsShown, Portion}
+use Rattle.list_writer.specs.Asked.{Asked, most_sets}
+use Rattle.list_writer.specs.Found.{IsShown, Portion}
+use Rattle.list_writer.specs.Jobs.{GoesWith}
 use Rattle.log_portions.specs.Portions.{steps_text}
 use Rattle.list_writer.specs.Texts.{lines_of}
 use Rattle.list_writer.specs.Due.{prints, set_writes}
@@ -27,7 +27,8 @@ use Rattle.list_writer.specs.Lines.{ending_status}
 use Rattle.list_writer.specs.Going.{AreCut, CutsTurn, FailsTurn, GoesOn, HasEnded, IsGoing, IsSearched, IsTurn}
 use Rattle.list_writer.specs.Going.{EndsTurn, Rests, SearchCut, SearchEnds, SearchFails, SearchGoes, TakesSet, Turn, Turns, WaitsTurn}
 use Rattle.list_writer.specs.Going.{outputs, searched_of, sets_writes, turn_of, searching, takes, waits, writing}
-use Rattle.list_writer.proofs.SoFar.{are-found, enough, found-in-new, grown, has-ended, is-spent, is-whole, many, many-sets, one-more, prints-sets, waited}
+use Rattle.list_writer.proofs.SoFar.{drop-whole, enough, found-in-new, grown, has-ended, is-spent, is-whole, listed-first, log-first, many, many-sets}
+use Rattle.list_writer.proofs.SoFar.{none-own, nothing-found, one-more, own-learned, prints-sets, waited}
 
 -- ---- a turn
 -- what stands under names
@@ -101,7 +102,7 @@ module _ (asked : Asked) (old new : DebugState) (found now_found : List SetWithV
     done = rests-done t;
   }
 
-  pub ends : (ending : Ending) → length found < asked.sets → IsTurn turn (Ok (Some ending))
+  pub ends : (ending : Ending) → length found < most_sets asked → IsTurn turn (Ok (Some ending))
       → SearchEnds (searched_of asked new now_found now_steps (outputs was is printed now_printed) told) ending
   ends Complete few t =
       let says : FindsEnd old new × Rests turn = t.answer in
@@ -139,24 +140,28 @@ module _ (asked : Asked) (old new : DebugState) (found now_found : List SetWithV
   none-printed log text lines (suc zero) few = refl
   none-printed log text lines (suc (suc c)) few = absurd (omega (arith, few))
 
-  count-before : length before.portions ≡ length found
+  count-before : length asked.session.sets + length before.portions ≡ length found
   count-before = many asked old found steps left before.portions before.going
 
   abbrev writes : List Write
   writes = sets_writes asked before.portions
+
+  -- the sets of the session
+  abbrev before-them : ℕ
+  before-them = length asked.session.sets
 
   pub cut : (sets : Option ℕ) → IsTurn turn (Err (Memory sets))
       → SearchCut (searched_of asked new now_found now_steps (outputs was is printed now_printed) told) sets
   cut sets t = at t.answer.1
     where
       nothing-more : AreDone [] (outputs mid is mid_printed now_printed) → AreDone writes (outputs was mid printed mid_printed)
-          → AreCut writes sets (outputs was is printed now_printed)
+          → AreCut before-them writes sets (outputs was is printed now_printed)
       nothing-more rests done = record {
         count = length writes;
         within = omega arith;
         sets_are = t.answer.0
-            ∙ ap Some (sym (ap (count_by prints) (take_all (length writes) writes (omega arith)) ∙ prints-sets asked before.portions
-            ∙ count-before));
+            ∙ ap Some (sym (ap (λ (n : ℕ). before-them + n) (ap (count_by prints) (take_all (length writes) writes (omega arith))
+            ∙ prints-sets asked before.portions) ∙ count-before));
         done = subst (λ (ws : List Write). AreDone ws (outputs was is printed now_printed))
             (append-nil writes ∙ sym (take_all (length writes) writes (omega arith)))
             (done-then writes [] was mid is printed mid_printed now_printed done rests);
@@ -164,18 +169,18 @@ module _ (asked : Asked) (old new : DebugState) (found now_found : List SetWithV
 
       some-more : (portion : Portion) → AreBegun (set_writes asked portion) (outputs mid is mid_printed now_printed)
           → AreDone writes (outputs was mid printed mid_printed)
-          → AreCut (sets_writes asked (before.portions ++ portion ∷ [])) sets (outputs was is printed now_printed)
+          → AreCut before-them (sets_writes asked (before.portions ++ portion ∷ [])) sets (outputs was is printed now_printed)
       some-more portion part done =
-          subst (λ (ws : List Write). AreCut ws sets (outputs was is printed now_printed)) (sym (one-more asked before.portions portion))
+          subst (λ (ws : List Write). AreCut before-them ws sets (outputs was is printed now_printed)) (sym (one-more asked before.portions portion))
           (record {
             count = length writes + part.count;
             within = omega (arith, length-append writes (set_writes asked portion), part.within);
-            sets_are = t.answer.0 ∙ ap Some (sym (
+            sets_are = t.answer.0 ∙ ap Some (sym (ap (λ (n : ℕ). before-them + n) (
                 ap (count_by prints) (take-append-add writes (set_writes asked portion) part.count)
                 ∙ sum_by-append (λ w. cond (prints w) 1 0) writes (take part.count (set_writes asked portion))
                 ∙ ap (λ (n : ℕ). count_by prints writes + n)
                 (none-printed asked.log (steps_text portion.steps) (lines_of asked portion.set) part.count part.within)
-                ∙ add-nothing (count_by prints writes) ∙ prints-sets asked before.portions ∙ count-before));
+                ∙ add-nothing (count_by prints writes) ∙ prints-sets asked before.portions) ∙ count-before));
             done = subst (λ (ws : List Write). AreDone ws (outputs was is printed now_printed))
                 (sym (take-append-add writes (set_writes asked portion) part.count))
                 (done-then writes (take part.count (set_writes asked portion)) was mid is printed mid_printed now_printed done part.done);
@@ -198,7 +203,7 @@ module _ (asked : Asked) (old new : DebugState) (found now_found : List SetWithV
   errs Failed t = record { holds = t.holds; problem = t.searches.problem ∙ before.going.problem; answer = fails t }
   errs (Memory sets) t = record { holds = t.holds; problem = t.searches.problem ∙ before.going.problem; answer = cut sets t }
 
-  pub ends-searched : (ending : Ending) → length found < asked.sets → IsTurn turn (Ok (Some ending))
+  pub ends-searched : (ending : Ending) → length found < most_sets asked → IsTurn turn (Ok (Some ending))
       → IsSearched (searched_of asked new now_found now_steps (outputs was is printed now_printed) told) (Ok ending)
   ends-searched ending few t = record { holds = t.holds; problem = t.searches.problem ∙ before.going.problem; answer = ends ending few t }
 
@@ -231,44 +236,47 @@ ends-open t (Some how) ending is answer front = at how answer (ap ending_status 
 
 -- ---- the first turn and the last
 module _ (asked : Asked) (s : DebugState) (found : List SetWithValues) (steps left : ℕ) where
-  pub starts : IsDebugger s → Begins asked.problem s → found ≡ [] → steps ≡ 0 → left ≡ asked.budget
+  pub starts : IsDebugger s → GoesWith asked.problem asked.session s → All (IsShown asked.problem) asked.session.sets
+      → found ≡ asked.session.sets → steps ≡ length s.log → left ≡ asked.budget
       → (written : Texts) (printed : List ℕ) (told : Bool) → SearchGoes asked s found steps left
       (outputs written written printed printed) told
-  starts holds begins none first units written printed told = record {
+  starts holds goes shown same first units written printed told = record {
     portions = [];
     going = record {
       holds = holds;
-      problem = begins.problem;
-      found_are = none;
-      listed = begins.no_set;
+      problem = goes.problem;
+      found_are = same ∙ sym (append-nil asked.session.sets);
+      listed = listed-first asked s goes;
       within = omega (arith, first);
-      written = ap (λ (n : ℕ). take n s.log) first;
-      no_block = ap (λ (n : ℕ). blocks_of (drop n s.log)) first ∙ ap blocks_of begins.no_step;
-      shown = shown;
-      so_far = are-found asked s found [] holds begins.problem begins.no_set begins.no_step none shown (All-nil HasItsBlock);
-      units = omega (arith, ap (count_by is_learned) begins.no_step, units);
-      goes_on = begins.goes_on;
-      unfinished = begins.unfinished;
+      written = ap (λ (n : ℕ). take n s.log) first ∙ take_all (length s.log) s.log (omega arith) ∙ log-first asked s goes;
+      no_block = ap (λ (n : ℕ). blocks_of (drop n s.log)) first ∙ ap blocks_of (drop-whole s.log);
+      shown = subst (All (IsShown asked.problem)) (sym same) shown;
+      so_far = nothing-found asked s goes holds shown;
+      units = omega (arith, ap (count_by is_learned) (none-own asked s goes), units);
+      goes_on = goes.goes_on;
+      unfinished = goes.unfinished;
+      imported = goes.imported;
     };
     done = λ tells. record { texts = λ name. refl; printed = sym (append-nil printed) };
   }
-    where
-      shown : All (IsShown asked.problem) found
-      shown = subst (All (IsShown asked.problem)) (sym none) (All-nil (IsShown asked.problem))
 
   module _ (o : Outputs) (told : Bool) (goes : SearchGoes asked s found steps left o told) where
-    pub room : asked.budget + asked.sets ≤ 4000000000 → length found ≤ asked.sets → HasRoom s left
+    pub room : length asked.session.log + length asked.session.sets + asked.budget + asked.sets ≤ 4000000000
+        → length found ≤ most_sets asked → HasRoom s left
     room few low =
         has-room s goes.going.holds goes.going.unfinished left (omega (
           arith,
           few,
           low,
           goes.going.units,
+          own-learned asked s goes.going.imported,
+          goes.going.imported,
           ap length goes.going.listed,
           many-sets asked s found steps left goes.portions goes.going,
         ))
 
-    pub exits : asked.sets ≤ length found → length found ≤ asked.sets → IsSearched (searched_of asked s found steps o told) (Ok Sets)
+    pub exits : most_sets asked ≤ length found → length found ≤ most_sets asked
+        → IsSearched (searched_of asked s found steps o told) (Ok Sets)
     exits low high = record {
       holds = goes.going.holds;
       problem = goes.going.problem;

@@ -1,7 +1,9 @@
--- What a listing writes, in order: the head of the log; for each set its portion of the log and its lines; the rest of the log;
--- the report; the waves; the last line. And what stands where that is cut short.
-use Rattle.std.specs.Prelude.{ℕ, ◌≡◌, ◌≤◌, ◌<◌, ◌^◌, ◌⊎◌, Bool, true, false, List, [], ◌∷◌, ◌++◌, length, take, count_by, Option, Some, None}
+-- What a listing writes, in order: the head of the log, with the steps of the session in one piece, and the lines of the session's sets;
+-- for each set that is found its portion of the log and its lines; the rest of the log; the report; the waves; the last line. And what
+-- stands where that is cut short.
+use Rattle.std.specs.Prelude.{ℕ, ◌≡◌, ◌≤◌, ◌<◌, ◌^◌, ◌⊎◌, Bool, true, false, List, [], ◌∷◌, ◌++◌, length, map, take, count_by, Option, Some, None}
 use Rattle.std.specs.List.{flat_map}
+use Rattle.design_core.specs.declared.values.SetWithValues.{SetWithValues}
 use Rattle.clause_base.specs.declared.literal.Lit.{Lit}
 use Rattle.clause_base.specs.declared.log.Step.{Step}
 use Rattle.log_portions.specs.Portions.{head_text, steps_text}
@@ -21,26 +23,31 @@ use Rattle.set_waves.specs.Waved.{AreRuns, Runs}
 abbrev pub set_writes : Asked → Portion → List Write
 set_writes asked portion = put_piece asked.log (steps_text portion.steps) ∷ print_piece (lines_of asked portion.set) ∷ []
 
+-- those before the search
+abbrev pub first_writes : Asked → List Write
+first_writes asked =
+    begin_text asked.log ∷ put_piece asked.log (head_text asked.inputs ++ steps_text asked.session.log)
+    ∷ map (λ (set : SetWithValues). print_piece (lines_of asked set)) asked.session.sets
+
 -- up to the last set that was found
 abbrev pub opening : Asked → List Portion → List Write
-opening asked portions =
-    begin_text asked.log ∷ put_piece asked.log (head_text asked.inputs) ∷ flat_map (set_writes asked) portions
+opening asked portions = first_writes asked ++ flat_map (set_writes asked) portions
 
 -- the texts behind the search
 abbrev pub texts : Asked → List Portion → List Step → Ending → Runs → List Write
 texts asked portions rest ending runs =
     put_piece asked.log (steps_text rest) ∷ begin_text asked.report
-    ∷ put_piece asked.report (report_of asked (found_of portions) ending) ∷ waves asked (found_of portions) runs
+    ∷ put_piece asked.report (report_of asked (found_of asked portions) ending) ∷ waves asked (found_of asked portions) runs
 
 -- ---- what is written before the last line
 -- the writes of a listing that goes on, or of one that ended, but its last line
 pub data IsBody (asked : Asked) (form : List (List Lit)) : List Write → Type 0 where
-  going_on : (portions : List Portion) → AreFound asked.problem form portions → IsBody asked form (opening asked portions)
+  going_on : (portions : List Portion) → AreFound asked form portions → IsBody asked form (opening asked portions)
   ended : (portions : List Portion) (rest : List Step) (ending : Ending) (runs : Runs) → IsEnded asked form portions rest ending
-      → AreRuns (waved_for asked) (found_of portions) runs
+      → AreRuns (waved_for asked) (found_of asked portions) runs
       → IsBody asked form (opening asked portions ++ texts asked portions rest ending runs)
 
--- whether a write prints: before the last line one write prints for each set
+-- whether a write prints: before the last line one write prints for each set that is listed
 abbrev pub prints : Write → Bool
 prints (begin_text name) = false
 prints (put_piece name piece) = false
@@ -58,11 +65,11 @@ short count body = take count body ++ print_piece (memory_line (sets_in (take co
 -- ---- what is due
 -- all that a listing writes: it goes on; it ends, with its last line; or memory is wanted behind some of its writes
 pub data IsDue (asked : Asked) (form : List (List Lit)) : List Write → Type 0 where
-  so_far : (portions : List Portion) → AreFound asked.problem form portions → IsDue asked form (opening asked portions)
+  so_far : (portions : List Portion) → AreFound asked form portions → IsDue asked form (opening asked portions)
   whole : (portions : List Portion) (rest : List Step) (ending : Ending) (runs : Runs) → IsEnded asked form portions rest ending
-      → AreRuns (waved_for asked) (found_of portions) runs
+      → AreRuns (waved_for asked) (found_of asked portions) runs
       → IsDue asked form (opening asked portions ++ texts asked portions rest ending runs
-      ++ print_piece (ending_line ending (length portions)) ∷ [])
+      ++ print_piece (ending_line ending (length (found_of asked portions))) ∷ [])
   wanting : (body : List Write) (count : ℕ) → IsBody asked form body → count ≤ length body → IsDue asked form (short count body)
 
 -- ---- how a listing ends
@@ -79,12 +86,12 @@ pub record IsListed (asked : Asked) (o : Outputs) (status : ℕ) : Type 0 where
   -- a budget of 3 ^ V, for the V variables of the form, is never spent
   pub is_spent : ending ≡ Budget → asked.budget < 3 ^ vars
   -- what is reported is a report
-  pub is_report : IsReport (report_for asked (found_of portions) ending)
+  pub is_report : IsReport (report_for asked (found_of asked portions) ending)
   -- the runs that the waves show: of each trace, with the values of each set
   pub runs : Runs
-  pub are_runs : AreRuns (waved_for asked) (found_of portions) runs
+  pub are_runs : AreRuns (waved_for asked) (found_of asked portions) runs
   pub done : AreDone (opening asked portions ++ texts asked portions rest ending runs
-      ++ print_piece (ending_line ending (length portions)) ∷ []) o
+      ++ print_piece (ending_line ending (length (found_of asked portions))) ∷ []) o
 
 -- and its ending, which its report and its last line say, is this one
 pub record IsListedTo (asked : Asked) (o : Outputs) (ending : Ending) : Type 0 where

@@ -1,5 +1,6 @@
--- What is found of a problem's list, with the log that shows it: so far, and when the listing has ended.
-use Rattle.std.specs.Prelude.{ℕ, ◌≡◌, ◌+◌, ◌<◌, ◌≤◌, List, [], ◌∷◌, ◌++◌, All, length, map, count_by}
+-- What is found of a problem's list, with the log that shows it: so far, and when the listing has ended. Both begin with those of the
+-- session that the listing goes on from.
+use Rattle.std.specs.Prelude.{ℕ, ◌≡◌, ◌+◌, ◌<◌, ◌≤◌, List, [], ◌∷◌, ◌++◌, All, length, map, drop, count_by}
 use Rattle.std.specs.List.{flat_map}
 use Rattle.design_core.specs.declared.values.SetWithValues.{SetWithValues}
 use Rattle.design_core.specs.Explained.{AreValuesOf, Explains}
@@ -27,15 +28,20 @@ pub record Portion : Type 0 where
   pub steps : List Step
   pub set : SetWithValues
 
-abbrev pub found_of : List Portion → List SetWithValues
-found_of portions = map (λ portion. portion.set) portions
+-- the sets of the session, and these
+abbrev pub found_of : Asked → List Portion → List SetWithValues
+found_of asked portions = asked.session.sets ++ map (λ portion. portion.set) portions
 
-abbrev pub sets_of : List Portion → List (List ℕ)
-sets_of portions = map (λ portion. portion.set.members) portions
+abbrev pub sets_of : Asked → List Portion → List (List ℕ)
+sets_of asked portions = map (λ (set : SetWithValues). set.members) (found_of asked portions)
 
--- the log with the portions of these sets
-abbrev pub log_of : List Portion → List Step
-log_of portions = flat_map (λ portion. portion.steps) portions
+-- the log of the session, with the portions of these sets
+abbrev pub log_of : Asked → List Portion → List Step
+log_of asked portions = asked.session.log ++ flat_map (λ portion. portion.steps) portions
+
+-- the steps of a log behind those of the session
+abbrev pub own_steps : Asked → List Step → List Step
+own_steps asked log = drop (length asked.session.log) log
 
 -- the values of a set are those of its places, a row of them for each cycle of the traces, and with them each trace is right
 pub record IsShown (p : Problem) (set : SetWithValues) : Type 0 where
@@ -48,40 +54,41 @@ HasItsBlock portion = blocks_of portion.steps ≡ block_of portion.set.members �
 
 -- ---- so far
 -- sets of a front of the problem's list, with values, and a log that is accepted after the form, with their blocks
-pub record AreFound (p : Problem) (form : List (List Lit)) (portions : List Portion) : Type 0 where
-  pub front : IsFrontOf p (sets_of portions)
-  pub shown : All (IsShown p) (found_of portions)
+pub record AreFound (asked : Asked) (form : List (List Lit)) (portions : List Portion) : Type 0 where
+  pub front : IsFrontOf asked.problem (sets_of asked portions)
+  pub shown : All (IsShown asked.problem) (found_of asked portions)
   pub blocks : All HasItsBlock portions
-  pub accepted : IsAccepted form (map block_of (sets_of portions)) (log_of portions)
+  pub accepted : IsAccepted form (map block_of (sets_of asked portions)) (log_of asked portions)
 
 -- ---- at the end
--- the learned steps of a log of the problem are fresh, and its derived steps are few
-abbrev pub IsCountedFor : Problem → List (List Lit) → List (List ℕ) → List Step → Type 0
-IsCountedFor p form sets log =
+-- behind the session's steps the learned steps of a log of the problem are fresh, and its derived steps are few
+abbrev pub IsCountedFor : Asked → List (List Lit) → List (List ℕ) → List Step → Type 0
+IsCountedFor asked form sets log =
+    let p = asked.problem in
     let n = suspect_count p in
-    IsCounted form (bounds_of n p.k) (p.k + 1) n (last_of sets) (bound_of n p.k (length (last_of sets))) log 0
+    IsCounted form (bounds_of n p.k) (p.k + 1) n (last_of sets) (bound_of n p.k (length (last_of sets))) log (length asked.session.log)
 
 -- the list is whole and the log closing; or the budget is spent on learned steps, to the last unit; or as many sets were found as
--- were asked for
-abbrev pub EndsAs : Asked → List (List ℕ) → List Step → Ending → Type 0
-EndsAs asked sets log Complete =
-    IsListOf asked.problem sets
+-- were asked for. Neither steps nor sets of the session count
+abbrev pub EndsAs : Asked → List Portion → List Step → Ending → Type 0
+EndsAs asked portions log Complete =
+    IsListOf asked.problem (sets_of asked portions)
     × IsClosing (bound_of (suspect_count asked.problem) asked.problem.k asked.problem.k) log
-    × (length sets < asked.sets)
-EndsAs asked sets log Budget = (count_by is_learned log ≡ asked.budget) × (length sets < asked.sets)
-EndsAs asked sets log Sets = length sets ≡ asked.sets
-EndsAs asked sets log Earlier = ⊥
+    × (length portions < asked.sets)
+EndsAs asked portions log Budget = (count_by is_learned (own_steps asked log) ≡ asked.budget) × (length portions < asked.sets)
+EndsAs asked portions log Sets = length portions ≡ asked.sets
+EndsAs asked portions log Earlier = ⊥
 
 -- a listing that ended: what was found, and the steps behind the last set, `rest`
 pub record IsEnded (asked : Asked) (form : List (List Lit)) (portions : List Portion) (rest : List Step) (ending : Ending) : Type 0 where
-  pub found : AreFound asked.problem form portions
+  pub found : AreFound asked form portions
   pub no_block : blocks_of rest ≡ []
-  pub accepted : IsAccepted form (map block_of (sets_of portions)) (log_of portions ++ rest)
-  pub counted : IsCountedFor asked.problem form (sets_of portions) (log_of portions ++ rest)
-  pub within_budget : count_by is_learned (log_of portions ++ rest) ≤ asked.budget
-  pub ends : EndsAs asked (sets_of portions) (log_of portions ++ rest) ending
+  pub accepted : IsAccepted form (map block_of (sets_of asked portions)) (log_of asked portions ++ rest)
+  pub counted : IsCountedFor asked form (sets_of asked portions) (log_of asked portions ++ rest)
+  pub within_budget : count_by is_learned (own_steps asked (log_of asked portions ++ rest)) ≤ asked.budget
+  pub ends : EndsAs asked portions (log_of asked portions ++ rest) ending
   -- where the list isn't whole, the log shows that no set is missing before the last one
   pub shows : ending_status ending ≡ 1
-      → Shows (suspect_count asked.problem) asked.problem.k (last_of (sets_of portions)) (log_of portions ++ rest)
+      → Shows (suspect_count asked.problem) asked.problem.k (last_of (sets_of asked portions)) (log_of asked portions ++ rest)
   -- the text of the log stands for this log alone
-  pub readable : IsLogText (record { inputs = asked.inputs; log = log_of portions ++ rest })
+  pub readable : IsLogText (record { inputs = asked.inputs; log = log_of asked portions ++ rest })

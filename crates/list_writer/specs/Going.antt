@@ -1,5 +1,5 @@
 -- Private, for the functions inside this crate: what is known while sets are listed.
-use Rattle.std.specs.Prelude.{ℕ, ◌≡◌, ◌+◌, ◌<◌, ◌≤◌, ◌⊎◌, Bool, true, false, List, [], ◌∷◌, ◌++◌, All, length, take, drop, count_by}
+use Rattle.std.specs.Prelude.{ℕ, ◌≡◌, ◌+◌, ◌<◌, ◌≤◌, ◌⊎◌, Bool, true, false, List, [], ◌∷◌, ◌++◌, All, length, map, take, drop, count_by}
 use Rattle.std.specs.Prelude.{Option, Some, None, Result, Ok, Err}
 use Rattle.std.specs.List.{flat_map}
 use Rattle.design_core.specs.declared.values.SetWithValues.{SetWithValues}
@@ -12,11 +12,13 @@ use Rattle.sat_core.specs.SolverState.{blocks_of}
 use Rattle.write_order.specs.Writes.{AreBegun, AreDone, Outputs, StopsIn, Write, begin_text, print_piece, put_piece}
 use Rattle.write_order.specs.declared.write.WriteErr.{WriteErr}
 use Rattle.write_order.specs.declared.write.WriteErr.TheVariants as write
+use Rattle.report_doc.specs.Lines.{IsMemberOf}
 use Rattle.report_doc.specs.declared.types.Ending.{Ending}
 use Rattle.report_doc.specs.declared.types.Ending.TheVariants.{Complete, Budget, Sets, Earlier}
 use Rattle.command_contract.specs.Contract.{Counts, NoneRose, WriteFailed}
 use Rattle.debug_core.specs.declared.found.Found.{Found}
 use Rattle.debug_core.specs.declared.found.Found.TheVariants as answer
+use Rattle.suspect_map.specs.declared.group.Group.{Group}
 use Rattle.card_counter.specs.Shows.{Shows, last_of}
 use Rattle.debug_core.specs.Problems.{IsFormFor, suspect_count}
 use Rattle.debug_core.specs.Debugging.{DebugState, FindsEnd, FindsNothing, FindsSet, HasCountedLog, IsDebugger, Searches}
@@ -25,9 +27,9 @@ use Rattle.list_writer.specs.declared.stop.Stop.TheVariants.{Failed, Memory}
 use Rattle.list_writer.specs.declared.outcome.Outcome.{Outcome}
 use Rattle.list_writer.specs.declared.outcome.Outcome.TheVariants as outcome
 use Rattle.list_writer.specs.Asked.{Asked}
-use Rattle.list_writer.specs.Found.{AreFound, EndsAs, IsShown, Portion, found_of, log_of, sets_of}
+use Rattle.list_writer.specs.Found.{AreFound, EndsAs, IsShown, Portion, found_of, log_of, own_steps, sets_of}
 use Rattle.list_writer.specs.Lines.{ending_line, ending_status, memory_line}
-use Rattle.list_writer.specs.Texts.{report_of, waves}
+use Rattle.list_writer.specs.Texts.{lines_of, report_of, waves}
 use Rattle.set_waves.specs.Waved.{Runs}
 use Rattle.list_writer.specs.Due.{IsBody, IsListedTo, IsStopped, prints, set_writes, sets_in}
 
@@ -61,21 +63,54 @@ closing_writes asked found rest ending runs =
     put_piece asked.log (steps_text rest) ∷ begin_text asked.report ∷ put_piece asked.report (report_of asked found ending)
     ∷ (waves asked found runs ++ print_piece (ending_line ending (length found)) ∷ [])
 
+abbrev pub SinkCause : {X : Type 0} → ℕ → ℕ → Result X Stop → Type 0
+SinkCause old new (Ok _) = new ≡ old
+SinkCause old new (Err Failed) = Rose old new
+SinkCause old new (Err (Memory sets)) = new ≡ old
+
+-- ---- before the search
+-- the members of sets are numbers of suspects
+abbrev pub AreMembers : List Group → List SetWithValues → Type 0
+AreMembers groups found = All (λ (set : SetWithValues). All (IsMemberOf groups) set.members) found
+
+-- the lines of sets are printed; where memory was wanted, those of the first of them, and of so many
+abbrev pub lines_writes : Asked → List SetWithValues → List Write
+lines_writes asked found = map (λ (set : SetWithValues). print_piece (lines_of asked set)) found
+
+abbrev pub LinesLeave : {X : Type 0} → List Write → Outputs → Result X Stop → Type 0
+LinesLeave writes o (Ok _) = AreDone writes o
+LinesLeave writes o (Err Failed) = StopsIn writes o
+LinesLeave writes o (Err (Memory sets)) = (count : ℕ) × (count ≤ length writes) × (sets ≡ Some count) × AreDone (take count writes) o
+
+-- writes that were cut short, behind so many sets that are printed
+pub record AreShort (writes : List Write) (sets : Option ℕ) (o : Outputs) : Type 0 where
+  pub count : ℕ
+  pub within : count ≤ length writes
+  pub sets_are : sets ≡ sets_in (take count writes)
+  pub done : AreDone (take count writes) o
+
+-- the writes before the search were carried out, or some of them
+abbrev pub OpenLeaves : {X : Type 0} → List Write → Outputs → Result X Stop → Type 0
+OpenLeaves writes o (Ok _) = AreDone writes o
+OpenLeaves writes o (Err Failed) = StopsIn writes o
+OpenLeaves writes o (Err (Memory sets)) = AreShort writes sets o
+
 -- ---- between two sets
 -- the log is written up to a place, with no block behind it, and so are the lines of all sets that were found
 pub record IsGoing (asked : Asked) (s : DebugState) (found : List SetWithValues) (steps left : ℕ) (portions : List Portion) : Type 0 where
   pub holds : IsDebugger s
   pub problem : s.problem ≡ asked.problem
-  pub found_are : found ≡ found_of portions
-  pub listed : s.listed ≡ sets_of portions
+  pub found_are : found ≡ found_of asked portions
+  pub listed : s.listed ≡ sets_of asked portions
   pub within : steps ≤ length s.log
-  pub written : take steps s.log ≡ log_of portions
+  pub written : take steps s.log ≡ log_of asked portions
   pub no_block : blocks_of (drop steps s.log) ≡ []
   pub shown : All (IsShown asked.problem) found
-  pub so_far : AreFound asked.problem s.form portions
-  pub units : count_by is_learned s.log + left ≡ asked.budget
+  pub so_far : AreFound asked s.form portions
+  pub units : count_by is_learned (own_steps asked s.log) + left ≡ asked.budget
   pub goes_on : s.ended ≡ false
   pub unfinished : s.finished ≡ false
+  pub imported : s.imported ≡ length asked.session.log
 
 -- sets that were found, and their writes
 pub record SearchGoes (asked : Asked) (s : DebugState) (found : List SetWithValues) (steps left : ℕ) (o : Outputs)
@@ -189,18 +224,20 @@ pub record HasEnded (asked : Asked) (s : DebugState) (found : List SetWithValues
     (portions : List Portion) : Type 0 where
   pub holds : IsDebugger s
   pub problem : s.problem ≡ asked.problem
-  pub found_are : found ≡ found_of portions
-  pub listed : s.listed ≡ sets_of portions
+  pub found_are : found ≡ found_of asked portions
+  pub listed : s.listed ≡ sets_of asked portions
   pub shown : All (IsShown asked.problem) found
-  pub so_far : AreFound asked.problem s.form portions
+  pub so_far : AreFound asked s.form portions
   pub within : steps ≤ length s.log
-  pub joined : log_of portions ++ drop steps s.log ≡ s.log
+  pub joined : log_of asked portions ++ drop steps s.log ≡ s.log
   pub no_block : blocks_of (drop steps s.log) ≡ []
-  -- few steps of it are derived ones
+  -- few steps of it behind the session's are derived ones
   pub counted : HasCountedLog s
-  pub few : length s.log ≤ count_by is_learned s.log + 9 + length s.listed + suspect_count s.problem
-  pub within_budget : count_by is_learned s.log ≤ asked.budget
-  pub ends : EndsAs asked (sets_of portions) s.log ending
+  pub few : length s.log
+      ≤ length asked.session.log + count_by is_learned (own_steps asked s.log) + 9 + length s.listed + suspect_count s.problem
+  pub within_budget : count_by is_learned (own_steps asked s.log) ≤ asked.budget
+  pub ends : EndsAs asked portions s.log ending
+  pub imported : s.imported ≡ length asked.session.log
 
 -- the log of a list that isn't whole shows that no set is missing before the last one
 abbrev pub ShowsFront : DebugState → Ending → Type 0
@@ -222,20 +259,20 @@ pub record SearchEnds (e : Searched) (ending : Ending) : Type 0 where
 
 pub record SearchFails (e : Searched) : Type 0 where
   pub portions : List Portion
-  pub found : AreFound e.asked.problem e.s.form portions
+  pub found : AreFound e.asked e.s.form portions
   pub stops : e.told ≡ true → StopsIn (sets_writes e.asked portions) e.o
 
--- some of these writes were carried out, from the first one on, and so many sets are printed by them
-pub record AreCut (writes : List Write) (sets : Option ℕ) (o : Outputs) : Type 0 where
+-- some of these writes were carried out, from the first one on, and so many sets are printed by them and by the writes of a session
+pub record AreCut (before : ℕ) (writes : List Write) (sets : Option ℕ) (o : Outputs) : Type 0 where
   pub count : ℕ
   pub within : count ≤ length writes
-  pub sets_are : sets ≡ Some (count_by prints (take count writes))
+  pub sets_are : sets ≡ Some (before + count_by prints (take count writes))
   pub done : AreDone (take count writes) o
 
 pub record SearchCut (e : Searched) (sets : Option ℕ) : Type 0 where
   pub portions : List Portion
-  pub found : AreFound e.asked.problem e.s.form portions
-  pub cut : e.told ≡ true → AreCut (sets_writes e.asked portions) sets e.o
+  pub found : AreFound e.asked e.s.form portions
+  pub cut : e.told ≡ true → AreCut (length e.asked.session.sets) (sets_writes e.asked portions) sets e.o
 
 abbrev pub searched_of : Asked → DebugState → List SetWithValues → ℕ → Outputs → Bool → Searched
 searched_of asked s found steps o told = record { asked = asked; s = s; found = found; steps = steps; o = o; told = told }

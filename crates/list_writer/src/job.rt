@@ -1,13 +1,14 @@
 use debug_core::Question;
+use design_core::SetWithValues;
 use loc_base::{Digest, Name};
 
-/// What a listing is asked.
+/// What a listing is asked, but for the session that it goes on from.
 #[derive(Clone, Copy)]
 pub struct Job<'a> {
     pub question: Question<'a>,
-    /// The most steps that may be learned.
+    /// The most steps that may be learned, beside those of a session.
     pub budget: u32,
-    /// The most sets that may be found.
+    /// The most sets that may be found, beside those of a session.
     pub sets: u32,
     /// The name of the log.
     pub log: &'a str,
@@ -24,8 +25,12 @@ pub struct Job<'a> {
 }
 
 /// A listing that is to be done: what is asked, and what searches for its sets.
+///
+/// Where it goes on from a session, the log of the search has the session's steps.
 #[derive(Drop)]
 pub struct Task<'a, D> {
     pub job: Job<'a>,
     pub search: D,
+    /// The sets of the session, none where it goes on from none.
+    pub found: Vec<SetWithValues>,
 }

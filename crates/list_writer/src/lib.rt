@@ -18,7 +18,7 @@ mod waving;
 mod writes;
 
 pub use job::{Job, Task};
-pub use laws::{enough_is_whole, listed_texts};
+pub use laws::{enough_is_whole, listed_goes_on, listed_texts};
 pub use listing::list;
 pub use outcome::Outcome;
 pub use search::Search;

@@ -1,45 +1,40 @@
 //! The listing: sets are searched for, and each is written as it is found.
-ghost use Rattle.std.specs.Prelude.{◌≡◌, ◌≢◌, ◌<◌, ◌≤◌, ◌∷◌, [], ◌++◌, ◌&&◌, ◌↔◌, All, Bool, IfOk, IsSome, IsTrue, List, OnOk, Option, drop, false, length, true, ℕ};
+ghost use Rattle.std.specs.Prelude.{◌≡◌, ◌≢◌, ◌+◌, ◌<◌, ◌≤◌, ◌∷◌, [], ◌++◌, ◌&&◌, ◌↔◌, All, Bool, IfOk, IsSome, IsTrue, List, OnOk, Option, drop, false, length, true, ℕ};
 ghost use Rattle.command_contract.specs.Contract.{Counts, NoneRose, counts_of};
-ghost use Rattle.debug_core.specs.Debugging.{Begins, HasRoom, IsDebugger};
+ghost use Rattle.debug_core.specs.Debugging.{HasRoom, IsDebugger};
 ghost use Rattle.report_doc.specs.Lines.{AreWithin, IsMemberOf};
-ghost use Rattle.report_doc.specs.Shape.{IsReport};
-ghost use Rattle.write_order.specs.Writes.{Leaves, Outputs, WriteCause, on_shelf, on_sink};
+ghost use Rattle.write_order.specs.Writes.{Leaves, Outputs, on_sink};
 ghost use Rattle.list_writer.specs.Due.{set_writes};
 ghost use Rattle.list_writer.specs.Going.{IsTurn, IsSearched, MemoryCause, RunLeaves, SearchEnds, ShowsFront, StopCauses, TellsMemory};
 ghost use Rattle.list_writer.specs.Lines.{ending_status};
-ghost use Rattle.list_writer.specs.Going.{WriteCauses, closing_writes, outputs, report_writes, searched_of, turn_of};
-ghost use Rattle.list_writer.specs.Jobs.{IsJob, IsUpTo, asked_of};
+ghost use Rattle.list_writer.specs.Going.{WriteCauses, outputs, searched_of, turn_of};
+ghost use Rattle.list_writer.specs.Asked.{Session};
+ghost use Rattle.list_writer.specs.Jobs.{GoesWith, IsJob, IsUpTo, asked_of, asked_with, session_of};
 ghost use Rattle.list_writer.specs.Outcomes.{Leaves as Ends, OutcomeCause};
 ghost use Rattle.list_writer.specs.Checks.{CanBeChecked, IsVerdictOn};
-ghost use Rattle.list_writer.specs.Reporting.{CanBeReported};
-ghost use Rattle.list_writer.specs.Texts.{report_for, waved_for, waves};
 ghost use Rattle.set_waves.specs.Names.{IsWave};
-ghost use Rattle.set_waves.specs.Waved.{AreRuns, CanBeWaved, HaveValues, Runs};
+
+mod close;
+mod open;
 
 use crate::checking::check_log;
 use crate::job::{Job, Task};
 use crate::outcome::Outcome;
 use crate::progress::Sizes;
-use crate::report::text_of_report;
 use crate::search::Search;
 use crate::slice::next_in_slice;
 use crate::stop::{Stop, stopped};
 use crate::verdict::Verdict;
-use crate::waving::waves_under;
-use crate::writes::{
-    Written, begin_log, print_ending, print_memory, print_set, put_head, put_steps,
-};
+use crate::writes::{Written, print_memory, print_set, put_steps};
 use debug_core::Found;
 use design_core::SetWithValues;
 use io_ports::{Shelf, Sink};
 use loc_base::{Gate, NoMemory, Workers};
 use refusal::{Note, Notes};
 use report_doc::types::Ending;
-use set_waves::put_waves;
 use std::alloc::Global;
 use std::thread::Threads;
-use write_order::{WriteErr, begin_text, put_piece};
+use write_order::WriteErr;
 
 /// A listing that goes on: what is found so far, how many steps of the log are written, and the units that are left of the budget.
 #[derive(Drop)]
@@ -111,7 +106,8 @@ impl<'a, D: Search + Drop> Listing<'a, D> {
         ensures tells_sink { O.tells out.new ≡ O.tells out.old }
         ensures texts { S.texts shelf.new ≡ S.texts shelf.old }
         ensures begun { S.tells shelf.old ≡ true → OnOk result (IsSome (S.written shelf.new self.old.job.log.now)) }
-        ensures turn { IsTurn (turn_of (asked_of self.old.job) (D.state self.old.search) (D.state self.new.search)
+        ensures turn { (session : Session)
+            → IsTurn (turn_of (asked_with self.old.job session) (D.state self.old.search) (D.state self.new.search)
             (record { found = self.old.found.items; steps = self.old.steps; left = self.old.left })
             (record { found = self.new.found.items; steps = self.new.steps; left = self.new.left })
             (outputs (S.written shelf.old) (S.written shelf.new) (O.written out.old) (O.written out.new))
@@ -147,11 +143,10 @@ impl<'a, D: Search + Drop> Listing<'a, D> {
         out: &mut O,
         notes: &mut N,
     ) -> Result<Ending, Stop>
-        requires job { IsJob (asked_of self.old.job) }
-        requires begins { Begins (asked_of self.old.job).problem (D.state self.old.search) }
+        requires job { IsJob (asked_with self.old.job (session_of self.old.found.items (D.state self.old.search))) }
+        requires goes_with { GoesWith (asked_of self.old.job).problem (session_of self.old.found.items (D.state self.old.search)) (D.state self.old.search) }
         requires holds { IsDebugger (D.state self.old.search) }
-        requires found { self.old.found.items ≡ [] }
-        requires steps { self.old.steps ≡ 0 }
+        requires steps { self.old.steps ≡ length (D.state self.old.search).log }
         requires units { self.old.left ≡ self.old.job.budget }
         requires begun { S.tells shelf.old ≡ true → IsSome (S.written shelf.old self.old.job.log.now) }
         ensures job { self.new.job ≡ self.old.job }
@@ -159,7 +154,8 @@ impl<'a, D: Search + Drop> Listing<'a, D> {
         ensures tells_sink { O.tells out.new ≡ O.tells out.old }
         ensures texts { S.texts shelf.new ≡ S.texts shelf.old }
         ensures begun { S.tells shelf.old ≡ true → OnOk result (IsSome (S.written shelf.new self.old.job.log.now)) }
-        ensures left { IsSearched (searched_of (asked_of self.old.job) (D.state self.new.search)
+        ensures left { IsSearched (searched_of (asked_with self.old.job (session_of self.old.found.items (D.state self.old.search)))
+            (D.state self.new.search)
             self.new.found.items self.new.steps
             (outputs (S.written shelf.old) (S.written shelf.new) (O.written out.old) (O.written out.new))
             (S.tells shelf.old && O.tells out.old)) result }
@@ -167,8 +163,9 @@ impl<'a, D: Search + Drop> Listing<'a, D> {
         ensures unfinished { OnOk result ((D.state self.new.search).finished ≡ false) }
         ensures causes { StopCauses (counts_of (S.faults shelf.old) (S.faults shelf.new) (O.faults out.old) (O.faults out.new)) result }
     {
-        let mut sizes = Sizes::new();
-        while self.found.len() < self.job.sets as usize {
+        let mut sizes = Sizes::behind(self.steps);
+        let most = self.found.len() + self.job.sets as usize;
+        while self.found.len() < most {
             match self.advance(shelf, out, notes)? {
                 None => self.tell_progress(&mut sizes, notes),
                 Some(ending) => return Ok(ending),
@@ -183,9 +180,9 @@ impl<'a, D: Search + Drop> Listing<'a, D> {
         requires goes_on { (D.state self.old.search).ended ≡ false }
         requires unfinished { (D.state self.old.search).finished ≡ false }
         ensures job { self.new.job ≡ self.old.job }
-        ensures left { (o : Outputs) (told : Bool)
-            → SearchEnds (searched_of (asked_of self.old.job) (D.state self.old.search) self.old.found.items self.old.steps o told) ending
-            → IsSearched (searched_of (asked_of self.old.job) (D.state self.new.search) self.new.found.items self.new.steps o told) result }
+        ensures left { (session : Session) (o : Outputs) (told : Bool)
+            → SearchEnds (searched_of (asked_with self.old.job session) (D.state self.old.search) self.old.found.items self.old.steps o told) ending
+            → IsSearched (searched_of (asked_with self.old.job session) (D.state self.new.search) self.new.found.items self.new.steps o told) result }
         ensures shown { IfOk result (ShowsFront (D.state self.new.search)) }
         ensures causes { (counts : Counts) → NoneRose counts → StopCauses counts result }
     {
@@ -202,11 +199,10 @@ impl<'a, D: Search + Drop> Listing<'a, D> {
         out: &mut O,
         notes: &mut N,
     ) -> Result<Ending, Stop>
-        requires job { IsJob (asked_of self.old.job) }
-        requires begins { Begins (asked_of self.old.job).problem (D.state self.old.search) }
+        requires job { IsJob (asked_with self.old.job (session_of self.old.found.items (D.state self.old.search))) }
+        requires goes_with { GoesWith (asked_of self.old.job).problem (session_of self.old.found.items (D.state self.old.search)) (D.state self.old.search) }
         requires holds { IsDebugger (D.state self.old.search) }
-        requires found { self.old.found.items ≡ [] }
-        requires steps { self.old.steps ≡ 0 }
+        requires steps { self.old.steps ≡ length (D.state self.old.search).log }
         requires units { self.old.left ≡ self.old.job.budget }
         requires begun { S.tells shelf.old ≡ true → IsSome (S.written shelf.old self.old.job.log.now) }
         ensures job { self.new.job ≡ self.old.job }
@@ -214,7 +210,8 @@ impl<'a, D: Search + Drop> Listing<'a, D> {
         ensures tells_sink { O.tells out.new ≡ O.tells out.old }
         ensures texts { S.texts shelf.new ≡ S.texts shelf.old }
         ensures begun { S.tells shelf.old ≡ true → OnOk result (IsSome (S.written shelf.new self.old.job.log.now)) }
-        ensures left { IsSearched (searched_of (asked_of self.old.job) (D.state self.new.search)
+        ensures left { IsSearched (searched_of (asked_with self.old.job (session_of self.old.found.items (D.state self.old.search)))
+            (D.state self.new.search)
             self.new.found.items self.new.steps
             (outputs (S.written shelf.old) (S.written shelf.new) (O.written out.old) (O.written out.new))
             (S.tells shelf.old && O.tells out.old)) result }
@@ -254,94 +251,6 @@ impl<'a, D: Search + Drop> Listing<'a, D> {
         }
     }
 
-    /// Writes the report.
-    fn put_report<S: Shelf, N: Notes>(
-        &self,
-        ending: Ending,
-        shelf: &mut S,
-        notes: &mut N,
-    ) -> Result<(), WriteErr>
-        requires { CanBeReported (asked_of self.now.job) self.now.found.items }
-        ensures tells { S.tells shelf.new ≡ S.tells shelf.old }
-        ensures texts { S.texts shelf.new ≡ S.texts shelf.old }
-        ensures left { S.tells shelf.old ≡ true → (printed : List ℕ)
-            → Leaves (report_writes (asked_of self.now.job) self.now.found.items ending)
-            (on_shelf (S.written shelf.old) (S.written shelf.new) printed) result }
-        ensures report { OnOk result (IsReport (report_for (asked_of self.now.job) self.now.found.items ending)) }
-        ensures cause { WriteCause (S.faults shelf.old) (S.faults shelf.new) result }
-    {
-        // The text first, so that the report isn't begun where there is no memory for it.
-        match text_of_report(self.alloc, &self.job, &self.found, ending) {
-            Ok(text) => {
-                begin_text(shelf, self.job.report, notes)?;
-                put_piece(shelf, self.job.report, text.as_slice(), notes)
-            }
-            Err(NoMemory) => Err(WriteErr::NoMemory),
-        }
-    }
-
-    /// Writes the waves, where they are asked for.
-    fn put_waves<S: Shelf, N: Notes>(&self, shelf: &mut S, notes: &mut N) -> Result<(), WriteErr>
-        requires waved { CanBeWaved (waved_for (asked_of self.now.job)) (asked_of self.now.job).problem.order }
-        requires values { HaveValues (waved_for (asked_of self.now.job)) self.now.found.items }
-        ensures tells { S.tells shelf.new ≡ S.tells shelf.old }
-        ensures texts { S.texts shelf.new ≡ S.texts shelf.old }
-        ensures left { S.tells shelf.old ≡ true → (runs : Runs) (printed : List ℕ)
-            → AreRuns (waved_for (asked_of self.now.job)) self.now.found.items runs
-            → Leaves (waves (asked_of self.now.job) self.now.found.items runs)
-            (on_shelf (S.written shelf.old) (S.written shelf.new) printed) result }
-        ensures cause { WriteCause (S.faults shelf.old) (S.faults shelf.new) result }
-    {
-        match self.job.waves {
-            None => Ok(()),
-            Some(prefix) => put_waves(
-                self.alloc,
-                &waves_under(&self.job, prefix),
-                &self.found,
-                shelf,
-                notes,
-            ),
-        }
-    }
-
-    /// Writes what stands behind the search: the rest of the log, the report, the waves, and the last line.
-    fn close<S: Shelf, O: Sink, N: Notes>(
-        &self,
-        verdict: &Verdict,
-        shelf: &mut S,
-        out: &mut O,
-        notes: &mut N,
-    ) -> Result<(), WriteErr>
-        requires begun { S.tells shelf.old ≡ true → IsSome (S.written shelf.old self.now.job.log.now) }
-        requires shown { IsVerdictOn (D.state self.now.search) verdict.now }
-        requires report { CanBeReported (asked_of self.now.job) self.now.found.items }
-        requires waved { CanBeWaved (waved_for (asked_of self.now.job)) (asked_of self.now.job).problem.order }
-        requires values { HaveValues (waved_for (asked_of self.now.job)) self.now.found.items }
-        ensures tells_shelf { S.tells shelf.new ≡ S.tells shelf.old }
-        ensures tells_sink { O.tells out.new ≡ O.tells out.old }
-        ensures texts { S.texts shelf.new ≡ S.texts shelf.old }
-        ensures left { S.tells shelf.old ≡ true → O.tells out.old ≡ true
-            → (runs : Runs) → AreRuns (waved_for (asked_of self.now.job)) self.now.found.items runs
-            → Leaves (closing_writes (asked_of self.now.job) self.now.found.items
-            (drop self.now.steps (D.state self.now.search).log) verdict.now.ending runs)
-            (outputs (S.written shelf.old) (S.written shelf.new) (O.written out.old) (O.written out.new)) result }
-        ensures report { OnOk result (IsReport (report_for (asked_of self.now.job) self.now.found.items verdict.now.ending)) }
-        ensures causes { WriteCauses (counts_of (S.faults shelf.old) (S.faults shelf.new) (O.faults out.old) (O.faults out.new)) result }
-    {
-        let rest = Written {
-            log: self.search.log(),
-            before: self.steps,
-        };
-        put_steps(self.alloc, &self.job, &rest, shelf, notes)?;
-        notes.note(&Note::Written { name: self.job.log });
-        self.put_report(verdict.ending, shelf, notes)?;
-        notes.note(&Note::Written {
-            name: self.job.report,
-        });
-        self.put_waves(shelf, notes)?;
-        print_ending(self.alloc, verdict.ending, self.found.len(), out, notes)
-    }
-
     /// Lists the sets, and writes all that is due.
     fn run<R: Threads + Sync, G: Gate + Sync, S: Shelf, O: Sink, N: Notes>(
         &mut self,
@@ -351,22 +260,20 @@ impl<'a, D: Search + Drop> Listing<'a, D> {
         notes: &mut N,
     ) -> Result<Ending, Stop>
         requires workers { IsUpTo 64 workers.now.count }
-        requires job { IsJob (asked_of self.old.job) }
-        requires begins { Begins (asked_of self.old.job).problem (D.state self.old.search) }
+        requires job { IsJob (asked_with self.old.job (session_of self.old.found.items (D.state self.old.search))) }
+        requires goes_with { GoesWith (asked_of self.old.job).problem (session_of self.old.found.items (D.state self.old.search)) (D.state self.old.search) }
         requires holds { IsDebugger (D.state self.old.search) }
-        requires found { self.old.found.items ≡ [] }
-        requires steps { self.old.steps ≡ 0 }
+        requires steps { self.old.steps ≡ length (D.state self.old.search).log }
         requires units { self.old.left ≡ self.old.job.budget }
         ensures tells_shelf { S.tells shelf.new ≡ S.tells shelf.old }
         ensures tells_sink { O.tells out.new ≡ O.tells out.old }
         ensures texts { S.texts shelf.new ≡ S.texts shelf.old }
         ensures left { S.tells shelf.old ≡ true → O.tells out.old ≡ true
-            → RunLeaves (asked_of self.old.job)
+            → RunLeaves (asked_with self.old.job (session_of self.old.found.items (D.state self.old.search)))
             (outputs (S.written shelf.old) (S.written shelf.new) (O.written out.old) (O.written out.new)) result }
         ensures causes { StopCauses (counts_of (S.faults shelf.old) (S.faults shelf.new) (O.faults out.old) (O.faults out.new)) result }
     {
-        stopped(begin_log(&self.job, shelf, notes), None)?;
-        stopped(put_head(self.alloc, &self.job, shelf, notes), Some(0))?;
+        self.open(shelf, out, notes)?;
         let ending = self.search_on(shelf, out, notes)?;
         let sets = Some(self.found.len());
         let Ok(verdict) = self.check(workers, ending) else {
@@ -407,7 +314,8 @@ fn tell_memory<O: Sink, N: Notes>(
 }
 
 /// Lists the sets of a problem and writes them as they are found: the log in portions, the lines of each set, the report, the waves,
-/// and the last line. A list is said to be complete only where it is whole and its log was checked.
+/// and the last line. A list is said to be complete only where it is whole and its log was checked. Where it goes on from a session, log,
+/// lines, report and waves begin with the session's.
 pub fn list<R: Threads + Sync, G: Gate + Sync, D: Search + Drop, S: Shelf, O: Sink, N: Notes>(
     alloc: Global,
     workers: &Workers<R, G>,
@@ -417,8 +325,8 @@ pub fn list<R: Threads + Sync, G: Gate + Sync, D: Search + Drop, S: Shelf, O: Si
     notes: &mut N,
 ) -> Outcome
     requires workers { IsUpTo 64 workers.now.count }
-    requires job { IsJob (asked_of task.job) }
-    requires begins { Begins (asked_of task.job).problem (D.state task.search) }
+    requires job { IsJob (asked_with task.job (session_of task.found.items (D.state task.search))) }
+    requires goes_with { GoesWith (asked_of task.job).problem (session_of task.found.items (D.state task.search)) (D.state task.search) }
     requires holds { IsDebugger (D.state task.search) }
     ensures tells_shelf { S.tells shelf.new ≡ S.tells shelf.old }
     ensures tells_sink { O.tells out.new ≡ O.tells out.old }
@@ -426,21 +334,23 @@ pub fn list<R: Threads + Sync, G: Gate + Sync, D: Search + Drop, S: Shelf, O: Si
 
     // What stands then, and under the other names what stood before.
     ensures left { S.tells shelf.old ≡ true → O.tells out.old ≡ true
-        → Ends (asked_of task.entry.job)
+        → Ends (asked_with task.entry.job (session_of task.entry.found.items (D.state task.entry.search)))
         (outputs (S.written shelf.old) (S.written shelf.new) (O.written out.old) (O.written out.new)) result }
     ensures others { S.tells shelf.old ≡ true → O.tells out.old ≡ true
         → (name : List ℕ) → name ≢ task.entry.job.log.now → name ≢ task.entry.job.report.now
-        → ¬ IsWave (asked_of task.entry.job).waves (asked_of task.entry.job).sets (length (asked_of task.entry.job).problem.traces) name
+        → ¬ IsWave (asked_of task.entry.job).waves (length task.entry.found.items + (asked_of task.entry.job).sets)
+        (length (asked_of task.entry.job).problem.traces) name
         → S.written shelf.new name ≡ S.written shelf.old name }
     ensures causes { OutcomeCause (counts_of (S.faults shelf.old) (S.faults shelf.new) (O.faults out.old) (O.faults out.new)) result }
 {
-    let Task { job, search } = task;
+    let Task { job, search, found } = task;
+    let steps = search.log().len();
     let mut listing = Listing {
         alloc,
         job,
         search,
-        found: Vec::new(alloc),
-        steps: 0,
+        found,
+        steps,
         left: job.budget,
     };
     match listing.run(workers, shelf, out, notes) {

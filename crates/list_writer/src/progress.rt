@@ -10,15 +10,15 @@ pub(crate) struct Sizes {
 }
 
 impl Sizes {
-    /// Before the first step.
-    pub(crate) fn new() -> Sizes {
+    /// Behind so many steps, which are a session's: the sizes are searched from 0 again.
+    pub(crate) fn behind(steps: usize) -> Sizes {
         Sizes {
             ended: 0,
-            looked: 0,
+            looked: steps,
         }
     }
 
-    /// The size that is searched where these are the steps. Each derived step of a listing's log ends a size.
+    /// The size that is searched where these are the steps. Each derived step that a listing's search adds ends a size.
     pub(crate) fn size(&mut self, log: &Log) -> u32 {
         for place in self.looked..log.len() {
             if let StepKind::Derived = log.kind(place) {

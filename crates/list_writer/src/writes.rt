@@ -1,5 +1,5 @@
 //! The writes of a listing, each with the text that it needs.
-ghost use Rattle.std.specs.Prelude.{◌≡◌, ◌∷◌, [], ℕ, List, All, Option, IsSome, OnOk, true, drop};
+ghost use Rattle.std.specs.Prelude.{◌≡◌, ◌∷◌, [], ◌++◌, ℕ, List, All, IfOk, Option, IsSome, OnOk, true, drop};
 ghost use Rattle.log_portions.specs.Portions.{head_text, steps_text};
 ghost use Rattle.proof_check.specs.Text.{IsDigest};
 ghost use Rattle.report_doc.specs.Lines.{AreWithin, IsMemberOf};
@@ -12,14 +12,36 @@ use crate::job::Job;
 use crate::lines::{ending_line, memory_line};
 use clause_base::Log;
 use design_core::SetWithValues;
-use io_ports::{Shelf, Sink};
-use loc_base::NoMemory;
+use io_ports::{PutErr, Shelf, Sink};
+use loc_base::{Digest, NoMemory};
 use log_portions::{head_text, portion};
-use refusal::Notes;
+use printed_text::push_bytes;
+use refusal::{Note, Notes};
 use report_doc::set_lines;
 use report_doc::types::Ending;
 use std::alloc::Global;
 use write_order::{WriteErr, begin_text, print_piece, put_piece};
+
+/// Asks whether a text can be begun under a name. Where it can't be, it is told.
+pub(crate) fn ask<S: Shelf, N: Notes>(
+    shelf: &mut S,
+    name: &str,
+    notes: &mut N,
+) -> Result<(), WriteErr>
+    ensures tells { S.tells shelf.new ≡ S.tells shelf.old }
+    ensures texts { S.texts shelf.new ≡ S.texts shelf.old }
+    ensures written { S.written shelf.new ≡ S.written shelf.old }
+    ensures cause { WriteCause (S.faults shelf.old) (S.faults shelf.new) result }
+{
+    match shelf.can_begin(name) {
+        Ok(()) => Ok(()),
+        Err(PutErr::Failed(cause)) => {
+            notes.note(&Note::Unwritten { name, cause });
+            Err(WriteErr::Failed)
+        }
+        Err(PutErr::NoMemory) => Err(WriteErr::NoMemory),
+    }
+}
 
 /// Begins the log.
 pub(crate) fn begin_log<S: Shelf, N: Notes>(
@@ -37,11 +59,22 @@ pub(crate) fn begin_log<S: Shelf, N: Notes>(
     begin_text(shelf, job.log, notes)
 }
 
-/// Puts the head of the log.
+/// The head of the log's text, with the lines of steps.
+fn head_with(alloc: Global, inputs: &Digest, log: &Log) -> Result<Vec<u8>, NoMemory>
+    ensures text { IfOk result (λ text. text.items ≡ head_text inputs.now ++ steps_text log.now) }
+    ensures digest { OnOk result (IsDigest inputs.now) }
+{
+    let mut text = head_text(alloc, inputs)?;
+    push_bytes(&mut text, &portion(alloc, log, 0)?)?;
+    Ok(text)
+}
+
+/// Puts the head of the log and, in the same piece, the lines of the steps that it begins with.
 #[tactic(auto, using(crate::proofs::Putting::put_rules))]
 pub(crate) fn put_head<S: Shelf, N: Notes>(
     alloc: Global,
     job: &Job,
+    log: &Log,
     shelf: &mut S,
     notes: &mut N,
 ) -> Result<(), WriteErr>
@@ -49,13 +82,13 @@ pub(crate) fn put_head<S: Shelf, N: Notes>(
     ensures tells { S.tells shelf.new ≡ S.tells shelf.old }
     ensures texts { S.texts shelf.new ≡ S.texts shelf.old }
     ensures left { S.tells shelf.old ≡ true → (printed : List ℕ)
-        → Leaves (put_piece job.now.log.now (head_text job.now.inputs) ∷ [])
+        → Leaves (put_piece job.now.log.now (head_text job.now.inputs ++ steps_text log.now) ∷ [])
         (on_shelf (S.written shelf.old) (S.written shelf.new) printed) result }
     ensures begun { S.tells shelf.old ≡ true → OnOk result (IsSome (S.written shelf.new job.now.log.now)) }
     ensures digest { OnOk result (IsDigest job.now.inputs) }
     ensures cause { WriteCause (S.faults shelf.old) (S.faults shelf.new) result }
 {
-    match head_text(alloc, &job.inputs) {
+    match head_with(alloc, &job.inputs, log) {
         Ok(head) => put_piece(shelf, job.log, &head, notes),
         Err(NoMemory) => Err(WriteErr::NoMemory),
     }

@@ -47,30 +47,28 @@ module _ (of : Listed) where
   -- a set of the report, as it was found
   pub record Found (place : ℕ) (set : ReportSet) : Type 0 where
     pub found : SetWithValues
-    pub there : slice_get (sets_of portions) place ≡ Some found.members
+    pub there : slice_get (sets_of of.asked portions) place ≡ Some found.members
     pub is : set_of p.traces found ≡ set
     pub shown : IsShown p found
 
   found-at : (place : ℕ) (set : ReportSet) → slice_get c.sets place ≡ Some set → Found place set
   found-at place set there =
-      let (found, within, same) = got-from (set_of p.traces) (found_of portions) place set there in
-      let (portion, at, is) = got-from (λ (portion : Portion). portion.set) portions place found within in
+      let (found, within, same) = got-from (set_of p.traces) (found_of of.asked portions) place set there in
       record {
         found = found;
-        there = subst (λ (s : SetWithValues). slice_get (sets_of portions) place ≡ Some s.members) is
-            (got-map (λ (portion : Portion). portion.set.members) portions place portion at);
+        there = got-map (λ (one : SetWithValues). one.members) (found_of of.asked portions) place found within;
         is = same;
-        shown = got-all (IsShown p) (found_of portions) place found of.is.is_ended.found.shown within;
+        shown = got-all (IsShown p) (found_of of.asked portions) place found of.is.is_ended.found.shown within;
       }
 
   entry : (place : ℕ) (set : ReportSet) (f : Found place set) → Entry f.found.members
-  entry place set f = got-all Entry (sets_of portions) place f.found.members of.is.is_ended.found.front.entries f.there
+  entry place set f = got-all Entry (sets_of of.asked portions) place f.found.members of.is.is_ended.found.front.entries f.there
 
   -- one set comes before another behind it
   before : (i j : ℕ) (one other : ReportSet) (f : Found i one) (g : Found j other) → i < j
       → IsTrue (is_before f.found.members g.found.members)
   before i j one other f g less =
-      got-pair (λ x y. IsTrue (is_before x y)) (sets_of portions) i j f.found.members g.found.members
+      got-pair (λ x y. IsTrue (is_before x y)) (sets_of of.asked portions) i j f.found.members g.found.members
       of.is.is_ended.found.front.ordered less f.there g.there
 
   members-are : (place : ℕ) (set : ReportSet) (f : Found place set) → f.found.members ≡ set.members
@@ -150,32 +148,34 @@ module _ (of : Listed) where
       (f.shown.explains.meets j trace at))
 
   -- ---- the log
-  blocks-same : (some : List Portion) → map block_of (sets_of some) ≡ blocks_for (map (set_of p.traces) (found_of some))
+  blocks-same : (sets : List SetWithValues) → map block_of (map (λ (set : SetWithValues). set.members) sets)
+      ≡ blocks_for (map (set_of p.traces) sets)
   blocks-same [] = refl
-  blocks-same (portion ∷ some) = ap (λ (rest : List (List Lit)). block_of portion.set.members ∷ rest) (blocks-same some)
+  blocks-same (set ∷ sets) = ap (λ (rest : List (List Lit)). block_of set.members ∷ rest) (blocks-same sets)
 
   closes : of.status ≡ 0 → Closes c
   closes none = at of.is.ending of.is.is_ended.ends (sym of.is.has_status ∙ none)
     where
-      at : (how : Ending) → EndsAs of.asked (sets_of portions) c.log how → ending_status how ≡ 0 → Closes c
+      at : (how : Ending) → EndsAs of.asked portions c.log how → ending_status how ≡ 0 → Closes c
       at Complete ends zero = ends.1
       at Budget ends zero = absurd (omega (arith, zero))
       at Sets ends zero = absurd (omega (arith, zero))
       at Earlier ends zero = absurd ends
 
   accepted : IsAcceptedLog c
-  accepted = subst (λ (blocks : List (List Lit)). IsAccepted of.is.form blocks c.log) (blocks-same portions) of.is.is_ended.accepted
+  accepted = subst (λ (blocks : List (List Lit)). IsAccepted of.is.form blocks c.log) (blocks-same (found_of of.asked portions)) of.is.is_ended.accepted
 
   pub is-whole : of.status ≡ 0 → IsWhole c
   is-whole none = record { in_order = in-order; none_holds = none-holds; right = right; accepted = accepted; closes = closes none }
 
-  members-same : (some : List Portion) → sets_of some ≡ map (λ (set : ReportSet). set.members) (map (set_of p.traces) (found_of some))
+  members-same : (sets : List SetWithValues) → map (λ (set : SetWithValues). set.members) sets
+      ≡ map (λ (set : ReportSet). set.members) (map (set_of p.traces) sets)
   members-same [] = refl
-  members-same (portion ∷ some) = ap (λ (rest : List (List ℕ)). portion.set.members ∷ rest) (members-same some)
+  members-same (set ∷ sets) = ap (λ (rest : List (List ℕ)). set.members ∷ rest) (members-same sets)
 
   shows : of.status ≡ 1 → ShowsLast c
   shows one =
-      subst (λ (sets : List (List ℕ)). Shows (suspect_count p) p.k (last_of sets) c.log) (members-same portions)
+      subst (λ (sets : List (List ℕ)). Shows (suspect_count p) p.k (last_of sets) c.log) (members-same (found_of of.asked portions))
       (of.is.is_ended.shows (sym of.is.has_status ∙ one))
 
   pub is-shown : of.status ≡ 1 → IsFrontShown c

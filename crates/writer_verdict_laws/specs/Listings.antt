@@ -10,11 +10,11 @@ use Rattle.list_writer.specs.Texts.{report_for}
 
 -- the log, with the digest of the inputs
 abbrev pub log_in : Listed → LogText
-log_in of = record { inputs = of.asked.inputs; log = log_of of.is.portions ++ of.is.rest }
+log_in of = record { inputs = of.asked.inputs; log = log_of of.asked of.is.portions ++ of.is.rest }
 
 -- the report
 abbrev pub report_in : Listed → Report
-report_in of = report_for of.asked (found_of of.is.portions) of.is.ending
+report_in of = report_for of.asked (found_of of.asked of.is.portions) of.is.ending
 
 -- the problem that was asked, with its form, and the sets of the report and the log
 abbrev pub claim_in : Listed → Claim

@@ -5,13 +5,13 @@ use Rattle.debug_core.specs.Debugging.{DebugState, FindsSet, IsDebugger, Searche
 use Rattle.write_order.specs.Writes.{Leaves}
 use Rattle.list_writer.specs.Due.{set_writes}
 use Rattle.list_writer.specs.Going.{outputs, portion_of, turn_of}
-use Rattle.list_writer.specs.Jobs.{asked_of}
+use Rattle.list_writer.specs.Jobs.{asked_with}
 use Rattle.list_writer.specs.Stops.{stopped}
 use Rattle.list_writer.proofs.Pairs.{both, set-fails, set-taken}
 use Rattle.list_writer.proofs.listing.Listing.advance.Goals as goal
 
 pub returns-in_err-stopped-in-Ok-Set-clause-turn : goal.returns-in_err-stopped-in-Ok-Set-clause-turn
-returns-in_err-stopped-in-Ok-Set-clause-turn g c =
+returns-in_err-stopped-in-Ok-Set-clause-turn g c = λ session.
     let p = err_from_is_err_and c.from_residual.result c.from_residual.ensures.1 in
     let state = g.D.Search.state in
     let many : c.len-count.result ≡ length c.args.self.now.found.items = omega (arith, c.len-count.ensures, c.args.self.now.found.ok.0) in
@@ -26,7 +26,7 @@ returns-in_err-stopped-in-Ok-Set-clause-turn g c =
     (subst (λ (s : DebugState). Searches old s c.args.self.now.left c.next_in_slice.new.left) same c.in-Ok-Set.ensures.searches) in
     let finds : FindsSet old (state c.take.new.self.search) c.in-Ok-Set.set =
     subst (λ (s : DebugState). FindsSet old s c.in-Ok-Set.set) same gives in
-    let turn = turn_of (asked_of c.args.self.now.job) old (state c.take.new.self.search)
+    let turn = turn_of (asked_with c.args.self.now.job session) old (state c.take.new.self.search)
     (record { found = c.args.self.now.found.items; steps = c.args.self.now.steps; left = c.args.self.now.left })
     (record { found = c.take.new.self.found.items; steps = c.take.new.self.steps; left = c.take.new.self.left })
     (outputs (g.S.Shelf.written c.args.shelf.now) (g.S.Shelf.written c.take.new.shelf) (g.O.Sink.written c.args.out.now)
@@ -43,7 +43,7 @@ returns-in_err-stopped-in-Ok-Set-clause-turn g c =
     (ap (λ (n : ℕ). stopped c.take.result (Some n)) (sym many) ∙ sym c.stopped.ensures ∙ c.in_err-stopped-in-Ok-Set.was) left)
 
 pub returns-in_ok-stopped-in-Ok-Set-clause-turn : goal.returns-in_ok-stopped-in-Ok-Set-clause-turn
-returns-in_ok-stopped-in-Ok-Set-clause-turn g c =
+returns-in_ok-stopped-in-Ok-Set-clause-turn g c = λ session.
     let state = g.D.Search.state in
     let many : c.len-count.result ≡ length c.args.self.now.found.items = omega (arith, c.len-count.ensures, c.args.self.now.found.ok.0) in
     let old = state c.args.self.now.search in
@@ -57,7 +57,7 @@ returns-in_ok-stopped-in-Ok-Set-clause-turn g c =
     (subst (λ (s : DebugState). Searches old s c.args.self.now.left c.next_in_slice.new.left) same c.in-Ok-Set.ensures.searches) in
     let finds : FindsSet old (state c.take.new.self.search) c.in-Ok-Set.set =
     subst (λ (s : DebugState). FindsSet old s c.in-Ok-Set.set) same gives in
-    let turn = turn_of (asked_of c.args.self.now.job) old (state c.take.new.self.search)
+    let turn = turn_of (asked_with c.args.self.now.job session) old (state c.take.new.self.search)
     (record { found = c.args.self.now.found.items; steps = c.args.self.now.steps; left = c.args.self.now.left })
     (record { found = c.take.new.self.found.items; steps = c.take.new.self.steps; left = c.take.new.self.left })
     (outputs (g.S.Shelf.written c.args.shelf.now) (g.S.Shelf.written c.take.new.shelf) (g.O.Sink.written c.args.out.now)
