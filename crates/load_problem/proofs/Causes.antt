@@ -1,7 +1,8 @@
 -- Why nothing is listed: from the refusal of a text, of the number of suspects or of the form to the line that says so.
-use Rattle.std.proofs.Common.{ℕ, ◌≡◌, ◌<◌, ◌≤◌, List, length, refl, sym, subst, ◌∙◌, arith, Some, inr}
+use Rattle.std.proofs.Common.{ℕ, ◌≡◌, ◌<◌, ◌≤◌, List, length, refl, sym, subst, ◌∙◌, arith, Some, ◌⊎◌, inr}
 use Rattle.io_ports.specs.Faults.{FaultCounts}
 use Rattle.command_contract.specs.Contract.{Texts}
+use Rattle.command_contract.proofs.Statuses.{input-range}
 use Rattle.design_core.specs.declared.design.Design.{Design}
 use Rattle.design_core.specs.declared.place.Place.{Place}
 use Rattle.suspect_map.specs.declared.group.Group.{Group}
@@ -15,11 +16,11 @@ use Rattle.load_texts.specs.Means.{MeansDesign}
 use Rattle.load_texts.proofs.Endings.{said, spared}
 use Rattle.refusal.specs.declared.last_line.LastLine.{LastLine}
 use Rattle.refusal.specs.declared.last_line.LastLine.TheVariants.{Line, Memory}
-use Rattle.refusal.specs.Ends.{HasCause, HasStatus, IsSpared, RefusalCounts, Says}
+use Rattle.refusal.specs.Ends.{HasCause, HasStatus, IsMemory, IsSpared, RefusalCounts, Says}
 use Rattle.requests.specs.Asked.{WantedAsked}
 use Rattle.load_problem.specs.Within.{HasTooMany}
 use Rattle.load_problem.specs.Means.{Means, Suspecting, most_suspects}
-use Rattle.load_problem.specs.Refusals.{HasFewSuspects, IsReady, Refused, for_design, for_problem, for_suspects, for_trace}
+use Rattle.load_problem.specs.Refusals.{FormRefused, HasFewSuspects, IsReady, Refused, for_design, for_problem, for_suspects, for_trace, form_fault}
 use Rattle.load_problem.specs.Refusals.{problem_line, problem_status}
 
 -- ---- the design
@@ -115,3 +116,29 @@ pub problem-counts : (old new : FaultCounts) (fault : DebugErr) (r : LastLine) �
     → new ≡ old → RefusalCounts old new r
 problem-counts old new fault (Line s l) (e, f) same = (λ five. absurd (not-five fault (sym e ∙ five)), λ _. same)
 problem-counts old new fault Memory says same = tt
+
+-- a fault is a limit that is passed, or want of memory
+pub form-low : (p : Problem) (s : ℕ) (l : List ℕ) → FormRefused p s l → (s ≡ 3) ⊎ (s ≡ 4)
+form-low p s l (form_fault fault is e) = inr refl
+
+pub form-cause : (p : Problem) (fault : DebugErr) (r : LastLine) → IsRefused p fault → HasStatus r
+    → Says r (problem_status fault) (problem_line fault) → HasCause (FormRefused p) r
+form-cause p Nodes r is has says = said (FormRefused p) r 4 (problem_line Nodes) (form_fault Nodes is refl) says
+form-cause p Vars r is has says = said (FormRefused p) r 4 (problem_line Vars) (form_fault Vars is refl) says
+form-cause p Literals r is has says = said (FormRefused p) r 4 (problem_line Literals) (form_fault Literals is refl) says
+form-cause p NoMemory (Line s l) is has (e, f) = absurd (omega (arith, e, input-range s has))
+form-cause p NoMemory Memory is has says = tt
+
+pub form-memory : (fault : DebugErr) (r : LastLine) → HasStatus r → Says r (problem_status fault) (problem_line fault)
+    → fault ≡ NoMemory → IsMemory r
+form-memory NoMemory (Line s l) has (e, f) same = absurd (omega (arith, e, input-range s has))
+form-memory NoMemory Memory has says same = tt
+form-memory Nodes r has says same = absurd (cc)
+form-memory Vars r has says same = absurd (cc)
+form-memory Literals r has says same = absurd (cc)
+
+-- the problem that the texts mean passes it
+pub form-refused : (M : Meaning) (R : Refusing) (S : Suspecting) (asked : WantedAsked) (texts : Texts) (p : Problem) (status : ℕ)
+    (line : List ℕ) → Means M S asked texts p → FormRefused p status line → Refused M R S asked texts status line
+form-refused M R S asked texts p status line means (form_fault fault is e) =
+    subst (λ n. Refused M R S asked texts n (problem_line fault)) e (for_problem p fault means is)

@@ -30,6 +30,10 @@ problem_status Vars = 4
 problem_status Literals = 4
 problem_status NoMemory = 7
 
+-- it is refused for it
+pub data FormRefused (p : Problem) : ℕ → List ℕ → Type 0 where
+  form_fault : (fault : DebugErr) → IsRefused p fault → problem_status fault ≡ 4 → FormRefused p 4 (problem_line fault)
+
 -- ---- suspects
 -- a design that is meant has no more suspects than there may be, or has more
 abbrev pub HasFewSuspects : Suspecting → WantedAsked → Design → Type 0

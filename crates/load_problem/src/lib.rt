@@ -7,5 +7,5 @@ mod limits;
 mod tools;
 
 pub use inputs::{Inputs, read};
-pub use limits::problem_line;
+pub use limits::{form_plan, problem_line};
 pub use tools::Tools;

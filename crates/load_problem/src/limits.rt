@@ -1,10 +1,13 @@
-//! Which limit a problem passes, and the line that says so.
-ghost use Rattle.std.specs.Prelude.{◌≡◌};
+//! The plan of a problem's form; which limit a problem passes that has none, and the line that says so.
+ghost use Rattle.std.specs.Prelude.{◌≡◌, IfErr, IfOk};
+ghost use Rattle.debug_core.specs.declared.error.DebugErr.{DebugErr as SomeErr};
+ghost use Rattle.debug_core.specs.declared.error.DebugErr.TheVariants.{NoMemory as WantOfMemory};
+ghost use Rattle.debug_core.specs.Problems.{IsFormFor, IsProblem, IsRefused, problem_of};
 ghost use Rattle.refusal.specs.Codes.{code_line, code_status};
-ghost use Rattle.refusal.specs.Ends.{HasStatus, Says};
-ghost use Rattle.load_problem.specs.Refusals.{problem_line, problem_status};
+ghost use Rattle.refusal.specs.Ends.{HasCause, HasStatus, IsMemory, Says};
+ghost use Rattle.load_problem.specs.Refusals.{FormRefused, problem_line, problem_status};
 
-use debug_core::DebugErr;
+use debug_core::{DebugErr, FormPlan, Question, plan_of};
 use refusal::{Code, LastLine, Note, Notes, Refusal};
 use std::alloc::Global;
 
@@ -38,4 +41,22 @@ pub fn problem_line<N: Notes>(alloc: Global, fault: DebugErr, notes: &mut N) -> 
     ensures status { HasStatus result }
 {
     limited(alloc, &Refusal::of(problem_code(fault), &fault), notes)
+}
+
+/// The plan of the form of what is asked, or the line that ends a run whose problem has none. No clause is made.
+pub fn form_plan<N: Notes>(
+    alloc: Global,
+    question: &Question<'_>,
+    notes: &mut N,
+) -> Result<FormPlan, LastLine>
+    requires { IsProblem (problem_of question.now) }
+    ensures form { IfOk result (λ plan. IsFormFor (problem_of question.now) plan.vars plan.clauses) }
+    ensures refused { IfErr result (HasCause (FormRefused (problem_of question.now))) }
+    ensures only { ((fault : SomeErr) → IsRefused (problem_of question.now) fault → fault ≡ WantOfMemory)
+        → IfErr result IsMemory }
+{
+    match plan_of(alloc, question) {
+        Ok(plan) => Ok(plan),
+        Err(fault) => Err(problem_line(alloc, fault, notes)),
+    }
 }
