@@ -1,5 +1,3 @@
-pub mod Causes
-pub mod LoadedTexts
 pub mod KindNames
 pub mod WholeCauses
 pub mod Posing

@@ -1,33 +1,15 @@
 -- What is printed of a judgement, and the status. Suspects, sets and steps are counted from 1, traces too, and cycles from 0; an output
 -- is given by its name.
-use Rattle.std.specs.Prelude.{ℕ, ◌+◌, List, [], ◌++◌, slice_get, codes, decimal}
-use Rattle.std.specs.Option.{option_map_or}
+use Rattle.std.specs.Prelude.{ℕ, List, ◌++◌, codes}
 use Rattle.printed_text.specs.Numerals.{newline}
-use Rattle.cycle_sim.specs.declared.miss.Miss.{Miss}
 use Rattle.design_core.specs.declared.design.Design.{Design}
-use Rattle.load_texts.specs.Dumps.{port_name}
 use Rattle.list_verdict.specs.declared.verdict.Verdict.{Verdict}
 use Rattle.list_verdict.specs.declared.verdict.Verdict.TheVariants as verdict
+use Rattle.list_session.specs.Words.{miss_words, number_word, pair_words}
 use Rattle.check_cmd.specs.declared.verdicts.Judgement.{Judgement}
 use Rattle.check_cmd.specs.declared.verdicts.Judgement.TheVariants.{OfList, OfTable}
 use Rattle.check_cmd.specs.declared.table.TableFault.{TableFault}
 use Rattle.check_cmd.specs.declared.table.TableFault.TheVariants.{Suspect, Top}
-
--- the name of the output of a number, from 0
-abbrev pub output_name : Design → ℕ → List ℕ
-output_name d number = option_map_or (port_name d.signals.items) (slice_get d.outputs.items number) []
-
--- a space and a number
-abbrev pub number_word : ℕ → List ℕ
-number_word n = codes " " ++ decimal n
-
--- two of them
-abbrev pub pair_words : ℕ → ℕ → List ℕ
-pair_words one other = number_word one ++ number_word other
-
--- `TRACE CYCLE OUTPUT`, each after a space
-abbrev pub miss_words : Design → Miss → List ℕ
-miss_words d miss = number_word (miss.trace + 1) ++ number_word miss.cycle ++ codes " " ++ output_name d miss.output
 
 -- the line of a verdict on so many sets of a design
 abbrev pub verdict_line : Design → ℕ → Verdict → List ℕ

@@ -5,11 +5,9 @@ use Rattle.clause_base.specs.declared.literal.Lit.{Lit}
 use Rattle.command_contract.specs.Contract.{Texts}
 use Rattle.suspect_map.specs.Choose.{unknown}
 use Rattle.front_end.specs.Means.{Meaning}
-use Rattle.load_texts.specs.Means.{IsReadAnd}
 use Rattle.report_doc.specs.declared.types.Report.{Report}
-use Rattle.report_reading.specs.Reading.{IsReportOf}
 use Rattle.proof_check.specs.declared.types.LogText.{LogText}
-use Rattle.proof_check.specs.Text.{IsLogText, text_of}
+use Rattle.session_reading.specs.Texts.{IsLogIn, IsReportIn}
 use Rattle.debug_core.specs.Problems.{IsFormFor, Problem}
 use Rattle.load_problem.specs.Means.{IsDigestOf, Means as MeansProblem, Suspecting}
 use Rattle.list_verdict.specs.Claims.{Claim}
@@ -19,15 +17,11 @@ use Rattle.requests.specs.Asked.{CheckAsked}
 -- ---- texts
 -- the text under the report's name is that of a report
 abbrev pub MeansReport : CheckAsked → Texts → Report → Type 0
-MeansReport asked texts report = IsReadAnd (texts asked.report) (λ text. IsReportOf text report)
-
--- a text is that of a log
-abbrev pub IsLogOf : List ℕ → LogText → Type 0
-IsLogOf text log = IsLogText log × (text ≡ text_of log)
+MeansReport asked texts report = IsReportIn (texts asked.report) report
 
 -- and the text under the log's name
 abbrev pub MeansLog : CheckAsked → Texts → LogText → Type 0
-MeansLog asked texts log = IsReadAnd (texts asked.log) (λ text. IsLogOf text log)
+MeansLog asked texts log = IsLogIn (texts asked.log) log
 
 -- ---- a report by which a list can be asked
 -- the first of its kinds of suspects that isn't among those that are there, if there is one

@@ -7,28 +7,27 @@ ghost use Rattle.debug_core.specs.declared.error.DebugErr.{DebugErr as SomeErr};
 ghost use Rattle.debug_core.specs.declared.error.DebugErr.TheVariants.{NoMemory as WantOfMemory};
 ghost use Rattle.debug_core.specs.Problems.{IsFormFor, IsProblem, IsRefused};
 ghost use Rattle.load_problem.specs.Inputs.{problem_in};
+ghost use Rattle.load_problem.specs.Refusals.{FormRefused};
 ghost use Rattle.refusal.specs.Ends.{CountsOf, HasCause, HasStatus, IsMemory, IsSpared};
 ghost use Rattle.check_cmd.specs.Asked.{IsAsked};
 ghost use Rattle.requests.specs.Views.{check_asked};
 ghost use Rattle.check_cmd.specs.Checking.{IsReady};
 ghost use Rattle.check_cmd.specs.Means.{AreOfInputs, Asks, Means, Poses};
-ghost use Rattle.check_cmd.specs.Parts.{CanBePosed, FormRefused, IsEvidence, given_of, posed_of};
+ghost use Rattle.check_cmd.specs.Parts.{CanBePosed, IsEvidence, given_of, posed_of};
 ghost use Rattle.check_cmd.specs.Refusals.{Refused};
 
 use crate::kinds::know;
-use crate::logs::load_log;
-use crate::reports::load_report;
-use crate::sessions::{Digests, same_inputs};
 use crate::wanted::wanted;
-use debug_core::{FormPlan, plan_of};
+use debug_core::FormPlan;
 use front_end::FrontEnd;
 use io_ports::Shelf;
-use load_problem::{Inputs, Tools, problem_line, read};
+use load_problem::{Inputs, Tools, form_plan, read};
 use loc_base::{Gate, Workers};
 use proof_check::types::LogText;
 use refusal::{LastLine, Notes};
 use report_doc::types::Report;
 use requests::CheckRequest;
+use session_reading::{Digests, load_log, load_report, same_inputs};
 use std::alloc::Global;
 use std::thread::Threads;
 use suspect_map::Granularity;
@@ -61,10 +60,7 @@ fn plan_in<N: Notes>(
     ensures only { ((fault : SomeErr) → IsRefused (problem_in inputs.now size) fault → fault ≡ WantOfMemory)
         → IfErr result IsMemory }
 {
-    match plan_of(alloc, &inputs.question(size)) {
-        Ok(plan) => Ok(plan),
-        Err(fault) => Err(problem_line(alloc, fault, notes)),
-    }
+    form_plan(alloc, &inputs.question(size), notes)
 }
 
 /// The report by which the list is asked.
@@ -94,7 +90,7 @@ fn ask<F: FrontEnd, R: Threads + Sync, G: Gate + Sync, S: Shelf, N: Notes>(
         (check_asked request.now) (S.texts shelf.old)
         → IfErr result IsSpared }
 {
-    let report = load_report(alloc, request, shelf, notes)?;
+    let report = load_report(alloc, request.report.as_str(), shelf, notes)?;
     know(alloc, tools.kinds, &report)?;
     Ok(report)
 }
@@ -184,7 +180,13 @@ pub(crate) fn gather<F: FrontEnd, R: Threads + Sync, G: Gate + Sync, S: Shelf, N
         → IfErr result IsSpared }
 {
     let posed = pose(alloc, tools, request, shelf, notes)?;
-    let log = load_log(alloc, &workers_of(tools, request), request, shelf, notes)?;
+    let log = load_log(
+        alloc,
+        &workers_of(tools, request),
+        request.log.as_str(),
+        shelf,
+        notes,
+    )?;
     same_inputs(
         alloc,
         &Digests {

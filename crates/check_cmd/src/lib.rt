@@ -4,12 +4,8 @@
 
 mod evidence;
 mod kinds;
-mod logs;
-mod reports;
 mod run;
-mod sessions;
 mod table;
-mod texts;
 mod verdicts;
 mod wanted;
 

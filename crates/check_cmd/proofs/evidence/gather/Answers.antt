@@ -1,14 +1,17 @@
-use Rattle.std.proofs.Common.{subst, sym, ◌∙◌}
+use Rattle.std.proofs.Common.{List, ℕ, subst, sym, ◌∙◌}
 use Rattle.std.proofs.lemmas.Bool.{false≢true}
 use Rattle.command_contract.specs.Contract.{Texts}
 use Rattle.refusal.specs.Ends.{HasCause, HasStatus, IsSpared}
 use Rattle.load_texts.proofs.Loaded.{passed_on}
 use Rattle.requests.specs.Views.{check_asked}
-use Rattle.check_cmd.specs.Means.{Given, MeansLog}
-use Rattle.check_cmd.specs.Parts.{OtherRefused, posed_of}
-use Rattle.check_cmd.specs.Refusals.{LogRefused, Refused}
-use Rattle.check_cmd.proofs.Causes.{counts-passed, low-counts, low-status}
-use Rattle.check_cmd.proofs.WholeCauses.{other-low, whole-log, whole-other}
+use Rattle.check_cmd.specs.Means.{Given}
+use Rattle.session_reading.specs.Refusals.{LogRefused, OtherRefused}
+use Rattle.session_reading.specs.Texts.{IsLogIn}
+use Rattle.session_reading.proofs.Compared.{other-low}
+use Rattle.check_cmd.specs.Parts.{posed_of}
+use Rattle.check_cmd.specs.Refusals.{Refused}
+use Rattle.session_reading.proofs.Causes.{counts-passed, low-counts, low-status}
+use Rattle.check_cmd.proofs.WholeCauses.{whole-log, whole-other}
 use Rattle.check_cmd.proofs.evidence.gather.Goals as goal
 
 pub returns-in_err-log-clause-refused : goal.returns-in_err-log-clause-refused
@@ -20,15 +23,16 @@ returns-in_err-log-clause-refused g c = λ told.
     c.from_residual-in_err-log.ensures.1
     (whole-log g.F.FrontEnd.means g.F.FrontEnd.refuses _ _ asked texts (posed_of c.in_ok-posed.posed) why
     (c.in_ok-posed.ensures.poses told)
-    (subst (λ (ts : Texts). HasCause (LogRefused asked ts) why) c.in_ok-posed.ensures.texts
-    (c.in_err-log.ensures.refused (c.in_ok-posed.ensures.tells ∙ told))))
+    (subst (λ (n : List ℕ). HasCause (LogRefused n (texts n)) why) c.as_str.ensures.value
+    (subst (λ (ts : Texts). HasCause (LogRefused c.as_str.result.now (ts c.as_str.result.now)) why) c.in_ok-posed.ensures.texts
+    (c.in_err-log.ensures.refused (c.in_ok-posed.ensures.tells ∙ told)))))
 
 pub returns-in_err-log-clause-only : goal.returns-in_err-log-clause-only
 returns-in_err-log-clause-only g c = λ told ready.
-    let asked = check_asked c.args.request.now in
     passed_on IsSpared c.from_residual-in_err-log.result c.in_err-log.field-0.0 c.from_residual-in_err-log.ensures.1
     (c.in_err-log.ensures.only (c.in_ok-posed.ensures.tells ∙ told) ready.log
-    (subst (λ (ts : Texts). MeansLog asked ts ready.log) (sym c.in_ok-posed.ensures.texts) ready.means_log))
+    (subst (λ (ts : Texts). IsLogIn (ts c.as_str.result.now) ready.log) (sym c.in_ok-posed.ensures.texts)
+    (subst (λ (n : List ℕ). IsLogIn (g.S.Shelf.texts c.args.shelf.now n) ready.log) (sym c.as_str.ensures.value) ready.means_log)))
 
 pub returns-in_err-same_inputs-clause-counts : goal.returns-in_err-same_inputs-clause-counts
 returns-in_err-same_inputs-clause-counts g c =
@@ -54,8 +58,9 @@ returns-in_err-same_inputs-clause-refused g c = λ told.
     (whole-other g.F.FrontEnd.means g.F.FrontEnd.refuses _ _ asked texts given why
     (record {
       poses = c.in_ok-posed.ensures.poses told;
-      log = subst (λ (ts : Texts). MeansLog asked ts c.in_ok-log.log) c.in_ok-posed.ensures.texts
-          (c.in_ok-log.ensures.means (c.in_ok-posed.ensures.tells ∙ told));
+      log = subst (λ (n : List ℕ). IsLogIn (g.S.Shelf.texts c.args.shelf.now n) c.in_ok-log.log) c.as_str.ensures.value
+          (subst (λ (ts : Texts). IsLogIn (ts c.as_str.result.now) c.in_ok-log.log) c.in_ok-posed.ensures.texts
+          (c.in_ok-log.ensures.means (c.in_ok-posed.ensures.tells ∙ told)));
     })
     c.in_err-same_inputs.ensures.refused)
 
@@ -68,8 +73,9 @@ returns-in_err-same_inputs-clause-only g c = λ told ready.
     (false≢true
     (c.in_err-same_inputs.ensures.only
     (ready.same (posed_of c.in_ok-posed.posed).report c.in_ok-log.log (posed_of c.in_ok-posed.posed).inputs poses.report.means
-    (subst (λ (ts : Texts). MeansLog asked ts c.in_ok-log.log) c.in_ok-posed.ensures.texts
-    (c.in_ok-log.ensures.means (c.in_ok-posed.ensures.tells ∙ told)))
+    (subst (λ (n : List ℕ). IsLogIn (texts n) c.in_ok-log.log) c.as_str.ensures.value
+    (subst (λ (ts : Texts). IsLogIn (ts c.as_str.result.now) c.in_ok-log.log) c.in_ok-posed.ensures.texts
+    (c.in_ok-log.ensures.means (c.in_ok-posed.ensures.tells ∙ told))))
     poses.inputs)))
 
 pub returns-clause-can : goal.returns-clause-can
@@ -84,6 +90,7 @@ returns-clause-means g c = λ told.
     let asked = check_asked c.args.request.now in
     record {
       poses = c.in_ok-posed.ensures.poses told;
-      log = subst (λ (ts : Texts). MeansLog asked ts c.in_ok-log.log) c.in_ok-posed.ensures.texts
-          (c.in_ok-log.ensures.means (c.in_ok-posed.ensures.tells ∙ told));
+      log = subst (λ (n : List ℕ). IsLogIn (g.S.Shelf.texts c.args.shelf.now n) c.in_ok-log.log) c.as_str.ensures.value
+          (subst (λ (ts : Texts). IsLogIn (ts c.as_str.result.now) c.in_ok-log.log) c.in_ok-posed.ensures.texts
+          (c.in_ok-log.ensures.means (c.in_ok-posed.ensures.tells ∙ told)));
     }

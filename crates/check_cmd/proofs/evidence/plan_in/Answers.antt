@@ -1,16 +1,25 @@
-use Rattle.std.proofs.Common.{subst}
-use Rattle.debug_core.specs.Problems.{IsRefused, Problem}
-use Rattle.load_problem.specs.Inputs.{problem_in}
-use Rattle.check_cmd.proofs.WholeCauses.{form-cause, form-memory}
+use Rattle.std.proofs.Common.{◌≡◌, subst, sym}
+use Rattle.std.specs.Prelude.{IfErr, IfOk}
+use Rattle.debug_core.specs.declared.error.DebugErr.{DebugErr}
+use Rattle.debug_core.specs.declared.error.DebugErr.TheVariants.{NoMemory}
+use Rattle.debug_core.specs.Problems.{IsFormFor, IsProblem, IsRefused, Problem}
+use Rattle.load_problem.specs.Refusals.{FormRefused}
+use Rattle.refusal.specs.Ends.{HasCause}
 use Rattle.check_cmd.proofs.evidence.plan_in.Goals as goal
 
-pub returns-in-Err-clause-refused : goal.returns-in-Err-clause-refused
-returns-in-Err-clause-refused g c =
-    form-cause (problem_in c.args.inputs.now c.args.size) c.in-Err.fault c.problem_line.result
-    (subst (λ (p : Problem). IsRefused p c.in-Err.fault) c.question.ensures c.in-Err.ensures.err)
-    c.problem_line.ensures.status c.problem_line.ensures.says
+pub form_plan-requires : goal.form_plan-requires
+form_plan-requires g c = subst IsProblem (sym c.question.ensures) c.requires
 
-pub returns-in-Err-clause-only : goal.returns-in-Err-clause-only
-returns-in-Err-clause-only g c = λ only.
-    form-memory c.in-Err.fault c.problem_line.result c.problem_line.ensures.status c.problem_line.ensures.says
-    (only c.in-Err.fault (subst (λ (p : Problem). IsRefused p c.in-Err.fault) c.question.ensures c.in-Err.ensures.err))
+pub returns-clause-form : goal.returns-clause-form
+returns-clause-form g c =
+    subst (λ (p : Problem). IfOk c.form_plan.result (λ plan. IsFormFor p plan.vars plan.clauses)) c.question.ensures
+    c.form_plan.ensures.form
+
+pub returns-clause-refused : goal.returns-clause-refused
+returns-clause-refused g c =
+    subst (λ (p : Problem). IfErr c.form_plan.result (HasCause (FormRefused p))) c.question.ensures c.form_plan.ensures.refused
+
+pub returns-clause-only : goal.returns-clause-only
+returns-clause-only g c = λ only.
+    c.form_plan.ensures.only
+    (subst (λ (p : Problem). (fault : DebugErr) → IsRefused p fault → fault ≡ NoMemory) (sym c.question.ensures) only)

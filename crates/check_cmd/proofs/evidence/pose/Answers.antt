@@ -7,15 +7,15 @@ use Rattle.requests.specs.Views.{wanted_asked}
 use Rattle.load_problem.specs.Inputs.{problem_in}
 use Rattle.refusal.specs.Ends.{HasCause, HasStatus, IsSpared}
 use Rattle.load_problem.specs.Means.{IsDigestOf, Suspecting}
-use Rattle.load_problem.specs.Refusals.{IsReady as IsReadyList, Refused as InputsRefused}
+use Rattle.load_problem.specs.Refusals.{FormRefused, IsReady as IsReadyList, Refused as InputsRefused}
+use Rattle.load_problem.proofs.Causes.{form-low}
 use Rattle.load_texts.proofs.Loaded.{passed_on}
 use Rattle.check_cmd.specs.Asked.{wanted_by}
 use Rattle.requests.specs.Views.{check_asked}
-use Rattle.check_cmd.specs.Parts.{FormRefused}
 use Rattle.check_cmd.specs.Refusals.{Refused}
-use Rattle.check_cmd.proofs.Causes.{counts-passed, low-counts, low-status, memory-spared}
+use Rattle.session_reading.proofs.Causes.{counts-passed, low-counts, low-status, memory-spared}
 use Rattle.check_cmd.proofs.Posing.{moved, moved-back, moved-means}
-use Rattle.check_cmd.proofs.WholeCauses.{form-low, whole-form, whole-inputs}
+use Rattle.check_cmd.proofs.WholeCauses.{whole-form, whole-inputs}
 use Rattle.check_cmd.proofs.evidence.pose.Goals as goal
 
 pub read-requires-clause-asked : goal.read-requires-clause-asked

@@ -2,7 +2,7 @@ use Rattle.std.proofs.Common.{ap, sym, ◌∙◌}
 use Rattle.suspect_map.specs.Choose.{unknown}
 use Rattle.check_cmd.specs.Parts.{KindRefused, first_name}
 use Rattle.check_cmd.specs.Refusals.{kind_line}
-use Rattle.check_cmd.proofs.Causes.{said}
+use Rattle.session_reading.proofs.Causes.{said}
 use Rattle.check_cmd.proofs.kinds.know.Goals as goal
 
 pub returns-in-Some-clause-refused : goal.returns-in-Some-clause-refused

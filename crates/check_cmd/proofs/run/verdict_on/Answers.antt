@@ -3,7 +3,7 @@ use Rattle.list_verdict.specs.Claims.{Claim}
 use Rattle.list_verdict.specs.Verdicts.{IsVerdict}
 use Rattle.check_cmd.specs.Means.{claim_of}
 use Rattle.check_cmd.specs.Parts.{given_of}
-use Rattle.check_cmd.proofs.Causes.{ok-of}
+use Rattle.session_reading.proofs.Causes.{ok-of}
 use Rattle.check_cmd.proofs.Posing.{same-claim}
 use Rattle.check_cmd.proofs.run.verdict_on.Goals as goal
 
