@@ -6,11 +6,11 @@ use Rattle.debug_core.specs.Debugging.{IsListOf}
 use Rattle.debug_core.specs.Problems.{IsFormFor, Problem}
 use Rattle.front_end.specs.Means.{Meaning, Refusing}
 use Rattle.load_problem.specs.Means.{Means, Suspecting}
-use Rattle.load_problem.specs.Refusals.{IsReady}
 use Rattle.list_writer.specs.Due.{IsListed}
 use Rattle.list_writer.proofs.Whole.{enough-whole}
 use Rattle.requests.specs.Asked.{FindAsked, wanted_for}
 use Rattle.find_cmd.specs.Finding.{OfInputs, finding, listing_of, outputs_of}
+use Rattle.find_cmd.specs.Refusals.{IsReady}
 
 -- the list of a problem, shorter than what was asked for
 pub record HasShortList (p : Problem) (sets : ℕ) : Type 0 where
@@ -19,7 +19,7 @@ pub record HasShortList (p : Problem) (sets : ℕ) : Type 0 where
   pub short : length list < sets
 
 pub whole-or-memory : (M : Meaning) (R : Refusing) (S : Suspecting) (asked : FindAsked) (run : Run) (status : ℕ)
-    → Keeps (finding M R S asked) run status → run.told ≡ true → IsReady M S (wanted_for asked) run.texts → ¬ OneRose run.counts
+    → Keeps (finding M R S asked) run status → run.told ≡ true → IsReady M S asked run.texts → ¬ OneRose run.counts
     → ((p : Problem) → Means M S (wanted_for asked) run.texts p → HasShortList p asked.listing.sets)
     → ((p : Problem) → Means M S (wanted_for asked) run.texts p → (vars : ℕ) (form : List (List Lit)) → IsFormFor p vars form
     → 3 ^ vars ≤ asked.listing.budget)
@@ -30,7 +30,7 @@ whole-or-memory M R S asked run status keeps told ready none sets budget = at (k
     listed of =
         let short : HasShortList of.problem asked.listing.sets = sets of.problem of.means in
         enough-whole (record {
-          asked = listing_of asked of.problem of.inputs;
+          asked = listing_of asked of.problem of.inputs of.session;
           outputs = outputs_of run;
           status = status;
           is = of.is;

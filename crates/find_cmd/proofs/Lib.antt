@@ -4,3 +4,6 @@ pub mod Reading
 pub mod Enough
 pub mod Jobs
 pub mod Faults
+pub mod Taking
+pub mod Resuming
+pub mod Asking

@@ -1,5 +1,5 @@
 -- The promises of the command, from how a listing ends.
-use Rattle.std.proofs.Common.{ℕ, ◌≡◌, ◌≢◌, ◌≤◌, true, List, ap, refl, sym, subst, ◌∙◌, arith, ◌⊎◌, inl, inr}
+use Rattle.std.proofs.Common.{ℕ, ◌≡◌, ◌≢◌, ◌≤◌, ◌+◌, true, List, Option, Some, None, ap, refl, sym, subst, ◌∙◌, arith, ◌⊎◌, inl, inr}
 use Rattle.command_contract.specs.Contract.{Causes, IsInputRefusal, IsStatus, Keeps, NoneRose, OneRose, Run, Texts, counts_of}
 use Rattle.io_ports.specs.Faults.{FaultCounts}
 use Rattle.std.proofs.Common.{length}
@@ -15,21 +15,24 @@ use Rattle.list_writer.specs.declared.outcome.Outcome.{Outcome}
 use Rattle.list_writer.specs.declared.outcome.Outcome.TheVariants.{Ended, Failed, Memory}
 use Rattle.list_writer.specs.Lines.{ending_status}
 use Rattle.set_waves.specs.Names.{IsWave}
-use Rattle.list_writer.specs.Asked.{Asked as Listing}
+use Rattle.list_writer.specs.Asked.{Asked as Listing, Session}
 use Rattle.list_writer.specs.Due.{IsCut, IsListed, IsStopped}
 use Rattle.list_writer.specs.Outcomes.{Leaves, OutcomeCause, status_of}
 use Rattle.load_problem.specs.Means.{IsDigestOf, Means, Suspecting}
-use Rattle.requests.specs.Asked.{FindAsked, wanted_for}
-use Rattle.find_cmd.specs.Finding.{Causing, OfInputs, finding_by, listing_of, outputs_of}
+use Rattle.requests.specs.Asked.{FindAsked, SessionNames, wanted_for}
+use Rattle.find_cmd.specs.Finding.{Causing, MayBeWave, OfInputs, finding_by, listing_of, outputs_of}
+use Rattle.find_cmd.specs.Sessions.{MeansSession}
 
 -- what is known of a run that ends by a listing
 pub record IsListing (M : Meaning) (S : Suspecting) (asked : FindAsked) (run : Run)
-    (problem : Problem) (inputs : Digest) (o : Outcome) : Type 0 where
+    (problem : Problem) (inputs : Digest) (session : Session) (o : Outcome) : Type 0 where
   pub means : run.told ≡ true → Means M S (wanted_for asked) run.texts problem
   pub digest : run.told ≡ true → IsDigestOf (wanted_for asked) run.texts inputs
-  pub leaves : run.told ≡ true → Leaves (listing_of asked problem inputs) (outputs_of run) o
+  pub begins : run.told ≡ true → MeansSession asked.resume run.texts problem inputs session
+  pub leaves : run.told ≡ true → Leaves (listing_of asked problem inputs session) (outputs_of run) o
   pub others : run.told ≡ true → (name : List ℕ) → name ≢ asked.listing.log → name ≢ asked.listing.report
-      → ¬ IsWave asked.waves asked.listing.sets (length problem.traces) name → run.now_written name ≡ run.written name
+      → ¬ IsWave asked.waves (length session.sets + asked.listing.sets) (length problem.traces) name
+      → run.now_written name ≡ run.written name
   pub cause : OutcomeCause run.counts o
 
 -- the status of an ending is 0 or 1
@@ -43,9 +46,21 @@ at-most-one : (n : ℕ) → (n ≡ 0) ⊎ (n ≡ 1) → n ≤ 1
 at-most-one n (inl e) = omega (arith, e)
 at-most-one n (inr e) = omega (arith, e)
 
-module _ (M : Meaning) (S : Suspecting) (asked : FindAsked) (IsDue : Causing) (run : Run) (problem : Problem) (inputs : Digest) where
+-- a wave that may be written behind the sets of a session, or behind none
+may-be-wave : (asked : FindAsked) (resume : Option SessionNames) (texts : Texts) (problem : Problem) (inputs : Digest) (session : Session)
+    (name : List ℕ) → MeansSession resume texts problem inputs session
+    → IsWave asked.waves (length session.sets + asked.listing.sets) (length asked.sources.texts.traces) name → MayBeWave asked resume name
+may-be-wave asked None texts problem inputs session name none wave =
+    subst (λ (s : Session). IsWave asked.waves (length s.sets + asked.listing.sets) (length asked.sources.texts.traces) name) none wave
+may-be-wave asked (Some names) texts problem inputs session name begins wave = (length session.sets + asked.listing.sets, wave)
+
+module _ (M : Meaning) (S : Suspecting) (asked : FindAsked) (IsDue : Causing) (run : Run) (problem : Problem) (inputs : Digest)
+    (session : Session) where
   abbrev Is : Outcome → Type 0
-  Is = IsListing M S asked run problem inputs
+  Is = IsListing M S asked run problem inputs session
+
+  abbrev Meant : Type 0
+  Meant = MeansSession asked.resume run.texts problem inputs session
 
   list-status : (o : Outcome) → IsStatus (finding_by M S asked IsDue) (status_of o)
   list-status (Ended ending) = inl (ending-range ending)
@@ -88,29 +103,37 @@ module _ (M : Meaning) (S : Suspecting) (asked : FindAsked) (IsDue : Causing) (r
   -- ---- what it leaves
   -- the listing of the problem that the texts mean
   of-inputs : (P : Listing → Type 0) → Means M S (wanted_for asked) run.texts problem → IsDigestOf (wanted_for asked) run.texts inputs
-      → P (listing_of asked problem inputs) → OfInputs M S asked run.texts P
-  of-inputs P means digest is = record { problem = problem; means = means; inputs = inputs; digest = digest; is = is }
+      → Meant → P (listing_of asked problem inputs session) → OfInputs M S asked run.texts P
+  of-inputs P means digest begins is = record {
+    problem = problem;
+    means = means;
+    inputs = inputs;
+    digest = digest;
+    session = session;
+    goes_on = begins;
+    is = is;
+  }
 
   list-answered : (o : Outcome) → Means M S (wanted_for asked) run.texts problem → IsDigestOf (wanted_for asked) run.texts inputs
-      → Leaves (listing_of asked problem inputs) (outputs_of run) o → (status_of o ≡ 0) ⊎ (status_of o ≡ 1)
+      → Meant → Leaves (listing_of asked problem inputs session) (outputs_of run) o → (status_of o ≡ 0) ⊎ (status_of o ≡ 1)
       → OfInputs M S asked run.texts (λ listing. IsListed listing (outputs_of run) (status_of o))
-  list-answered (Ended ending) means digest leaves is = of-inputs _ means digest leaves.listed
-  list-answered Failed means digest leaves is = absurd (omega (arith, at-most-one 6 is))
-  list-answered Memory means digest leaves is = absurd (omega (arith, at-most-one 7 is))
+  list-answered (Ended ending) means digest begins leaves is = of-inputs _ means digest begins leaves.listed
+  list-answered Failed means digest begins leaves is = absurd (omega (arith, at-most-one 6 is))
+  list-answered Memory means digest begins leaves is = absurd (omega (arith, at-most-one 7 is))
 
   list-stopped : (o : Outcome) → Means M S (wanted_for asked) run.texts problem → IsDigestOf (wanted_for asked) run.texts inputs
-      → Leaves (listing_of asked problem inputs) (outputs_of run) o → status_of o ≡ 6
+      → Meant → Leaves (listing_of asked problem inputs session) (outputs_of run) o → status_of o ≡ 6
       → OfInputs M S asked run.texts (λ listing. IsStopped listing (outputs_of run))
-  list-stopped (Ended ending) means digest leaves e = absurd (omega (arith, e, at-most-one _ (ending-range ending)))
-  list-stopped Failed means digest leaves e = of-inputs _ means digest leaves
-  list-stopped Memory means digest leaves e = absurd (omega (arith, e))
+  list-stopped (Ended ending) means digest begins leaves e = absurd (omega (arith, e, at-most-one _ (ending-range ending)))
+  list-stopped Failed means digest begins leaves e = of-inputs _ means digest begins leaves
+  list-stopped Memory means digest begins leaves e = absurd (omega (arith, e))
 
   list-cut : (o : Outcome) → Means M S (wanted_for asked) run.texts problem → IsDigestOf (wanted_for asked) run.texts inputs
-      → Leaves (listing_of asked problem inputs) (outputs_of run) o → status_of o ≡ 7
+      → Meant → Leaves (listing_of asked problem inputs session) (outputs_of run) o → status_of o ≡ 7
       → OfInputs M S asked run.texts (λ listing. IsCut listing (outputs_of run))
-  list-cut (Ended ending) means digest leaves e = absurd (omega (arith, e, at-most-one _ (ending-range ending)))
-  list-cut Failed means digest leaves e = absurd (omega (arith, e))
-  list-cut Memory means digest leaves e = of-inputs _ means digest leaves
+  list-cut (Ended ending) means digest begins leaves e = absurd (omega (arith, e, at-most-one _ (ending-range ending)))
+  list-cut Failed means digest begins leaves e = absurd (omega (arith, e))
+  list-cut Memory means digest begins leaves e = of-inputs _ means digest begins leaves
 
   -- no count rises where memory was wanted
   list-none : (o : Outcome) → OutcomeCause run.counts o → status_of o ≡ 7 → NoneRose run.counts
@@ -131,30 +154,32 @@ module _ (M : Meaning) (S : Suspecting) (asked : FindAsked) (IsDue : Causing) (r
   listed-keeps o is = record {
     is_status = list-status o;
     refusals = input-refusal;
-    answered = λ told. list-answered o (is.means told) (is.digest told) (is.leaves told);
+    answered = λ told. list-answered o (is.means told) (is.digest told) (is.begins told) (is.leaves told);
     refused = λ told refusal. absurd (no-refusal o refusal);
     stopped = λ told six. (
       (list-causes o is.cause).write six,
-      inl (list-stopped o (is.means told) (is.digest told) (is.leaves told) six),
+      inl (list-stopped o (is.means told) (is.digest told) (is.begins told) (is.leaves told) six),
     );
     cut = λ told seven. inl (
       list-none o is.cause seven,
-      list-cut o (is.means told) (is.digest told) (is.leaves told) seven,
+      list-cut o (is.means told) (is.digest told) (is.begins told) (is.leaves told) seven,
     );
     others = λ told name may.
-        is.others told name (λ e. may (inl e)) (λ e. may (inr (inl e))) (λ e. may (inr (inr (subst
-        (λ n. IsWave asked.waves asked.listing.sets n name)
-        (AllZip-long _ asked.sources.texts.traces problem.traces (is.means told).traces) e))));
+        is.others told name (λ e. may (inl e)) (λ e. may (inr (inl e))) (λ e. may (inr (inr
+        (may-be-wave asked asked.resume run.texts problem inputs session name (is.begins told) (subst
+        (λ n. IsWave asked.waves (length session.sets + asked.listing.sets) n name)
+        (AllZip-long _ asked.sources.texts.traces problem.traces (is.means told).traces) e)))));
     causes = list-causes o is.cause;
     complete = λ told ready none. list-complete o is.cause none;
   }
 
 -- by what the listing's contract says: it begins where the reading ended
 pub listing-keeps : (M : Meaning) (S : Suspecting) (asked : FindAsked) (IsDue : Causing) (run : Run) (problem : Problem) (inputs : Digest)
-    (listing : Listing) (written : Texts) (shelf : FaultCounts) (o : Outcome) (status : ℕ)
-    → listing ≡ listing_of asked problem inputs → written ≡ run.written → shelf ≡ run.counts.shelf → status ≡ status_of o
+    (session : Session) (listing : Listing) (written : Texts) (shelf : FaultCounts) (o : Outcome) (status : ℕ)
+    → listing ≡ listing_of asked problem inputs session → written ≡ run.written → shelf ≡ run.counts.shelf → status ≡ status_of o
     → (run.told ≡ true → Means M S (wanted_for asked) run.texts problem)
     → (run.told ≡ true → IsDigestOf (wanted_for asked) run.texts inputs)
+    → (run.told ≡ true → MeansSession asked.resume run.texts problem inputs session)
     → (run.told ≡ true → Leaves listing (record {
       written = written;
       now_written = run.now_written;
@@ -162,15 +187,18 @@ pub listing-keeps : (M : Meaning) (S : Suspecting) (asked : FindAsked) (IsDue : 
       now_printed = run.now_printed;
     }) o)
     → (run.told ≡ true → (name : List ℕ) → name ≢ listing.log → name ≢ listing.report
-    → ¬ IsWave listing.waves listing.sets (length listing.problem.traces) name → run.now_written name ≡ written name)
+    → ¬ IsWave listing.waves (length listing.session.sets + listing.sets) (length listing.problem.traces) name
+    → run.now_written name ≡ written name)
     → OutcomeCause (counts_of shelf run.counts.now_shelf run.counts.sink run.counts.now_sink) o
     → Keeps (finding_by M S asked IsDue) run status
-listing-keeps M S asked IsDue run problem inputs listing written shelf o status is same kept ended means digest leaves others cause =
+listing-keeps M S asked IsDue run problem inputs session listing written shelf o status is same kept ended means digest begins leaves others
+    cause =
     subst (Keeps (finding_by M S asked IsDue) run) (sym ended)
-    (listed-keeps M S asked IsDue run problem inputs o
+    (listed-keeps M S asked IsDue run problem inputs session o
     (record {
       means = means;
       digest = digest;
+      begins = begins;
       leaves = λ told.
           subst (λ (l : Listing). Leaves l (outputs_of run) o) is
           (subst (λ (w : Texts). Leaves listing (record {
@@ -181,7 +209,8 @@ listing-keeps M S asked IsDue run problem inputs listing written shelf o status 
           }) o) same (leaves told));
       others = λ told name no_log no_report no_wave.
           others told name (λ e. no_log (e ∙ ap (λ (l : Listing). l.log) is)) (λ e. no_report (e ∙ ap (λ (l : Listing). l.report) is))
-          (λ e. no_wave (subst (λ (l : Listing). IsWave l.waves l.sets (length l.problem.traces) name) is e))
+          (λ e. no_wave (subst
+          (λ (l : Listing). IsWave l.waves (length l.session.sets + l.sets) (length l.problem.traces) name) is e))
           ∙ ap (λ (w : Texts). w name) same;
       cause = subst (λ n. OutcomeCause (counts_of n run.counts.now_shelf run.counts.sink run.counts.now_sink) o) kept cause;
     }))

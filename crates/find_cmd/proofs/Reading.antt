@@ -1,8 +1,8 @@
 -- What was read, and the promises of a run that goes on from there.
-use Rattle.std.proofs.Common.{ℕ, ◌≡◌, Bool, true, subst, sym, ◌∙◌, Result, Ok, Err}
+use Rattle.std.proofs.Common.{ℕ, ◌≡◌, Bool, true, List, subst, sym, ◌∙◌, Result, Ok, Err}
 use Rattle.std.specs.Prelude.{IfOk, IfErr}
 use Rattle.io_ports.specs.Faults.{FaultCounts}
-use Rattle.command_contract.specs.Contract.{Keeps, Run, Texts}
+use Rattle.command_contract.specs.Contract.{Case, Counts, Keeps, Run, Texts, run_of}
 use Rattle.front_end.specs.Means.{Meaning, Refusing}
 use Rattle.debug_core.specs.declared.error.DebugErr.{DebugErr}
 use Rattle.debug_core.specs.Problems.{IsRefused}
@@ -75,7 +75,7 @@ module _ (M : Meaning) (R : Refusing) (S : Suspecting) (asked : FindAsked) (run 
         prints = prints;
         shelf = subst (λ n. RefusalCounts run.counts.shelf n refusal) same (counts-err _ _ read refusal is reads.counts);
         sink = sink;
-        spared = λ told ready. at-err IsSpared read refusal is (reads.only told ready);
+        spared = λ told ready. at-err IsSpared read refusal is (reads.only told ready.inputs);
       })
 
   pub unformed-keeps : (inputs : Inputs) (fault : DebugErr) (refusal : LastLine) (status : ℕ) → read ≡ Ok inputs → Reads
@@ -100,7 +100,7 @@ module _ (M : Meaning) (R : Refusing) (S : Suspecting) (asked : FindAsked) (run 
         shelf = problem-counts _ _ fault refusal says (sym same ∙ counts-ok _ _ read inputs is reads.counts);
         sink = sink;
         spared = λ told ready.
-            problem-spared M S (wanted_for asked) run.texts problem fault refusal has says (means told) refused ready;
+            problem-spared M S (wanted_for asked) run.texts problem fault refusal has says (means told) refused ready.inputs;
       })
 
 -- ---- what was read for a list, by what the reading promises of what was wanted
@@ -118,3 +118,20 @@ read-wanted M R S asked wanted told texts old new read is counts means digest re
   refused = λ t. subst (λ (w : WantedAsked). IfErr read (HasCause (Refused M R S w texts))) is (refused t);
   only = λ t ready. only t (subst (λ (w : WantedAsked). IsReady M S w texts) (sym is) ready);
 }
+
+-- ---- by other words for what is told, for the texts that are read, and for those that stand written
+pub read-moved : (M : Meaning) (R : Refusing) (S : Suspecting) (asked : FindAsked) (told now_told : Bool) (texts now_texts : Texts)
+    (old new : FaultCounts) (read : Result Inputs LastLine) → told ≡ now_told → texts ≡ now_texts
+    → IsRead M R S asked told texts old new read → IsRead M R S asked now_told now_texts old new read
+read-moved M R S asked told now_told texts now_texts old new read same_told same_texts reads =
+    subst (λ (t : Bool). IsRead M R S asked t now_texts old new read) same_told
+    (subst (λ (ts : Texts). IsRead M R S asked told ts old new read) same_texts reads)
+
+pub keeps-moved : (c : Case) (told now_told : Bool) (texts now_texts written now_written after : Texts) (printed now_printed : List ℕ)
+    (counts : Counts) (status : ℕ) → told ≡ now_told → texts ≡ now_texts → written ≡ now_written
+    → Keeps c (run_of told texts written after printed now_printed counts) status
+    → Keeps c (run_of now_told now_texts now_written after printed now_printed counts) status
+keeps-moved c told now_told texts now_texts written now_written after printed now_printed counts status same_told same_texts same keeps =
+    subst (λ (t : Bool). Keeps c (run_of t now_texts now_written after printed now_printed counts) status) same_told
+    (subst (λ (ts : Texts). Keeps c (run_of told ts now_written after printed now_printed counts) status) same_texts
+    (subst (λ (w : Texts). Keeps c (run_of told texts w after printed now_printed counts) status) same keeps))

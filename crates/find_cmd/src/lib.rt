@@ -3,7 +3,9 @@
 
 mod job;
 mod request;
+mod resume;
 mod run;
+mod session;
 
 pub use request::ListRequest;
 pub use run::{find, list_read};

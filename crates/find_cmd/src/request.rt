@@ -1,11 +1,11 @@
 //! What a list is asked of, wherever its parts are kept.
-ghost use Rattle.std.specs.Prelude.{◌≡◌};
+ghost use Rattle.std.specs.Prelude.{◌≡◌, None};
 ghost use Rattle.std.specs.Option.{option_copied};
 ghost use Rattle.requests.specs.Asked.{wanted_for};
 ghost use Rattle.requests.specs.Views.{find_asked, wanted_asked};
-ghost use Rattle.find_cmd.specs.Views.{list_asked};
+ghost use Rattle.find_cmd.specs.Views.{list_asked, with_resume};
 
-use requests::{FindRequest, Listing, Sources, Wanted};
+use requests::{FindRequest, Listing, SessionNames, Sources, Wanted};
 
 /// What a list is asked of: what is read, how far it goes, and where it is written.
 #[derive(Clone, Copy, Drop)]
@@ -14,6 +14,13 @@ pub struct ListRequest<'a> {
     pub listing: &'a Listing,
     /// The prefix of the waves' names, where waves are asked for.
     pub waves: Option<&'a str>,
+}
+
+/// The same, of a list that goes on from the session of the names.
+#[derive(Clone, Copy, Drop)]
+pub(crate) struct ResumeRequest<'a> {
+    pub(crate) list: ListRequest<'a>,
+    pub(crate) names: &'a SessionNames,
 }
 
 /// The prefix of the waves' names, where waves are asked for.
@@ -27,9 +34,9 @@ fn prefix_of(request: &FindRequest) -> Option<&str>
 }
 
 impl<'a> ListRequest<'a> {
-    /// What `find` is asked.
+    /// What `find` is asked, but for the session.
     pub(crate) fn of(request: &'a FindRequest) -> ListRequest<'a>
-        ensures { list_asked result ≡ find_asked request.now }
+        ensures { list_asked result ≡ with_resume None (find_asked request.now) }
     {
         ListRequest {
             sources: request.reading.sources(),
