@@ -1,6 +1,6 @@
 -- The promises of the command, from how a run ends: before the list, in it, or behind it.
 use Rattle.std.proofs.Common.{ℕ, zero, suc, ◌≡◌, ◌≢◌, ◌≤◌, true, List, [], ◌∷◌, ◌++◌, take, refl, sym, subst, ◌∙◌, arith}
-use Rattle.std.proofs.Common.{◌⊎◌, inl, inr, Some}
+use Rattle.std.proofs.Common.{◌⊎◌, inl, inr, None, Some}
 use Rattle.std.proofs.Math.Path.{fun_ext}
 use Rattle.io_ports.specs.Faults.{FaultCounts, Rose, WriteRose}
 use Rattle.io_ports.specs.Shelf.{AppendsFront}
@@ -14,7 +14,7 @@ use Rattle.write_order.proofs.Carried.{done-then, print-done, print-stops, stops
 use Rattle.made_input.specs.Made.{design_text, made_line, trace_text}
 use Rattle.refusal.specs.Ends.{PrintCounts, Prints}
 use Rattle.load_problem.specs.Means.{Suspecting}
-use Rattle.requests.specs.Asked.{FindAsked}
+use Rattle.requests.specs.Asked.{FindAsked, SessionNames}
 use Rattle.find_cmd.specs.Finding.{outputs_of}
 use Rattle.make_cmd.specs.Asked.{IsAsked, finding_of}
 use Rattle.requests.specs.Asked.{MakeAsked}
@@ -44,6 +44,10 @@ unwritten : (asked : MakeAsked) (name : List ℕ) → name ≢ asked.listing.log
 unwritten asked name other_log other_report (inl log) = other_log log
 unwritten asked name other_log other_report (inr (inl report)) = other_report report
 unwritten asked name other_log other_report (inr (inr wave)) = wave
+
+-- the list goes on from no session
+no-session : (names : SessionNames) → None ≡ Some names → ⊥
+no-session names is = cc
 
 -- ---- statuses
 low-answer : (n : ℕ) → n ≤ 1 → (n ≡ 0) ⊎ (n ≡ 1)
@@ -310,7 +314,8 @@ module _ (M : Meaning) (R : Refusing) (S : Suspecting) (asked : MakeAsked) (run 
             write = keeps.causes.write;
             memory = keeps.causes.memory;
           };
-          complete = λ told ready none. keeps.complete told ready none;
+          complete = λ told ready none.
+              keeps.complete told (record { inputs = ready; session = λ names p is poses. absurd (no-session names is) }) none;
         }
 
     -- ---- behind the list

@@ -4,7 +4,8 @@ use Rattle.front_end.specs.declared.format.Format.TheVariants.{Verilog}
 use Rattle.requests.specs.Asked.{FindAsked, MakeAsked}
 use Rattle.find_cmd.specs.Asked.{IsListing}
 
--- the list of the made design and trace: the design is in Verilog, the top is `made`, the clock is `clk`, and no waves are written
+-- the list of the made design and trace: the design is in Verilog, the top is `made`, the clock is `clk`, it goes on from no session, and no
+-- waves are written
 abbrev pub finding_of : MakeAsked → FindAsked
 finding_of asked = record {
   sources = record {
@@ -12,6 +13,7 @@ finding_of asked = record {
     clock = Some (codes "clk");
   };
   listing = asked.listing;
+  resume = None;
   waves = None;
 }
 
