@@ -1,6 +1,6 @@
 -- What a run of `find` shows: which design and traces the texts mean, which sets of suspects are listed, and what is printed (Smith,
 -- Veneris, Ali and Viglas, Fault diagnosis and logic debugging using Boolean satisfiability, IEEE TCAD 2005).
-use Rattle.std.specs.Prelude.{ℕ, ◌≡◌, ◌≤◌, ◌⊎◌, ◌++◌, List, All, IsSomeAnd, Option, codes, decimal, length, map}
+use Rattle.std.specs.Prelude.{ℕ, ◌≡◌, ◌≤◌, ◌⊎◌, ◌++◌, List, All, IfSome, IsSomeAnd, Option, codes, decimal, length, map}
 use Rattle.std.specs.List.{AllZip, flat_map}
 use Rattle.printed_text.specs.Numerals.{newline}
 use Rattle.design_core.specs.declared.design.Design.{Design}
@@ -10,8 +10,12 @@ use Rattle.design_core.specs.Explained.{AreValuesOf, Explains}
 use Rattle.design_core.specs.Listing.{IsFront, IsList}
 use Rattle.suspect_map.specs.declared.group.Group.{Group}
 use Rattle.vcd_traces.specs.Samples.{HasSamples}
+use Rattle.report_doc.specs.declared.types.Report.{Report}
+use Rattle.report_doc.specs.declared.types.ReportSet.{ReportSet}
 use Rattle.report_doc.specs.Lines.{set_lines}
-use Rattle.requests.specs.Asked.{SourcesAsked}
+use Rattle.report_reading.specs.Reading.{IsReportOf}
+use Rattle.report_sets.specs.Written.{IsWritten}
+use Rattle.requests.specs.Asked.{SessionNames, SourcesAsked}
 use Rattle.localise_cmd.specs.Formats.{MeansIn}
 use Rattle.headline.specs.Runs.{FindRun, WordsRun}
 
@@ -43,13 +47,29 @@ pub record IsExplained (s : Subject) (set : SetWithValues) : Type 0 where
   pub rows : AreValuesOf s.design s.traces (groups_of s) set.members set.values
   pub explains : Explains s.design s.traces (groups_of s) set.members set.values
 
+-- ---- what a list goes on from
+-- a set of a report, taken up: its members, with the values that its texts say
+pub record IsTakenUp (s : Subject) (set : ReportSet) (found : SetWithValues) : Type 0 where
+  pub members : found.members ≡ set.members
+  pub values : IsWritten s.design s.traces (groups_of s) set found.values
+
+-- the text under the name of a session's report is that of a report, and the first of the sets are those of its sets, one each
+pub record BeginWith (r : FindRun) (s : Subject) (sets : List SetWithValues) (names : SessionNames) : Type 0 where
+  pub report : Report
+  pub is_report : IsTextAnd (r.of.run.texts names.report) (λ text. IsReportOf text report)
+  pub first : List SetWithValues
+  pub taken_up : AllZip (IsTakenUp s) report.sets first
+  pub more : List SetWithValues
+  pub parts : sets ≡ first ++ more
+
 -- ---- a list
--- what the texts mean, and sets of its suspects that were found
+-- what the texts mean, and sets of its suspects that were found; where the list goes on from a session, the first are those of its report
 pub record Found (r : FindRun) : Type 0 where
   pub subject : Subject
   pub is_meant : IsMeant r.of r.asked.sources r.asked.listing.suspects subject
   pub sets : List SetWithValues
   pub explained : All (IsExplained subject) sets
+  pub goes_on : IfSome r.asked.resume (BeginWith r subject sets)
 
 -- their members
 abbrev pub members_of : List SetWithValues → List (List ℕ)

@@ -1,16 +1,20 @@
 -- What words ask of `find` is what a list may be asked.
-use Rattle.std.proofs.Common.{ℕ, ◌≡◌, ◌⊎◌, Bool, true, false, List, [], ◌∷◌, map, refl, sym, ap, ◌∙◌, inl, inr, Some, None, Option}
+use Rattle.std.proofs.Common.{ℕ, ◌≡◌, ◌≢◌, ◌⊎◌, Bool, true, false, List, [], ◌∷◌, ◌++◌, map, arith, refl, sym, subst, ap, ◌∙◌}
+use Rattle.std.proofs.Common.{inl, inr, Some, None, Option}
 use Rattle.std.specs.Prelude.{All, Contains, IfSome, nat_eq}
 use Rattle.std.specs.Cmp.Lexicographic.{pointwise}
 use Rattle.std.proofs.lemmas.Bool.{false≢true}
+use Rattle.std.proofs.lemmas.List.{get_or_append_left, length-append}
 use Rattle.std.proofs.lemmas.List.Elements.{All-head, All-tail}
 use Rattle.loc_base.proofs.ShelfLists.{Contains-cons, Contains-empty}
 use Rattle.suspect_map.specs.Choose.{named, unknown, unknown_or}
 use Rattle.suspect_map.proofs.Steps.{same_name}
 use Rattle.requests.specs.Asked.{FindAsked, ListingAsked, MakeAsked}
+use Rattle.word_values.specs.Paths.{IsOtherPath}
 use Rattle.word_values.proofs.SamePaths.{other_path-name}
-use Rattle.command_words.specs.Find.{IsFindAsked, IsWavePrefix, other_names}
+use Rattle.command_words.specs.Find.{IsFindAsked, IsWavePrefix, other_names, read_names}
 use Rattle.command_words.specs.Listing.{IsListingAsked}
+use Rattle.command_words.specs.Session.{session_texts}
 use Rattle.command_words.specs.Make.{IsMakeAsked}
 use Rattle.set_waves.specs.Names.{IsNoWave}
 use Rattle.find_cmd.specs.Asked.{AreKnown, IsAsked, IsListing}
@@ -66,14 +70,28 @@ waves-own : (words : FindAsked) (waves : Option (List ℕ)) → IfSome waves (Is
 waves-own words None own = λ k d below. tt
 waves-own words (Some prefix) own = λ k d below rest. other_path-name _ _ (own.own k d below rest)
 
+-- what holds of all holds of the first
+All-front : {A : Type 0} (P : A → Type 0) (xs ys : List A) → All P (xs ++ ys) → All P xs
+All-front P xs ys all k d below =
+    subst P (get_or_append_left xs ys d k below) (all k d (let more = length-append xs ys in omega (arith, below, more)))
+
+-- a name that is another path than that of each text that is read is another name than those of the design and the traces
+own-name : (words : FindAsked) (name : List ℕ) → All (λ other. IsOtherPath other name) (read_names words)
+    → All (λ other. other ≢ name) (words.sources.texts.design ∷ words.sources.texts.traces)
+own-name words name own =
+    All-front (λ other. other ≢ name) (words.sources.texts.design ∷ words.sources.texts.traces) (session_texts words.resume)
+    (λ k d below. other_path-name _ _ (own k d below))
+
 pub asked-held : (known : List (List ℕ)) (words : FindAsked) → IsFindAsked known words → IsAsked words
 asked-held known words held = record {
   traces = (held.sources.texts.some, held.sources.texts.most);
   listing = listing-held known words.listing held.listing;
   apart = other_path-name _ _ held.apart;
-  own_log = λ k d below. other_path-name _ _ (held.own_log k d below);
-  own_report = λ k d below. other_path-name _ _ (held.own_report k d below);
-  no_waves = waves-own words words.waves held.waves;
+  own_log = own-name words words.listing.log held.own_log;
+  own_report = own-name words words.listing.report held.own_report;
+  no_waves = All-front (IsNoWave words.waves)
+      (words.sources.texts.design ∷ words.listing.log ∷ words.listing.report ∷ words.sources.texts.traces) (session_texts words.resume)
+      (waves-own words words.waves held.waves);
 }
 
 pub known-held : {G : Type 0} (called : G → List ℕ) (kinds : List G) (words : FindAsked) → IsFindAsked (map called kinds) words

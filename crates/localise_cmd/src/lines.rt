@@ -45,7 +45,7 @@ fn line_text(usage: Usage) -> &'static str
     }
 }
 
-/// Tells what is wrong with the arguments, prints what is wrong with the arguments, and answers the status of the program.
+/// Tells what is wrong with the arguments and how the command is called, prints what is wrong, and answers the status of the program.
 pub(crate) fn refuse<O: Sink, N: Notes>(
     usage: Usage,
     words: &[String],

@@ -9,18 +9,19 @@ use std::process::Abort;
 use std::test::Fail;
 use std::thread::Threads;
 
-/// A call that is due: a text is loaded, or begun, or has a piece put behind what stands there, up to a part of the whole or to its
-/// end, which no part is; or lines are printed.
+/// A call that is due: a text is loaded, or it is asked whether it can be begun, or it is begun, or has a piece put behind what stands
+/// there, up to a part of the whole or to its end, which no part is; or lines are printed.
 #[derive(Clone, Copy)]
 enum Due<'a> {
     Load(&'a str),
+    Ask(&'a str),
     Begin(&'a str),
     Put(&'a str, &'a [u8]),
     Print(&'a str),
 }
 
 /// The names of the texts that the commands read or write here.
-const NAMES: [&str; 13] = [
+const NAMES: [&str; 15] = [
     "m.v",
     "t.vcd",
     "u.vcd",
@@ -28,6 +29,8 @@ const NAMES: [&str; 13] = [
     "c.vcd",
     "r",
     "l",
+    "f",
+    "g",
     "localise.log",
     "localise.json",
     "made.v",
@@ -54,9 +57,11 @@ const FIRST: &str = "set {1}\n  1 stmt 3 m\n";
 
 const SECOND: &str = "set {2}\n  2 stmt 4 m\n";
 
-const LISTED: [Due<'static>; 12] = [
+const LISTED: [Due<'static>; 14] = [
     Due::Load("m.v"),
     Due::Load("t.vcd"),
+    Due::Ask(LOG),
+    Due::Ask(REPORT),
     Due::Begin(LOG),
     Due::Put(LOG, OR_NOT_HEAD),
     Due::Put(LOG, b"\nb -1\n"),
@@ -69,9 +74,12 @@ const LISTED: [Due<'static>; 12] = [
     Due::Print("complete 2\n"),
 ];
 
-const WAVED: [Due<'static>; 16] = [
+const WAVED: [Due<'static>; 19] = [
     Due::Load("m.v"),
     Due::Load("t.vcd"),
+    Due::Ask(LOG),
+    Due::Ask(REPORT),
+    Due::Ask("w-1-1.vcd"),
     Due::Begin(LOG),
     Due::Put(LOG, OR_NOT_HEAD),
     Due::Put(LOG, b"\nb -1\n"),
@@ -88,9 +96,11 @@ const WAVED: [Due<'static>; 16] = [
     Due::Print("complete 2\n"),
 ];
 
-const FRONT: [Due<'static>; 10] = [
+const FRONT: [Due<'static>; 12] = [
     Due::Load("m.v"),
     Due::Load("t.vcd"),
+    Due::Ask(LOG),
+    Due::Ask(REPORT),
     Due::Begin(LOG),
     Due::Put(LOG, OR_NOT_HEAD),
     Due::Put(LOG, b"\nb -1\n"),
@@ -101,11 +111,31 @@ const FRONT: [Due<'static>; 10] = [
     Due::Print("front 1 sets\n"),
 ];
 
-const MADE: [Due<'static>; 17] = [
+const RESUMED: [Due<'static>; 15] = [
+    Due::Load("m.v"),
+    Due::Load("t.vcd"),
+    Due::Load("f"),
+    Due::Load("g"),
+    Due::Ask(LOG),
+    Due::Ask(REPORT),
+    Due::Begin(LOG),
+    Due::Put(LOG, b"\nb -1\n"),
+    Due::Print(FIRST),
+    Due::Put(LOG, b"\nb -2\n"),
+    Due::Print(SECOND),
+    Due::Put(LOG, END),
+    Due::Begin(REPORT),
+    Due::Put(REPORT, END),
+    Due::Print("complete 2\n"),
+];
+
+const MADE: [Due<'static>; 19] = [
     Due::Begin("made.v"),
     Due::Put("made.v", END),
     Due::Begin("made.vcd"),
     Due::Put("made.vcd", END),
+    Due::Ask(LOG),
+    Due::Ask(REPORT),
     Due::Begin(LOG),
     Due::Put(LOG, MADE_HEAD),
     Due::Put(LOG, b"\nb -2\n"),
@@ -142,10 +172,11 @@ const COUNTED: [Due<'static>; 6] = [
 /// Words, the calls that are due, and the status where none fails.
 type Row = (&'static str, &'static [Due<'static>], u8);
 
-const RUNS: [Row; 8] = [
+const RUNS: [Row; 9] = [
     ("find m.v m t.vcd", &LISTED, 0),
     ("find m.v m t.vcd --waves w", &WAVED, 0),
     ("find m.v m t.vcd --sets 1", &FRONT, 1),
+    ("find m.v m t.vcd --resume f --resume-log g", &RESUMED, 0),
     ("make 0", &MADE, 0),
     ("check m.v m r l t.vcd u.vcd", &JUDGED, 0),
     ("sim c.v c c.vcd --clock clk", &COUNTED, 0),

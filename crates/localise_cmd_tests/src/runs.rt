@@ -27,6 +27,18 @@ $enddefinitions $end
 #3 1b 0y
 ";
 
+/// A report and a log of the first set of that list, from which it may go on.
+const FRONT_REPORT: &[u8] =
+    b"{\"clock\":\"\",\"ending\":\"sets\",\"inputs\":\"4e8cae5cec1457bb6699c30389d997b502e30db26b5b032c76537885b4803196\",\"kinds\":[\"stmt\"],\"sets\":[{\"members\":[1],\"values\":[[[\"0\"],[\"0\"],[\"0\"],[\"1\"]]]}],\"size\":2,\"suspects\":[{\"kind\":\"stmt\",\"label\":\"m\",\"line\":3},{\"kind\":\"stmt\",\"label\":\"m\",\"line\":4}],\"top\":\"m\",\"version\":1}
+";
+
+const FRONT_LOG: &[u8] = b"localise-log 1
+inputs 4e8cae5cec1457bb6699c30389d997b502e30db26b5b032c76537885b4803196
+l 4 : 9 10 1 3 2 12
+d 4 : 21
+b -1
+";
+
 /// A trace of two cycles that is right.
 const RIGHT_TRACE: &[u8] = b"$scope module m $end
 $var wire 1 a a $end
@@ -74,9 +86,11 @@ const GATES: &[u8] =
     b"module m(input a, input b, output y);\nwire n;\nor g1(n, a, b);\nnot g2(y, n);\nendmodule\n";
 
 /// The names of the texts above, each with its text.
-const TEXTS: [(&str, &[u8]); 6] = [
+const TEXTS: [(&str, &[u8]); 8] = [
     ("m.v", OR_NOT),
     ("t.vcd", OR_NOT_TRACE),
+    ("f", FRONT_REPORT),
+    ("g", FRONT_LOG),
     ("u.vcd", RIGHT_TRACE),
     ("c.v", BY_TWO),
     ("c.vcd", BY_TWO_TRACE),
