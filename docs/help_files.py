@@ -17,7 +17,9 @@ FOLDER = os.path.join(TOP, "docs", "help")
 COMMANDS = ["sim", "find", "check", "make"]
 PAGE = re.compile(r'pub const (\w+): &\[u8\] =\s+b"(.*?)";', re.S)
 TABLE = re.compile(r'Table \{\s+command: "(\w+)",.*?options: &\[(.*?)\],?\s+\}', re.S)
-ENTRY = re.compile(r"  (--\w+ \S+|[A-Z]+(?:, [A-Z]+)*) {2,}(\S.*)")
+# What stands for the value of an option that is a file's name, or the front of one (but for that of --clock).
+FILES = ("NAME", "PREFIX", "R", "L")
+ENTRY = re.compile(r"  (--[\w-]+ \S+|[A-Z]+(?:, [A-Z]+)*) {2,}(\S.*)")
 
 
 def read(name):
@@ -32,7 +34,7 @@ def pages():
 
 def options_of(command):
     """The options of a command, by its table."""
-    return [re.findall(r'"(\w+)"', options) for name, options in TABLE.findall(read(f"{command}.rt")) if name == command][0]
+    return [re.findall(r'"([\w-]+)"', options) for name, options in TABLE.findall(read(f"{command}.rt")) if name == command][0]
 
 
 class Page:
@@ -164,7 +166,7 @@ def zsh_option(name, value, about, made):
     values = {**lists, "clock": " "}.get(name)
     about = about.replace("[", "\\[").replace("]", "\\]").replace(":", "\\:")
     if values is None:
-        values = "_files" if value in ("NAME", "PREFIX") else " "
+        values = "_files" if value in FILES else " "
     return quoted(f"--{name}=[{about}]:{value}:{values}")
 
 
@@ -203,7 +205,7 @@ _localise "$@"
 
 def fish_option(command, name, value, about, made):
     """A line for fish of an option: with its values, with files, or with a value of which nothing is known."""
-    kind = "-r" if value in ("NAME", "PREFIX") and name != "clock" else "-x"
+    kind = "-r" if value in FILES and name != "clock" else "-x"
     if name == "suspects":
         kind = f"-x -a '(__fish_append , {' '.join(kinds(made))})'"
     if name == "format":

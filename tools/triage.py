@@ -43,6 +43,8 @@ REFUSED = {
     "--log": "the runs of a test leave none: `ask` does",
     "--report": "the runs of a test leave none: `ask` does",
     "--waves": "the runs of a test leave none: `ask` does",
+    "--resume": "the runs of a test begin anew",
+    "--resume-log": "the runs of a test begin anew",
     "--question": "a function has to be the same in all tests, so the lists of single tests don't tell bugs apart by it",
 }
 

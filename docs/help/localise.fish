@@ -17,6 +17,8 @@ complete -c localise -n '__fish_seen_subcommand_from find' -l workers -x -d 'the
 complete -c localise -n '__fish_seen_subcommand_from find' -l log -r -d 'the file that the log is written to, for check (localise.log)'
 complete -c localise -n '__fish_seen_subcommand_from find' -l report -r -d 'the file that the report is written to (localise.json)'
 complete -c localise -n '__fish_seen_subcommand_from find' -l waves -r -d 'a wave of each set S and dump T to PREFIX-S-T.vcd (none)'
+complete -c localise -n '__fish_seen_subcommand_from find' -l resume -r -d 'go on from a list that ended early, by its report R (none)'
+complete -c localise -n '__fish_seen_subcommand_from find' -l resume-log -r -d 'and by its log L; both stand, or neither (none)'
 complete -c localise -n '__fish_seen_subcommand_from check' -l workers -x -d 'the most threads, 1 to 64 (without the option 1)'
 complete -c localise -n '__fish_seen_subcommand_from check' -l format -x -a 'verilog aiger' -d 'the format of the design: verilog or aiger (without it verilog)'
 complete -c localise -n '__fish_seen_subcommand_from make' -l design -r -d 'the file that the design is written to (made.v)'
