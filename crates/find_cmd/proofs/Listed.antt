@@ -51,7 +51,9 @@ may-be-wave : (asked : FindAsked) (resume : Option SessionNames) (texts : Texts)
     (name : List ℕ) → MeansSession resume texts problem inputs session
     → IsWave asked.waves (length session.sets + asked.listing.sets) (length asked.sources.texts.traces) name → MayBeWave asked resume name
 may-be-wave asked None texts problem inputs session name none wave =
-    subst (λ (s : Session). IsWave asked.waves (length s.sets + asked.listing.sets) (length asked.sources.texts.traces) name) none wave
+    let none_more : 0 + asked.listing.sets ≡ asked.listing.sets = omega arith in
+    subst (λ (sets : ℕ). IsWave asked.waves sets (length asked.sources.texts.traces) name) none_more
+    (subst (λ (s : Session). IsWave asked.waves (length s.sets + asked.listing.sets) (length asked.sources.texts.traces) name) none wave)
 may-be-wave asked (Some names) texts problem inputs session name begins wave = (length session.sets + asked.listing.sets, wave)
 
 module _ (M : Meaning) (S : Suspecting) (asked : FindAsked) (IsDue : Causing) (run : Run) (problem : Problem) (inputs : Digest)

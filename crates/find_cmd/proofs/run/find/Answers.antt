@@ -35,7 +35,7 @@ read-found-requires-clause-known g c =
 pub list_on-requires-clause-asked : goal.list_on-requires-clause-asked
 list_on-requires-clause-asked g c = λ κs within.
     subst IsListAsked
-    (sym (with-again (list_asked c.of-list.result) (find_asked c.args.request.now) (Some (session_names c.in-Some.names.now))
+    (sym (with-again (list_asked c.of-list.result) (find_asked c.args.request.now) (Some (session_names c.in-Some.names))
     c.of-list.ensures (ap (option_map session_names) c.in-Some.is)))
     c.requires.asked
 
@@ -48,7 +48,7 @@ returns-in-Some g c =
     let M = g.F.FrontEnd.means in
     let R = g.F.FrontEnd.refuses in
     let shelf = c.args.shelf.now in
-    let names = session_names c.in-Some.names.now in
+    let names = session_names c.in-Some.names in
     let asked = with_resume (Some names) (list_asked c.of-list.result) in
     let kinds = c.args.tools.now.kinds.now in
     let S : Suspecting = joined (λ k. (goal.Granularity-dyn g (k.vtable, k.value)).called k.value)
@@ -76,8 +76,8 @@ returns-in-Some g c =
     (c.list_on.ensures (g.S.Shelf.faults shelf)
     (read-moved M R S asked told now_told _ _ _ _ c.read-found.result (sym same) (sym c.read-found.ensures.texts) reads)))
 
-pub returns : goal.returns
-returns g c =
+pub returns-in-None : goal.returns-in-None
+returns-in-None g c =
     let M = g.F.FrontEnd.means in
     let R = g.F.FrontEnd.refuses in
     let asked = list_asked c.of-list.result in

@@ -24,12 +24,12 @@ list-requires-clause-job g c κs within =
     let session = session_of c.new-found.result.items c.in-Ok-new.search in
     subst IsJob (sym (job-with c.job_of-job.result asked problem inputs.digest session c.job_of-job.ensures))
     (begun-held asked problem inputs.digest session
-    (begun-alone _ c.new-found.result.items c.in-Ok-new.search c.new-found.ensures c.in-Ok-new.ensures.begins) c.requires.asked
+    (begun-alone _ c.new-found.result.items c.in-Ok-new.search c.new-found.ensures.items c.in-Ok-new.ensures.begins) c.requires.asked
     (at-ok (λ i. IsProblem (problem_in i asked.listing.size)) c.args.read inputs c.in-Ok.is c.requires.problem))
 
 pub list-requires-clause-goes_with : goal.list-requires-clause-goes_with
 list-requires-clause-goes_with g c κs within =
-    begun-goes _ c.new-found.result.items c.in-Ok-new.search c.new-found.ensures c.in-Ok-new.ensures.begins
+    begun-goes _ c.new-found.result.items c.in-Ok-new.search c.new-found.ensures.items c.in-Ok-new.ensures.begins
 
 pub returns-in-Err-clause-fault : goal.returns-in-Err-clause-fault
 returns-in-Err-clause-fault g c five =
@@ -58,7 +58,7 @@ returns-in-Ok-new-clause-keeps g c told texts faults on_shelf on_sink reads =
     (λ t. at-ok (λ i. Means g.F.FrontEnd.means _ (wanted_for asked) texts (problem_in i asked.listing.size)) c.args.read inputs c.in-Ok.is
     (reads.means t))
     (λ t. at-ok (λ i. IsDigestOf (wanted_for asked) texts i.digest) c.args.read inputs c.in-Ok.is (reads.digest t))
-    (λ t. begun-alone _ found c.in-Ok-new.search c.new-found.ensures c.in-Ok-new.ensures.begins)
+    (λ t. begun-alone _ found c.in-Ok-new.search c.new-found.ensures.items c.in-Ok-new.ensures.begins)
     (λ t. c.list.ensures.left (on_shelf t) (on_sink t))
     (λ t. c.list.ensures.others (on_shelf t) (on_sink t))
     c.list.ensures.causes
