@@ -14,6 +14,7 @@ A case is a folder `cases/LAYER/NAME/`:
     writes     the names, one a line, of texts that the run leaves and that aren't compared
     again      more words, one a line: a second run, with them after those of `args`, does the same
     closed     the numbers, one a line, of standard streams that are closed when the program begins
+    screen     what stands at the end on a terminal that is both output and error (then there is no `stdout` and no `stderr`)
 
 Every other file is an input: the design, the dumps, a report, a log. The program runs in a folder of its own with copies of
 the inputs. It must leave them as they were, leave each text of `written/` and `writes`, and leave no other. An input that is
@@ -28,15 +29,17 @@ is 1 where one failed.
 import argparse
 import json
 import os
+import pty
 import re
 import subprocess
 import sys
 import tempfile
+import threading
 from concurrent.futures import ThreadPoolExecutor
 
 HERE = os.path.dirname(os.path.abspath(__file__))
 BUILT = os.path.join(HERE, "..", "crates", "localise", "out", "localise")
-ABOUT = {"shows", "args", "stdout", "status", "stderr", "written", "writes", "again", "closed"}
+ABOUT = {"shows", "args", "stdout", "status", "stderr", "written", "writes", "again", "closed", "screen"}
 SECONDS = 60
 
 
@@ -118,6 +121,50 @@ def command_of(program, case, words):
     return [b"sh", b"-c", f'exec "$@"{closed}'.encode(), b"sh", program.encode(), *words] if closed else [program.encode(), *words]
 
 
+def screen_of(text):
+    """What stands on a terminal to which this was written: a carriage return goes back in the line, ESC [ K takes its rest away."""
+    lines, column = [bytearray()], 0
+    for part in re.findall(rb"\x1b\[K|[\x00-\xff]", text):
+        if part == b"\n":
+            lines.append(bytearray())
+            column = 0
+        elif part == b"\r":
+            column = 0
+        elif part == b"\x1b[K":
+            del lines[-1][column:]
+        else:
+            lines[-1][column : column + 1] = part
+            column += 1
+    return b"\n".join(bytes(line) for line in lines)
+
+
+def written_to(terminal):
+    """What is written to a terminal until all that write there have ended."""
+    written = b""
+    while True:
+        try:
+            piece = os.read(terminal, 65536)
+        except OSError:
+            return written
+        if not piece:
+            return written
+        written += piece
+
+
+def run_on_terminal(command, room):
+    """A run whose output and error are one terminal; what stands there at the end is its output."""
+    ours, theirs = pty.openpty()
+    with subprocess.Popen(command, cwd=room, stdin=subprocess.DEVNULL, stdout=theirs, stderr=theirs) as running:
+        os.close(theirs)
+        timer = threading.Timer(SECONDS, running.kill)
+        timer.start()
+        written = written_to(ours)
+        status = running.wait()
+        timer.cancel()
+    os.close(ours)
+    return subprocess.CompletedProcess(command, status, screen_of(written), b"")
+
+
 def failures_by(program, case, words, inputs):
     """What is wrong with a run of the program on a case by these words."""
     with tempfile.TemporaryDirectory(prefix="case-") as room:
@@ -125,15 +172,21 @@ def failures_by(program, case, words, inputs):
             os.makedirs(os.path.dirname(f"{room}/{name}"), exist_ok=True)
             with open(f"{room}/{name}", "wb") as file:
                 file.write(text)
+        has_screen = os.path.isfile(f"{case}/screen")
+        command = command_of(program, case, words)
         try:
-            ran = subprocess.run(command_of(program, case, words), cwd=room, stdin=subprocess.DEVNULL, capture_output=True, timeout=SECONDS)
+            if has_screen:
+                ran = run_on_terminal(command, room)
+            else:
+                ran = subprocess.run(command, cwd=room, stdin=subprocess.DEVNULL, capture_output=True, timeout=SECONDS)
         except subprocess.TimeoutExpired:
             return [f"it had not ended after {SECONDS} seconds"]
         wrong = []
         status = int(read(f"{case}/status", b"0"))
         if ran.returncode != status:
             wrong.append(f"status: wanted {status}, given {ran.returncode}; standard error: {ran.stderr[-200:]!r}")
-        wrong += first_difference("stdout", read(f"{case}/stdout"), ran.stdout)
+        printed = "screen" if has_screen else "stdout"
+        wrong += first_difference(printed, read(f"{case}/{printed}"), ran.stdout)
         if os.path.isfile(f"{case}/stderr"):
             wrong += first_difference("stderr", read(f"{case}/stderr"), ran.stderr)
         return wrong + left_in(case, room, inputs)

@@ -133,6 +133,7 @@ impl<'a, D: Search + Drop> Listing<'a, D> {
             size: sizes.size(self.search.log()),
             sets: u32::try_from(self.found.len()).unwrap_or(u32::MAX),
             steps: self.job.budget.saturating_sub(self.left),
+            budget: self.job.budget,
         });
     }
 

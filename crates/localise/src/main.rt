@@ -1,9 +1,11 @@
 //! `localise COMMAND ..`: finds the suspects in a design that can make its traces right, or simulates them.
 #![tactic(auto)]
 
+mod progress;
 mod standard_error;
 mod streams;
 
+use crate::progress::ProgressLine;
 use crate::standard_error::StandardError;
 use crate::streams::held_stream;
 use io_ports::{FileShelf, OutSink};
@@ -11,6 +13,7 @@ use loc_base::FreeGate;
 use localise_cmd::run_program;
 use std::alloc::AllocError;
 use std::env::Env;
+use std::io::IsTerminal;
 use std::process::ExitCode;
 use std::thread::Threads;
 use std::{env, io};
@@ -19,6 +22,15 @@ use suspect_map::{Ands, Blocks, Gates, Granularity, InstanceOutputs, Modules, St
 /// The arguments that the system gives.
 fn arguments(rt: &HostRuntime) -> io::Result<Vec<String>> {
     Ok(env::args(rt)?.collect(rt.alloc())?)
+}
+
+/// The line that shows how far a search is, where standard error is a terminal.
+fn progress_line(rt: &HostRuntime) -> Option<ProgressLine<'_, HostRuntime>> {
+    if rt.stderr().is_terminal() {
+        ProgressLine::new(rt)
+    } else {
+        None
+    }
 }
 
 /// Carries out the arguments, with the five kinds of suspects of Verilog texts and that of and-inverter graphs. `threads` is the runtime,
@@ -34,7 +46,7 @@ fn status_of<R: Env + Threads + Sync>(threads: &R, rt: &HostRuntime) -> Result<u
     kinds.push(Box::new(alloc, Ands)?)?;
     let mut shelf = FileShelf::new(rt, alloc);
     let mut out = OutSink::new(rt);
-    let mut notes = StandardError::new(alloc, rt.stderr());
+    let mut notes = StandardError::new(alloc, rt.stderr(), progress_line(rt));
     Ok(run_program(
         threads,
         alloc,

@@ -5,7 +5,7 @@ use Rattle.loc_base.specs.Bits.{value_of, width_of}
 use Rattle.loc_base.specs.declared.span.Span.{Span}
 use Rattle.refusal.specs.Codes.{code_span}
 use Rattle.refusal.specs.declared.notes.Note.{Note}
-use Rattle.refusal.specs.declared.notes.Note.TheVariants.{Usage, Refused, Limited, Unread, Unwritten, Scope, Missed, Progress, Written}
+use Rattle.refusal.specs.declared.notes.Note.TheVariants.{Usage, Refused, Limited, Unread, Unwritten, Scope, Missed, Progress, Printing, Written}
 use Rattle.note_text.specs.Places.{IsLineStart, is_newline}
 use Rattle.note_text.specs.Texts.{Begins, code_word, error_text, moment_text, output_text, spot_text, synopsis_text, values_text, wrong_text}
 
@@ -40,5 +40,6 @@ Tells (Missed trace cycle output wanted given) old new =
     new ≡ old ++ moment_text trace cycle ++ output_text output.now
     ++ values_text (width_of given) (value_of given) (width_of wanted) (value_of wanted)
 Tells (Scope trace path) old new = new ≡ old
-Tells (Progress size sets steps) old new = new ≡ old
+Tells (Progress size sets steps budget) old new = new ≡ old
+Tells Printing old new = new ≡ old
 Tells (Written name) old new = new ≡ old

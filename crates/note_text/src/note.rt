@@ -151,6 +151,8 @@ pub fn push_note(alloc: Global, text: &mut Vec<u8>, note: &Note<'_>) -> Result<(
             push_values(text, given, wanted)
         }
         // Of these nothing is printed.
-        Note::Scope { .. } | Note::Progress { .. } | Note::Written { .. } => Ok(()),
+        Note::Scope { .. } | Note::Progress { .. } | Note::Printing | Note::Written { .. } => Ok(
+            (),
+        ),
     }
 }

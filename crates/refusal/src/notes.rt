@@ -46,12 +46,15 @@ pub enum Note<'a> {
         wanted: Bits,
         given: Bits,
     },
-    /// How far a search is: the size that is searched, the sets that are found, the steps that are learned.
+    /// How far a search is: the size that is searched, the sets that are found, the steps that are learned, and how many may be.
     Progress {
         size: u32,
         sets: u32,
         steps: u32,
+        budget: u32,
     },
+    /// Lines are about to be printed on the output.
+    Printing,
     /// The text under a name stands written.
     Written {
         name: &'a str,

@@ -67,7 +67,7 @@ pub fn put_piece<S: Shelf, N: Notes>(
     }
 }
 
-/// Prints a piece. Where that fails it is told.
+/// Prints a piece. That it is about to is told, and where it fails.
 #[tactic(auto, using(crate::proofs::Carried::one_write))]
 pub fn print_piece<O: Sink, N: Notes>(
     out: &mut O,
@@ -79,6 +79,7 @@ pub fn print_piece<O: Sink, N: Notes>(
         → Leaves (print_piece piece.now ∷ []) (on_sink written (O.written out.old) (O.written out.new)) result }
     ensures cause { PrintCause (O.faults out.old) (O.faults out.new) result }
 {
+    notes.note(&Note::Printing);
     match out.put(piece) {
         Ok(()) => Ok(()),
         Err(SinkFault::Failed(cause)) => {
