@@ -167,6 +167,7 @@ behind_two_dashes_all_words_are_positional
         texts = record { design = codes "m.v"; format = Verilog; top = codes "m"; traces = codes "--clock" ∷ codes "-" ∷ [] };
         clock = None;
       };
+      exit_code = false;
     }))
 unfolding clap_on_literals read_by sim_arguments
 behind_two_dashes_all_words_are_positional = refl
@@ -204,9 +205,30 @@ a_design_in_aiger
         texts = record { design = codes "m.v"; format = Aiger; top = codes "m"; traces = codes "t" ∷ [] };
         clock = None;
       };
+      exit_code = false;
     }))
 unfolding clap_on_literals read_by sim_arguments
 a_design_in_aiger = refl
+
+a_status_that_tells
+    : asked (sim_words (codes "--exit-code" ∷ codes "t" ∷ []))
+    ≡ Ok (sim (record {
+      sources = record {
+        texts = record { design = codes "m.v"; format = Verilog; top = codes "m"; traces = codes "t" ∷ [] };
+        clock = None;
+      };
+      exit_code = true;
+    }))
+unfolding clap_on_literals read_by sim_arguments
+a_status_that_tells = refl
+
+a_flag_with_a_value : asked (sim_words (codes "--exit-code=yes" ∷ codes "t" ∷ [])) ≡ Err Words
+unfolding clap_on_literals read_by sim_arguments
+a_flag_with_a_value = refl
+
+a_flag_that_is_given_twice : asked (sim_words (codes "--exit-code" ∷ codes "t" ∷ codes "--exit-code" ∷ [])) ≡ Err Words
+unfolding clap_on_literals read_by sim_arguments
+a_flag_that_is_given_twice = refl
 
 a_format_that_is_none : asked (sim_words (codes "t" ∷ codes "--format=aig" ∷ [])) ≡ Err Name
 unfolding clap_on_literals read_by sim_arguments

@@ -17,6 +17,7 @@ check_arguments = record {
   words = codes "design" ∷ codes "top" ∷ codes "report" ∷ codes "log" ∷ [];
   rest = Some (codes "trace");
   options = codes "workers" ∷ codes "format" ∷ [];
+  flags = [];
 }
 
 -- ---- what is asked

@@ -21,6 +21,7 @@ find_arguments = record {
   rest = Some (codes "trace");
   options = codes "clock" ∷ codes "size" ∷ codes "budget" ∷ codes "sets" ∷ codes "suspects" ∷ codes "workers" ∷ codes "log"
       ∷ codes "report" ∷ codes "resume" ∷ codes "resume-log" ∷ codes "waves" ∷ codes "format" ∷ [];
+  flags = [];
 }
 
 -- ---- what is asked

@@ -20,6 +20,7 @@ make_arguments = record {
   rest = None;
   options = codes "size" ∷ codes "budget" ∷ codes "sets" ∷ codes "suspects" ∷ codes "workers" ∷ codes "log" ∷ codes "report"
       ∷ codes "design" ∷ codes "trace" ∷ [];
+  flags = [];
 }
 
 -- ---- what is asked

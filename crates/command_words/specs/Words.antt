@@ -19,7 +19,7 @@ as_asked command (Err usage) = Err usage
 abbrev pub asked_of_command : List (List ℕ) → List ℕ → List (List ℕ) → Result Asked Usage
 asked_of_command known command words =
     if bytes_eq command (codes "find") then as_asked find (find_asked known words)
-    else (if bytes_eq command (codes "sim") then as_asked (λ sources. sim (record { sources = sources })) (sim_asked words)
+    else (if bytes_eq command (codes "sim") then as_asked sim (sim_asked words)
     else (if bytes_eq command (codes "check") then as_asked check (check_asked words)
     else (if bytes_eq command (codes "make") then as_asked make (make_asked known words)
     else as_asked (λ page. help (record { page = page })) (page_asked words))))

@@ -36,6 +36,7 @@ fn check_table() -> Table<'static>
         words: &["design", "top", "report", "log"],
         rest: Some("trace"),
         options: &["workers", "format"],
+        flags: &[],
     }
 }
 

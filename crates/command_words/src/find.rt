@@ -57,6 +57,7 @@ fn find_table() -> Table<'static>
             "waves",
             "format",
         ],
+        flags: &[],
     }
 }
 

@@ -41,6 +41,7 @@ fn make_table() -> Table<'static>
         options: &[
             "size", "budget", "sets", "suspects", "workers", "log", "report", "design", "trace",
         ],
+        flags: &[],
     }
 }
 

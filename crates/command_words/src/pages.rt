@@ -63,6 +63,7 @@ example: localise find uart_tx.v uart_tx uart_tx.vcd --clock clk --size 1
 
 /// `sim`.
 pub const SIM: &[u8] = b"usage: localise sim DESIGN TOP DUMP.. [--clock NAME] [--format F]
+                    [--exit-code]
 
 Runs the design on the inputs of each dump, prints its outputs, and says where
 they first differ from those that the dump wants.
@@ -72,6 +73,7 @@ they first differ from those that the dump wants.
                  applied, the outputs that are wanted; 1 to 256 of them
   --clock NAME   the input of the top that is the clock (none)
   --format F     the format of the design: verilog or aiger (verilog)
+  --exit-code    end with status 9 where some output differs
 
 It prints, of dump T (from 1) and cycle C (from 0), in hex:
   T C NAME=HEX NAME=HEX ..
@@ -79,9 +81,10 @@ and after the last cycle of a dump one of:
   trace T ok             no output differs
   trace T miss C NAME    the first cycle in which one does, and there the first
 
-status 0: all is printed, whatever differs. 2: the arguments are wrong. 3: a
-file isn't of a form that is read (input CODE and where). 4: a limit is passed.
-5: a file can't be read. 6: a write failed. 7: out of memory.
+status 0: all is printed. 2: the arguments are wrong. 3: a file isn't of a form
+that is read (input CODE and where). 4: a limit is passed. 5: a file can't be
+read. 6: a write failed. 7: out of memory. 9: all is printed, and with
+--exit-code some output differs.
 
 example: localise sim uart_tx.v uart_tx uart_tx.vcd --clock clk
 ";

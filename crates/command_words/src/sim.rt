@@ -3,13 +3,13 @@ ghost use Rattle.std.specs.Prelude.{◌≡◌, IfOk, true, map, string_bytes};
 ghost use Rattle.word_values.specs.Answers.{Gives, Says};
 ghost use Rattle.word_values.specs.Arguments.{IsPlain};
 ghost use Rattle.word_values.specs.Tables.{arguments_of};
-ghost use Rattle.requests.specs.Views.{reading_asked};
+ghost use Rattle.requests.specs.Views.{reading_asked, sim_asked as sim_asked_of};
 ghost use Rattle.command_words.specs.Sim.{IsSimAsked, are_sim_names, sim_arguments, sim_asked, sim_in};
 ghost use Rattle.command_words.specs.Views.{sim_values};
 
 use crate::texts;
 use loc_base::NoMemory;
-use requests::Reading;
+use requests::{Reading, SimRequest};
 use std::alloc::Global;
 use word_values::{
     Given, Sources, Table, Usage, WordsErr, are_source_names, given_by, is_format_known,
@@ -33,6 +33,7 @@ fn sim_table() -> Table<'static>
         words: &["design", "top"],
         rest: Some("trace"),
         options: &["clock", "format"],
+        flags: &["exit-code"],
     }
 }
 
@@ -68,9 +69,9 @@ pub(crate) fn copied(alloc: Global, values: &SimValues) -> Result<Reading, NoMem
 }
 
 /// What the words of the command ask for, itself the first.
-pub fn sim_words(alloc: Global, words: &[String]) -> Result<Reading, WordsErr>
-    ensures gives { Gives reading_asked (sim_asked (map string_bytes words.now)) result }
-    ensures holds { IfOk result (λ reading. IsSimAsked (reading_asked reading)) }
+pub fn sim_words(alloc: Global, words: &[String]) -> Result<SimRequest, WordsErr>
+    ensures gives { Gives sim_asked_of (sim_asked (map string_bytes words.now)) result }
+    ensures holds { IfOk result (λ request. IsSimAsked (sim_asked_of request).sources) }
 {
     let Some(given) = given_by(alloc, sim_table(), words)? else {
         return Err(WordsErr::Usage(Usage::Words));
@@ -79,5 +80,8 @@ pub fn sim_words(alloc: Global, words: &[String]) -> Result<Reading, WordsErr>
     if !is_format_known(&given) || !are_names(&values) {
         return Err(WordsErr::Usage(Usage::Name));
     }
-    Ok(copied(alloc, &values)?)
+    Ok(SimRequest {
+        reading: copied(alloc, &values)?,
+        exit_code: given.is_given("exit-code"),
+    })
 }

@@ -10,7 +10,7 @@ use crate::find::find_words;
 use crate::help::page_words;
 use crate::make::make_words;
 use crate::sim::sim_words;
-use requests::{HelpRequest, Request, SimRequest};
+use requests::{HelpRequest, Request};
 use std::alloc::Global;
 use word_values::{Usage, WordsErr};
 
@@ -18,7 +18,7 @@ use word_values::{Usage, WordsErr};
 ///
 /// - `find DESIGN TOP TRACE.. [--clock NAME] [--size K] [--budget B] [--sets M] [--suspects A,B] [--workers N] [--log NAME]
 ///   [--report NAME] [--waves PREFIX] [--resume NAME --resume-log NAME] [--format F]`
-/// - `sim DESIGN TOP TRACE.. [--clock NAME] [--format F]`
+/// - `sim DESIGN TOP TRACE.. [--clock NAME] [--format F] [--exit-code]`
 /// - `check DESIGN TOP REPORT LOG TRACE.. [--workers N] [--format F]`
 /// - `make NUMBER [--size K] [--budget B] [--sets M] [--suspects A,B] [--workers N] [--log NAME] [--report NAME] [--design NAME]
 ///   [--trace NAME]`
@@ -40,9 +40,7 @@ pub fn request(alloc: Global, words: &[String], known: &[&str]) -> Result<Reques
     };
     match command.as_str() {
         "find" => Ok(Request::Find(find_words(alloc, words, known)?)),
-        "sim" => Ok(Request::Sim(SimRequest {
-            reading: sim_words(alloc, words)?,
-        })),
+        "sim" => Ok(Request::Sim(sim_words(alloc, words)?)),
         "check" => Ok(Request::Check(check_words(alloc, words)?)),
         "make" => Ok(Request::Make(make_words(alloc, words, known)?)),
         _ => match page_words(words) {

@@ -15,7 +15,7 @@ use Rattle.write_order.proofs.Carried.{done-then, print-done, print-stops, stops
 use Rattle.localise_cmd.specs.Usage.{no_request}
 use Rattle.localise_cmd.specs.Commands.{KeepsWords, Tools, case_of}
 use Rattle.localise_cmd.specs.Given.{AreWords, KeepsGiven}
-use Rattle.localise_cmd.proofs.Keeping.{AllowsMemory, eight-no_stop, low-no_stop, memory-keeps}
+use Rattle.localise_cmd.proofs.Keeping.{AllowsMemory, high-no_stop, low-no_stop, memory-keeps}
 
 -- ---- a command
 module _ (tools : Tools) (asked : Result Asked Usage) (run : Run) (status : ℕ) where
@@ -55,7 +55,10 @@ allows-memory tools (Ok (find asked)) run written = record {
   cut = λ told text. inr (record { printed = text; nothing_written = written });
 }
 allows-memory tools (Ok (sim asked)) run written = record {
-  answer = λ status is. low-no_stop status (omega (arith, is));
+  answer = λ status may. elim may [
+    | inl zero ↦ low-no_stop status (omega (arith, zero))
+    | inr nine ↦ high-no_stop status (omega (arith, nine.1))
+  ];
   refusals = input-refusal;
   stopped = λ told rose front. record {
     due = memory_line;
@@ -77,7 +80,7 @@ allows-memory tools (Ok (sim asked)) run written = record {
 allows-memory tools (Ok (check asked)) run written = record {
   answer = λ status may. elim may [
     | inl zero ↦ low-no_stop status (omega (arith, zero))
-    | inr more ↦ elim more [ inl one ↦ low-no_stop status (omega (arith, one)) | inr eight ↦ eight-no_stop status eight ]
+    | inr more ↦ elim more [ inl one ↦ low-no_stop status (omega (arith, one)) | inr eight ↦ high-no_stop status (omega (arith, eight)) ]
   ];
   refusals = input-refusal;
   stopped = λ told rose front. (

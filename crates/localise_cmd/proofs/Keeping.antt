@@ -140,8 +140,8 @@ pub record IsNoStop (status : ℕ) : Type 0 where
 pub low-no_stop : (status : ℕ) → status ≤ 1 → IsNoStop status
 low-no_stop status low = record { no_fault = λ e. omega (arith, low, e); no_want = λ e. omega (arith, low, e) }
 
-pub eight-no_stop : (status : ℕ) → status ≡ 8 → IsNoStop status
-eight-no_stop status is = record { no_fault = λ e. omega (arith, is, e); no_want = λ e. omega (arith, is, e) }
+pub high-no_stop : (status : ℕ) → 8 ≤ status → IsNoStop status
+high-no_stop status high = record { no_fault = λ e. omega (arith, high, e); no_want = λ e. omega (arith, high, e) }
 
 -- what a case says of such a run: no answer of it is 6 or 7, its refusals are 2 to 5, and it allows `memory`, a front of it, or nothing
 pub record AllowsMemory (c : Case) (run : Run) : Type 0 where

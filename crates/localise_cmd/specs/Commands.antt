@@ -29,7 +29,7 @@ tools_of M R known suspecting = record { means = M; refuses = R; known = known; 
 -- of a request
 abbrev pub case_of : Tools → Result Asked Usage → Case
 case_of tools (Ok (find asked)) = finding tools.means tools.refuses tools.suspecting asked
-case_of tools (Ok (sim asked)) = simulation tools.means tools.refuses asked.sources
+case_of tools (Ok (sim asked)) = simulation tools.means tools.refuses asked
 case_of tools (Ok (check asked)) = checking tools.means tools.refuses tools.known tools.suspecting asked
 case_of tools (Ok (make asked)) = making tools.means tools.refuses tools.suspecting asked
 case_of tools (Ok (help asked)) = helping asked

@@ -27,7 +27,7 @@ use suspect_map::Granularity;
 /// | words | what is done |
 /// |---|---|
 /// | `find DESIGN TOP TRACE.. [--clock NAME] [--size K] [--budget B] [--sets M] [--suspects A,B] [--workers N] [--log NAME] [--report NAME] [--waves PREFIX] [--resume NAME --resume-log NAME] [--format F]` | lists each minimal set of suspects, with a log and a report, with waves of each set where they are wanted, and from where an earlier list ended where its report and log are given (`find_cmd`) |
-/// | `sim DESIGN TOP TRACE.. [--clock NAME] [--format F]` | simulates the traces (`sim_cmd`) |
+/// | `sim DESIGN TOP TRACE.. [--clock NAME] [--format F] [--exit-code]` | simulates the traces (`sim_cmd`) |
 /// | `check DESIGN TOP REPORT LOG TRACE.. [--workers N] [--format F]` | judges a list by its report and its log (`check_cmd`) |
 /// | `make NUMBER [--size K] [--budget B] [--sets M] [--suspects A,B] [--workers N] [--log NAME] [--report NAME] [--design NAME] [--trace NAME]` | writes an input that it makes, and lists its sets (`make_cmd`) |
 /// | `help [COMMAND]`, `--help`, `-h`, `--version` | prints a page, or the versions of what is written (`page_text` of `command_words`) |
@@ -43,6 +43,7 @@ use suspect_map::Granularity;
 /// | 6 | writing failed | none |
 /// | 7 | out of memory | `memory`, `front N memory`, or none |
 /// | 8 | `check`: the report's table isn't the design's, or it isn't shown that its sets are the whole list or a front of it | `no top`, `no suspect S`, or `no` and the first condition that fails |
+/// | 9 | `sim --exit-code`: a trace isn't right | `trace T ok` or `trace T miss C NAME` |
 ///
 /// The kinds of suspects that `--suspects` may name are those that are given. The design is in Verilog, or with `--format aiger` in ASCII
 /// AIGER. What is told to a person beside the output goes to the notes, of which no clause says anything.

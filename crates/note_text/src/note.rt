@@ -151,8 +151,7 @@ pub fn push_note(alloc: Global, text: &mut Vec<u8>, note: &Note<'_>) -> Result<(
             push_values(text, given, wanted)
         }
         // Of these nothing is printed.
-        Note::Scope { .. } | Note::Progress { .. } | Note::Printing | Note::Written { .. } => Ok(
-            (),
-        ),
+        Note::Scope { .. } | Note::Progress { .. } => Ok(()),
+        Note::Printing | Note::Written { .. } => Ok(()),
     }
 }

@@ -1,5 +1,5 @@
 -- What the commands are asked, as plain data: names of texts, names in a design, kinds of suspects and prefixes are bytes.
-use Rattle.std.specs.Prelude.{ℕ, ◌≤◌, List, Option}
+use Rattle.std.specs.Prelude.{ℕ, ◌≤◌, Bool, List, Option}
 use Rattle.front_end.specs.declared.format.Format.{Format}
 use Rattle.requests.specs.declared.help.HelpPage.{HelpPage}
 
@@ -54,9 +54,10 @@ pub record FindAsked : Type 0 where
 abbrev pub wanted_for : FindAsked → WantedAsked
 wanted_for asked = wanted_of asked.sources asked.listing
 
--- `sim`
+-- `sim`: whether the status says that a trace isn't right
 pub record SimAsked : Type 0 where
   pub sources : SourcesAsked
+  pub exit_code : Bool
 
 -- `check`: the names of the report and of the log, and how many workers check it
 pub record CheckAsked : Type 0 where

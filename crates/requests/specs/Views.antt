@@ -63,7 +63,7 @@ find_asked request = record {
 }
 
 abbrev pub sim_asked : SimRequest → SimAsked
-sim_asked request = record { sources = reading_asked request.reading }
+sim_asked request = record { sources = reading_asked request.reading; exit_code = request.exit_code }
 
 abbrev pub check_asked : CheckRequest → CheckAsked
 check_asked request = record {

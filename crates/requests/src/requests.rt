@@ -20,6 +20,8 @@ pub struct FindRequest {
 #[derive(Drop)]
 pub struct SimRequest {
     pub reading: Reading,
+    /// Whether the status says that a trace isn't right.
+    pub exit_code: bool,
 }
 
 /// What `check` is asked. The clock, the kinds of suspects and the size are the report's.

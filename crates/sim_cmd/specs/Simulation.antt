@@ -1,16 +1,16 @@
 -- The case of a simulation: it prints the lines of the traces, for the design and the traces that the texts mean.
-use Rattle.std.specs.Prelude.{ℕ, ◌+◌, ◌≡◌, ◌⊎◌, List, [], ◌++◌, All, take}
+use Rattle.std.specs.Prelude.{ℕ, ◌+◌, ◌≡◌, ◌⊎◌, Bool, true, not, ◌&&◌, if◌then◌else◌, List, [], ◌++◌, All, take}
 use Rattle.io_ports.specs.Faults.{Rose}
 use Rattle.io_ports.specs.Shelf.{AppendsFront}
 use Rattle.command_contract.specs.Contract.{Case, Counts, IsInputRefusal, NamesFault, NothingWritten, Run, Texts}
 use Rattle.design_core.specs.declared.design.Design.{Design}
 use Rattle.design_core.specs.declared.trace.Trace.{Trace}
 use Rattle.refusal.specs.Lines.{memory_line}
-use Rattle.sim_lines.specs.Lines.{AreLines, Line, text_of}
+use Rattle.sim_lines.specs.Lines.{AreLines, Line, are_right, text_of}
 use Rattle.front_end.specs.Means.{Meaning, Refusing}
 use Rattle.load_texts.specs.declared.faults.DesignFault.{DesignFault}
 use Rattle.load_texts.specs.declared.faults.TraceFault.{TraceFault}
-use Rattle.requests.specs.Asked.{SourcesAsked}
+use Rattle.requests.specs.Asked.{SimAsked, SourcesAsked}
 use Rattle.load_texts.specs.Causes.{DesignCause, TraceRefused}
 use Rattle.load_texts.specs.Means.{Means, MeansDesign, MeansTrace}
 use Rattle.load_texts.specs.Refusals.{design_fault_line, design_fault_status, trace_fault_line, trace_fault_status}
@@ -51,10 +51,18 @@ IsDue M R asked texts counts due =
     ⊎ MayStand M asked texts counts due)
 
 -- ---- the case
+-- 9 where the status is to say that a trace isn't right, and one isn't; else 0
+abbrev pub told_status : Bool → List Line → ℕ
+told_status exit_code lines = if exit_code && not (are_right lines) then 9 else 0
+
+abbrev pub IsAnswer : Bool → ℕ → Type 0
+IsAnswer exit_code status = (status ≡ 0) ⊎ ((exit_code ≡ true) × (status ≡ 9))
+
 -- all lines are printed, each once and in order, and nothing is written
-pub record IsDone (M : Meaning) (asked : SourcesAsked) (run : Run) : Type 0 where
+pub record IsDone (M : Meaning) (asked : SimAsked) (run : Run) (status : ℕ) : Type 0 where
   pub lines : List Line
-  pub simulated : Simulated M asked run.texts lines
+  pub simulated : Simulated M asked.sources run.texts lines
+  pub tells : status ≡ told_status asked.exit_code lines
   pub printed : run.now_printed ≡ run.printed ++ text_of lines
   pub nothing_written : run.now_written ≡ run.written
 
@@ -80,16 +88,16 @@ pub record IsReady (M : Meaning) (asked : SourcesAsked) (texts : Texts) : Type 0
   pub traces : (d : Design) → MeansDesign M asked texts d
       → All (λ name. (found : Trace) × MeansTrace texts asked.clock d name found) asked.texts.traces
 
--- its only answer is 0, and it may write no text
-abbrev pub simulation : Meaning → Refusing → SourcesAsked → Case
+-- it may write no text
+abbrev pub simulation : Meaning → Refusing → SimAsked → Case
 simulation M R asked = record {
-  MayAnswer = λ status. status ≡ 0;
+  MayAnswer = IsAnswer asked.exit_code;
   MayRefuse = IsInputRefusal;
-  Answered = λ run status. IsDone M asked run;
-  Refused = λ run. Refused M R asked run.texts;
+  Answered = IsDone M asked;
+  Refused = λ run. Refused M R asked.sources run.texts;
   Stands = NothingWritten;
-  Stopped = IsStopped M R asked;
-  Cut = IsCut M asked;
+  Stopped = IsStopped M R asked.sources;
+  Cut = IsCut M asked.sources;
   Writes = λ name. ⊥;
-  Ready = λ run. IsReady M asked run.texts;
+  Ready = λ run. IsReady M asked.sources run.texts;
 }

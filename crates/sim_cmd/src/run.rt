@@ -1,12 +1,12 @@
 //! A run of the command.
-ghost use Rattle.std.specs.Prelude.{◌≡◌, ◌<◌, ◌^◌, ◌&&◌, List, length, true};
+ghost use Rattle.std.specs.Prelude.{◌≡◌, ◌<◌, ◌^◌, ◌&&◌, if◌then◌else◌, List, length, not, true};
 ghost use Rattle.command_contract.specs.Contract.{Keeps, counts_of, run_of};
 ghost use Rattle.front_end.specs.Means.{IsReady};
 ghost use Rattle.requests.specs.Views.{sim_asked};
 ghost use Rattle.sim_lines.specs.CanShow.{AreShown};
 ghost use Rattle.sim_lines.specs.Lines.{AreLines, Line as SomeLine};
 ghost use Rattle.sim_cmd.specs.Ends.{EndsShown, ShownCounts};
-ghost use Rattle.sim_cmd.specs.Simulation.{simulation};
+ghost use Rattle.sim_cmd.specs.Simulation.{IsAnswer, simulation};
 
 use crate::loaded::{Loaded, load};
 use front_end::FrontEnd;
@@ -16,15 +16,29 @@ use requests::SimRequest;
 use sim_lines::{Simulation, show_traces};
 use std::alloc::Global;
 
+/// The status where all lines were printed: 9 where it is to say that a trace isn't right, and one isn't.
+fn status_for(exit_code: bool, right: bool) -> u8
+    ensures is { result ≡ (if exit_code && not right then 9 else 0) }
+    ensures answers { IsAnswer exit_code result }
+{
+    if exit_code && !right { 9 } else { 0 }
+}
+
 /// Prints the lines of the traces, and answers the status of the program.
 #[tactic(auto, using(crate::proofs::Ready::ready_rules, crate::proofs::Shown::show_rules))]
-fn show<O: Sink, N: Notes>(alloc: Global, loaded: &Loaded, out: &mut O, notes: &mut N) -> u8
+fn show<O: Sink, N: Notes>(
+    alloc: Global,
+    loaded: &Loaded,
+    exit_code: bool,
+    out: &mut O,
+    notes: &mut N,
+) -> u8
     requires ready { IsReady loaded.now.ordered.design loaded.now.ordered.order }
     requires traces { AreShown loaded.now.ordered.design loaded.now.traces.items }
     ensures text { O.tells out.old ≡ true → (lines : List SomeLine)
         → AreLines loaded.now.ordered.design 1 loaded.now.traces.items lines
-        → EndsShown lines (O.written out.old) (O.written out.new) result }
-    ensures counts { ShownCounts (O.faults out.old) (O.faults out.new) result }
+        → EndsShown exit_code lines (O.written out.old) (O.written out.new) result }
+    ensures counts { ShownCounts exit_code (O.faults out.old) (O.faults out.new) result }
 {
     let simulation = Simulation {
         design: &loaded.ordered.design,
@@ -32,7 +46,7 @@ fn show<O: Sink, N: Notes>(alloc: Global, loaded: &Loaded, out: &mut O, notes: &
         traces: &loaded.traces,
     };
     match show_traces(alloc, &simulation, out, notes) {
-        Ok(()) => 0,
+        Ok(right) => status_for(exit_code, right),
         Err(SinkFault::Failed(_)) => 6,
         Err(SinkFault::NoMemory) => LastLine::Memory.print(out),
     }
@@ -49,6 +63,7 @@ fn show<O: Sink, N: Notes>(alloc: Global, loaded: &Loaded, out: &mut O, notes: &
 /// | 5 | a file can't be read | `read fault NAME` |
 /// | 6 | writing failed | none |
 /// | 7 | out of memory | `memory`, or none |
+/// | 9 | all lines were printed, and the status is to say that a trace isn't right | those |
 pub fn simulate<F: FrontEnd, S: Shelf, O: Sink, N: Notes>(
     alloc: Global,
     front: &F,
@@ -58,14 +73,14 @@ pub fn simulate<F: FrontEnd, S: Shelf, O: Sink, N: Notes>(
     notes: &mut N,
 ) -> u8
     requires { length request.now.reading.texts.traces.items < 2 ^ 32 }
-    ensures { Keeps (simulation F.means F.refuses (sim_asked request.now).sources)
+    ensures { Keeps (simulation F.means F.refuses (sim_asked request.now))
         (run_of (S.tells shelf.old && O.tells out.old) (S.texts shelf.old) (S.written shelf.old) (S.written shelf.new)
         (O.written out.old) (O.written out.new)
         (counts_of (S.faults shelf.old) (S.faults shelf.new) (O.faults out.old) (O.faults out.new)))
         result }
 {
     match load(alloc, front, &request.reading.sources(), shelf, notes) {
-        Ok(loaded) => show(alloc, &loaded, out, notes),
+        Ok(loaded) => show(alloc, &loaded, request.exit_code, out, notes),
         Err(last) => last.print(out),
     }
 }

@@ -15,7 +15,7 @@ use Rattle.sim_lines.specs.Lines.{AreLines, AreLinesOf, IsEnd, Line, cycle_lines
 use Rattle.sim_lines.specs.Shows.{Shows}
 use Rattle.sim_lines.proofs.ShowsLaws.{shows-none, shows-one, shows-stopped, shows-then}
 
-append-none : {X : Type 0} (xs : List X) → xs ++ [] ≡ xs
+pub append-none : {X : Type 0} (xs : List X) → xs ++ [] ≡ xs
 append-none [] = refl
 append-none (x ∷ xs) = ap (λ zs. x ∷ zs) (append-none xs)
 
@@ -49,7 +49,7 @@ pub record Printed (d : Design) (traces : List Trace) (lines : List Line) (j : �
 pub printed-none : (d : Design) (traces : List Trace) (lines : List Line) (old : List ℕ) → AreLines d 1 traces lines → Printed d traces lines 0 old old
 printed-none d traces lines old are = record { front = []; rest = lines; whole = refl; left = are; printed = shows-none old }
 
-drop-next : {X : Type 0} (xs : List X) (j : ℕ) (x : X) → slice_get xs j ≡ Some x → drop j xs ≡ x ∷ drop (j + 1) xs
+pub drop-next : {X : Type 0} (xs : List X) (j : ℕ) (x : X) → slice_get xs j ≡ Some x → drop j xs ≡ x ∷ drop (j + 1) xs
 drop-next xs j x at = drop-at xs j x (slice_get_within xs j x at) (sym (get_or_from_slice_get xs j x x at))
 
 pub printed-next : (d : Design) (traces : List Trace) (lines : List Line) (j : ℕ) (trace : Trace) (old now new : List ℕ)

@@ -1,6 +1,6 @@
 -- What a simulation prints of traces, as data and then as text. Traces are counted from 1, cycles from 0.
-use Rattle.std.specs.Prelude.{ℕ, ◌≡◌, ◌<◌, ◌+◌, ◌⊎◌, Bool, false, List, [], ◌∷◌, ◌++◌, map, slice_get, Option, Some, None, codes, decimal}
-use Rattle.std.specs.List.{flat_map}
+use Rattle.std.specs.Prelude.{ℕ, ◌≡◌, ◌<◌, ◌+◌, ◌⊎◌, Bool, true, false, not, List, [], ◌∷◌, ◌++◌, map, slice_get, Option, Some, None, codes, decimal}
+use Rattle.std.specs.List.{flat_map, list_any}
 use Rattle.std.specs.Option.{option_map_or}
 use Rattle.design_core.specs.declared.signal.Signal.{Signal}
 use Rattle.design_core.specs.declared.design.Design.{Design}
@@ -78,6 +78,14 @@ abbrev pub AreLines : Design → ℕ → List Trace → List Line → Type 0
 AreLines d number [] lines = lines ≡ []
 AreLines d number (trace ∷ traces) lines =
     (first : List Line) × (rest : List Line) × AreLinesOf d number trace first × AreLines d (number + 1) traces rest × (lines ≡ first ++ rest)
+
+-- ---- whether all is right: no line says that a trace isn't
+abbrev pub is_miss : Line → Bool
+is_miss (misses trace cycle name) = true
+is_miss _ = false
+
+abbrev pub are_right : List Line → Bool
+are_right lines = not (list_any is_miss lines)
 
 -- ---- as text
 -- ` NAME=HEX`

@@ -2,20 +2,21 @@
 -- words are read by such a table is clap's own reading: an option is `--x v` or `--x=v` and stands anywhere; after `--`
 -- all words are positional; a word that begins with `-`, but `-` itself, is no value of `--x v`; `--x=` gives the empty
 -- text; `--help` and `-h` are refused like all that isn't in the table. Ours is what stands in the tables: an option is
--- of clap's kind `Set`, so it stands once at most.
+-- of clap's kind `Set`, and a flag, `--x` without a value, of `SetTrue`, so each stands once at most.
 use Rattle.std.specs.Prelude.{◌≡◌, true, ℕ, List, [], ◌∷◌, Option, Some, None, if◌then◌else◌}
 pub use Rattle.clap.specs.Words.{Row, all_of, first_of}
 use Rattle.clap.specs.Words.{App, Rule, fault_of, is_simple_and_free, matches_of, new_app, new_rule, with_rule}
 use Rattle.clap.specs.Walk.{is_empty}
-use Rattle.clap.specs.declared.builder.action.ArgAction.TheVariants.{Append, Set}
+use Rattle.clap.specs.declared.builder.action.ArgAction.TheVariants.{Append, Set, SetTrue}
 
 -- the command's name; the names of the positional words that must stand; that of the words behind them, one or more,
--- where there are such; the names of the options
+-- where there are such; the names of the options, and of the flags
 pub record Arguments : Type 0 where
   pub command : List ℕ
   pub words : List (List ℕ)
   pub rest : Option (List ℕ)
   pub options : List (List ℕ)
+  pub flags : List (List ℕ)
 
 -- ---- as a command of clap
 -- a positional word that must stand
@@ -30,6 +31,10 @@ one_or_more id = record (new_rule id) { action = Some Append; required = true }
 abbrev pub option : List ℕ → Rule
 option id = record (new_rule id) { long = Some id; action = Some Set }
 
+-- `--ID`
+abbrev pub flag : List ℕ → Rule
+flag id = record (new_rule id) { long = Some id; action = Some SetTrue }
+
 -- with one argument for each name
 abbrev pub with_each : (List ℕ → Rule) → App → List (List ℕ) → App
 with_each rule app [] = app
@@ -40,7 +45,9 @@ with_rest app None = app
 with_rest app (Some id) = with_rule app (one_or_more id)
 
 abbrev pub app_of : Arguments → App
-app_of table = with_each option (with_rest (with_each required (new_app table.command) table.words) table.rest) table.options
+app_of table =
+    with_each flag (with_each option (with_rest (with_each required (new_app table.command) table.words) table.rest) table.options)
+    table.flags
 
 -- the table is one whose words are read as it says
 abbrev pub IsPlain : Arguments → Type 0

@@ -4,6 +4,7 @@ pub mod Values
 pub mod Paths
 pub mod Numbers
 pub mod Formats
+pub mod Flags
 pub mod Sources
 pub mod Standing
 pub mod Answers

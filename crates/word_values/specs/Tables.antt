@@ -9,4 +9,5 @@ arguments_of table = record {
   words = map (λ word. word.now) table.words.now;
   rest = option_map (λ word. word.now) table.rest;
   options = map (λ word. word.now) table.options.now;
+  flags = map (λ word. word.now) table.flags.now;
 }

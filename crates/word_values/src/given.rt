@@ -3,6 +3,7 @@ ghost use Rattle.std.specs.Prelude.{◌≡◌, IfOk, true, map, string_bytes, un
 ghost use Rattle.std.specs.Option.{option_map};
 ghost use Rattle.clap.specs.Words.{app_of as clap_app, found_of, is_simple_and_free, rows_of};
 ghost use Rattle.word_values.specs.Arguments.{IsPlain, all_of, first_of, read_by, values_of};
+ghost use Rattle.word_values.specs.Flags.{is_given};
 ghost use Rattle.word_values.specs.Tables.{arguments_of};
 
 use crate::table::{Table, command_of};
@@ -49,6 +50,13 @@ impl<'a> Given<'a> {
             Some(value) => value,
             None => other,
         }
+    }
+
+    /// Whether a flag is given.
+    pub fn is_given(&self, id: &str) -> bool
+        ensures { result ≡ is_given id.now self.now }
+    {
+        self.value_or(id, "false") == "true"
     }
 
     /// The values of an argument that has at least one.

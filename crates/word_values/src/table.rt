@@ -1,7 +1,7 @@
 //! The arguments of a command, and the command of clap that has them.
 ghost use Rattle.std.specs.Prelude.{◌≡◌, IfOk, true, false, map, option_map};
 ghost use Rattle.clap.specs.Words.{app_of as clap_app, with_rule, rule_of};
-ghost use Rattle.word_values.specs.Arguments.{app_of, one_or_more, option, required, with_each, with_rest};
+ghost use Rattle.word_values.specs.Arguments.{app_of, flag, one_or_more, option, required, with_each, with_rest};
 ghost use Rattle.word_values.specs.Tables.{arguments_of};
 
 use clap::{Arg, ArgAction, Command};
@@ -19,6 +19,8 @@ pub struct Table<'t> {
     pub rest: Option<&'t str>,
     /// `--NAME VALUE`, each once at most.
     pub options: &'t [&'t str],
+    /// `--NAME`, each once at most.
+    pub flags: &'t [&'t str],
 }
 
 fn required<'a>(alloc: Global, id: &'a str) -> Arg<'a>
@@ -40,6 +42,13 @@ fn option<'a>(alloc: Global, id: &'a str) -> Arg<'a>
     ensures local { result.global ≡ false }
 {
     Arg::new(alloc, id).long(id).action(ArgAction::Set)
+}
+
+fn flag<'a>(alloc: Global, id: &'a str) -> Arg<'a>
+    ensures rule { rule_of result ≡ flag id.entry.now }
+    ensures local { result.global ≡ false }
+{
+    Arg::new(alloc, id).long(id).action(ArgAction::SetTrue)
 }
 
 /// A command with one more argument.
@@ -78,6 +87,20 @@ fn with_options<'a>(
     Ok(command)
 }
 
+fn with_flags<'a>(
+    alloc: Global,
+    command: Command<'a>,
+    ids: &'a [&'a str],
+) -> Result<Command<'a>, NoMemory>
+    ensures { IfOk result (λ c. clap_app c ≡ with_each flag (clap_app command.entry) (map (λ w. w.now) ids.entry.now)) }
+{
+    let mut command = command;
+    for id in ids {
+        command = with(command, flag(alloc, id))?;
+    }
+    Ok(command)
+}
+
 fn with_last<'a>(
     alloc: Global,
     command: Command<'a>,
@@ -97,5 +120,6 @@ pub(crate) fn command_of<'a>(alloc: Global, table: Table<'a>) -> Result<Command<
 {
     let command = with_words(alloc, Command::new(alloc, table.command), table.words)?;
     let command = with_last(alloc, command, table.rest)?;
-    with_options(alloc, command, table.options)
+    let command = with_options(alloc, command, table.options)?;
+    with_flags(alloc, command, table.flags)
 }

@@ -13,7 +13,7 @@ use Rattle.sim_cmd.proofs.run.simulate.Goals as goal
 
 pub returns-in-Err : goal.returns-in-Err
 returns-in-Err g c =
-    let asked = (sim_asked c.args.request.now).sources in
+    let asked = sim_asked c.args.request.now in
     let shelf = c.args.shelf.now in
     let both = and_parts (g.S.Shelf.tells shelf) (g.O.Sink.tells c.args.out.now) in
     let r : Run = run_of (g.S.Shelf.tells shelf && g.O.Sink.tells c.args.out.now) (g.S.Shelf.texts shelf)
@@ -39,7 +39,7 @@ returns-in-Err g c =
 
 pub returns-in-Ok : goal.returns-in-Ok
 returns-in-Ok g c =
-    let asked = (sim_asked c.args.request.now).sources in
+    let asked = sim_asked c.args.request.now in
     let shelf = c.args.shelf.now in
     let both = and_parts (g.S.Shelf.tells shelf) (g.O.Sink.tells c.args.out.now) in
     let loaded = c.in-Ok.loaded in
@@ -49,8 +49,8 @@ returns-in-Ok g c =
     (counts_of (g.S.Shelf.faults shelf) (g.S.Shelf.faults c.load.new.shelf) (g.O.Sink.faults c.args.out.now)
     (g.O.Sink.faults c.show.new.out)) in
     shown-keeps g.F.FrontEnd.means g.F.FrontEnd.refuses asked r c.show.result
-    (λ told. shown-of g.F.FrontEnd.means asked (g.S.Shelf.texts shelf) loaded.ordered.design loaded.ordered.order
-    loaded.traces.items (g.O.Sink.written c.args.out.now) (g.O.Sink.written c.show.new.out) c.show.result
+    (λ told. shown-of g.F.FrontEnd.means asked.sources (g.S.Shelf.texts shelf) loaded.ordered.design loaded.ordered.order
+    loaded.traces.items asked.exit_code (g.O.Sink.written c.args.out.now) (g.O.Sink.written c.show.new.out) c.show.result
     c.in-Ok.ensures.ready
     (subst (λ (a : SourcesAsked). Means g.F.FrontEnd.means a (g.S.Shelf.texts shelf) loaded.ordered.design loaded.traces.items)
     c.sources.ensures (c.in-Ok.ensures.means (both told).0)) (c.show.ensures.text (both told).1))
