@@ -16,10 +16,10 @@ SOURCES = os.path.join(TOP, "crates", "command_words", "src")
 FOLDER = os.path.join(TOP, "docs", "help")
 COMMANDS = ["sim", "find", "check", "make"]
 PAGE = re.compile(r'pub const (\w+): &\[u8\] =\s+b"(.*?)";', re.S)
-TABLE = re.compile(r'Table \{\s+command: "(\w+)",.*?options: &\[(.*?)\],?\s+\}', re.S)
+TABLE = re.compile(r'Table \{\s+command: "(\w+)",.*?options: &\[(.*?)\],\s+flags: &\[(.*?)\],?\s+\}', re.S)
 # What stands for the value of an option that is a file's name, or the front of one (but for that of --clock).
 FILES = ("NAME", "PREFIX", "R", "L")
-ENTRY = re.compile(r"  (--[\w-]+ \S+|[A-Z]+(?:, [A-Z]+)*) {2,}(\S.*)")
+ENTRY = re.compile(r"  (--[\w-]+(?: \S+)?|[A-Z]+(?:, [A-Z]+)*) {2,}(\S.*)")
 
 
 def read(name):
@@ -33,8 +33,9 @@ def pages():
 
 
 def options_of(command):
-    """The options of a command, by its table."""
-    return [re.findall(r'"([\w-]+)"', options) for name, options in TABLE.findall(read(f"{command}.rt")) if name == command][0]
+    """The options and flags of a command, by its table."""
+    tables = TABLE.findall(read(f"{command}.rt"))
+    return [re.findall(r'"([\w-]+)"', options + flags) for name, options, flags in tables if name == command][0]
 
 
 class Page:
@@ -47,8 +48,8 @@ class Page:
         self.rest = [paragraph for part in rest for paragraph in split_example(part)]
 
     def options(self):
-        """The options by their names: the word that stands for the value, and what it is."""
-        return {name[2:].split()[0]: (name.split()[1], about) for name, about in self.entries if name.startswith("--")}
+        """The options by their names: the word that stands for the value (none for a flag), and what it is."""
+        return {name[2:].split()[0]: (name.partition(" ")[2], about) for name, about in self.entries if name.startswith("--")}
 
 
 def entries_of(paragraph):
@@ -161,10 +162,12 @@ def quoted(text):
 
 
 def zsh_option(name, value, about, made):
-    """An option for zsh's _arguments, with what may be its value."""
+    """An option for zsh's _arguments, with what may be its value, or a flag."""
     lists = {"suspects": f"_sequence compadd - {' '.join(kinds(made))}", "format": f"({' '.join(formats(made))})"}
     values = {**lists, "clock": " "}.get(name)
     about = about.replace("[", "\\[").replace("]", "\\]").replace(":", "\\:")
+    if not value:
+        return quoted(f"--{name}[{about}]")
     if values is None:
         values = "_files" if value in FILES else " "
     return quoted(f"--{name}=[{about}]:{value}:{values}")
@@ -204,8 +207,8 @@ _localise "$@"
 
 
 def fish_option(command, name, value, about, made):
-    """A line for fish of an option: with its values, with files, or with a value of which nothing is known."""
-    kind = "-r" if value in FILES and name != "clock" else "-x"
+    """A line for fish of an option: with its values, with files, with a value of which nothing is known, or with none."""
+    kind = "-r" if value in FILES and name != "clock" else "-x" if value else "-f"
     if name == "suspects":
         kind = f"-x -a '(__fish_append , {' '.join(kinds(made))})'"
     if name == "format":

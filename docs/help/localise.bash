@@ -7,7 +7,7 @@ _localise() {
         return
     fi
     case ${COMP_WORDS[1]} in
-        sim) words="--clock --format" ;;
+        sim) words="--clock --format --exit-code" ;;
         find) words="--format --clock --size --suspects --budget --sets --workers --log --report --waves --resume --resume-log" ;;
         check) words="--workers --format" ;;
         make) words="--design --trace --size --suspects --budget --sets --workers --log --report" ;;

@@ -7,6 +7,7 @@ complete -c localise -n __fish_use_subcommand -f -a help -d 'followed by one of 
 complete -c localise -n '__fish_seen_subcommand_from help' -f -a 'sim find check make'
 complete -c localise -n '__fish_seen_subcommand_from sim' -l clock -x -d 'the input of the top that is the clock (none)'
 complete -c localise -n '__fish_seen_subcommand_from sim' -l format -x -a 'verilog aiger' -d 'the format of the design: verilog or aiger (verilog)'
+complete -c localise -n '__fish_seen_subcommand_from sim' -l exit-code -f -d 'end with status 9 where some output differs'
 complete -c localise -n '__fish_seen_subcommand_from find' -l format -x -a 'verilog aiger' -d 'the format of the design: verilog or aiger (verilog)'
 complete -c localise -n '__fish_seen_subcommand_from find' -l clock -x -d 'the input of the top that is the clock (none)'
 complete -c localise -n '__fish_seen_subcommand_from find' -l size -x -d 'the most suspects in a set, 0 to 8 (2)'
