@@ -1,0 +1,6 @@
+pub mod Kept
+pub mod Widths
+pub mod Freed
+pub mod IsFreed
+pub mod Alike
+pub mod Laws

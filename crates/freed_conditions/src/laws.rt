@@ -1,0 +1,58 @@
+//! Laws of the definitions. Each is the contract of a function that does nothing, over values that no code holds.
+
+ghost use Rattle.std.specs.Prelude.{◌≡◌, ◌++◌, false, length, true};
+ghost use Rattle.design_core.specs.After.{after};
+ghost use Rattle.design_core.specs.Operator.{is_true};
+ghost use Rattle.design_core.specs.Valuation.{width_at};
+ghost use Rattle.design_core.specs.Value.{value};
+ghost use Rattle.design_core.specs.WellFormed.{statement_fits, typed_fits};
+ghost use Rattle.freed_conditions.specs.Alike.{Alike, Room};
+ghost use Rattle.freed_conditions.specs.Freed.{freed};
+ghost use Rattle.freed_conditions.specs.Kept.{keep, kept_of, subject_of, truth, whole};
+ghost use Rattle.freed_conditions.specs.Laws.{GoesByItsNet, MoreSignals, OneCondition, OneStatement, TwoStatements};
+ghost use Rattle.freed_conditions.specs.Widths.{widths};
+
+/// The value of an expression over a design's signals is the same with more signals behind them.
+pub fn value_with_more_signals()
+    ghost of: { MoreSignals }
+    requires fits { typed_fits of.signals of.expression ≡ true }
+    ensures { value (of.signals ++ of.hidden) of.values of.expression ≡ value of.signals of.values of.expression }
+{}
+
+/// Where the place of the condition of an `if` isn't freed, the net in which it is kept names the arm that the condition does.
+pub fn same_arm()
+    ghost of: { OneCondition }
+    requires wide { width_at of.signals of.next.signal ≡ 1 }
+    requires unfreed { of.choice.frees of.next.place ≡ false }
+    ensures { is_true (value of.signals (after of.signals of.choice (keep of.next (truth of.condition)) of.updates).now (whole 1 false of.next.signal))
+        ≡ is_true (value of.signals of.updates.now of.condition) }
+{}
+
+/// Where the place of a subject isn't freed, the subject by the net in which it is kept has its value.
+pub fn same_subject()
+    ghost of: { OneCondition }
+    requires fits { typed_fits of.signals of.condition ≡ true }
+    requires wide { width_at (of.signals ++ of.hidden) of.next.signal ≡ (kept_of of.condition).width }
+    requires unfreed { of.choice.frees of.next.place ≡ false }
+    ensures { value (of.signals ++ of.hidden)
+        (after (of.signals ++ of.hidden) of.choice (keep of.next (kept_of of.condition)) of.updates).now
+        (subject_of of.condition of.next.signal)
+        ≡ value of.signals of.updates.now of.condition }
+{}
+
+/// A freed `if` and a freed `case` go by the value in the net, computed or chosen.
+pub fn after_freed()
+    ghost of: { OneStatement }
+    ensures { GoesByItsNet of.signals of.choice of.next of.updates of.statement }
+{}
+
+/// Where none of its new places is freed, a freed statement leaves the bits of a design's own signals as the statement leaves them.
+pub fn freed_statement_agrees()
+    ghost two: { TwoStatements }
+    requires fits { statement_fits two.of.signals two.of.places two.of.statement ≡ true }
+    requires room { Room two.of.signals two.of.hidden two.of.choice.frees two.of.next (widths two.of.statement) }
+    requires begins { Alike (length two.of.signals) two.freed two.of.updates }
+    ensures { Alike (length two.of.signals)
+        (after (two.of.signals ++ two.of.hidden) two.of.choice (freed two.of.next two.of.statement) two.freed)
+        (after two.of.signals two.of.choice two.of.statement two.of.updates) }
+{}
