@@ -5,3 +5,11 @@ pub mod Rooms
 pub mod KeptLaws
 pub mod AfterFreed
 pub mod Examples
+pub mod DrivesFreed
+pub mod ResetValues
+pub mod DriversFreed
+pub mod ClockedFreed
+pub mod Beside
+pub mod CycleFreed
+pub mod RunFreed
+pub mod ListFreed

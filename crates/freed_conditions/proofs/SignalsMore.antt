@@ -1,5 +1,5 @@
 -- What a list says of its elements stays where more stand behind them: the width of a signal, and the position that an index names.
-use Rattle.std.proofs.Common.{ℕ, zero, suc, ◌+◌, ◌≡◌, ◌<◌, List, [], ◌∷◌, ◌++◌, length, refl, ap, arith, true, Some}
+use Rattle.std.proofs.Common.{ℕ, zero, suc, ◌+◌, ◌≡◌, ◌<◌, List, [], ◌∷◌, ◌++◌, length, refl, ap, arith, true, Some, None, ◌≤◌}
 use Rattle.std.specs.Prelude.{ℤ, slice_get}
 use Rattle.std.specs.Option.{option_and_then, option_map_or}
 use Rattle.std.proofs.lemmas.Bool.{ltb-true}
@@ -34,3 +34,8 @@ width_at-more signals hidden s below = ap (λ o. option_map_or (λ signal. signa
 pub position_at-more : (signals hidden : List Signal) (s : ℕ) (index : ℤ) → s < length signals
     → position_at (signals ++ hidden) s index ≡ position_at signals s index
 position_at-more signals hidden s index below = ap (option_and_then (λ signal. position_of signal index)) (slice_get-before signals hidden s below)
+
+pub slice_get-none : {X : Type 0} (xs : List X) (i : ℕ) → length xs ≤ i → slice_get xs i ≡ None
+slice_get-none [] i above = refl
+slice_get-none (x ∷ xs) zero above = absurd (omega arith)
+slice_get-none (x ∷ xs) (suc i) above = slice_get-none xs i (omega (arith, above))

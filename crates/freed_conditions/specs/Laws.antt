@@ -1,10 +1,14 @@
 -- What the laws are said of, and where a freed statement goes (IEEE 1364-2005, 9.4 and 9.5).
-use Rattle.std.specs.Prelude.{◌≡◌, false, if◌then◌else◌, List}
+use Rattle.std.specs.Prelude.{ℕ, ◌≡◌, false, if◌then◌else◌, List}
+use Rattle.loc_base.specs.declared.bits.Bits.{Bits}
 use Rattle.design_core.specs.declared.signal.Signal.{Signal}
 use Rattle.design_core.specs.declared.place.Place.{Place}
 use Rattle.design_core.specs.declared.expression.Typed.{Typed}
 use Rattle.design_core.specs.declared.statement.Stmt.{Stmt, end_of-Stmt, more_of-Stmt}
 use Rattle.design_core.specs.declared.statement.Stmt.TheVariants.{Nothing, Block', If', Case', Set}
+use Rattle.design_core.specs.declared.design.Design.{Design}
+use Rattle.design_core.specs.declared.trace.Trace.{Trace}
+use Rattle.design_core.specs.Works.{Groups}
 use Rattle.design_core.specs.Valuation.{Valuation}
 use Rattle.design_core.specs.Constant.{is_constant}
 use Rattle.design_core.specs.Operator.{is_true}
@@ -64,3 +68,28 @@ pub record OneStatement : Type 0 where
 pub record TwoStatements : Type 0 where
   pub of : OneStatement
   pub freed : Updates
+
+-- a design and the freed one, with an order of the drivers of each
+pub record TwoDesigns : Type 0 where
+  pub design : Design
+  pub freed : Design
+  pub order : List ℕ
+  pub freed_order : List ℕ
+
+-- and what a cycle of either begins with and has
+pub record TwoCycles : Type 0 where
+  pub of : TwoDesigns
+  pub samples : List Bits
+  pub state : Valuation
+  pub choice : Choice
+  pub values : Valuation
+  pub next : Valuation
+
+-- and some traces, suspects, a largest size, a set and a list of sets
+pub record TwoLists : Type 0 where
+  pub of : TwoDesigns
+  pub traces : List Trace
+  pub groups : Groups
+  pub size : ℕ
+  pub set : List ℕ
+  pub sets : List (List ℕ)

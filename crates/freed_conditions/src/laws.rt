@@ -1,15 +1,20 @@
 //! Laws of the definitions. Each is the contract of a function that does nothing, over values that no code holds.
 
-ghost use Rattle.std.specs.Prelude.{◌≡◌, ◌++◌, false, length, true};
+ghost use Rattle.std.specs.Prelude.{◌≡◌, ◌++◌, ◌↔◌, false, length, true};
 ghost use Rattle.design_core.specs.After.{after};
+ghost use Rattle.design_core.specs.Cycle.{Cycle};
+ghost use Rattle.design_core.specs.Listing.{IsFront, IsList};
 ghost use Rattle.design_core.specs.Operator.{is_true};
-ghost use Rattle.design_core.specs.Valuation.{width_at};
+ghost use Rattle.design_core.specs.Valuation.{Valuation, width_at};
 ghost use Rattle.design_core.specs.Value.{value};
-ghost use Rattle.design_core.specs.WellFormed.{statement_fits, typed_fits};
+ghost use Rattle.design_core.specs.WellFormed.{IsWellFormed, statement_fits, typed_fits};
+ghost use Rattle.design_core.specs.Works.{Works};
 ghost use Rattle.freed_conditions.specs.Alike.{Alike, Room};
 ghost use Rattle.freed_conditions.specs.Freed.{freed};
+ghost use Rattle.freed_conditions.specs.IsFreed.{IsFreed};
 ghost use Rattle.freed_conditions.specs.Kept.{keep, kept_of, subject_of, truth, whole};
-ghost use Rattle.freed_conditions.specs.Laws.{GoesByItsNet, MoreSignals, OneCondition, OneStatement, TwoStatements};
+ghost use Rattle.freed_conditions.specs.Laws.{GoesByItsNet, MoreSignals, OneCondition, OneStatement, TwoCycles, TwoLists, TwoStatements};
+ghost use Rattle.freed_conditions.specs.Old.{AreOld, FreesOld, IsRunnable, old_bits};
 ghost use Rattle.freed_conditions.specs.Widths.{widths};
 
 /// The value of an expression over a design's signals is the same with more signals behind them.
@@ -55,4 +60,49 @@ pub fn freed_statement_agrees()
     ensures { Alike (length two.of.signals)
         (after (two.of.signals ++ two.of.hidden) two.of.choice (freed two.of.next two.of.statement) two.freed)
         (after two.of.signals two.of.choice two.of.statement two.of.updates) }
+{}
+
+/// Where no new place is freed, the design's own bits of a cycle of the freed design are a cycle of the design.
+pub fn cycle_of_freed()
+    ghost two: { TwoCycles }
+    requires well_formed { IsWellFormed two.of.design }
+    requires freed { IsFreed two.of.design two.of.freed }
+    requires old { FreesOld two.of.design two.choice.frees }
+    requires cycle { Cycle two.of.freed two.samples two.state two.choice two.values two.next }
+    ensures { Cycle two.of.design two.samples (old_bits two.of.design two.state) two.choice (old_bits two.of.design two.values) (old_bits two.of.design two.next) }
+{}
+
+/// And each cycle of the design is that of one of the freed design, where that can be run.
+pub fn cycle_of_design()
+    ghost two: { TwoCycles }
+    requires runnable { IsRunnable two.of.design two.of.order }
+    requires freed_runnable { IsRunnable two.of.freed two.of.freed_order }
+    requires freed { IsFreed two.of.design two.of.freed }
+    requires old { FreesOld two.of.design two.choice.frees }
+    requires cycle { Cycle two.of.design two.samples (old_bits two.of.design two.state) two.choice two.values two.next }
+    ensures { (V : Valuation) × (next : Valuation) × Cycle two.of.freed two.samples two.state two.choice V next
+        × (old_bits two.of.design V ≡ two.values) × (old_bits two.of.design next ≡ two.next) }
+{}
+
+/// A set of the design's own suspects that works in the freed design works in the design.
+pub fn works_of_freed()
+    ghost two: { TwoLists }
+    requires well_formed { IsWellFormed two.of.design }
+    requires freed { IsFreed two.of.design two.of.freed }
+    requires old { AreOld two.of.design two.groups }
+    requires works { Works two.of.freed two.traces two.groups two.set }
+    ensures { Works two.of.design two.traces two.groups two.set }
+{}
+
+/// A set of the design's own suspects works in both designs or in none, and both have one list and the same fronts, where the freed design
+/// can be run.
+pub fn same_lists()
+    ghost two: { TwoLists }
+    requires runnable { IsRunnable two.of.design two.of.order }
+    requires freed_runnable { IsRunnable two.of.freed two.of.freed_order }
+    requires freed { IsFreed two.of.design two.of.freed }
+    requires old { AreOld two.of.design two.groups }
+    ensures works { Works two.of.design two.traces two.groups two.set ↔ Works two.of.freed two.traces two.groups two.set }
+    ensures list { IsList two.of.design two.traces two.groups two.size two.sets ↔ IsList two.of.freed two.traces two.groups two.size two.sets }
+    ensures front { IsFront two.of.design two.traces two.groups two.size two.sets ↔ IsFront two.of.freed two.traces two.groups two.size two.sets }
 {}
