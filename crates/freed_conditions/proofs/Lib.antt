@@ -13,3 +13,6 @@ pub mod Beside
 pub mod CycleFreed
 pub mod RunFreed
 pub mod ListFreed
+pub mod FitsMore
+pub mod FitsFreed
+pub mod TimesFreed
