@@ -71,13 +71,13 @@ node_fits-width signals width signed (node.Resize' _ (more_of-Typed arg_width ar
     (and_parts (is_width width) (node_fits signals arg_width arg_signed arg) fits).0
 
 -- ---- the nets and places of two lists of conditions
-fitted-left : (signals : List Signal) (places : List Place) (n : Next) (xs ys : List ℕ) → Fitted signals places n (xs ++ ys) → Fitted signals places n xs
+pub fitted-left : (signals : List Signal) (places : List Place) (n : Next) (xs ys : List ℕ) → Fitted signals places n (xs ++ ys) → Fitted signals places n xs
 fitted-left signals places n xs ys h = record {
   nets = λ i w at. h.nets i w (slice_get-left xs ys i w at);
   places = λ i w at. h.places i w (slice_get-left xs ys i w at);
 }
 
-fitted-right : (signals : List Signal) (places : List Place) (n : Next) (xs ys : List ℕ) → Fitted signals places n (xs ++ ys) → Fitted signals places (behind xs n) ys
+pub fitted-right : (signals : List Signal) (places : List Place) (n : Next) (xs ys : List ℕ) → Fitted signals places n (xs ++ ys) → Fitted signals places (behind xs n) ys
 fitted-right signals places n xs ys h = record {
   nets = λ i w at.
       let moved : n.signal + (length xs + i) ≡ (n.signal + length xs) + i = omega arith in

@@ -16,3 +16,5 @@ pub mod ListFreed
 pub mod FitsMore
 pub mod FitsFreed
 pub mod TimesFreed
+pub mod WidthsFit
+pub mod WellFreed

@@ -49,7 +49,7 @@ counted-sum first x y p = at (cases_lt p first) (cases_lt p (first + x)) (cases_
     at (inr above) (inr behind) (inr last) = omega (arith, counted-behind first (x + y) p (omega arith), counted-behind first x p behind, counted-behind (first + x) y p (omega arith))
 
 -- those of two lists of conditions
-counted-append : (first : ℕ) (xs ys : List ℕ) (p : ℕ) → counted first (length (xs ++ ys)) p ≡ counted first (length xs) p + counted (first + length xs) (length ys) p
+pub counted-append : (first : ℕ) (xs ys : List ℕ) (p : ℕ) → counted first (length (xs ++ ys)) p ≡ counted first (length xs) p + counted (first + length xs) (length ys) p
 counted-append first xs ys p = ap (λ k. counted first k p) (length-append xs ys) ∙ counted-sum first (length xs) (length ys) p
 
 -- one place

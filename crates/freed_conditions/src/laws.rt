@@ -13,7 +13,7 @@ ghost use Rattle.freed_conditions.specs.Alike.{Alike, Room};
 ghost use Rattle.freed_conditions.specs.Freed.{freed};
 ghost use Rattle.freed_conditions.specs.IsFreed.{IsFreed};
 ghost use Rattle.freed_conditions.specs.Kept.{keep, kept_of, subject_of, truth, whole};
-ghost use Rattle.freed_conditions.specs.Laws.{GoesByItsNet, MoreSignals, OneCondition, OneStatement, TwoCycles, TwoLists, TwoStatements};
+ghost use Rattle.freed_conditions.specs.Laws.{GoesByItsNet, MoreSignals, OneCondition, OneStatement, TwoCycles, TwoDesigns, TwoLists, TwoStatements};
 ghost use Rattle.freed_conditions.specs.Old.{AreOld, FreesOld, IsRunnable, old_bits};
 ghost use Rattle.freed_conditions.specs.Widths.{widths};
 
@@ -60,6 +60,14 @@ pub fn freed_statement_agrees()
     ensures { Alike (length two.of.signals)
         (after (two.of.signals ++ two.of.hidden) two.of.choice (freed two.of.next two.of.statement) two.freed)
         (after two.of.signals two.of.choice two.of.statement two.of.updates) }
+{}
+
+/// The freed design is well formed where the design is.
+pub fn freed_is_well_formed()
+    ghost two: { TwoDesigns }
+    requires well_formed { IsWellFormed two.design }
+    requires freed { IsFreed two.design two.freed }
+    ensures { IsWellFormed two.freed }
 {}
 
 /// Where no new place is freed, the design's own bits of a cycle of the freed design are a cycle of the design.
