@@ -35,7 +35,7 @@ or_alike : (a b c d : Bool) → a ≡ b → c ≡ d → (a || c) ≡ (b || d)
 or_alike a b c d one other = ap (λ x. x || c) one ∙ ap (λ x. b || x) other
 
 -- the left side of an assignment that fits
-set-parts : (signals : List Signal) (places : List Place) (place : ℕ) (parts : List Part) (e : Typed)
+pub set-parts : (signals : List Signal) (places : List Place) (place : ℕ) (parts : List Part) (e : Typed)
     → (assignment_fits signals parts e && place_fits places (parts_width signals parts) place) ≡ true → list_all (part_fits signals) parts ≡ true
 set-parts signals places place parts e fits =
     let fit = and_parts (assignment_fits signals parts e) (place_fits places (parts_width signals parts) place) fits in
@@ -215,6 +215,32 @@ parts_drive-outside signals s b (part ∷ parts) above fits =
     let fit = and_parts (part_fits signals part) (list_all (part_fits signals) parts) fits in
     or_alike (part_drives signals s b part) false (list_any (part_drives signals s b) parts) false
     (part_drives-outside signals s b part above fit.0) (parts_drive-outside signals s b parts above fit.1)
+
+-- a left side of the design's signals drives none of those behind them
+part_drives-hidden : (signals hidden : List Signal) (s b : ℕ) (part : Part) → length signals ≤ s → part_fits signals part ≡ true
+    → part_drives (signals ++ hidden) s b part ≡ false
+part_drives-hidden signals hidden s b (Whole signal) above fits =
+    let own : signal < length signals = signal-below signals signal fits in
+    another s signal (nat_lt b (width_at (signals ++ hidden) signal)) (λ here. absurd (omega arith))
+part_drives-hidden signals hidden s b (Slice signal from width) above fits =
+    let own : signal < length signals = slice-below signals signal from width fits in
+    another s signal (is_among from width b) (λ here. absurd (omega arith))
+part_drives-hidden signals hidden s b (Pick signal index offsets) above fits =
+    let fit = and_parts (is_signal signals signal && is_width (length offsets)) (typed_fits signals index) fits in
+    let own : signal < length signals = signal-below signals signal (and_parts (is_signal signals signal) (is_width (length offsets)) fit.0).0 in
+    another s signal (may_pick (signals ++ hidden) signal index.width index.signed index.node offsets b) (λ here. absurd (omega arith))
+part_drives-hidden signals hidden s b (Word first count low index from width) above fits =
+    let within : first + count ≤ length signals = words-below signals first count from width (and_parts (words_fit signals first count from width) (typed_fits signals index) fits).0 in
+    and_left (is_among first count s) (nat_lt b (width_at (signals ++ hidden) s))
+    (and_right (nat_le first s) (nat_lt s (first + count)) (le-ltb s (first + count) (omega arith)))
+
+pub parts_drive-hidden : (signals hidden : List Signal) (s b : ℕ) (parts : List Part) → length signals ≤ s → list_all (part_fits signals) parts ≡ true
+    → list_any (part_drives (signals ++ hidden) s b) parts ≡ false
+parts_drive-hidden signals hidden s b [] above fits = refl
+parts_drive-hidden signals hidden s b (part ∷ parts) above fits =
+    let fit = and_parts (part_fits signals part) (list_all (part_fits signals) parts) fits in
+    or_alike (part_drives (signals ++ hidden) s b part) false (list_any (part_drives (signals ++ hidden) s b) parts) false
+    (part_drives-hidden signals hidden s b part above fit.0) (parts_drive-hidden signals hidden s b parts above fit.1)
 
 -- ---- and a statement
 pub drives-freed : (signals hidden : List Signal) (places : List Place) (n : Next) (statement : Stmt) (s b : ℕ) → statement_fits signals places statement ≡ true

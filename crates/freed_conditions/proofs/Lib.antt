@@ -18,3 +18,4 @@ pub mod FitsFreed
 pub mod TimesFreed
 pub mod WidthsFit
 pub mod WellFreed
+pub mod OnceFreed

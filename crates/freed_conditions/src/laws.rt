@@ -3,6 +3,7 @@
 ghost use Rattle.std.specs.Prelude.{◌≡◌, ◌++◌, ◌↔◌, false, length, true};
 ghost use Rattle.design_core.specs.After.{after};
 ghost use Rattle.design_core.specs.Cycle.{Cycle};
+ghost use Rattle.design_core.specs.DrivenOnce.{IsDrivenOnce};
 ghost use Rattle.design_core.specs.Listing.{IsFront, IsList};
 ghost use Rattle.design_core.specs.Operator.{is_true};
 ghost use Rattle.design_core.specs.Valuation.{Valuation, width_at};
@@ -68,6 +69,15 @@ pub fn freed_is_well_formed()
     requires well_formed { IsWellFormed two.design }
     requires freed { IsFreed two.design two.freed }
     ensures { IsWellFormed two.freed }
+{}
+
+/// And each of its bits gets its value once where each of the design's does.
+pub fn freed_is_driven_once()
+    ghost two: { TwoDesigns }
+    requires well_formed { IsWellFormed two.design }
+    requires once { IsDrivenOnce two.design }
+    requires freed { IsFreed two.design two.freed }
+    ensures { IsDrivenOnce two.freed }
 {}
 
 /// Where no new place is freed, the design's own bits of a cycle of the freed design are a cycle of the design.
