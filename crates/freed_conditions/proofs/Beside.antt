@@ -1,28 +1,24 @@
 -- A freed design beside the design: signals, drivers and clocked blocks, each beside its own.
-use Rattle.std.proofs.Common.{ℕ, zero, suc, ◌+◌, ◌≡◌, ◌<◌, ◌≤◌, Bool, true, false, not, ◌&&◌, ◌||◌, List, [], ◌∷◌, ◌++◌, length, refl, ap, ◌∙◌, sym, subst, arith, ◌⊎◌, inl, inr, Option, Some, None}
-use Rattle.std.specs.Prelude.{◌==◌, nat_le, slice_get, Contains}
+use Rattle.std.proofs.Common.{ℕ, zero, suc, ◌+◌, ◌≡◌, ◌<◌, ◌≤◌, Bool, true, false, not, ◌||◌, List, [], ◌∷◌, ◌++◌, length, refl, ap, ◌∙◌, sym, subst, arith, ◌⊎◌, inl, inr, Some, None}
+use Rattle.std.specs.Prelude.{◌==◌, slice_get, Contains}
 use Rattle.std.specs.Option.{option_map_or}
-use Rattle.std.specs.List.{AllZip, list_any, list_all}
+use Rattle.std.specs.List.{AllZip, list_any}
 use Rattle.std.proofs.lemmas.Bool.{and_parts, cases_lt, both_ways, eqb-true}
 use Rattle.loc_base.proofs.ShelfLists.{Contains-first, Contains-later, Contains-cons, Contains-empty, list_any-found, list_all-member}
-use Rattle.loc_base.specs.declared.bits.Bits.{Bits}
 use Rattle.design_core.specs.declared.signal.Signal.{Signal}
 use Rattle.design_core.specs.declared.place.Place.{Place}
-use Rattle.design_core.specs.declared.statement.Part.{Part}
-use Rattle.design_core.specs.declared.statement.Stmt.{Stmt}
 use Rattle.design_core.specs.declared.driver.Driver.{Driver}
 use Rattle.design_core.specs.declared.driver.Driver.TheVariants.{Cont, Comb}
-use Rattle.design_core.specs.declared.driver.Clocked.{Clocked}
 use Rattle.design_core.specs.declared.design.Design.{Design}
-use Rattle.design_core.specs.Valuation.{Valuation, width_at}
+use Rattle.design_core.specs.Valuation.{width_at}
 use Rattle.design_core.specs.After.{Choice}
-use Rattle.design_core.specs.Drives.{is_reg, driver_drives, is_driven, block_drives, is_register_bit, is_listed}
+use Rattle.design_core.specs.Drives.{is_reg, driver_drives, is_driven, is_register_bit, is_listed}
 use Rattle.design_core.specs.Store.{parts_width}
-use Rattle.design_core.specs.WellFormed.{is_width, is_input, input_fits, driver_fits, clocked_fits, part_fits, assignment_fits, place_fits, statement_fits, IsWellFormed}
-use Rattle.freed_conditions.specs.Kept.{Next, behind}
+use Rattle.design_core.specs.WellFormed.{is_input, input_fits, driver_fits, assignment_fits, place_fits, IsWellFormed}
+use Rattle.freed_conditions.specs.Kept.{behind}
 use Rattle.freed_conditions.specs.Widths.{widths_of_drivers, widths_of_clocked}
 use Rattle.freed_conditions.specs.IsFreed.{begins, condition_widths, freed_drivers, connected, freed_clocked, IsKeptIn, IsFreed}
-use Rattle.freed_conditions.specs.Alike.{AgreeBelow, Room}
+use Rattle.freed_conditions.specs.Alike.{Room}
 use Rattle.freed_conditions.specs.Old.{FreesOld}
 use Rattle.freed_conditions.proofs.SignalsMore.{slice_get-before, slice_get-behind, slice_get-none}
 use Rattle.freed_conditions.proofs.Rooms.{room-left, room-right}

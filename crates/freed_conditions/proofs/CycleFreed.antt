@@ -1,14 +1,11 @@
 -- A cycle of a freed design is one of the design, on the design's own bits, where no new place is freed.
-use Rattle.std.proofs.Common.{ℕ, ◌≡◌, ◌<◌, ◌≤◌, Bool, true, false, not, ◌&&◌, ◌||◌, List, length, refl, ap, ◌∙◌, sym, ◌⊎◌, inl, inr, Some, None}
-use Rattle.std.specs.Prelude.{◌==◌, if◌then◌else◌, slice_get, Contains}
+use Rattle.std.proofs.Common.{ℕ, ◌≡◌, ◌<◌, ◌≤◌, true, false, not, ◌&&◌, ◌||◌, List, length, ap, ◌∙◌, sym, ◌⊎◌, inl, inr}
+use Rattle.std.specs.Prelude.{◌==◌, if◌then◌else◌, slice_get}
 use Rattle.std.specs.Option.{option_map_or}
 use Rattle.std.specs.List.{list_any}
 use Rattle.std.proofs.lemmas.Bool.{cases_lt, lt-ltb, le-ltb}
 use Rattle.loc_base.specs.declared.bits.Bits.{Bits}
 use Rattle.design_core.specs.declared.signal.Signal.{Signal}
-use Rattle.design_core.specs.declared.driver.Driver.{Driver}
-use Rattle.design_core.specs.declared.driver.Reset.{Reset}
-use Rattle.design_core.specs.declared.driver.Clocked.{Clocked}
 use Rattle.design_core.specs.declared.design.Design.{Design}
 use Rattle.design_core.specs.Valuation.{Valuation}
 use Rattle.design_core.specs.After.{Choice}

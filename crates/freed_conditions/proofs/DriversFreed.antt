@@ -1,7 +1,6 @@
 -- The drivers of a freed design, one for each of the design: they drive its bits alike, and give them the same values.
-use Rattle.std.proofs.Common.{ℕ, ◌+◌, ◌≡◌, ◌<◌, ◌≤◌, Bool, true, false, not, ◌&&◌, List, [], ◌∷◌, ◌++◌, length, refl, ap, ◌∙◌, arith, Option, Some, None}
+use Rattle.std.proofs.Common.{ℕ, ◌+◌, ◌≡◌, ◌<◌, ◌≤◌, true, false, not, ◌&&◌, List, [], ◌∷◌, ◌++◌, length, refl, ap, ◌∙◌, arith, Option, Some, None}
 use Rattle.std.specs.Prelude.{nat_le}
-use Rattle.std.specs.Option.{option_map_or}
 use Rattle.std.specs.List.{AllZip, list_any, list_all}
 use Rattle.std.proofs.lemmas.Bool.{and_parts}
 use Rattle.loc_base.specs.declared.span.Span.{Span}
@@ -16,7 +15,7 @@ use Rattle.design_core.specs.declared.driver.Driver.TheVariants.{Cont, Comb}
 use Rattle.design_core.specs.Valuation.{Valuation, bit}
 use Rattle.design_core.specs.Value.{value}
 use Rattle.design_core.specs.Store.{parts_width, store}
-use Rattle.design_core.specs.After.{Choice, Updates, after}
+use Rattle.design_core.specs.After.{Choice}
 use Rattle.design_core.specs.Drives.{part_drives, statement_drives, driver_drives}
 use Rattle.design_core.specs.Cycle.{without, cont_assigned, driven}
 use Rattle.design_core.specs.WellFormed.{is_width, part_fits, typed_fits, place_fits, assignment_fits, statement_fits, driver_fits}
@@ -24,7 +23,7 @@ use Rattle.freed_conditions.specs.Kept.{Next, behind}
 use Rattle.freed_conditions.specs.Widths.{widths, widths_of_drivers}
 use Rattle.freed_conditions.specs.Freed.{freed}
 use Rattle.freed_conditions.specs.IsFreed.{freed_drivers, connected}
-use Rattle.freed_conditions.specs.Alike.{AgreeBelow, Alike, Room}
+use Rattle.freed_conditions.specs.Alike.{AgreeBelow, Room}
 use Rattle.freed_conditions.proofs.ValueAlike.{value-alike}
 use Rattle.freed_conditions.proofs.StoreAlike.{store-alike}
 use Rattle.freed_conditions.proofs.Rooms.{room-left, room-right}

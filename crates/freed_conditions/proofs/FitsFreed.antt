@@ -1,6 +1,6 @@
 -- A freed statement fits where the statement does, and the nets and places of its conditions have their widths.
-use Rattle.std.proofs.Common.{ℕ, ◌+◌, ◌≡◌, ◌<◌, ◌≤◌, Bool, true, false, ◌&&◌, List, [], ◌∷◌, ◌++◌, length, refl, ap, ◌∙◌, sym, subst, arith, Some}
-use Rattle.std.specs.Prelude.{◌==◌, ◌*◌, nat_le, slice_get, take, drop, if◌then◌else◌}
+use Rattle.std.proofs.Common.{ℕ, ◌+◌, ◌≡◌, ◌<◌, Bool, true, false, ◌&&◌, List, [], ◌∷◌, ◌++◌, length, refl, ap, ◌∙◌, sym, subst, arith}
+use Rattle.std.specs.Prelude.{◌==◌, ◌*◌, nat_le, take, drop, if◌then◌else◌}
 use Rattle.std.specs.List.{list_all}
 use Rattle.std.proofs.lemmas.Bool.{and_parts, and_from, lt-ltb, le-leb, eq-eqb, eqb-true}
 use Rattle.loc_base.specs.Bits.{width_of}
@@ -14,7 +14,6 @@ use Rattle.design_core.specs.declared.statement.Stmt.{Stmt, Row_of-Stmt, end_of-
 use Rattle.design_core.specs.declared.statement.Stmt.TheVariants.{Nothing, Block', If', Case', Set}
 use Rattle.design_core.specs.Constant.{is_constant}
 use Rattle.design_core.specs.Valuation.{width_at}
-use Rattle.design_core.specs.Store.{parts_width}
 use Rattle.design_core.specs.WellFormed.{is_width, is_signal, slice_fits, words_fit, unary_fits, binary_fits, signs_fit, same_widths, joined_width, node_fits, parts_fit, typed_fits, part_fits, place_fits, assignment_fits, label_fits, statement_fits, statements_fit, items_fit}
 use Rattle.freed_conditions.specs.Kept.{Next, behind, behind_one, truth, kept, from_kept, kept_of, subject_of, whole, keep}
 use Rattle.freed_conditions.specs.Widths.{own_width, widths, widths_of, widths_in}

@@ -1,22 +1,19 @@
 -- The cycles of a design beside those of the freed one, and the lists of what works in both.
-use Rattle.std.proofs.Common.{ℕ, ◌≡◌, List, refl, ap, ◌∙◌, sym}
-use Rattle.std.specs.Prelude.{Contains, All, ◌↔◌}
+use Rattle.std.proofs.Common.{ℕ, ◌≡◌, List}
 use Rattle.loc_base.specs.declared.bits.Bits.{Bits}
 use Rattle.design_core.specs.declared.design.Design.{Design}
-use Rattle.design_core.specs.declared.trace.Trace.{Trace}
 use Rattle.design_core.specs.Valuation.{Valuation}
 use Rattle.design_core.specs.After.{Choice}
 use Rattle.design_core.specs.Cycle.{Cycle}
 use Rattle.design_core.specs.Steps.{computed_now, computed_next}
-use Rattle.design_core.specs.Works.{Groups, IsMinimalFor, Works}
-use Rattle.design_core.specs.Listing.{IsEntryFor, IsListFor, IsFrontFor, IsList, IsFront}
+use Rattle.design_core.specs.Works.{Groups, IsMinimalFor}
+use Rattle.design_core.specs.Listing.{IsEntryFor, IsListFor, IsFrontFor}
 use Rattle.design_core.proofs.CycleLaws.{cycle-unique}
 use Rattle.design_core.proofs.CycleExists.{cycle-exists}
 use Rattle.freed_conditions.specs.IsFreed.{IsFreed}
-use Rattle.freed_conditions.specs.Old.{old_bits, FreesOld, AreOld, IsRunnable}
+use Rattle.freed_conditions.specs.Old.{old_bits, FreesOld, IsRunnable}
 use Rattle.freed_conditions.proofs.Beside.{beside}
 use Rattle.freed_conditions.proofs.CycleFreed.{old-agrees, cycle-old}
-use Rattle.freed_conditions.proofs.RunFreed.{works-old, works-new}
 
 pub cycle-new : (d e : Design) (order order' : List ℕ) → IsRunnable d order → IsRunnable e order' → IsFreed d e → (choice : Choice) → FreesOld d choice.frees
     → (samples : List Bits) (state V next : Valuation) → Cycle d samples (old_bits d state) choice V next

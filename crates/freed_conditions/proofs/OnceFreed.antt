@@ -1,18 +1,14 @@
 -- Each bit of a freed design gets its value once where each of the design does: a net of a condition, in the statement of that condition.
-use Rattle.std.proofs.Common.{ℕ, zero, suc, ◌+◌, ◌≡◌, ◌<◌, ◌≤◌, Bool, true, false, not, ◌&&◌, ◌||◌, List, [], ◌∷◌, ◌++◌, length, refl, ap, ◌∙◌, sym, subst, arith, length-append, ◌⊎◌, inl, inr, Option, Some, None}
+use Rattle.std.proofs.Common.{ℕ, zero, suc, ◌+◌, ◌≡◌, ◌<◌, ◌≤◌, Bool, true, false, not, ◌&&◌, ◌||◌, List, [], ◌∷◌, ◌++◌, length, refl, ap, ◌∙◌, sym, subst, arith, length-append, ◌⊎◌, inl, inr, Some, None}
 use Rattle.std.specs.Prelude.{◌==◌, ◌-◌, nat_lt, slice_get, if◌then◌else◌, Contains}
 use Rattle.std.specs.Option.{option_map_or}
 use Rattle.std.specs.List.{AllZip, list_any, list_all}
 use Rattle.std.proofs.lemmas.Bool.{and_parts, or_cases, eqb-true, both_ways, cases_lt}
-use Rattle.std.proofs.lemmas.Option.{slice_get_within}
-use Rattle.loc_base.proofs.ShelfLists.{Contains-at, Contains-place, list_all-member}
+use Rattle.loc_base.proofs.ShelfLists.{Contains-at, Contains-place}
 use Rattle.design_core.specs.declared.signal.Signal.{Signal}
-use Rattle.design_core.specs.declared.signal.SignalKind.TheVariants as kind
 use Rattle.design_core.specs.declared.place.Place.{Place}
 use Rattle.design_core.specs.declared.expression.Typed.{Typed}
 use Rattle.design_core.specs.declared.statement.Part.{Part}
-use Rattle.design_core.specs.declared.statement.Part.TheVariants as part
-use Rattle.design_core.specs.declared.statement.Label.{Label}
 use Rattle.design_core.specs.declared.statement.Stmt.{Stmt, Row_of-Stmt, end_of-Stmt, more_of-Stmt, Row_of-CaseItem, end_of-CaseItem, more_of-CaseItem}
 use Rattle.design_core.specs.declared.statement.Stmt.TheVariants.{Nothing, Block', If', Case', Set}
 use Rattle.design_core.specs.declared.driver.Driver.{Driver}
@@ -23,8 +19,8 @@ use Rattle.design_core.specs.Valuation.{width_at}
 use Rattle.design_core.specs.Store.{parts_width}
 use Rattle.design_core.specs.After.{Choice}
 use Rattle.design_core.specs.DrivenOnce.{IsDrivenOnce}
-use Rattle.design_core.specs.Drives.{is_reg, is_driven, is_register_bit, is_listed, part_drives, some_set, some_set_of, some_set_in, statement_drives, driver_drives}
-use Rattle.design_core.specs.WellFormed.{part_fits, typed_fits, place_fits, assignment_fits, label_fits, statement_fits, statements_fit, items_fit, driver_fits, IsWellFormed}
+use Rattle.design_core.specs.Drives.{is_reg, is_driven, is_register_bit, is_listed, part_drives, some_set_of, some_set_in, statement_drives, driver_drives}
+use Rattle.design_core.specs.WellFormed.{typed_fits, place_fits, assignment_fits, label_fits, statement_fits, statements_fit, items_fit, driver_fits, IsWellFormed}
 use Rattle.freed_conditions.specs.Kept.{Next, behind, behind_one, truth, kept_of, subject_of, whole, keep}
 use Rattle.freed_conditions.specs.Widths.{own_width, widths, widths_of, widths_in, widths_of_drivers}
 use Rattle.freed_conditions.specs.Freed.{both, freed, freed_all, freed_in}

@@ -1,6 +1,5 @@
 -- A statement of a reset's values has no conditions, so it stays as it is.
-use Rattle.std.proofs.Common.{◌≡◌, true, ◌&&◌, List, [], ◌++◌, refl, ap, ◌∙◌, ℕ}
-use Rattle.std.specs.List.{list_all}
+use Rattle.std.proofs.Common.{◌≡◌, true, List, [], ◌++◌, refl, ap, ◌∙◌, ℕ}
 use Rattle.std.proofs.lemmas.Bool.{and_parts}
 use Rattle.design_core.specs.declared.statement.Stmt.{Stmt, Row_of-Stmt, end_of-Stmt, more_of-Stmt}
 use Rattle.design_core.specs.declared.statement.Stmt.TheVariants.{Nothing, Block', If', Case', Set}

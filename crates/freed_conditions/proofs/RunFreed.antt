@@ -1,11 +1,10 @@
 -- The runs of a freed design beside those of the design, and which sets of the design's own suspects work in both.
-use Rattle.std.proofs.Common.{ℕ, zero, suc, ◌+◌, ◌≡◌, ◌<◌, ◌≤◌, Bool, true, false, ◌&&◌, List, [], ◌∷◌, ◌++◌, length, refl, ap, ◌∙◌, sym, subst, arith, ◌⊎◌, inl, inr, Option, Some, None}
-use Rattle.std.specs.Prelude.{◌==◌, ◌*◌, ◌^◌, ◌||◌, nat_le, ◌-◌, map, slice_get, slice_range, Contains, All}
+use Rattle.std.proofs.Common.{ℕ, zero, suc, ◌+◌, ◌≡◌, ◌<◌, ◌≤◌, Bool, false, ◌&&◌, List, [], ◌∷◌, ◌++◌, length, refl, ap, ◌∙◌, sym, subst, arith, ◌⊎◌, inl, inr, Option, Some, None}
+use Rattle.std.specs.Prelude.{◌==◌, ◌*◌, ◌^◌, ◌||◌, nat_le, ◌-◌, map, slice_get, slice_range, All}
 use Rattle.std.specs.Option.{option_map_or}
-use Rattle.std.specs.List.{list_any, list_all}
-use Rattle.std.proofs.lemmas.Bool.{and_right, cases_lt, ne_eqb, both_ways, ltb-true}
+use Rattle.std.specs.List.{list_any}
+use Rattle.std.proofs.lemmas.Bool.{and_right, cases_lt, ne_eqb, both_ways}
 use Rattle.loc_base.proofs.ShelfLists.{Contains-at, All-member, list_all-member}
-use Rattle.loc_base.specs.declared.bits.Bits.{Bits}
 use Rattle.loc_base.specs.Bits.{bit_of}
 use Rattle.design_core.specs.declared.signal.Signal.{Signal}
 use Rattle.design_core.specs.declared.place.Place.{Place}
@@ -16,10 +15,8 @@ use Rattle.design_core.specs.Valuation.{Valuation}
 use Rattle.design_core.specs.After.{Choice}
 use Rattle.design_core.specs.Drives.{is_register_bit}
 use Rattle.design_core.specs.Cycle.{Cycle}
-use Rattle.design_core.specs.Run.{samples_at, expected_at, start_state, Choices, choice_at, IsRunFrom, IsRun, IsRight, IsRightThroughout, Meets}
-use Rattle.design_core.specs.Works.{Groups, suspect_has, places_of, AreOfWidth, Works}
-use Rattle.design_core.specs.Reads.{IsOrder}
-use Rattle.design_core.specs.DrivenOnce.{IsDrivenOnce}
+use Rattle.design_core.specs.Run.{samples_at, expected_at, start_state, Choices, choice_at, IsRunFrom, IsRun, IsRightThroughout, Meets}
+use Rattle.design_core.specs.Works.{Groups, places_of, AreOfWidth, Works}
 use Rattle.design_core.specs.WellFormed.{is_signal, IsWellFormed}
 use Rattle.design_core.proofs.RunLaws.{run-right, run-exists}
 use Rattle.freed_conditions.specs.IsFreed.{IsFreed}

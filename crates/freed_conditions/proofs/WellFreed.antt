@@ -1,16 +1,15 @@
 -- A freed design is well formed where the design is.
 use Rattle.std.proofs.Common.{ℕ, zero, suc, ◌+◌, ◌-◌, ◌≡◌, ◌<◌, ◌≤◌, Bool, true, false, ◌&&◌, List, [], ◌∷◌, ◌++◌, length, refl, ap, ◌∙◌, sym, subst, arith, length-append, ◌⊎◌, inl, inr, Option, Some, None}
-use Rattle.std.specs.Prelude.{◌==◌, ◌≢◌, ℤ, pos, int_lt, ◌-ℤ◌, nat_le, nat_lt, slice_get, if◌then◌else◌, sum_by, AllPairs}
+use Rattle.std.specs.Prelude.{◌==◌, ◌≢◌, pos, int_lt, ◌-ℤ◌, nat_le, slice_get, if◌then◌else◌, sum_by, AllPairs}
 use Rattle.std.specs.Option.{option_map_or}
 use Rattle.std.specs.List.{AllZip, list_any, list_all}
-use Rattle.std.proofs.lemmas.Bool.{and_parts, and_from, lt-ltb, le-ltb, leb-true, eq-eqb, cases_lt}
+use Rattle.std.proofs.lemmas.Bool.{and_parts, and_from, le-ltb, leb-true, eq-eqb, cases_lt}
 use Rattle.std.proofs.lemmas.Int.{ints}
 use Rattle.std.proofs.lemmas.List.{append-nil}
 use Rattle.std.proofs.lemmas.List.Folds.{list_all-append}
 use Rattle.std.proofs.lemmas.List.Sums.{sum_by-cons}
 use Rattle.loc_base.proofs.ShelfLists.{AllZip-length}
 use Rattle.std.proofs.lemmas.Option.{slice_get_within}
-use Rattle.loc_base.specs.declared.bits.Bits.{Bits}
 use Rattle.loc_base.specs.Bits.{width_of}
 use Rattle.design_core.specs.declared.signal.Signal.{Signal}
 use Rattle.design_core.specs.declared.place.Place.{Place}
@@ -32,7 +31,7 @@ use Rattle.freed_conditions.specs.Freed.{freed}
 use Rattle.freed_conditions.specs.IsFreed.{freed_drivers, connected, freed_clocked, begins, condition_widths, connection_widths, IsKeptIn, IsConditionOf, IsConnectionOf, IsFreed}
 use Rattle.freed_conditions.specs.Alike.{Fitted}
 use Rattle.freed_conditions.proofs.SignalsMore.{slice_get-left, slice_get-behind, width_at-more}
-use Rattle.freed_conditions.proofs.FitsMore.{and_map, is_signal-more, assignment_fits-more, place_fits-more}
+use Rattle.freed_conditions.proofs.FitsMore.{and_map, is_signal-more, assignment_fits-more}
 use Rattle.freed_conditions.proofs.FitsFreed.{fitted-left, fitted-right, freed-fits}
 use Rattle.freed_conditions.proofs.ResetValues.{reset-freed, reset-widths}
 use Rattle.freed_conditions.proofs.TimesFreed.{counted, counted-before, counted-at, counted-none, counted-sum, counted-append, counted-one, times-freed}
