@@ -56,11 +56,12 @@ pub record IsKeptIn (bits : ℕ) (s : Signal) : Type 0 where
   pub start_width : width_of s.start ≡ bits
   pub start_value : value_of s.start ≡ 0
 
--- the place of a condition, and that of a connection
+-- the place of a condition of so many bits
 pub record IsConditionOf (bits : ℕ) (p : Place) : Type 0 where
   pub width : p.width ≡ bits
   pub kind : p.kind ≡ place_kind.Cond
 
+-- the place of a connection of so many bits
 pub record IsConnectionOf (bits : ℕ) (p : Place) : Type 0 where
   pub width : p.width ≡ bits
   pub kind : p.kind ≡ place_kind.PortIn

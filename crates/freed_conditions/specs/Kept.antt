@@ -33,10 +33,11 @@ from_kept width signed (Resize' _ (more_of-Typed arg_width arg_signed arg end_of
     typed width signed (Resize' _ (more_of-Typed arg_width arg_signed (Whole signal) end_of-Typed))
 from_kept width signed node signal = whole width signed signal
 
--- what is kept of a subject, and the subject by the signal in which that is
+-- what is kept of a subject, by its width, sign and node
 abbrev pub kept_of : Typed → Typed
 kept_of subject = kept subject.width subject.signed subject.node
 
+-- a subject by the signal in which that is kept
 abbrev pub subject_of : Typed → ℕ → Typed
 subject_of subject signal = from_kept subject.width subject.signed subject.node signal
 

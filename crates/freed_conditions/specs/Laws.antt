@@ -64,7 +64,7 @@ pub record OneStatement : Type 0 where
   pub statement : Stmt
   pub updates : Updates
 
--- and what the freed statement begins with
+-- such a statement, and what the freed one begins with
 pub record TwoStatements : Type 0 where
   pub of : OneStatement
   pub freed : Updates
@@ -76,7 +76,7 @@ pub record TwoDesigns : Type 0 where
   pub order : List ℕ
   pub freed_order : List ℕ
 
--- and what a cycle of either begins with and has
+-- such designs, what a cycle of either begins with, and what it has
 pub record TwoCycles : Type 0 where
   pub of : TwoDesigns
   pub samples : List Bits
@@ -85,7 +85,7 @@ pub record TwoCycles : Type 0 where
   pub values : Valuation
   pub next : Valuation
 
--- and some traces, suspects, a largest size, a set and a list of sets
+-- such designs, some traces, suspects, a largest size, a set and a list of sets
 pub record TwoLists : Type 0 where
   pub of : TwoDesigns
   pub traces : List Trace
