@@ -17,5 +17,5 @@ returns-in-Err-NoMemory-clause-text g c told lines are =
 pub returns-in-Ok-clause-text : goal.returns-in-Ok-clause-text
 returns-in-Ok-clause-text g c told lines are =
     let its : AreLines c.args.loaded.now.ordered.design 1 c.deref.result.now lines =
-        subst (λ (ts : List Trace). AreLines c.args.loaded.now.ordered.design 1 ts lines) (sym c.deref.ensures.value) are in
+    subst (λ (ts : List Trace). AreLines c.args.loaded.now.ordered.design 1 ts lines) (sym c.deref.ensures.value) are in
     inl (c.status_for.ensures.is ∙ ap (λ right. if c.args.exit_code && not right then 9 else 0) (c.in-Ok.ensures.right lines its), c.in-Ok.ensures.text told lines its)
