@@ -5,12 +5,15 @@
 
 PROGRAM is crates/localise/out/localise where it isn't given. Each row is one run, in a folder of its own, on the example full_adder: with a
 file that isn't there or may not be read or written, a folder in place of a file, a full disk (/dev/full, and a limit on the length of
-files), standard output closed or without a reader, one name given twice, and names that are one file by links or `..`. Then come N runs of
-`make`, 20 where it isn't given, each killed at a random moment of its time; S is what the moments are drawn from.
+files), standard output closed or without a reader, one name given twice, and names that are one file by links or `..`. The same is done to
+a run that goes on from a list of one set (`--resume`). Then come runs that take longer, on what `make 149` makes, each killed at a random
+moment of its time: N of `make`, N of a `find` that goes on, and N of a `find` with checkpoints where the program knows `--checkpoint`; N is 20
+where it isn't given, and S is what the moments are drawn from.
 
 A row is well where the status is as documented, the printed text is the one line of a refusal, or else a front of what a run without the
-fault prints, and each file that stood there before is as it was. A file that the run may write may also be a front of what a run
-without the fault leaves. Printed is a table, in which a row that isn't well has what is wrong under it; the last line is
+fault prints, and each file that was there before is as it was. A file that the run may write may also be a front of what a run
+without the fault leaves. A run with checkpoints that is killed after the first of them has to leave a pair that goes on to the whole list.
+Printed is a table, in which a row that isn't well has what is wrong under it; the last line is
 `N passed, M failed`, and the status is 1 where one failed. Rows on permissions are run as the user `nobody` where the caller is root.
 """
 
@@ -25,7 +28,8 @@ import subprocess
 import sys
 import tempfile
 import time
-from typing import Callable, NamedTuple
+
+from fault_rows import MAKE, Row, SIM, find, going_on, kind_of, rows
 
 TOP = os.path.dirname(os.path.dirname(os.path.abspath(__file__)))
 BUILT = os.path.join(TOP, "crates", "localise", "out", "localise")
@@ -34,116 +38,12 @@ SECONDS = 120
 NOBODY = 65534
 AS_NOBODY = {"user": NOBODY, "group": NOBODY, "extra_groups": []}
 OLD = {"localise.log": b"an old log\n", "localise.json": b"an old report\n"}
-
-
-class Row(NamedTuple):
-    """A run with one fault. `last` is the line of a refusal; `may` are the files that the run may write, by what they are of a run without
-    the fault, whole where the status is 0; `limit` is the most bytes that a file may get, `stream` what becomes of standard output."""
-
-    fault: str
-    words: list
-    status: int
-    last: str = ""
-    prepare: Callable = lambda room: None
-    may: dict = {}
-    limit: int = -1
-    stream: str = ""
-    as_nobody: bool = False
-
-
-SIM, MAKE = ["sim", "m.v", "full_adder", "t.vcd"], ["make", "7"]
-
-
-def find(*more, design="m.v", dump="t.vcd"):
-    return ["find", design, "full_adder", dump, *more]
-
-
-# ---- what stands in a folder
-def link(target, name):
-    return lambda room: os.symlink(target, os.path.join(room, name))
-
-
-def second_name(of, name):
-    return lambda room: os.link(os.path.join(room, of), os.path.join(room, name))
-
-
-def folder(name, mode=0o755):
-    return lambda room: os.mkdir(os.path.join(room, name), mode)
-
-
-def mode_of(name, mode):
-    return lambda room: os.chmod(os.path.join(room, name), mode)
-
-
-# ---- the rows
-LOG, REPORT = {"localise.log": "localise.log"}, {"localise.json": "localise.json"}
-BOTH = {**LOG, **REPORT}
-
-
-def unread_rows():
-    yield Row("no design", find(design="absent.v"), 5, "read fault absent.v")
-    yield Row("no dump", find(dump="absent.vcd"), 5, "read fault absent.vcd")
-    yield Row("the design is a folder", find(design="d"), 5, "read fault d", folder("d"))
-    yield Row("the dump is a folder", find(dump="d"), 5, "read fault d", folder("d"))
-    yield Row("a file is the design's folder", find(design="t.vcd/m.v"), 5, "read fault t.vcd/m.v")
-    yield Row("the design may not be read", find(), 5, "read fault m.v", mode_of("m.v", 0), as_nobody=True)
-    yield Row("the dump may not be read", find(), 5, "read fault t.vcd", mode_of("t.vcd", 0), as_nobody=True)
-    yield Row("the report may not be read", ["check", "m.v", "full_adder", "localise.json", "localise.log", "t.vcd"], 5,
-              "read fault localise.json", mode_of("localise.json", 0), as_nobody=True)
-
-
-def unwritten_rows():
-    yield Row("no folder for the log", find("--log", "absent/x.log"), 6, may=REPORT)
-    yield Row("no folder for the report", find("--report", "absent/x.json"), 6, may=LOG)
-    yield Row("no folder for the waves", find("--waves", "absent/w"), 6, may=BOTH)
-    yield Row("the log is a folder", find("--log", "d"), 6, prepare=folder("d"), may=REPORT)
-    yield Row("the report is a folder", find("--report", "d"), 6, prepare=folder("d"), may=LOG)
-    yield Row("the log may not be written", find(), 6, prepare=mode_of("localise.log", 0o444), may=REPORT, as_nobody=True)
-    yield Row("the report may not be written", find(), 6, prepare=mode_of("localise.json", 0o444), may=LOG, as_nobody=True)
-    yield Row("the log's folder may not be written", find("--log", "d/x.log"), 6, prepare=folder("d", 0o555), may=REPORT, as_nobody=True)
-
-
-def full_rows():
-    yield Row("the disk is full at the log", find("--log", "/dev/full"), 6, may=REPORT)
-    yield Row("the disk is full at the report", find("--report", "/dev/full"), 6, may=LOG)
-    yield Row("the disk is full at the output", find(), 6, may=BOTH, stream="full")
-    yield Row("the disk is full at the output of sim", SIM, 6, stream="full")
-    for limit in (0, 1, 40, 200):
-        yield Row("no file gets more than %d bytes" % limit, find(), 6, may=BOTH, limit=limit)
-    for stream in ("closed", "unread"):
-        yield Row("the output is %s" % stream, find(), 6, may=BOTH, stream=stream)
-        yield Row("the output of sim is %s" % stream, SIM, 6, stream=stream)
-
-
-def name_rows():
-    usage = (2, "usage name")
-    yield Row("one name for log and report", find("--log", "x", "--report", "x"), *usage)
-    yield Row("one path for log and report", find("--log", "x", "--report", ".//x"), *usage)
-    yield Row("the log is the design", find("--log", "m.v"), *usage)
-    yield Row("the log is the design's path", find("--log", "./m.v"), *usage)
-    yield Row("the report is the dump's path", find("--report", "././t.vcd"), *usage)
-    yield Row("the log is a wave's name", find("--waves", "w", "--log", "./w-1-1.vcd"), *usage)
-    yield Row("make: design and dump are one path", [*MAKE, "--design", "x", "--trace", "./x"], *usage)
-
-
-def link_rows():
-    yield Row("the log is a link to the design", find("--log", "x"), 6, prepare=link("m.v", "x"), may=REPORT)
-    yield Row("the log is a second name of the dump", find("--log", "x"), 6, prepare=second_name("t.vcd", "x"), may=REPORT)
-    yield Row("the log is the design by `..`", find("--log", "d/../m.v"), 6, prepare=folder("d"), may=REPORT)
-    yield Row("the log is the design by a link to its folder", find("--log", "d/m.v"), 6, prepare=link(".", "d"), may=REPORT)
-    yield Row("the report is a link to the dump", find("--report", "x"), 6, prepare=link("t.vcd", "x"), may=LOG)
-    yield Row("the report is a link to the log", find("--report", "x"), 6, prepare=link("localise.log", "x"), may=LOG)
-    yield Row("the report is the log by `..`", find("--report", "d/../localise.log"), 6, prepare=folder("d"), may=LOG)
-    yield Row("a wave is a link to the design", find("--waves", "w"), 6, prepare=link("m.v", "w-1-1.vcd"), may=BOTH)
-    yield Row("the dump of make is a link to its design", [*MAKE, "--design", "y", "--trace", "x"], 6, prepare=link("y", "x"),
-              may={"y": "made.v"})
-    yield Row("the log is a link to no file", find("--log", "l"), 0, prepare=link("x", "l"), may={"x": "localise.log", **REPORT})
-    yield Row("the report is a link to no file", find("--report", "l"), 0, prepare=link("x", "l"), may={"x": "localise.json", **LOG})
+MAKE_LONG, FIND_LONG = ["make", "149"], ["find", "made.v", "made", "made.vcd", "--clock", "clk"]
 
 
 # ---- a run
 def found_in(room):
-    """What stands in a folder: of a file its bytes, of a link where it leads, of a folder that it is one."""
+    """What is in a folder: of a file its bytes, of a link where it leads, of a folder that it is one."""
     found = {}
     for at, folders, files in os.walk(room):
         for name in folders + files:
@@ -168,13 +68,16 @@ def open_folder():
         yield room
 
 
+def example():
+    """The files of the example, by the names that they have in a run's folder."""
+    return {other: read(os.path.join(EXAMPLE, name)) for name, other in (("full_adder.v", "m.v"), ("full_adder.vcd", "t.vcd"))}
+
+
 @contextlib.contextmanager
-def furnished():
-    """A folder with the example, and an old list beside it."""
+def furnished(files):
+    """A folder with these files, and an old list beside them."""
     with open_folder() as room:
-        for name, other in (("full_adder.v", "m.v"), ("full_adder.vcd", "t.vcd")):
-            shutil.copyfile(os.path.join(EXAMPLE, name), os.path.join(room, other))
-        for name, text in OLD.items():
+        for name, text in {**files, **OLD}.items():
             with open(os.path.join(room, name), "wb") as file:
                 file.write(text)
         yield room
@@ -254,67 +157,120 @@ class Trial:
     """The runs of a program: what they leave where nothing fails is known from one run of each command."""
 
     def __init__(self, program):
-        self.program, self.good, self.prints, self.seconds = program, {}, {}, 0
-        for words in (find("--waves", "w"), SIM, MAKE):
-            with furnished() as room:
-                began = time.monotonic()
-                child = begin(self.program, words, room)
-                self.prints[words[0]] = printed_by(child)
-                if child.returncode not in (0, 1):
-                    raise SystemExit("faults.py: without a fault `%s` ends with status %s" % (words[0], child.returncode))
-                self.good[words[0]] = found_in(room)
-                self.seconds = time.monotonic() - began
+        self.program, self.good, self.prints = program, {}, {}
+        self.files = example()
+        self.run_well(find("--sets", "1", "--log", "s.log", "--report", "s.json"), "the first set")
+        self.files.update({name: self.good["the first set"][name] for name in ("s.log", "s.json")})
+        for words in (find("--waves", "w"), going_on("--waves", "w"), SIM, MAKE):
+            self.run_well(words, kind_of(words))
+
+    def run_well(self, words, kind):
+        """Carries out a run that nothing fails, keeps what it prints and leaves, and answers how long it took."""
+        with furnished(self.files) as room:
+            began = time.monotonic()
+            child = begin(self.program, words, room)
+            self.prints[kind] = printed_by(child)
+            if child.returncode not in (0, 1):
+                raise SystemExit("faults.py: without a fault `%s` ends with status %s" % (" ".join(words), child.returncode))
+            self.good[kind] = found_in(room)
+            return time.monotonic() - began
 
     def wrong(self, row):
         """What is wrong with the run of a row."""
-        with furnished() as room:
+        with furnished(self.files) as room:
             row.prepare(room)
             if row.as_nobody and os.getuid() == 0:
                 give_away(room)
             before = found_in(room)
             child = begin(self.program, row.words, room, row)
             printed = printed_by(child)
-            command = row.words[0]
-            due = {name: self.good[command][of] for name, of in row.may.items()}
+            kind = kind_of(row.words)
+            due = {name: self.good[kind][of] for name, of in row.may.items()}
             left = unharmed(before, found_in(room), due, row.status == 0)
-            return wrong_of(row, child.returncode, printed, self.prints.get(command, b"")) + left
+            return wrong_of(row, child.returncode, printed, self.prints.get(kind, b"")) + left
 
-    def wrong_when_killed(self, part):
+
+class Kills(Trial):
+    """Runs that are killed at some moment, on what a long `make` makes."""
+
+    def __init__(self, program):
+        self.program, self.good, self.prints, self.files, self.seconds = program, {}, {}, {}, {}
+        self.seconds["make"] = self.run_well(MAKE_LONG, "make")
+        self.files = {name: self.good["make"][name] for name in ("made.v", "made.vcd")}
+        self.run_well([*FIND_LONG, "--sets", "1", "--log", "s.log", "--report", "s.json"], "the first set")
+        self.files.update({name: self.good["the first set"][name] for name in ("s.log", "s.json")})
+        self.seconds["find --resume"] = self.run_well([*FIND_LONG, *going_on()[4:]], "find --resume")
+        self.has_checkpoints = b"--checkpoint" in self.says("help", "find")
+        if self.has_checkpoints:
+            self.seconds["find --checkpoint"] = self.run_well([*FIND_LONG, "--checkpoint", "c"], "find --checkpoint")
+
+    def says(self, *words, room=None):
+        """What a run prints."""
+        return subprocess.run([self.program, *words], cwd=room, stdin=subprocess.DEVNULL, capture_output=True, timeout=SECONDS).stdout
+
+    def killed(self, room, words, kind, part):
+        """Kills a run after this part of its time, and answers what is wrong with what it printed."""
+        child = begin(self.program, words, room)
+        try:
+            printed = child.communicate(timeout=part * self.seconds[kind])[0]
+        except subprocess.TimeoutExpired:
+            child.kill()
+            printed = child.communicate()[0]
+        return [] if self.prints[kind].startswith(printed) else ["printed %r, which a whole run doesn't" % printed[-80:]]
+
+    def make(self, part):
         """What is wrong with what a run of `make` leaves that is killed after this part of its time."""
-        with furnished() as room:
+        with furnished({}) as room:
             before = found_in(room)
-            child = begin(self.program, MAKE, room)
-            try:
-                printed = child.communicate(timeout=part * self.seconds)[0]
-            except subprocess.TimeoutExpired:
-                child.kill()
-                printed = child.communicate()[0]
-            due = {name: self.good["make"][name] for name in ("made.v", "made.vcd", *OLD)}
-            wrong = [] if self.prints["make"].startswith(printed) else ["printed %r, which a whole run doesn't" % printed[-80:]]
-            return wrong + unharmed(before, found_in(room), due)
+            wrong = self.killed(room, MAKE_LONG, "make", part)
+            return wrong + unharmed(before, found_in(room), {name: self.good["make"][name] for name in ("made.v", "made.vcd", *OLD)})
+
+    def resume(self, part):
+        """The same of a `find` that goes on; the old pair has to be whole."""
+        with furnished(self.files) as room:
+            before = found_in(room)
+            wrong = self.killed(room, [*FIND_LONG, *going_on()[4:]], "find --resume", part)
+            return wrong + unharmed(before, found_in(room), {name: self.good["find --resume"][name] for name in OLD})
+
+    def checkpoint(self, part):
+        """The same of a `find` with checkpoints: where the first pair was whole, one goes on to the whole list, and none to another one."""
+        with furnished(self.files) as room:
+            wrong = self.killed(room, [*FIND_LONG, "--checkpoint", "c"], "find --checkpoint", part)
+            reports = [found_in(room).get("c-%d.json" % pair, b"") for pair in (1, 2)]
+            ends = [self.says(*FIND_LONG, *going_on(report="c-%d.json" % pair, log="c-%d.log" % pair)[4:], room=room) for pair in (1, 2)]
+            good = self.prints["find --checkpoint"]
+            wrong += ["a pair goes on to %r" % end[-80:] for end in ends if end != good and not end.startswith((b"input ", b"read fault "))]
+            is_due = any(report.endswith(b"}\n") for report in reports)
+            return wrong + (["no pair goes on: %r" % ends] if is_due and good not in ends else [])
 
 
-def rows():
-    for some in (unread_rows, unwritten_rows, full_rows, name_rows, link_rows):
-        yield from some()
+def killed_rows(kills, count, seed):
+    """The runs that are killed, and what is wrong with each; of those that the program doesn't know that they were left out."""
+    draw = random.Random(seed)
+    for kind, trial in (("make", kills.make), ("find --resume", kills.resume), ("find --checkpoint", kills.checkpoint)):
+        for part in sorted(draw.random() for _ in range(count)):
+            if kind in kills.seconds:
+                yield "%s: killed after %.0f %% of its time" % (kind, 100 * part), "", trial(part)
+    if count and not kills.has_checkpoints:
+        print("find --checkpoint: skipped, since the program doesn't know the option")
 
 
-def outcomes(trial, kills, seed):
+def outcomes(program, count, seed):
     """Each fault, what its run is to end in, and what is wrong with it."""
+    trial = Trial(program)
     for row in rows():
         yield row.fault, "%d %s" % (row.status, row.last), trial.wrong(row)
-    draw = random.Random(seed)
-    for part in sorted(draw.random() for _ in range(kills)):
-        yield "killed after %.0f %% of its time" % (100 * part), "", trial.wrong_when_killed(part)
+    if count:
+        yield from killed_rows(Kills(program), count, seed)
 
 
 def printed_table(found):
     """Prints the table of the outcomes, and answers how many rows failed."""
     counts = [0, 0]
-    print("%-50s %-30s %s" % ("fault", "wanted", "outcome"))
+    print("%-60s %-30s %s" % ("fault", "wanted", "outcome"))
     for fault, wanted, wrong in found:
         counts[bool(wrong)] += 1
-        print("%-50s %-30s %s" % (fault, wanted, "FAILED" if wrong else "well"), flush=True)
+        print("%-60s %-30s %s" % (fault, wanted, "FAILED" if wrong else "well"), flush=True)
         for line in wrong:
             print("    " + line)
     print("%d passed, %d failed" % tuple(counts))
@@ -331,7 +287,7 @@ def main(words):
         # (a copy that every user may run)
         program = shutil.copy(asked.program, os.path.join(place, "localise"))
         os.chmod(program, 0o755)
-        failed = printed_table(outcomes(Trial(program), asked.kills, asked.seed))
+        failed = printed_table(outcomes(program, asked.kills, asked.seed))
     return 1 if failed else 0
 
 

@@ -19,7 +19,7 @@ PROGRAM = os.environ.get("LOCALISE", faults.BUILT)
 PYTHON = shutil.which("python3", path="/usr/bin:/bin") or sys.executable
 # (what it reads, it answers by the same texts always; a bug takes the place of one of its lines)
 STAND_IN = '''#!%s
-import os, sys
+import os, sys, time
 
 def end(status, line=""):
     if line:
@@ -64,12 +64,15 @@ def path_of(name):
     return [part for part in name.split("/") if part not in ("", ".")]
 
 words = sys.argv[1:]
+if words == ["help", "find"]:
+    end(0, "no word more")
 command, rest = words[0], words[1:]
 at = next((i for i, it in enumerate(rest) if it.startswith("--")), len(rest))
 names, given = rest[:at], dict(zip(rest[at::2], rest[at + 1::2]))
 log, report = given.get("--log", "localise.log"), given.get("--report", "localise.json")
 made = [given.get("--design", "made.v"), given.get("--trace", "made.vcd")] if command == "make" else []
 read = [names[0], *names[2:]] if command in ("find", "sim") else []
+read += [given[it] for it in ("--resume", "--resume-log") if it in given]
 paths = [path_of(name) for name in [*read, *made, log, report]]
 prefix = given.get("--waves", "/") + "-"
 if any(paths.count(path) > 1 for path in paths) or any("/".join(path).startswith(prefix) for path in paths):
@@ -84,6 +87,10 @@ for name in made:
     write(name, (name * 40 if name != "y" else "made.v" * 40).encode())
 write(log, b"log " * 30)
 say("set {1}\\n")
+if "--checkpoint" in given:
+    write("c-1.log", b"log\\n")
+    write("c-1.json", b"{}\\n")
+    time.sleep(0.5)
 write(report, b"report " * 60)
 if "--waves" in given:
     write(prefix + "1-1.vcd", b"wave\\n")
@@ -97,6 +104,9 @@ BUGS = {
     "the output of sim is unread": ("        os._exit(6)", "        pass"),
     "one path for log and report": ('part not in ("", ".")', 'part not in ("",)'),
     "the dump is a folder": ('"read fault " + name', '"read fault"'),
+    "resumed: no log": ('"--resume", "--resume-log"', '"--resume"'),
+    "resumed: the new log is the old one": ("paths = [path_of(name) for name in [*read,", "paths = [path_of(name) for name in [*read[:2],"),
+    "resumed: the new report is a second name of the old one": ("        used[file_of(name)] = None\n", ""),
     "the log is a link to no file": ("log, b\"log \" * 30", "log, b\"log \" * (30 if log == 'localise.log' else 29)"),
 }
 
@@ -117,7 +127,8 @@ class Faults(unittest.TestCase):
     def test_a_program_that_keeps_to_the_documents_passes(self):
         with contextlib.redirect_stdout(io.StringIO()) as printed:
             status = faults.main(["--kills", "4", self.program_of(STAND_IN)])
-        count = len(list(faults.rows())) + 4
+        count = len(list(faults.rows())) + 2 * 4
+        self.assertIn("find --checkpoint: skipped", printed.getvalue())
         self.assertEqual((printed.getvalue().splitlines()[-1], status), ("%d passed, 0 failed" % count, 0), printed.getvalue())
 
     def test_each_bug_fails_its_row(self):
@@ -127,6 +138,16 @@ class Faults(unittest.TestCase):
                 self.assertEqual(STAND_IN.count(old), 1)
                 trial = faults.Trial(self.program_of(STAND_IN.replace(old, new)))
                 self.assertNotEqual(trial.wrong(rows[fault]), [])
+
+    def test_a_killed_run_leaves_a_checkpoint_that_goes_on(self):
+        text = STAND_IN.replace("no word more", "--checkpoint")
+        # (over these the checkpoints are whole, and it sleeps)
+        kills = faults.Kills(self.program_of(text))
+        self.assertEqual(kills.checkpoint(0.7), [])
+        self.program_of(text.replace('say("set {1}\\n")', 'say("set {2}\\n" if given.get("--resume") == "c-1.json" else "set {1}\\n")'))
+        self.assertEqual(len(kills.checkpoint(0.7)), 2)
+        self.program_of(text.replace("write(log,", 'if given.get("--resume") == "c-1.json":\n    end(3, "input F4 1")\nwrite(log,'))
+        self.assertEqual(kills.checkpoint(0.7)[0][:15], "no pair goes on")
 
     def test_a_row_that_fails_is_told(self):
         with contextlib.redirect_stdout(io.StringIO()) as printed:
