@@ -67,9 +67,10 @@ def entries_of(paragraph):
 
 
 def split_example(paragraph):
-    """A paragraph, and the example that ends it apart."""
+    """A paragraph, with the statuses and the example that end it apart."""
     before, marked, example = paragraph.partition("example:")
-    return [part for part in (before.rstrip("\n"), marked and f"{marked} {' '.join(example.split())}") if part]
+    parts = re.split(r"\n(?=status 0:)", before.rstrip("\n"))
+    return [part for part in (*parts, marked and f"{marked} {' '.join(example.split())}") if part]
 
 
 def kinds(made):
