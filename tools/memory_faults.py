@@ -1,117 +1,148 @@
 #!/usr/bin/env python3
-"""Runs `localise` with one allocation refused, and says whether each run ends as docs/formats.md says where memory runs out.
+"""Runs the program with each of its allocations refused in turn, and says whether each run ends as docs/formats.md says where memory runs out.
 
-    tools/memory_faults.py [--rt RT] [N..]
+    tools/memory_faults.py [--most M] [--jobs N] [--cases CASE..] [PROGRAM]
 
-For each N, `rt try --fail-alloc N` builds the program without proof (a minute or more, and 1.6 GB) and runs each case of CASES, below
-cases/, with its Nth allocation refused, counted from 1. Where no N is given they go up by steps to 10,000. A run is well where it ends with
-status 7, and what it printed is a front of the case's own lines and then `memory`, `front N memory` with the number of the sets
-before it, or nothing more; or where it does all that the case does, since there is no allocation of that number, or the run goes on without.
+PROGRAM is crates/localise/out/localise where it isn't given. Each CASE, below cases/, is run once as it is, which counts its allocations, and
+then once for each of them, or for M of them, evenly spread, where there are more; M is 2,000 where it isn't given. That one is refused,
+by tools/refuse.c, which stands in for the two calls by which the program gets memory: a C compiler (`cc`) and `nm` have to be there.
 
-Printed is a table, with a line for each N and a column for each case: the last line where the status is 7, `as ever`, or FAILED, with what is
-wrong below. Then comes how often each was met, and `N passed, M failed`; the status is 1 where one failed.
+A run is well where it ends with status 7, and
+
+- what it printed is a front of what the case prints, by whole lines, and then `memory`, or `front N memory` with the number of the
+  sets before it, or nothing more;
+- each file that it wrote is a front of what the case writes, by whole lines, and a report is empty or whole;
+- no file that it reads is changed;
+
+or where it does all that it does with ample memory. Printed is a table with a line for each case: how many allocations it makes, how many
+were refused, and how often each end was met. Below is what was wrong; the last line is `N passed, M failed`, and the status is 1 where one failed.
 """
 
 import argparse
 import collections
 import os
 import re
+import struct
 import subprocess
 import sys
 import tempfile
+from concurrent.futures import ThreadPoolExecutor
+from typing import NamedTuple
 
 TOP = os.path.dirname(os.path.dirname(os.path.abspath(__file__)))
 sys.path.insert(0, os.path.join(TOP, "cases"))
 import run  # noqa: E402
 
-CASES = ("find/counter_by_statement", "sim/carry_lost_at_eight_bits", "check/made_list", "make/number_7_with_two_sets")
-NUMBERS = (1, 2, 3, 5, 10, 20, 50, 100, 200, 500, 1000, 2000, 5000, 10000)
-ENDED = re.compile(r"^case=(\S+) run=ended status=(\d+)", re.M)
+BUILT = os.path.join(TOP, "crates", "localise", "out", "localise")
+CASES = ("find/counter_by_statement", "sim/carry_lost_at_eight_bits", "check/made_list", "make/number_7_with_two_sets", "resume/one_set_more",
+         "resume/waves_of_all_sets")
+CALLS = ("rattle_alloc", "rattle_realloc")
+ENDS = ("memory", "front N memory", "no line", "as ever", "FAILED")
+SECONDS = 600
 
 
-def command_of(case):
-    return case.split("/")[0]
+class Ran(NamedTuple):
+    status: int
+    printed: bytes
+    left: dict
 
 
-def give(folder, case):
-    """Writes a case as `rt try --cases` wants it, and answers the inputs by names that no other case has."""
-    path = os.path.join(TOP, "cases", case)
-    command, inputs = command_of(case), run.inputs_of(path)
-    words = [word.decode() for word in run.words_of(path + "/args")]
-    names = {name: "%s-%s" % (command, name) for name in inputs}
-    with open(os.path.join(folder, command), "wb"):
-        pass
-    with open(os.path.join(folder, command + ".args"), "w", encoding="utf-8") as file:
-        file.writelines(names.get(word, word) + "\n" for word in words)
-    return {names[name]: text for name, text in inputs.items()}
+class Refusing:
+    """A program, and what refuses it memory."""
 
+    def __init__(self, program, room):
+        self.program, self.library = program, os.path.join(room, "refuse.so")
+        subprocess.run(["cc", "-O1", "-shared", "-fPIC", "-o", self.library, os.path.join(TOP, "tools", "refuse.c")], check=True)
+        found = re.findall(r"^(\w+) T (\w+)$", subprocess.run(["nm", program], capture_output=True, text=True).stdout, re.M)
+        places = {name: place for place, name in found}
+        if not all(name in places for name in CALLS):
+            sys.exit("memory_faults.py: `nm` finds no %s in %s" % (" and ".join(CALLS), program))
+        self.places = {"ALLOC_AT": places[CALLS[0]], "REALLOC_AT": places[CALLS[1]]}
 
-def tried(rt, number):
-    """What the runs of all cases with that allocation refused printed, and how they ended: by their commands."""
-    with tempfile.TemporaryDirectory(prefix="memory-") as room:
-        folder, data = os.path.join(room, "cases"), os.path.join(room, "data")
-        os.mkdir(folder), os.mkdir(data)
-        words = [rt, "try", "--fail-alloc", str(number), "--cases", folder]
-        for case in CASES:
-            for name, text in give(folder, case).items():
-                with open(os.path.join(data, name), "wb") as file:
+    def run(self, case, number):
+        """A run of a case with that allocation refused (none for 0), and how many it came to."""
+        words = [self.program.encode(), *run.words_of(case + "/args")]
+        with tempfile.TemporaryDirectory(prefix="memory-") as place:
+            room, count = os.path.join(place, "room"), os.path.join(place, "count")
+            os.mkdir(room)
+            for name, text in run.inputs_of(case).items():
+                with open(os.path.join(room, name), "wb") as file:
                     file.write(text)
-                words += ["--data", "%s=%s" % (name, os.path.join(data, name))]
-        ran = subprocess.run(words, cwd=os.path.join(TOP, "crates", "localise"), stdin=subprocess.DEVNULL, capture_output=True, text=True)
-    return told(ran.stdout, ran.stderr)
+            env = {**os.environ, "LD_PRELOAD": self.library, **self.places, "REFUSE": str(number), "REFUSE_COUNT": count}
+            ran = subprocess.run(words, cwd=room, env=env, stdin=subprocess.DEVNULL, capture_output=True, timeout=SECONDS)
+            return Ran(ran.returncode, ran.stdout, run.texts_below(room)), struct.unpack("Q", run.read(count))[0]
 
 
-def told(printed, said):
-    """The same, from the output of `rt try`: of a run that didn't end, what is said of it, in place of a status."""
-    parts = re.split(r"^== (\S+)\n", printed, flags=re.M)
-    texts = dict(zip(parts[1::2], parts[2::2]))
-    ended = {name: int(status) for name, status in ENDED.findall(said)}
-    commands = [command_of(case) for case in CASES]
-    return {it: (ended.get(it, "no end: " + said[-300:]), texts.get(it, "a part of a line")) for it in commands}
+def is_front(text, good):
+    """Whether a text is the first lines of another one, whole ones."""
+    return good.startswith(text) and (not text or text.endswith(b"\n"))
 
 
 def is_cut(printed, good):
-    """Whether a text is what a run may have printed whose memory ran out: whole lines of the good one, and a line on memory or none."""
+    """Whether a text is what a run may have printed whose memory ran out."""
     lines = printed.splitlines(keepends=True)
-    last = lines[-1] if lines else ""
-    sets = sum(line.startswith("set ") for line in lines)
-    if last == "memory\n" or last == "front %d memory\n" % sets:
+    sets = sum(line.startswith(b"set ") for line in lines)
+    if lines and lines[-1] in (b"memory\n", b"front %d memory\n" % sets):
         lines.pop()
-    is_whole = not printed or printed.endswith("\n")
-    return is_whole and printed != good and good.startswith("".join(lines))
+    return is_front(b"".join(lines), good)
 
 
-def outcome(case, status, printed):
+def harmed(ran, good, inputs):
+    """Which files a run may not have left so."""
+    due = {**good.left, **inputs}
+    wrong = [name for name in inputs if ran.left.get(name) != inputs[name]]
+    wrong += [name for name in ran.left if name not in due or not is_front(ran.left[name], due[name])]
+    return sorted(set(wrong))
+
+
+def outcome(ran, good, inputs):
     """What a run is called in the table, and what is wrong with it."""
-    path = os.path.join(TOP, "cases", case)
-    good, good_status = run.read(path + "/stdout").decode(), int(run.read(path + "/status", b"0"))
-    if (status, printed) == (good_status, good):
+    if ran == good:
         return "as ever", ""
-    if status == 7 and is_cut(printed, good):
-        return re.sub(r"\d+", "N", (printed.splitlines() or [""])[-1] if "memory" in printed else "no line"), ""
-    return "FAILED", "%s: status %s, printed %r" % (case, status, printed[-200:])
+    lines = ran.printed.splitlines()
+    last = re.sub(rb"\d+", b"N", lines[-1]).decode(errors="replace") if lines else ""
+    files = harmed(ran, good, inputs)
+    if ran.status == 7 and is_cut(ran.printed, good.printed) and not files:
+        return (last if last in ENDS else "no line"), ""
+    return "FAILED", "status %s, printed %r%s" % (ran.status, ran.printed[-100:], "".join(", harmed " + name for name in files))
+
+
+def numbers_of(count, most):
+    """All numbers up to a count, or the most that there may be of them, evenly spread."""
+    return range(1, count + 1) if count <= most else sorted({1 + at * (count - 1) // (most - 1) for at in range(most)})
+
+
+def refused(refusing, case, most, pool):
+    """How many allocations a case makes, and of each that was refused the number, what the run is called and what is wrong with it."""
+    path = os.path.join(TOP, "cases", case)
+    good, count = refusing.run(path, 0)
+    wanted = int(run.read(path + "/status", b"0"))
+    if (good.status, good.printed) != (wanted, run.read(path + "/stdout")):
+        sys.exit("memory_faults.py: with ample memory %s ends with status %s, and isn't as wanted" % (case, good.status))
+    numbers, inputs = numbers_of(count, most), run.inputs_of(path)
+    found = pool.map(lambda number: outcome(refusing.run(path, number)[0], good, inputs), numbers)
+    return count, [(number, *one) for number, one in zip(numbers, found)]
 
 
 def main(words):
-    parser = argparse.ArgumentParser(description="Runs localise with one allocation refused.")
-    parser.add_argument("--rt", default="rt", metavar="RT")
-    parser.add_argument("numbers", nargs="*", type=int, metavar="N")
+    parser = argparse.ArgumentParser(description="Runs localise with each of its allocations refused in turn.")
+    parser.add_argument("--most", type=int, default=2000)
+    parser.add_argument("--jobs", type=int, default=os.cpu_count())
+    parser.add_argument("--cases", nargs="+", default=CASES)
+    parser.add_argument("program", nargs="?", default=BUILT)
     asked = parser.parse_args(words)
-    counts = collections.Counter()
-    print("%8s" % "N" + "".join("  %-16s" % command_of(case) for case in CASES))
-    for number in asked.numbers or NUMBERS:
-        found = tried(asked.rt, number)
-        row = [outcome(case, *found[command_of(case)]) for case in CASES]
-        counts.update((command_of(case), name) for case, (name, _) in zip(CASES, row))
-        print("%8d" % number + "".join("  %-16s" % name for name, _ in row), flush=True)
-        for _, wrong in row:
-            if wrong:
-                print("    " + wrong)
-    for (command, name), count in sorted(counts.items()):
-        print("%s: %s: %d" % (command, name, count))
-    failed = sum(count for (_, name), count in counts.items() if name == "FAILED")
-    print("%d passed, %d failed" % (sum(counts.values()) - failed, failed))
-    return 1 if failed else 0
+    passed, wrong = 0, []
+    print(("%-32s %11s %7s" + "  %14s" * len(ENDS)) % ("case", "allocations", "refused", *ENDS))
+    with tempfile.TemporaryDirectory(prefix="memory-") as room, ThreadPoolExecutor(asked.jobs) as pool:
+        refusing = Refusing(os.path.abspath(asked.program), room)
+        for case in asked.cases:
+            count, found = refused(refusing, case, max(2, asked.most), pool)
+            ends = collections.Counter(name for _, name, _ in found)
+            print(("%-32s %11d %7d" + "  %14d" * len(ENDS)) % (case, count, len(found), *(ends[name] for name in ENDS)), flush=True)
+            wrong += ["%s, allocation %d: %s" % (case, number, line) for number, _, line in found if line]
+            passed += len(found) - ends["FAILED"]
+    print("".join(line + "\n" for line in wrong) + "%d passed, %d failed" % (passed, len(wrong)))
+    return 1 if wrong else 0
 
 
 if __name__ == "__main__":

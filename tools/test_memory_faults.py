@@ -1,10 +1,12 @@
 #!/usr/bin/env python3
-"""Tests of tools/memory_faults.py: `python3 tools/test_memory_faults.py`. A script stands for `rt`, since a build of the program takes long."""
+"""Tests of tools/memory_faults.py: `python3 tools/test_memory_faults.py`. A C program stands for `localise`: one that keeps to the documents, and
+some with one bug each. They need a C compiler, as the script does."""
 
 import contextlib
 import io
-import json
 import os
+import shutil
+import subprocess
 import sys
 import tempfile
 import unittest
@@ -13,69 +15,101 @@ HERE = os.path.dirname(os.path.abspath(__file__))
 sys.path.insert(0, HERE)
 import memory_faults  # noqa: E402
 
-# (what it answers of each case is a line of a file beside it: the status and the text)
-STAND_IN = """#!%s
-import json, os, sys
-words = sys.argv[1:]
-assert words[:3] == ["try", "--fail-alloc", "4"] and words[3] == "--cases", words
-data = dict(word.split("=") for word in words[6::2])
-with open(os.path.join(os.path.dirname(os.path.abspath(__file__)), "says")) as file:
-    says = json.load(file)
-for name, (status, text) in says.items():
-    assert os.path.getsize(os.path.join(words[4], name)) == 0
-    with open(os.path.join(words[4], name + ".args")) as file:
-        given = file.read().split("\\n")
-    assert given[0] == name and all(word in given for word in data if word.startswith(name)), given
-    assert all(os.path.isfile(path) for path in data.values())
-    sys.stdout.write("== " + name + "\\n" + text)
-    if status is None:
-        sys.stderr.write("checked: fault: a bad access\\ncase=" + name + " run=fault proved=no\\n")
-    else:
-        sys.stderr.write("case=" + name + " run=ended status=" + str(status) + " runners=1 proved=no\\n")
-sys.stderr.write("cases=4 ended=4 fault=0 differs=0 no-answer=0 proved=no\\n")
-""" % sys.executable
+# (five allocations: before anything, before the log, before either set, before the report; a bug takes the place of one of its lines)
+STAND_IN = """
+#include <stdio.h>
+#include <stdlib.h>
+struct answer { unsigned long is_there; void *place; };
+struct answer rattle_alloc(size_t size, size_t align) {
+    struct answer answer = {1, malloc(size + align)};
+    return answer;
+}
+struct answer rattle_realloc(void *old, size_t before, size_t size, size_t align) {
+    struct answer answer = {1, realloc(old, size + align + before)};
+    return answer;
+}
+struct answer (*volatile get)(size_t, size_t) = rattle_alloc;
+static void need(const char *line) {
+    if (!get(8, 8).is_there) {
+        printf("%s", line);
+        exit(7);
+    }
+}
+static void put(const char *name, const char *how, const char *text) {
+    FILE *file = fopen(name, how);
+    fputs(text, file);
+    fclose(file);
+}
+int main(void) {
+    need("");
+    need("memory\\n");
+    put("log", "w", "head\\n");
+    need("front 0 memory\\n");
+    put("log", "a", "b -1\\n");
+    puts("set {1}");
+    need("front 1 memory\\n");
+    puts("set {2}");
+    put("report", "w", "");
+    need("front 2 memory\\n");
+    put("report", "w", "{}\\n");
+    puts("complete 2");
+    return 0;
+}
+"""
+BUGS = {
+    "a wrong number of sets": ('need("front 1 memory\\n")', 'need("front 2 memory\\n")'),
+    "a status of its own": ("exit(7)", "exit(6)"),
+    "a line that is cut": ('need("front 1 memory\\n")', 'need("front 1 mem")'),
+    "a list that is called whole": ('need("front 1 memory\\n")', 'need("complete 1\\n")'),
+    "a fault": ('need("front 0 memory\\n")', "*(char *)get(8, 8).place = *(get(8, 8).is_there ? \"\" : (char *)0)"),
+    "a log that is cut in a line": ('put("log", "w", "head\\n");', 'put("log", "w", "he");'),
+    "an input that is overwritten": ('put("report", "w", "");', 'put("m.v", "w", "");'),
+    "a file of another name": ("exit(7)", 'exit((fopen("other", "w"), 7))'),
+}
+INPUTS = {"shows": "A case.\n", "args": "find\nm.v\n", "stdout": "set {1}\nset {2}\ncomplete 2\n", "m.v": "module\n"}
 
 
-def good(case):
-    path = os.path.join(memory_faults.TOP, "cases", case)
-    return int(memory_faults.run.read(path + "/status", b"0")), memory_faults.run.read(path + "/stdout").decode()
-
-
+@unittest.skipUnless(shutil.which("cc") and shutil.which("nm"), "no C compiler")
 class MemoryFaults(unittest.TestCase):
-    def table(self, says):
-        """The table where the commands end so, and the others as their cases do."""
-        says = {**{memory_faults.command_of(case): good(case) for case in memory_faults.CASES}, **says}
-        with tempfile.TemporaryDirectory() as room:
-            rt = os.path.join(room, "rt")
-            with open(rt, "w", encoding="utf-8") as file:
-                file.write(STAND_IN)
-            os.chmod(rt, 0o755)
-            with open(os.path.join(room, "says"), "w", encoding="utf-8") as file:
-                json.dump(says, file)
-            with contextlib.redirect_stdout(io.StringIO()) as printed:
-                status = memory_faults.main(["--rt", rt, "4"])
-        return status, printed.getvalue()
+    def setUp(self):
+        room = tempfile.TemporaryDirectory()
+        self.addCleanup(room.cleanup)
+        self.case, self.program = os.path.join(room.name, "case"), os.path.join(room.name, "program")
+        os.mkdir(self.case)
+        for name, text in INPUTS.items():
+            with open(os.path.join(self.case, name), "w", encoding="utf-8") as file:
+                file.write(text)
 
-    def test_runs_that_end_as_the_documents_say(self):
-        status, made = good("make/number_7_with_two_sets")
-        first = made[: made.index("set ", 1)]
-        says = {"find": (7, "memory\n"), "sim": (7, ""), "make": (7, first + "front 1 memory\n")}
-        status, printed = self.table(says)
-        self.assertEqual(status, 0, printed)
-        self.assertEqual(printed.splitlines()[1].split("  ", 1)[1].split(), "4 memory no line as ever front N memory".split())
-        self.assertEqual(printed.splitlines()[-1], "4 passed, 0 failed")
+    def table(self, text, *more):
+        """What is printed of a program, and the status."""
+        subprocess.run(["cc", "-x", "c", "-o", self.program, "-"], input=text, text=True, check=True)
+        with contextlib.redirect_stdout(io.StringIO()) as printed:
+            status = memory_faults.main([self.program, *more, "--cases", self.case])
+        return printed.getvalue().splitlines(), status
 
-    def test_runs_that_do_not(self):
-        made = good("make/number_7_with_two_sets")[1]
-        wrong = {
-            "find": [(None, ""), (0, ""), (0, "memory\n"), (7, "front 1 memory\n"), (7, "set {99}\nfront 1 memory\n"), (6, "")],
-            "make": [(7, made), (7, made[:3]), (7, made[: made.index("set ", 1)] + "front 2 memory\n")],
-        }
-        for command, ends in wrong.items():
-            for end in ends:
-                with self.subTest((command, end)):
-                    status, printed = self.table({command: end})
-                    self.assertEqual((status, printed.splitlines()[-1]), (1, "3 passed, 1 failed"), printed)
+    def test_a_program_that_keeps_to_the_documents_passes(self):
+        lines, status = self.table(STAND_IN)
+        self.assertEqual((lines[1].split()[1:], lines[2:], status), (["5", "5", "1", "3", "1", "0", "0"], ["5 passed, 0 failed"], 0))
+
+    def test_of_many_allocations_some_are_refused(self):
+        lines, _ = self.table(STAND_IN, "--most", "3")
+        self.assertEqual(lines[1].split()[1:], ["5", "3", "0", "2", "1", "0", "0"])
+        self.assertEqual(list(memory_faults.numbers_of(10, 4)), [1, 4, 7, 10])
+
+    def test_a_run_that_goes_on_without_is_as_ever(self):
+        lines, status = self.table(STAND_IN.replace('need("memory\\n");', "get(8, 8);"))
+        self.assertEqual((lines[1].split()[1:], status), (["5", "5", "0", "3", "1", "1", "0"], 0))
+
+    def test_each_bug_is_found(self):
+        for name, (old, new) in BUGS.items():
+            with self.subTest(name):
+                self.assertEqual(STAND_IN.count(old), 1)
+                lines, status = self.table(STAND_IN.replace(old, new))
+                self.assertEqual(status, 1, lines)
+
+    def test_a_program_without_the_calls_is_refused(self):
+        with self.assertRaises(SystemExit):
+            self.table("int main(void) { return 0; }")
 
 
 if __name__ == "__main__":
