@@ -6,7 +6,8 @@ from typing import Callable, NamedTuple
 
 class Row(NamedTuple):
     """A run with one fault. `last` is the line of a refusal; `may` are the files that the run may write, by what they are of a run without
-    the fault, whole where the status is 0; `limit` is the most bytes that a file may get, `stream` what becomes of standard output."""
+    the fault, whole where the status is 0; `limit` is the most bytes that a file may get, `stream` what becomes of standard output. What is
+    `asked` before the search fails with nothing printed."""
 
     fault: str
     words: list
@@ -17,6 +18,7 @@ class Row(NamedTuple):
     limit: int = -1
     stream: str = ""
     as_nobody: bool = False
+    asked: bool = False
 
 
 SIM, MAKE = ["sim", "m.v", "full_adder", "t.vcd"], ["make", "7"]
@@ -70,14 +72,14 @@ def unread_rows():
 
 
 def unwritten_rows():
-    yield Row("no folder for the log", find("--log", "absent/x.log"), 6, may=REPORT)
-    yield Row("no folder for the report", find("--report", "absent/x.json"), 6, may=LOG)
-    yield Row("no folder for the waves", find("--waves", "absent/w"), 6, may=BOTH)
-    yield Row("the log is a folder", find("--log", "d"), 6, prepare=folder("d"), may=REPORT)
-    yield Row("the report is a folder", find("--report", "d"), 6, prepare=folder("d"), may=LOG)
-    yield Row("the log may not be written", find(), 6, prepare=mode_of("localise.log", 0o444), may=REPORT, as_nobody=True)
-    yield Row("the report may not be written", find(), 6, prepare=mode_of("localise.json", 0o444), may=LOG, as_nobody=True)
-    yield Row("the log's folder may not be written", find("--log", "d/x.log"), 6, prepare=folder("d", 0o555), may=REPORT, as_nobody=True)
+    yield Row("no folder for the log", find("--log", "absent/x.log"), 6, asked=True)
+    yield Row("no folder for the report", find("--report", "absent/x.json"), 6, asked=True)
+    yield Row("no folder for the waves", find("--waves", "absent/w"), 6, asked=True)
+    yield Row("the log is a folder", find("--log", "d"), 6, prepare=folder("d"), asked=True)
+    yield Row("the report is a folder", find("--report", "d"), 6, prepare=folder("d"), asked=True)
+    yield Row("the log may not be written", find(), 6, prepare=mode_of("localise.log", 0o444), as_nobody=True, asked=True)
+    yield Row("the report may not be written", find(), 6, prepare=mode_of("localise.json", 0o444), as_nobody=True, asked=True)
+    yield Row("the log's folder may not be written", find("--log", "d/x.log"), 6, prepare=folder("d", 0o555), as_nobody=True, asked=True)
 
 
 def full_rows():
@@ -104,14 +106,14 @@ def name_rows():
 
 
 def link_rows():
-    yield Row("the log is a link to the design", find("--log", "x"), 6, prepare=link("m.v", "x"), may=REPORT)
-    yield Row("the log is a second name of the dump", find("--log", "x"), 6, prepare=second_name("t.vcd", "x"), may=REPORT)
-    yield Row("the log is the design by `..`", find("--log", "d/../m.v"), 6, prepare=folder("d"), may=REPORT)
-    yield Row("the log is the design by a link to its folder", find("--log", "d/m.v"), 6, prepare=link(".", "d"), may=REPORT)
-    yield Row("the report is a link to the dump", find("--report", "x"), 6, prepare=link("t.vcd", "x"), may=LOG)
+    yield Row("the log is a link to the design", find("--log", "x"), 6, prepare=link("m.v", "x"), asked=True)
+    yield Row("the log is a second name of the dump", find("--log", "x"), 6, prepare=second_name("t.vcd", "x"), asked=True)
+    yield Row("the log is the design by `..`", find("--log", "d/../m.v"), 6, prepare=folder("d"), asked=True)
+    yield Row("the log is the design by a link to its folder", find("--log", "d/m.v"), 6, prepare=link(".", "d"), asked=True)
+    yield Row("the report is a link to the dump", find("--report", "x"), 6, prepare=link("t.vcd", "x"), asked=True)
     yield Row("the report is a link to the log", find("--report", "x"), 6, prepare=link("localise.log", "x"), may=LOG)
     yield Row("the report is the log by `..`", find("--report", "d/../localise.log"), 6, prepare=folder("d"), may=LOG)
-    yield Row("a wave is a link to the design", find("--waves", "w"), 6, prepare=link("m.v", "w-1-1.vcd"), may=BOTH)
+    yield Row("a wave is a link to the design", find("--waves", "w"), 6, prepare=link("m.v", "w-1-1.vcd"), asked=True)
     yield Row("the dump of make is a link to its design", [*MAKE, "--design", "y", "--trace", "x"], 6, prepare=link("y", "x"),
               may={"y": "made.v"})
     yield Row("the log is a link to no file", find("--log", "l"), 0, prepare=link("x", "l"), may={"x": "localise.log", **REPORT})
@@ -126,8 +128,8 @@ def session_rows():
     yield Row("resumed: the log is a folder", going_on(log="d"), 5, "read fault d", folder("d"))
     yield Row("resumed: the report may not be read", going_on(), 5, "read fault s.json", mode_of("s.json", 0), as_nobody=True)
     yield Row("resumed: the log may not be read", going_on(), 5, "read fault s.log", mode_of("s.log", 0), as_nobody=True)
-    yield Row("resumed: no folder for the new log", going_on("--log", "absent/x.log"), 6, may=REPORT)
-    yield Row("resumed: no folder for the new report", going_on("--report", "absent/x.json"), 6, may=LOG)
+    yield Row("resumed: no folder for the new log", going_on("--log", "absent/x.log"), 6, asked=True)
+    yield Row("resumed: no folder for the new report", going_on("--report", "absent/x.json"), 6, asked=True)
     yield Row("resumed: the disk is full at the new log", going_on("--log", "/dev/full"), 6, may=REPORT)
     yield Row("resumed: the disk is full at the new report", going_on("--report", "/dev/full"), 6, may=LOG)
     for limit in (0, 1, 40, 200):
@@ -142,11 +144,10 @@ def session_name_rows():
     yield Row("resumed: the new report is the path of the old log", going_on("--report", ".//s.log"), *usage)
     yield Row("resumed: the default names are those of the old pair", going_on(report="localise.json", log="localise.log"), *usage)
     yield Row("resumed: waves are named as the old report", going_on("--waves", "s", report="s-1.json"), *usage)
-    yield Row("resumed: the new log is a link to the old one", going_on("--log", "x"), 6, prepare=link("s.log", "x"), may=REPORT)
-    yield Row("resumed: the new report is a second name of the old one", going_on("--report", "x"), 6, prepare=second_name("s.json", "x"),
-              may=LOG)
-    yield Row("resumed: the new report is the old log by `..`", going_on("--report", "d/../s.log"), 6, prepare=folder("d"), may=LOG)
-    yield Row("resumed: a wave is a link to the old report", going_on("--waves", "w"), 6, prepare=link("s.json", "w-1-1.vcd"), may=BOTH)
+    yield Row("resumed: the new log is a link to the old one", going_on("--log", "x"), 6, prepare=link("s.log", "x"), asked=True)
+    yield Row("resumed: the new report is a second name of the old one", going_on("--report", "x"), 6, prepare=second_name("s.json", "x"), asked=True)
+    yield Row("resumed: the new report is the old log by `..`", going_on("--report", "d/../s.log"), 6, prepare=folder("d"), asked=True)
+    yield Row("resumed: a wave is a link to the old report", going_on("--waves", "w"), 6, prepare=link("s.json", "w-1-1.vcd"), asked=True)
 
 
 def rows():

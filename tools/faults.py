@@ -1,14 +1,14 @@
 #!/usr/bin/env python3
 """Runs the built program where the system fails it, and says whether each run ends as docs/formats.md says and leaves whole what stood there.
 
-    tools/faults.py [--kills N] [--seed S] [PROGRAM]
+    tools/faults.py [--kills N] [--seed S] [--make M] [PROGRAM]
 
 PROGRAM is crates/localise/out/localise where it isn't given. Each row is one run, in a folder of its own, on the example full_adder: with a
 file that isn't there or may not be read or written, a folder in place of a file, a full disk (/dev/full, and a limit on the length of
 files), standard output closed or without a reader, one name given twice, and names that are one file by links or `..`. The same is done to
-a run that goes on from a list of one set (`--resume`). Then come runs that take longer, on what `make 149` makes, each killed at a random
+a run that goes on from a list of one set (`--resume`). Then come runs that take longer, on what `make M` makes, each killed at a random
 moment of its time: N of `make`, N of a `find` that goes on, and N of a `find` with checkpoints where the program knows `--checkpoint`; N is 20
-where it isn't given, and S is what the moments are drawn from.
+where it isn't given, M 149, and S is what the moments are drawn from.
 
 A row is well where the status is as documented, the printed text is the one line of a refusal, or else a front of what a run without the
 fault prints, and each file that was there before is as it was. A file that the run may write may also be a front of what a run
@@ -38,7 +38,7 @@ SECONDS = 120
 NOBODY = 65534
 AS_NOBODY = {"user": NOBODY, "group": NOBODY, "extra_groups": []}
 OLD = {"localise.log": b"an old log\n", "localise.json": b"an old report\n"}
-MAKE_LONG, FIND_LONG = ["make", "149"], ["find", "made.v", "made", "made.vcd", "--clock", "clk"]
+FIND_LONG = ["find", "made.v", "made", "made.vcd", "--clock", "clk"]
 
 
 # ---- a run
@@ -148,6 +148,8 @@ def wrong_of(row, status, printed, good_print):
     wrong = [] if status == row.status else ["status %s, wanted %d" % (status, row.status)]
     if row.last and printed != row.last.encode() + b"\n":
         wrong.append("printed %r, wanted %r alone" % (printed[-80:], row.last))
+    if row.asked and printed:
+        wrong.append("printed %r before it failed" % printed[-80:])
     if not row.last and not good_print.startswith(printed):
         wrong.append("printed %r, which no run without the fault does" % printed[-80:])
     return wrong
@@ -193,9 +195,10 @@ class Trial:
 class Kills(Trial):
     """Runs that are killed at some moment, on what a long `make` makes."""
 
-    def __init__(self, program):
+    def __init__(self, program, number="149"):
         self.program, self.good, self.prints, self.files, self.seconds = program, {}, {}, {}, {}
-        self.seconds["make"] = self.run_well(MAKE_LONG, "make")
+        self.make_words = ["make", number]
+        self.seconds["make"] = self.run_well(self.make_words, "make")
         self.files = {name: self.good["make"][name] for name in ("made.v", "made.vcd")}
         self.run_well([*FIND_LONG, "--sets", "1", "--log", "s.log", "--report", "s.json"], "the first set")
         self.files.update({name: self.good["the first set"][name] for name in ("s.log", "s.json")})
@@ -222,7 +225,7 @@ class Kills(Trial):
         """What is wrong with what a run of `make` leaves that is killed after this part of its time."""
         with furnished({}) as room:
             before = found_in(room)
-            wrong = self.killed(room, MAKE_LONG, "make", part)
+            wrong = self.killed(room, self.make_words, "make", part)
             return wrong + unharmed(before, found_in(room), {name: self.good["make"][name] for name in ("made.v", "made.vcd", *OLD)})
 
     def resume(self, part):
@@ -255,13 +258,13 @@ def killed_rows(kills, count, seed):
         print("find --checkpoint: skipped, since the program doesn't know the option")
 
 
-def outcomes(program, count, seed):
+def outcomes(program, asked):
     """Each fault, what its run is to end in, and what is wrong with it."""
     trial = Trial(program)
     for row in rows():
         yield row.fault, "%d %s" % (row.status, row.last), trial.wrong(row)
-    if count:
-        yield from killed_rows(Kills(program), count, seed)
+    if asked.kills:
+        yield from killed_rows(Kills(program, asked.make), asked.kills, asked.seed)
 
 
 def printed_table(found):
@@ -281,13 +284,14 @@ def main(words):
     parser = argparse.ArgumentParser(description="Runs the program where the system fails it.")
     parser.add_argument("--kills", type=int, default=20)
     parser.add_argument("--seed", type=int, default=1)
+    parser.add_argument("--make", default="149", metavar="M")
     parser.add_argument("program", nargs="?", default=BUILT)
     asked = parser.parse_args(words)
     with open_folder() as place:
         # (a copy that every user may run)
         program = shutil.copy(asked.program, os.path.join(place, "localise"))
         os.chmod(program, 0o755)
-        failed = printed_table(outcomes(program, asked.kills, asked.seed))
+        failed = printed_table(outcomes(program, asked))
     return 1 if failed else 0
 
 

@@ -60,6 +60,17 @@ def write(name, text):
     except OSError:
         end(6)
 
+def ask(name):
+    try:
+        if os.path.exists(name):
+            os.close(os.open(name, os.O_WRONLY))
+            if used.get(file_of(name), name) != name:
+                end(6)
+        elif not os.access(os.path.dirname(os.path.realpath(name)), os.W_OK):
+            end(6)
+    except OSError:
+        end(6)
+
 def path_of(name):
     return [part for part in name.split("/") if part not in ("", ".")]
 
@@ -83,6 +94,8 @@ for name in read:
     load(name)
 if command == "sim":
     end(0, "trace 1 miss 0 y")
+for name in [log, report] + [prefix + "1-1.vcd"] * ("--waves" in given):
+    ask(name)
 for name in made:
     write(name, (name * 40 if name != "y" else "made.v" * 40).encode())
 write(log, b"log " * 30)
@@ -98,8 +111,9 @@ end(0, "complete 1")
 ''' % PYTHON
 BUGS = {
     "the log is a link to the design": ("        used[file_of(name)] = None\n", ""),
-    "the report is a link to the log": ("        if used.setdefault(file_of(name), name) != name:", "        if used.get(file_of(name), name) != name:"),
-    "the disk is full at the report": ("    except OSError:\n        end(6)", "    except OSError:\n        pass"),
+    "the report is a link to the log": ("        if used.setdefault(file_of(name), name) != name:", "        if used.get(file_of(name), name) is None:"),
+    "no folder for the report": ("for name in [log, report]", "for name in [log]"),
+    "the disk is full at the report": ("    except OSError:\n        end(6)\n\ndef ask", "    except OSError:\n        pass\n\ndef ask"),
     "the output is closed": ("while os.open(\"/dev/null\", os.O_RDONLY) < 2:\n    pass\n", ""),
     "the output of sim is unread": ("        os._exit(6)", "        pass"),
     "one path for log and report": ('part not in ("", ".")', 'part not in ("",)'),
