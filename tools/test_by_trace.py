@@ -243,7 +243,9 @@ class Words(InAFolder):
         for number in (signal.SIGTERM, signal.SIGINT):
             words = ["m.v", "m", "a.vcd", "b.vcd", "c.vcd", "--program", "./program", "--jobs", "2"]
             begun = [sys.executable, os.path.join(HERE, "by_trace.py"), *words]
-            with subprocess.Popen(begun, stdout=subprocess.PIPE, stderr=subprocess.PIPE, text=True) as ran:
+            # (what a shell starts in the background ignores SIGINT, and so do its children, unless it is put back)
+            heeding = {"preexec_fn": lambda: signal.signal(signal.SIGINT, signal.SIG_DFL)}
+            with subprocess.Popen(begun, stdout=subprocess.PIPE, stderr=subprocess.PIPE, text=True, **heeding) as ran:
                 try:
                     self.wait_for(lambda: len(self.children()) == 2)
                     ran.send_signal(number)
