@@ -2,17 +2,23 @@
 """Designs in ASCII AIGER: files that yosys writes, texts that are wrong, and what reading costs.
 
     bench/aiger.py real [PROGRAM] [--yosys YOSYS] [--only NAME..] [--size K]
+    bench/aiger.py beside [PROGRAM] [--yosys YOSYS] [--only NAME..] [--size K]
     bench/aiger.py mutated [PROGRAM] [--texts N] [--seed S]
     bench/aiger.py speed [PROGRAM]
 
-`real` has the designs of bench/find.py, the right one and the wrong one, written by yosys as docs/formats.md says, and their dumps from Icarus made
-bits by tools/bits_of_dump.py. `sim` has to print what the dump of the right design has (`trace 1 ok`), and `find --suspects and` lists the ANDs of the
-wrong one that explain it.
+`real` has the designs of bench/find.py, the right one and the wrong one, written by yosys as docs/formats.md says, and their dumps as Icarus writes
+them of the Verilog. `sim` has to print what the dump of the right design has (`trace 1 ok`), and `find --suspects and` lists the ANDs of the
+wrong one that explain it, which takes long on the UART and the accumulator; with `--size 0` only the empty set is looked for.
+
+`beside` puts three questions to `find`: the wrong Verilog with its statements, the AIGER file of it with its ANDs, and these ANDs as the gates of a
+Verilog text, which are the suspects. The form of the last two has as many literals, and they must have as many sets. `bench_tool` (crates/bench_tool,
+built beside) counts the literals. Printed are millions of literals and the seconds of `find` for each million, and how many times those of
+the Verilog those of the AIGER are. With --count instructions are counted (Debian's `valgrind`), in thousands of millions, in place of seconds.
 
 `mutated` changes small texts at random, by bytes, numbers and lines, and holds what `sim` prints of each against a second reader, which stands below: the
 refusal and its line have to be the same. The last line is `N texts, M refused, D differ`.
 
-`speed` has texts as long as may be, 65,536 ANDs, and chains of ANDs beside the same ones in Verilog. Seconds are the processor's.
+`speed` has texts as long as may be, and one of 65,536 ANDs. Seconds are the processor's.
 
 PROGRAM is crates/localise/out/localise where it isn't given. Debian's packages `yosys` and `iverilog` must be installed for `real`.
 """
@@ -28,9 +34,8 @@ import tempfile
 
 HERE = os.path.dirname(os.path.abspath(__file__))
 sys.path.insert(0, HERE)
-from find import BUGS, BUILT, measured, prepared, sizes_of  # noqa: E402
+from find import BUGS, BUILT, FORMS, measured, prepared, sizes_of  # noqa: E402
 
-BITS = os.path.join(HERE, "..", "tools", "bits_of_dump.py")
 WRITE = ("read_verilog %s.v; prep -top %s -flatten; memory_map; opt; techmap; opt; async2sync; dffunmap; simplemap; "
          "setundef -undriven -zero -init; aigmap; opt_clean; write_aiger -ascii -symbols -zinit %s.aag")
 
@@ -241,11 +246,9 @@ def run_real(asked):
             prepared(name, BUGS[name][0], room)
             for text in ("right", "wrong"):
                 subprocess.run([asked.yosys, "-q", "-p", WRITE % (text, name, text)], cwd=room, check=True, stdout=subprocess.DEVNULL)
-            with open(room + "/bits.vcd", "w") as bits:
-                subprocess.run([sys.executable, BITS, "dump.vcd"], cwd=room, check=True, stdout=bits)
             with open(room + "/wrong.aag") as file:
                 counts = file.readline().split()
-            words = [name, "bits.vcd", "--clock", "clk", "--format", "aiger"]
+            words = [name, "dump.vcd", "--clock", "clk", "--format", "aiger"]
             said, _, _, sim, _ = measured([asked.program, "sim", "right.aag", *words], room)
             ask = [asked.program, "find", "wrong.aag", *words, "--suspects", "and", "--size", str(asked.size)]
             listed, _, _, find, _ = measured(ask, room)
@@ -253,6 +256,65 @@ def run_real(asked):
         well &= right == "trace 1 ok" and last.startswith(("complete", "front", "limit"))
         print("%-12s %6s %6s %7d %7.3f %9s %7.3f %-18s %s" % (
             name, counts[5], counts[3], BUGS[name][0], sim, right[8:], find, sizes_of(listed), last), flush=True)
+    return 0 if well else 1
+
+
+# ---- the same questions in Verilog
+def expression(literal, latches):
+    """A literal in Verilog."""
+    if literal < 2:
+        return "1'b%d" % literal
+    return "%s%s%d" % ("~" if literal % 2 else "", "q" if literal // 2 * 2 in latches else "n", literal // 2)
+
+
+def gates_of(read, top):
+    """A Verilog text of a file, in which each AND is a gate."""
+    inputs = [read.port(b"i", k)[0].decode() for k in range(read.counts[0])]
+    outputs = [read.port(b"o", k)[0].decode() for k in range(read.counts[2])]
+    rows = [read.rows[read.ends[k - 1] if k else 0 : read.ends[k]] for k in range(4)]
+    latches = {row[0] for row in rows[1]}
+    yield "module %s(%s);" % (top, ", ".join(["input " + it for it in inputs] + ["output " + it for it in outputs]))
+    yield from ("wire n%d = %s;" % (row[0] // 2, name) for row, name in zip(rows[0], inputs))
+    yield from ("reg q%d; always @(posedge clk) q%d <= %s;" % (row[0] // 2, row[0] // 2, expression(row[1], latches)) for row in rows[1])
+    for row in rows[3]:
+        left, right = (expression(it, latches) for it in row[1:])
+        yield "wire n%d; and (n%d, %s, %s);" % (row[0] // 2, row[0] // 2, left, right)
+    yield from ("assign %s = %s;" % (name, expression(row[0], latches)) for row, name in zip(rows[2], outputs))
+    yield "endmodule\n"
+
+
+def counted(words, room):
+    """What a run prints, and how many thousands of millions of instructions it takes."""
+    ran = subprocess.run(["valgrind", "--tool=callgrind", "--callgrind-out-file=/dev/null", *words], cwd=room, capture_output=True, text=True)
+    return ran.stdout, int(re.search(r"Collected : (\d+)", ran.stderr)[1]) / 1e9
+
+
+def literals_of(words, room):
+    """The millions of literals of a form."""
+    said = subprocess.run([FORMS, "form", "counts", *words], cwd=room, check=True, capture_output=True, text=True).stdout
+    return int(re.search(r"^literals (\d+)", said, re.M)[1]) / 1e6
+
+
+def run_beside(asked):
+    well, questions = True, {"verilog": ("wrong.v", "stmt"), "aiger": ("wrong.aag", "and"), "gates": ("gates.v", "gate")}
+    print("%-12s %-8s %8s %8s %8s %-18s %s" % ("design", "as", "million", "find", "each", "sets by size", "last line"))
+    for name in asked.only:
+        with tempfile.TemporaryDirectory() as room:
+            prepared(name, BUGS[name][0], room)
+            subprocess.run([asked.yosys, "-q", "-p", WRITE % ("wrong", name, "wrong")], cwd=room, check=True, stdout=subprocess.DEVNULL)
+            with open(room + "/wrong.aag", "rb") as file, open(room + "/gates.v", "w") as made:
+                made.write("\n".join(gates_of(Text(file.read()), name)))
+            literals = {it: literals_of([str(asked.size), questions[it][1], "clk", questions[it][0], name, "dump.vcd"], room) for it in ("verilog", "gates")}
+            literals["aiger"], each, sets = literals["gates"], {}, {}
+            for it, (text, kind) in questions.items():
+                words = [asked.program, "find", text, name, "dump.vcd", "--clock", "clk", "--suspects", kind, "--size", str(asked.size)]
+                words += ["--format", "aiger"] if it == "aiger" else []
+                said, cost = counted(words, room) if asked.count else measured(words, room)[::3][:2]
+                each[it], sets[it] = cost / literals[it], sizes_of(said)
+                print("%-12s %-8s %8.3f %8.3f %8.3f %-18s %s" % (
+                    name, it, literals[it], cost, each[it], sets[it], said.strip().split("\n")[-1]), flush=True)
+        well &= sets["aiger"] == sets["gates"]
+        print("%-12s aiger %.2f times verilog, %.2f times gates" % (name, each["aiger"] / each["verilog"], each["aiger"] / each["gates"]), flush=True)
     return 0 if well else 1
 
 
@@ -285,14 +347,15 @@ def run_speed(asked):
 
 def main():
     parser = argparse.ArgumentParser(description=__doc__, formatter_class=argparse.RawDescriptionHelpFormatter)
-    parser.add_argument("what", choices=["real", "mutated", "speed"])
+    parser.add_argument("what", choices=["real", "beside", "mutated", "speed"])
     parser.add_argument("program", nargs="?", default=BUILT)
     parser.add_argument("--yosys", default="yosys"), parser.add_argument("--size", type=int, default=1)
+    parser.add_argument("--count", action="store_true")
     parser.add_argument("--only", nargs="*", choices=list(BUGS), default=list(BUGS))
     parser.add_argument("--texts", type=int, default=10000), parser.add_argument("--seed", type=int, default=1)
     asked = parser.parse_args()
     asked.program = os.path.abspath(asked.program)
-    return {"real": run_real, "mutated": run_mutated, "speed": run_speed}[asked.what](asked)
+    return {"real": run_real, "beside": run_beside, "mutated": run_mutated, "speed": run_speed}[asked.what](asked)
 
 
 if __name__ == "__main__":
