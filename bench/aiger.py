@@ -8,7 +8,7 @@
 
 `real` has the designs of bench/find.py, the right one and the wrong one, written by yosys as docs/formats.md says, and their dumps as Icarus writes
 them of the Verilog. `sim` has to print what the dump of the right design has (`trace 1 ok`), and `find --suspects and` lists the ANDs of the
-wrong one that explain it, which takes long on the UART and the accumulator; with `--size 0` only the empty set is looked for.
+wrong one that explain it, which takes long on the UART and the accumulator. The pipeline has more than 4,096 ANDs, so of it `limit Z4` is right.
 
 `beside` puts three questions to `find`: the wrong Verilog with its statements, the AIGER file of it with its ANDs, and these ANDs as the gates of a
 Verilog text, which are the suspects. The form of the last two has as many literals, and they must have as many sets. `bench_tool` (crates/bench_tool,
@@ -253,7 +253,7 @@ def run_real(asked):
             ask = [asked.program, "find", "wrong.aag", *words, "--suspects", "and", "--size", str(asked.size)]
             listed, _, _, find, _ = measured(ask, room)
         right, last = said.strip().split("\n")[-1], listed.strip().split("\n")[-1]
-        well &= right == "trace 1 ok" and last.startswith(("complete", "front", "limit"))
+        well &= right == "trace 1 ok" and (last == "limit Z4" if int(counts[5]) > 4096 else last.startswith(("complete", "front")))
         print("%-12s %6s %6s %7d %7.3f %9s %7.3f %-18s %s" % (
             name, counts[5], counts[3], BUGS[name][0], sim, right[8:], find, sizes_of(listed), last), flush=True)
     return 0 if well else 1
@@ -274,7 +274,7 @@ def gates_of(read, top):
     rows = [read.rows[read.ends[k - 1] if k else 0 : read.ends[k]] for k in range(4)]
     latches = {row[0] for row in rows[1]}
     yield "module %s(%s);" % (top, ", ".join(["input " + it for it in inputs] + ["output " + it for it in outputs]))
-    yield from ("wire n%d = %s;" % (row[0] // 2, name) for row, name in zip(rows[0], inputs))
+    yield from ("wire n%d = %s;" % (row[0] // 2, name) for row, name in zip(rows[0], inputs) if name != "clk")
     yield from ("reg q%d; always @(posedge clk) q%d <= %s;" % (row[0] // 2, row[0] // 2, expression(row[1], latches)) for row in rows[1])
     for row in rows[3]:
         left, right = (expression(it, latches) for it in row[1:])
@@ -302,8 +302,13 @@ def run_beside(asked):
         with tempfile.TemporaryDirectory() as room:
             prepared(name, BUGS[name][0], room)
             subprocess.run([asked.yosys, "-q", "-p", WRITE % ("wrong", name, "wrong")], cwd=room, check=True, stdout=subprocess.DEVNULL)
-            with open(room + "/wrong.aag", "rb") as file, open(room + "/gates.v", "w") as made:
-                made.write("\n".join(gates_of(Text(file.read()), name)))
+            with open(room + "/wrong.aag", "rb") as file:
+                read = Text(file.read())
+            if read.counts[3] > 4096:
+                print("%-12s more than 4,096 suspects: %d" % (name, read.counts[3]), flush=True)
+                continue
+            with open(room + "/gates.v", "w") as made:
+                made.write("\n".join(gates_of(read, name)))
             literals = {it: literals_of([str(asked.size), questions[it][1], "clk", questions[it][0], name, "dump.vcd"], room) for it in ("verilog", "gates")}
             literals["aiger"], each, sets = literals["gates"], {}, {}
             for it, (text, kind) in questions.items():
