@@ -11,9 +11,9 @@ them of the Verilog. `sim` has to print what the dump of the right design has (`
 wrong one that explain it, which takes long on the UART and the accumulator. The pipeline has more than 4,096 ANDs, so of it `limit Z4` is right.
 
 `beside` puts three questions to `find`: the wrong Verilog with its statements, the AIGER file of it with its ANDs, and these ANDs as the gates of a
-Verilog text, which are the suspects. The form of the last two has as many literals, and they must have as many sets. `bench_tool` (crates/bench_tool,
-built beside) counts the literals. Printed are millions of literals and the seconds of `find` for each million, and how many times those of
-the Verilog those of the AIGER are. With --count instructions are counted (Debian's `valgrind`), in thousands of millions, in place of seconds.
+Verilog text, which are the suspects. The last two have the same form, and must have as many sets. Printed are thousands of clauses of the form, what `find`
+takes in millions of instructions (by `callgrind`, Debian's `valgrind`), and thousands for each clause. How many clauses there are the log says: step `n` has the number
+C + n, and C is taken to be the greatest number that a step names less the number of steps before it. (A clause has 2.3 literals in each of them.)
 
 `mutated` changes small texts at random, by bytes, numbers and lines, and holds what `sim` prints of each against a second reader, which stands below: the
 refusal and its line have to be the same. The last line is `N texts, M refused, D differ`.
@@ -34,7 +34,7 @@ import tempfile
 
 HERE = os.path.dirname(os.path.abspath(__file__))
 sys.path.insert(0, HERE)
-from find import BUGS, BUILT, FORMS, measured, prepared, sizes_of  # noqa: E402
+from find import BUGS, BUILT, measured, prepared, sizes_of  # noqa: E402
 
 WRITE = ("read_verilog %s.v; prep -top %s -flatten; memory_map; opt; techmap; opt; async2sync; dffunmap; simplemap; "
          "setundef -undriven -zero -init; aigmap; opt_clean; write_aiger -ascii -symbols -zinit %s.aag")
@@ -284,20 +284,22 @@ def gates_of(read, top):
 
 
 def counted(words, room):
-    """What a run prints, and how many thousands of millions of instructions it takes."""
+    """What a run prints, and how many millions of instructions it takes."""
     ran = subprocess.run(["valgrind", "--tool=callgrind", "--callgrind-out-file=/dev/null", *words], cwd=room, capture_output=True, text=True)
-    return ran.stdout, int(re.search(r"Collected : (\d+)", ran.stderr)[1]) / 1e9
+    return ran.stdout, int(re.search(r"Collected : (\d+)", ran.stderr)[1]) / 1e6
 
 
-def literals_of(words, room):
-    """The millions of literals of a form."""
-    said = subprocess.run([FORMS, "form", "counts", *words], cwd=room, check=True, capture_output=True, text=True).stdout
-    return int(re.search(r"^literals (\d+)", said, re.M)[1]) / 1e6
+def clauses_in(path):
+    """The thousands of clauses of the form that a log is over."""
+    with open(path) as file:
+        steps = file.read().split("\n")[2:-1]
+    chains = (step.partition(":")[2].split() for step in steps)
+    return max(max(map(int, chain)) - before for before, chain in enumerate(chains) if chain) / 1e3
 
 
 def run_beside(asked):
     well, questions = True, {"verilog": ("wrong.v", "stmt"), "aiger": ("wrong.aag", "and"), "gates": ("gates.v", "gate")}
-    print("%-12s %-8s %8s %8s %8s %-18s %s" % ("design", "as", "million", "find", "each", "sets by size", "last line"))
+    print("%-12s %-8s %10s %10s %8s %-18s %s" % ("design", "as", "clauses", "find", "each", "sets by size", "last line"))
     for name in asked.only:
         with tempfile.TemporaryDirectory() as room:
             prepared(name, BUGS[name][0], room)
@@ -309,15 +311,13 @@ def run_beside(asked):
                 continue
             with open(room + "/gates.v", "w") as made:
                 made.write("\n".join(gates_of(read, name)))
-            literals = {it: literals_of([str(asked.size), questions[it][1], "clk", questions[it][0], name, "dump.vcd"], room) for it in ("verilog", "gates")}
-            literals["aiger"], each, sets = literals["gates"], {}, {}
+            each, sets = {}, {}
             for it, (text, kind) in questions.items():
                 words = [asked.program, "find", text, name, "dump.vcd", "--clock", "clk", "--suspects", kind, "--size", str(asked.size)]
-                words += ["--format", "aiger"] if it == "aiger" else []
-                said, cost = counted(words, room) if asked.count else measured(words, room)[::3][:2]
-                each[it], sets[it] = cost / literals[it], sizes_of(said)
-                print("%-12s %-8s %8.3f %8.3f %8.3f %-18s %s" % (
-                    name, it, literals[it], cost, each[it], sets[it], said.strip().split("\n")[-1]), flush=True)
+                said, cost = counted(words + (["--format", "aiger"] if it == "aiger" else []), room)
+                clauses, sets[it] = clauses_in(room + "/localise.log"), sizes_of(said)
+                each[it] = cost / clauses
+                print("%-12s %-8s %10.3f %10.1f %8.3f %-18s %s" % (name, it, clauses, cost, each[it], sets[it], said.strip().split("\n")[-1]), flush=True)
         well &= sets["aiger"] == sets["gates"]
         print("%-12s aiger %.2f times verilog, %.2f times gates" % (name, each["aiger"] / each["verilog"], each["aiger"] / each["gates"]), flush=True)
     return 0 if well else 1
@@ -355,7 +355,6 @@ def main():
     parser.add_argument("what", choices=["real", "beside", "mutated", "speed"])
     parser.add_argument("program", nargs="?", default=BUILT)
     parser.add_argument("--yosys", default="yosys"), parser.add_argument("--size", type=int, default=1)
-    parser.add_argument("--count", action="store_true")
     parser.add_argument("--only", nargs="*", choices=list(BUGS), default=list(BUGS))
     parser.add_argument("--texts", type=int, default=10000), parser.add_argument("--seed", type=int, default=1)
     asked = parser.parse_args()
