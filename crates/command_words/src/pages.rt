@@ -17,7 +17,7 @@ usage: localise COMMAND ARGUMENT..
   make   makes a design with a wrong line and a dump, and lists their sets
   help   followed by one of these prints its arguments and an example
 
-An option stands anywhere after the command, once at most: --size 1 or --size=1.
+An option may come anywhere after the command, once: --size 1 or --size=1.
 --help and -h print this page, --version the versions of what is written.
 
 status  means                                  last line
@@ -37,7 +37,7 @@ example: localise find uart_tx.v uart_tx uart_tx.vcd --clock clk --size 1
 pub const FIND: &[u8] = b"usage: localise find DESIGN TOP DUMP.. [OPTION..]
 
 Lists every minimal set of suspects that can explain the dumps: with values of
-their own, chosen anew in each cycle, each dump has the outputs that it wants.
+their own, free in each cycle, they make each dump's outputs the wanted ones.
 
   DESIGN, TOP      the file of the design, and its top module
   DUMP             a VCD file of the top's ports, outputs as wanted; 1 to 256
@@ -52,8 +52,8 @@ their own, chosen anew in each cycle, each dump has the outputs that it wants.
   --report NAME    the file that the report is written to (localise.json)
   --waves PREFIX   a wave of each set S and dump T to PREFIX-S-T.vcd (none)
   --resume R       go on from a list that ended early, by its report R (none)
-  --resume-log L   and by its log L; both stand, or neither (none)
-In parentheses: what stands where an option isn't given.
+  --resume-log L   and by its log L: give both, or neither (none)
+In parentheses: the default.
 
 status 0: the list is whole (complete N). 1: it ended early (front N budget,
 front N sets). 2: wrong arguments. 3: a file isn't of a form that is read. 4: a
@@ -99,8 +99,9 @@ searches nothing. The clock, the size and the kinds are those of the report.
   DESIGN, TOP    the file of the design, and its top module
   REPORT, LOG    the files of the report and of the log that find wrote
   DUMP           the dumps that find was given, in the same order; 1 to 256
-  --workers N    the most threads, 1 to 64 (without the option 1)
-  --format F     the format of the design: verilog or aiger (without it verilog)
+  --workers N    the most threads, 1 to 64 (1)
+  --format F     the format of the design: verilog or aiger (verilog)
+In parentheses: the default.
 
 status 0: yes N: the N sets are the whole list. 1: front N: they are a front of
 it, none is missing before the last. 8: the first that is so:
@@ -111,7 +112,7 @@ it, none is missing before the last. 8: the first that is so:
   no replay S T C NAME   with the values of set S dump T isn't right: first in
                          cycle C, and there at output NAME
   no step N              step N of the log isn't right
-  no closing             the log doesn't end in a step that closes the list
+  no closing             the log shows neither the whole list nor a front of it
 2: the arguments are wrong. 3: a file isn't of a form that is read, or is of
 other inputs. 4: a limit is passed. 5: a file can't be read. 6: a write failed.
 7: out of memory.
@@ -135,7 +136,7 @@ lists their sets as find does. The module is made, and its clock is clk.
   --workers N      the most threads, 1 to 64 (1)
   --log NAME       the file that the log is written to, for check (localise.log)
   --report NAME    the file that the report is written to (localise.json)
-In parentheses: what stands where an option isn't given.
+In parentheses: the default.
 
 After the list comes the line: made N stages S width W cycles C
 status 0: the list is whole. 1: it ended early (front N budget, front N sets).
