@@ -18,7 +18,7 @@ pub enum Usage {
     /// A value that is to be a number isn't one, or not in its range.
     #[error("a number that is out of its range, or isn't 1 to 10 decimal digits")]
     Number,
-    /// A value that is to be a name isn't one, or is one that is taken, one of a session's two names isn't given, or there are too many names.
+    /// A value that is to be a name isn't one, or is one that is taken; of a session one name is given alone; or there are too many names.
     #[error("a name that can't be one or is taken, one name of a session without the other, or more than 256 dumps")]
     Name,
     /// A kind of suspects isn't known, or is named twice.
