@@ -4,4 +4,7 @@ pub mod FunctionLaws
 pub mod Examples
 pub mod NoteSteps
 pub mod UseSteps
-pub mod PassingSteps
+pub mod BitSteps
+pub mod InOrder
+pub mod Ranges
+pub mod RowSteps

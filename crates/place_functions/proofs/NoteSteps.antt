@@ -1,5 +1,5 @@
 -- Notes of what places read, as they are made.
-use Rattle.std.proofs.Common.{ℕ, ◌≡◌, ◌<◌, ◌+◌, Bool, true, false, ◌&&◌, ◌||◌, List, [], ◌∷◌, ◌++◌, length, get_or, take, Result, Ok, Err, refl, sym, ◌∙◌, ap, arith}
+use Rattle.std.proofs.Common.{ℕ, ◌≡◌, ◌<◌, ◌+◌, Bool, true, false, ◌&&◌, ◌||◌, List, [], ◌∷◌, ◌++◌, length, get_or, take, Result, Ok, Err, refl, sym, ◌∙◌, ap, subst, arith}
 use Rattle.std.specs.Prelude.{OnOk, IfSome, ◌==◌, nat_lt, ℤ, Option, Some, None, option_map, slice_get}
 use Rattle.std.specs.Option.{option_map_or, option_and_then}
 use Rattle.std.specs.List.{list_any}
@@ -106,6 +106,13 @@ node-noted a b c place signals e one other =
 pub on-ok : (r : Result (Unit {0}) NoMemory) (P Q : Type 0) → (P → Q) → OnOk r P → OnOk r Q
 on-ok (Ok v) P Q f h = f h
 on-ok (Err e) P Q f h = h
+
+-- what is told of a part of a signal
+pub of-picked : (a b : List Note) (picked place : ℕ) (t u : ℕ → ℕ → Bool) (r : Result (Unit {0}) NoMemory) → picked ≡ place → ((s k : ℕ) → t s k ≡ u s k)
+    → OnOk r (AddsNotes a b (of_place picked t)) → OnOk r (AddsNotes a b (of_place place u))
+of-picked a b picked place t u r is same ok =
+    on-ok r (AddsNotes a b (of_place picked t)) (AddsNotes a b (of_place place u))
+    (λ one. place-named a b place t u (subst (λ q. AddsNotes a b (of_place q t)) is one) same) ok
 
 -- what one operand reads
 pub one-operand : (a b : List Note) (place : ℕ) (signals : List Signal) (n : Node) (arg given : Typed) (r : Result (Unit {0}) NoMemory) → given ≡ arg

@@ -4,9 +4,11 @@
 
 mod laws;
 mod note;
+mod note_bits;
 mod note_places;
 mod note_reads;
 mod operands;
+mod place_notes;
 mod signal_bit;
 
 pub use laws::{

@@ -29,6 +29,15 @@ pub(crate) struct Picked {
     pub(crate) signal: u32,
 }
 
+impl Picked {
+    /// A part of a signal that the right side of a place has.
+    fn of(place: u32, signal: u32) -> Picked
+        ensures { result ≡ record { place = place; signal = signal } }
+    {
+        Picked { place, signal }
+    }
+}
+
 /// A constant index into a signal, and its sign, as the right side of a place has it.
 #[derive(Clone, Copy)]
 pub(crate) struct Fixed {
@@ -148,6 +157,13 @@ fn note_pick(
     }
 }
 
+/// Notes bits of a signal, from a position on.
+fn note_bits(notes: &mut Vec<Note>, picked: Picked, from: u32, width: u32) -> Result<(), NoMemory>
+    ensures { OnOk result (AddsNotes notes.old.items notes.new.items (of_place picked.place (λ s b. s == picked.signal && is_among from width b))) }
+{
+    push(notes, Note::of(picked.place, picked.signal, from, width))
+}
+
 /// Notes the bits that an expression's node reads itself.
 pub(crate) fn note_own(
     notes: &mut Vec<Note>,
@@ -158,29 +174,27 @@ pub(crate) fn note_own(
     ensures { OnOk result (AddsNotes notes.old.items notes.new.items (of_place place (λ s b. own_reads signals.now s b read.now.width read.now.node))) }
 {
     match &read.node {
-        Node::Whole(signal) => push(notes, Note::of(place, *signal, 0, u32::from(read.width))),
+        Node::Whole(signal) => note_bits(
+            notes,
+            Picked::of(place, *signal),
+            0,
+            u32::from(read.width),
+        ),
         Node::Slice {
             signal,
             from,
             width,
-        } => push(
+        } => note_bits(
             notes,
-            Note::of(place, *signal, u32::from(*from), u32::from(*width)),
+            Picked::of(place, *signal),
+            u32::from(*from),
+            u32::from(*width),
         ),
         Node::Pick {
             signal,
             index,
             offsets,
-        } => note_pick(
-            notes,
-            signals,
-            Picked {
-                place,
-                signal: *signal,
-            },
-            index,
-            offsets,
-        ),
+        } => note_pick(notes, signals, Picked::of(place, *signal), index, offsets),
         Node::Word {
             first,
             count,
