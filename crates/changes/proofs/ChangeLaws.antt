@@ -50,7 +50,8 @@ changes-same d trace places c ch run well are t V at =
           (λ none free. are.stays t p (n % 2 ^ place.width) V at free none computed);
     }
 
-values-run_from : (d : Design) (trace : Trace) (places : ℕ → Bool) (c : Choices) (ch : Changes) → IsWellFormed d → (t : ℕ) (state : Valuation) (run : List Valuation)
+values-run_from : (d : Design) (trace : Trace) (places : ℕ → Bool) (c : Choices) (ch : Changes) → IsWellFormed d
+    → (t : ℕ) (state : Valuation) (run : List Valuation)
     → ((k : ℕ) (V : Valuation) → slice_get run k ≡ Some V
     → SameReached d.places.items (changing ch (t + k)) (choice_at places c (t + k)) (times_in_design d) (reached d (changing ch (t + k)) V))
     → IsChangedFrom d trace ch t state run → IsRunFrom d trace places c t state run
@@ -62,7 +63,8 @@ values-run_from d trace places c ch well t state (V ∷ rest) each (lt, (next, c
       lt,
       (
         next,
-        cycle-alike d (samples_at d trace t) state (changing ch t) (choice_at places c t) V next well (subst (λ u. Same u V) here (each 0 V refl)) cycle,
+        cycle-alike d (samples_at d trace t) state (changing ch t) (choice_at places c t) V next well
+        (subst (λ u. Same u V) here (each 0 V refl)) cycle,
         values-run_from d trace places c ch well (t + 1) next rest
             (λ k W at. let same : t + suc k ≡ (t + 1) + k = omega arith in subst (λ u. Same u W) same (each (suc k) W at)) later,
       ),
@@ -84,7 +86,8 @@ change_bits : (free : Bool) (value n width : ℕ) (change : Option ℕ) → chan
 change_bits false value n width change is b below = ap (λ o. bit (if is_some o then unwrap_or o 0 else n) b) is
 change_bits true value n width change is b below = at (cases_Bool ((n % 2 ^ width) == value))
   where
-    at : ((n % 2 ^ width == value) ≡ true) ⊎ ((n % 2 ^ width == value) ≡ false) → bit (if is_some change then unwrap_or change 0 else n) b ≡ bit value b
+    at : ((n % 2 ^ width == value) ≡ true) ⊎ ((n % 2 ^ width == value) ≡ false)
+        → bit (if is_some change then unwrap_or change 0 else n) b ≡ bit value b
     at (inl same) =
         ap (λ o. bit (if is_some o then unwrap_or o 0 else n) b) (is ∙ cond-true (n % 2 ^ width == value) None (Some value) same)
         ∙ sym (bit-cut width n b below) ∙ ap (λ k. bit k b) (eqb-true (n % 2 ^ width) value same)
@@ -92,14 +95,17 @@ change_bits true value n width change is b below = at (cases_Bool ((n % 2 ^ widt
         ap (λ o. bit (if is_some o then unwrap_or o 0 else n) b) (is ∙ cond-false (n % 2 ^ width == value) None (Some value) other)
 
 -- the change of a place in a cycle of the run
-change_at : (d : Design) (places : ℕ → Bool) (c : Choices) (run : List Valuation) (t p : ℕ) (V : Valuation) (computed : Option ℕ) → slice_get run t ≡ Some V
+change_at : (d : Design) (places : ℕ → Bool) (c : Choices) (run : List Valuation) (t p : ℕ) (V : Valuation)
+    (computed : Option ℕ) → slice_get run t ≡ Some V
     → reached d (choice_at places c t) V p ≡ computed → change_in d places c run t p ≡ change_of (places p) (c t p) computed
 change_at d places c run t p V computed at is =
     ap (option_and_then (λ V. change_of (places p) (c t p) (reached d (choice_at places c t) V p))) at
     ∙ ap (change_of (places p) (c t p)) is
 
-pub change_in-same : (d : Design) (places : ℕ → Bool) (c : Choices) (run : List Valuation) → IsWellFormed d → (t : ℕ) (V : Valuation) → slice_get run t ≡ Some V
-    → SameReached d.places.items (choice_at places c t) (changing (change_in d places c run) t) (times_in_design d) (reached d (choice_at places c t) V)
+pub change_in-same : (d : Design) (places : ℕ → Bool) (c : Choices) (run : List Valuation) → IsWellFormed d
+    → (t : ℕ) (V : Valuation) → slice_get run t ≡ Some V
+    → SameReached d.places.items (choice_at places c t) (changing (change_in d places c run) t) (times_in_design d)
+    (reached d (choice_at places c t) V)
 change_in-same d places c run well t V at =
     record {
       once = once_each d well;
@@ -108,9 +114,11 @@ change_in-same d places c run well t V at =
           (change_at d places c run t p V (Some (n % 2 ^ place.width)) at computed);
     }
 
-changed-run_from : (d : Design) (trace : Trace) (places : ℕ → Bool) (c : Choices) (ch : Changes) → IsWellFormed d → (t : ℕ) (state : Valuation) (run : List Valuation)
+changed-run_from : (d : Design) (trace : Trace) (places : ℕ → Bool) (c : Choices) (ch : Changes) → IsWellFormed d
+    → (t : ℕ) (state : Valuation) (run : List Valuation)
     → ((k : ℕ) (V : Valuation) → slice_get run k ≡ Some V
-    → SameReached d.places.items (choice_at places c (t + k)) (changing ch (t + k)) (times_in_design d) (reached d (choice_at places c (t + k)) V))
+    → SameReached d.places.items (choice_at places c (t + k)) (changing ch (t + k)) (times_in_design d)
+    (reached d (choice_at places c (t + k)) V))
     → IsRunFrom d trace places c t state run → IsChangedFrom d trace ch t state run
 changed-run_from d trace places c ch well t state [] each is = is
 changed-run_from d trace places c ch well t state (V ∷ rest) each (lt, (next, cycle, later)) =
@@ -120,7 +128,8 @@ changed-run_from d trace places c ch well t state (V ∷ rest) each (lt, (next, 
       lt,
       (
         next,
-        cycle-alike d (samples_at d trace t) state (choice_at places c t) (changing ch t) V next well (subst (λ u. Same u V) here (each 0 V refl)) cycle,
+        cycle-alike d (samples_at d trace t) state (choice_at places c t) (changing ch t) V next well
+        (subst (λ u. Same u V) here (each 0 V refl)) cycle,
         changed-run_from d trace places c ch well (t + 1) next rest
             (λ k W at. let same : t + suc k ≡ (t + 1) + k = omega arith in subst (λ u. Same u W) same (each (suc k) W at)) later,
       ),
@@ -174,12 +183,14 @@ pub change_in-are : (d : Design) (trace : Trace) (places : ℕ → Bool) (c : Ch
     → IsRun d trace places c run → AreChangesOf d trace places c (change_in d places c run) run
 change_in-are d trace places c run well is_run =
     let ch : Changes = change_in d places c run in
-    let alike : (t p : ℕ) (V : Valuation) → slice_get run t ≡ Some V → reached d (changing ch t) V p ≡ reached d (choice_at places c t) V p =
+    let alike : (t p : ℕ) (V : Valuation) → slice_get run t ≡ Some V
+    → reached d (changing ch t) V p ≡ reached d (choice_at places c t) V p =
     λ t p V at. reached-alike d (choice_at places c t) (changing ch t) V p well (change_in-same d places c run well t V at) in
     record {
       is_run = changed-run_from d trace places c ch well 0 (start_state d) run
           (λ k V at. let same : k ≡ 0 + k = omega arith in
-          subst (λ u. SameReached d.places.items (choice_at places c u) (changing ch u) (times_in_design d) (reached d (choice_at places c u) V)) same
+          subst (λ u. SameReached d.places.items (choice_at places c u) (changing ch u) (times_in_design d)
+          (reached d (choice_at places c u) V)) same
           (change_in-same d places c run well k V at)) is_run;
       differs = λ t p w taken.
           let says = change_says (slice_get run t) (places p) (c t p) w (λ V. reached d (choice_at places c t) V p) taken in
@@ -201,7 +212,8 @@ change_in-are d trace places c run well is_run =
 -- ---- values are one list of changes
 -- a change of the one list is one of the other
 change-other : (d : Design) (trace : Trace) (places : ℕ → Bool) (c : Choices) (ch ch' : Changes) (run : List Valuation) → IsWellFormed d
-    → AreChangesOf d trace places c ch run → AreChangesOf d trace places c ch' run → (t p w : ℕ) → ch t p ≡ Some w → (o : Option ℕ) → ch' t p ≡ o → o ≡ Some w
+    → AreChangesOf d trace places c ch run → AreChangesOf d trace places c ch' run → (t p w : ℕ) → ch t p ≡ Some w
+    → (o : Option ℕ) → ch' t p ≡ o → o ≡ Some w
 change-other d trace places c ch ch' run well are are' t p w taken (Some w') taken' =
     let differs = are.differs t p w taken in
     let differs' = are'.differs t p w' taken' in
@@ -226,7 +238,8 @@ changes-one d trace places c ch ch' run well are are' = fun_ext (λ t. fun_ext (
     at t p None is (Some w') is' = change-other d trace places c ch' ch run well are' are t p w' is' (ch t p) refl ∙ sym is'
     at t p None is None is' = is ∙ sym is'
 
-pub changes-unique : (d : Design) (order : List ℕ) (trace : Trace) (places : ℕ → Bool) (c : Choices) (ch ch' : Changes) (run run' : List Valuation) → IsWellFormed d
+pub changes-unique : (d : Design) (order : List ℕ) (trace : Trace) (places : ℕ → Bool) (c : Choices)
+    (ch ch' : Changes) (run run' : List Valuation) → IsWellFormed d
     → IsOrder d order → AreChangesOf d trace places c ch run → AreChangesOf d trace places c ch' run' → (ch ≡ ch') × (run ≡ run')
 changes-unique d order trace places c ch ch' run run' well ordered are are' =
     let same : run ≡ run' = run-unique d order well ordered trace places c run run'

@@ -40,10 +40,12 @@ first_reached-none times reaches (x ∷ xs) none zero =
 
 -- where all give one together, an element that gives a number is the first that does
 pub first_reached-member : {X : Type 0} (times : X → ℕ) (reaches : X → Option ℕ) (xs : List X) (x : X) (v : ℕ)
-    → ((x : X) → times x ≡ 0 → reaches x ≡ None) → Contains xs x → sum_by times xs ≤ 1 → reaches x ≡ Some v → first_reached reaches xs ≡ Some v
+    → ((x : X) → times x ≡ 0 → reaches x ≡ None) → Contains xs x → sum_by times xs ≤ 1 → reaches x ≡ Some v
+    → first_reached reaches xs ≡ Some v
 first_reached-member times reaches [] x v none member once is = absurd (Contains-empty x member)
 first_reached-member times reaches (y ∷ ys) x v none member once is =
-    at (Contains-cons y ys x member) (λ later. first_reached-member times reaches ys x v none later (omega (arith, once, sum_by-cons times y ys)) is)
+    at (Contains-cons y ys x member)
+    (λ later. first_reached-member times reaches ys x v none later (omega (arith, once, sum_by-cons times y ys)) is)
   where
     at : (y ≡ x) ⊎ Contains ys x → (Contains ys x → first_reached reaches ys ≡ Some v) → first_reached reaches (y ∷ ys) ≡ Some v
     at (inl same) behind = ap (λ o. option_or o (first_reached reaches ys)) (ap reaches same ∙ is)
@@ -65,14 +67,16 @@ first_reached-alike f g (x ∷ xs) same =
 pub reached_driver-none : (signals : List Signal) (A : Choice) (V : Valuation) (p : ℕ) (driver : Driver) → times_in_driver p driver ≡ 0
     → reached_driver signals A V p driver ≡ None
 reached_driver-none signals A V p (Cont target e None span) none = refl
-reached_driver-none signals A V p (Cont target e (Some place) span) none = set_none (place == p) (fitted signals target.parts (value signals V e)) none
+reached_driver-none signals A V p (Cont target e (Some place) span) none = set_none (place == p)
+    (fitted signals target.parts (value signals V e)) none
 reached_driver-none signals A V p (Comb body span) none = reached_in-none signals A p body (begun (without signals (Comb body span) V)) none
 
 -- in a reset, where it has values
 abbrev pub in_reset : List Signal → Choice → Updates → ℕ → Option Reset → Option ℕ
 in_reset signals A m p reset = option_and_then (λ r. reached_in signals A p r.values m) reset
 
-in_reset-none : (signals : List Signal) (A : Choice) (m : Updates) (p : ℕ) (reset : Option Reset) → option_map_or (λ r. times_in p r.values) reset 0 ≡ 0
+in_reset-none : (signals : List Signal) (A : Choice) (m : Updates) (p : ℕ) (reset : Option Reset)
+    → option_map_or (λ r. times_in p r.values) reset 0 ≡ 0
     → in_reset signals A m p reset ≡ None
 in_reset-none signals A m p None none = refl
 in_reset-none signals A m p (Some r) none = reached_in-none signals A p r.values m none
@@ -85,7 +89,8 @@ pub reached_clocked-none : (signals : List Signal) (A : Choice) (V : Valuation) 
     → reached_clocked signals A V p block ≡ None
 reached_clocked-none signals A V p block none =
     both_none (is_active V block) (in_reset signals A (begun V) p block.reset) (reached_in signals A p block.body (begun V))
-    (in_reset-none signals A (begun V) p block.reset (omega (arith, none))) (reached_in-none signals A p block.body (begun V) (omega (arith, none)))
+    (in_reset-none signals A (begun V) p block.reset (omega (arith, none)))
+    (reached_in-none signals A p block.body (begun V) (omega (arith, none)))
 
 -- ---- a reset's values are constants: what they compute doesn't depend on what they are begun in
 mutual
@@ -99,13 +104,15 @@ mutual
       let parts = and_parts (is_constant e.node) (list_all is_fixed target.parts) are in
       ap (λ v. reached_set place p (fitted signals target.parts v)) (constant-value signals m.now n.now e.width e.node parts.0)
 
-  pub resets-constant : {shape : _} (signals : List Signal) (A : Choice) (p : ℕ) (statements : Row_of-Stmt shape) (m n : Updates) → are_reset_values statements ≡ true
+  pub resets-constant : {shape : _} (signals : List Signal) (A : Choice) (p : ℕ) (statements : Row_of-Stmt shape)
+      (m n : Updates) → are_reset_values statements ≡ true
       → reached_all signals A p statements m ≡ reached_all signals A p statements n
   resets-constant signals A p end_of-Stmt m n are = refl
   resets-constant signals A p (more_of-Stmt statement rest) m n are =
       let parts = and_parts (is_reset_values statement) (are_reset_values rest) are in
       ap (λ o. option_or o (reached_all signals A p rest (after signals A statement m))) (reset-constant signals A p statement m n parts.0)
-      ∙ ap (option_or (reached_in signals A p statement n)) (resets-constant signals A p rest (after signals A statement m) (after signals A statement n) parts.1)
+      ∙ ap (option_or (reached_in signals A p statement n))
+      (resets-constant signals A p rest (after signals A statement m) (after signals A statement n) parts.1)
 
 -- ---- what is said of the places of the design is said of those of each of its drivers and clocked blocks
 of_driver : (d : Design) (A B : Choice) (V : Valuation) (driver : Driver) → Contains d.drivers.items driver
@@ -113,25 +120,31 @@ of_driver : (d : Design) (A B : Choice) (V : Valuation) (driver : Driver) → Co
     → SameReached d.places.items A B (λ p. times_in_driver p driver) (λ p. reached_driver d.signals.items A V p driver)
 of_driver d A B V driver member h =
     let signals : List Signal = d.signals.items in
-    narrowed d.places.items A B (times_in_design d) (λ p. times_in_driver p driver) (reached d A V) (λ p. reached_driver signals A V p driver) h
+    narrowed d.places.items A B (times_in_design d) (λ p. times_in_driver p driver) (reached d A V)
+    (λ p. reached_driver signals A V p driver) h
     (λ p. omega (arith, sum_by-member (times_in_driver p) d.drivers.items driver member))
     (λ p v once is.
     ap (λ o. option_or o (first_reached (reached_clocked signals A V p) d.clocked.items))
-    (first_reached-member (times_in_driver p) (reached_driver signals A V p) d.drivers.items driver v (reached_driver-none signals A V p) member (omega (arith, once)) is))
+    (first_reached-member (times_in_driver p) (reached_driver signals A V p) d.drivers.items driver v
+    (reached_driver-none signals A V p) member (omega (arith, once)) is))
 
 of_block : (d : Design) (A B : Choice) (V : Valuation) (block : Clocked) → Contains d.clocked.items block
     → SameReached d.places.items A B (times_in_design d) (reached d A V)
     → SameReached d.places.items A B (λ p. times_in_clocked p block) (λ p. reached_clocked d.signals.items A V p block)
 of_block d A B V block member h =
     let signals : List Signal = d.signals.items in
-    narrowed d.places.items A B (times_in_design d) (λ p. times_in_clocked p block) (reached d A V) (λ p. reached_clocked signals A V p block) h
+    narrowed d.places.items A B (times_in_design d) (λ p. times_in_clocked p block) (reached d A V)
+    (λ p. reached_clocked signals A V p block) h
     (λ p. omega (arith, sum_by-member (times_in_clocked p) d.clocked.items block member))
     (λ p v once is.
-    let here : 1 ≤ times_in_clocked p block = stands (times_in_clocked p block) (reached_clocked signals A V p block) v (reached_clocked-none signals A V p block) is in
+    let here : 1 ≤ times_in_clocked p block = stands (times_in_clocked p block)
+    (reached_clocked signals A V p block) v (reached_clocked-none signals A V p block) is in
     let most = sum_by-member (times_in_clocked p) d.clocked.items block member in
     ap (λ o. option_or o (first_reached (reached_clocked signals A V p) d.clocked.items))
-    (first_reached-none (times_in_driver p) (reached_driver signals A V p) d.drivers.items (reached_driver-none signals A V p) (omega (arith, once, here, most)))
-    ∙ first_reached-member (times_in_clocked p) (reached_clocked signals A V p) d.clocked.items block v (reached_clocked-none signals A V p) member (omega (arith, once)) is)
+    (first_reached-none (times_in_driver p) (reached_driver signals A V p) d.drivers.items
+    (reached_driver-none signals A V p) (omega (arith, once, here, most)))
+    ∙ first_reached-member (times_in_clocked p) (reached_clocked signals A V p) d.clocked.items block v
+    (reached_clocked-none signals A V p) member (omega (arith, once)) is)
 
 -- of a block whose reset is not active, of its body
 of_body : (signals : List Signal) (places : List Place) (A B : Choice) (V : Valuation) (block : Clocked) → is_active V block ≡ false
@@ -140,10 +153,12 @@ of_body : (signals : List Signal) (places : List Place) (A B : Choice) (V : Valu
 of_body signals places A B V block quiet h =
     narrowed places A B (λ p. times_in_clocked p block) (λ p. times_in p block.body) (λ p. reached_clocked signals A V p block)
     (λ p. reached_in signals A p block.body (begun V)) h (λ p. omega arith)
-    (λ p v once is. cond-false (is_active V block) (in_reset signals A (begun V) p block.reset) (reached_in signals A p block.body (begun V)) quiet ∙ is)
+    (λ p v once is. cond-false (is_active V block) (in_reset signals A (begun V) p block.reset)
+    (reached_in signals A p block.body (begun V)) quiet ∙ is)
 
 -- of one whose reset is active, of the reset's values
-of_values : (signals : List Signal) (places : List Place) (A B : Choice) (V : Valuation) (block : Clocked) (r : Reset) (m : Updates) → block.reset ≡ Some r
+of_values : (signals : List Signal) (places : List Place) (A B : Choice) (V : Valuation) (block : Clocked) (r : Reset)
+    (m : Updates) → block.reset ≡ Some r
     → is_active V block ≡ true → is_reset_values r.values ≡ true
     → SameReached places A B (λ p. times_in_clocked p block) (λ p. reached_clocked signals A V p block)
     → SameReached places A B (λ p. times_in p r.values) (λ p. reached_in signals A p r.values m)
@@ -156,7 +171,8 @@ of_values signals places A B V block r m e active are h =
     ∙ ap (in_reset signals A (begun V) p) e ∙ reset-constant signals A p r.values (begun V) m are ∙ is)
 
 -- ---- drivers and blocks
-driven-alike : (signals : List Signal) (places : List Place) (A B : Choice) (V : Valuation) (driver : Driver) → driver_fits signals places driver ≡ true
+driven-alike : (signals : List Signal) (places : List Place) (A B : Choice) (V : Valuation) (driver : Driver)
+    → driver_fits signals places driver ≡ true
     → SameReached places A B (λ p. times_in_driver p driver) (λ p. reached_driver signals A V p driver)
     → driven signals B V driver ≡ driven signals A V driver
 driven-alike signals places A B V (Cont target e None span) fits h = refl
@@ -168,7 +184,8 @@ driven-alike signals places A B V (Cont target e (Some p) span) fits h =
 driven-alike signals places A B V (Comb body span) fits h =
     ap (λ m. m.now) (after-alike signals places A B body (begun (without signals (Comb body span) V)) fits h)
 
-reached_driver-alike : (signals : List Signal) (places : List Place) (A B : Choice) (V : Valuation) (q : ℕ) (driver : Driver) → driver_fits signals places driver ≡ true
+reached_driver-alike : (signals : List Signal) (places : List Place) (A B : Choice) (V : Valuation) (q : ℕ)
+    (driver : Driver) → driver_fits signals places driver ≡ true
     → SameReached places A B (λ p. times_in_driver p driver) (λ p. reached_driver signals A V p driver)
     → reached_driver signals B V q driver ≡ reached_driver signals A V q driver
 reached_driver-alike signals places A B V q (Cont target e None span) fits h = refl
@@ -178,7 +195,8 @@ reached_driver-alike signals places A B V q (Comb body span) fits h =
 
 -- a block's body and its reset's values fit
 body_fits : (d : Design) (block : Clocked) → clocked_fits d block ≡ true → statement_fits d.signals.items d.places.items block.body ≡ true
-body_fits d block fits = (and_parts (statement_fits d.signals.items d.places.items block.body) (option_map_or (reset_fits d) block.reset true) fits).0
+body_fits d block fits = (and_parts (statement_fits d.signals.items d.places.items block.body)
+    (option_map_or (reset_fits d) block.reset true) fits).0
 
 values_fit : (d : Design) (block : Clocked) (r : Reset) → block.reset ≡ Some r → clocked_fits d block ≡ true
     → (is_reset_values r.values ≡ true) × (statement_fits d.signals.items d.places.items r.values ≡ true)
@@ -202,9 +220,11 @@ reached_clocked-alike d A B V q block fits h = at (is_active V block) refl block
     at true active None e = refl
     at true active (Some r) e =
         let fit = values_fit d block r e fits in
-        reached_in-alike signals d.places.items A B q r.values (begun V) fit.1 (of_values signals d.places.items A B V block r (begun V) e active fit.0 h)
+        reached_in-alike signals d.places.items A B q r.values (begun V) fit.1
+        (of_values signals d.places.items A B V block r (begun V) e active fit.0 h)
     at false quiet o e =
-        reached_in-alike signals d.places.items A B q block.body (begun V) (body_fits d block fits) (of_body signals d.places.items A B V block quiet h)
+        reached_in-alike signals d.places.items A B q block.body (begun V) (body_fits d block fits)
+        (of_body signals d.places.items A B V block quiet h)
 
 -- ---- each place computes the same in a cycle
 pub reached-alike : (d : Design) (A B : Choice) (V : Valuation) (q : ℕ) → IsWellFormed d
@@ -227,7 +247,8 @@ pub cycle-alike : (d : Design) (samples : List Bits) (state : Valuation) (A B : 
 cycle-alike d samples state A B V next well h cycle =
     let signals : List Signal = d.signals.items in
     let M : Valuation = before d samples state in
-    let block_fits = λ (block : Clocked) (member : Contains d.clocked.items block). list_all-member (clocked_fits d) d.clocked.items block well.clocked member in
+    let block_fits = λ (block : Clocked) (member : Contains d.clocked.items block). list_all-member
+    (clocked_fits d) d.clocked.items block well.clocked member in
     let reset_left : (block : Clocked) (r : Reset) → Contains d.clocked.items block → block.reset ≡ Some r → is_active V block ≡ true
     → left_from signals B block M r.values ≡ left_from signals A block M r.values =
     λ block r member e active. let fit = values_fit d block r e (block_fits block member) in
@@ -235,7 +256,8 @@ cycle-alike d samples state A B V next well h cycle =
     (of_values signals d.places.items A B V block r (begun M) e active fit.0 (of_block d A B V block member h))) in
     let body_left : (block : Clocked) → Contains d.clocked.items block → is_active V block ≡ false
     → left_from signals B block V block.body ≡ left_from signals A block V block.body =
-    λ block member quiet. ap (left block) (after-alike signals d.places.items A B block.body (begun V) (body_fits d block (block_fits block member))
+    λ block member quiet. ap (left block)
+    (after-alike signals d.places.items A B block.body (begun V) (body_fits d block (block_fits block member))
     (of_body signals d.places.items A B V block quiet (of_block d A B V block member h))) in
     let of_driver' : (driver : Driver) → Contains d.drivers.items driver → driven signals B V driver ≡ driven signals A V driver =
     λ driver member. driven-alike signals d.places.items A B V driver
@@ -248,8 +270,10 @@ cycle-alike d samples state A B V next well h cycle =
       next_kept = cycle.next_kept;
       next_other = cycle.next_other;
       reset = λ block r s b member e active drives register.
-          cycle.reset block r s b member e active drives register ∙ sym (ap (λ (W : Valuation). W s b) (reset_left block r member e active));
-      driver = λ driver s b member drives. cycle.driver driver s b member drives ∙ sym (ap (λ (W : Valuation). W s b) (of_driver' driver member));
+          cycle.reset block r s b member e active drives register
+          ∙ sym (ap (λ (W : Valuation). W s b) (reset_left block r member e active));
+      driver = λ driver s b member drives. cycle.driver driver s b member drives
+          ∙ sym (ap (λ (W : Valuation). W s b) (of_driver' driver member));
       next_clocked = λ block s b member inactive drives register.
           cycle.next_clocked block s b member inactive drives register
           ∙ sym (ap (λ (W : Valuation). W s b) (body_left block member (not-true (is_active V block) inactive)));

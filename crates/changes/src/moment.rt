@@ -10,7 +10,7 @@ ghost use Rattle.changes.specs.Moments.{Executes, IsComputed, IsExecuted, IsMome
 
 use crate::places::fitted;
 use crate::stands::has_place;
-use crate::walk::walk;
+use crate::walk::{Seek, walk};
 use design_core::{Clocked, Design, Driver, Stmt, Typed};
 use loc_base::{Bits, NoMemory};
 use plain_sim::is_active;
@@ -62,7 +62,11 @@ fn in_statement<'a>(
     }
     let mut words = moment.words.to_vec(alloc)?;
     let mut later = moment.words.to_vec(alloc)?;
-    match walk(moment, place, statement, &mut words, &mut later) {
+    let seek = Seek {
+        moment: *moment,
+        place,
+    };
+    match walk(&seek, statement, &mut words, &mut later) {
         Some(side) => Ok(Some(Executed { side, words })),
         None => Ok(None),
     }
@@ -141,7 +145,8 @@ fn in_drivers<'a>(
 ) -> Result<Option<Executed<'a>>, NoMemory>
     requires moment { IsMoment moment.now }
     ensures { IfOk result (Executes moment.now.design.now place
-        (first_executed (executed_driver moment.now.design.now.signals.items (choice_in moment.now) (values_in moment.now) place) moment.now.design.now.drivers.items)) }
+        (first_executed (executed_driver moment.now.design.now.signals.items (choice_in moment.now) (values_in moment.now) place)
+        moment.now.design.now.drivers.items)) }
 {
     for driver in &moment.design.drivers {
         if let Some(executed) = in_driver(alloc, moment, place, driver)? {
@@ -159,7 +164,8 @@ fn in_blocks<'a>(
 ) -> Result<Option<Executed<'a>>, NoMemory>
     requires moment { IsMoment moment.now }
     ensures { IfOk result (Executes moment.now.design.now place
-        (first_executed (executed_clocked moment.now.design.now.signals.items (choice_in moment.now) (values_in moment.now) place) moment.now.design.now.clocked.items)) }
+        (first_executed (executed_clocked moment.now.design.now.signals.items (choice_in moment.now) (values_in moment.now) place)
+        moment.now.design.now.clocked.items)) }
 {
     for block in &moment.design.clocked {
         if let Some(executed) = in_block(alloc, moment, place, block)? {

@@ -8,5 +8,6 @@ pub in_assignment-requires-clause-side : goal.in_assignment-requires-clause-side
 in_assignment-requires-clause-side c =
     let d : Design = c.args.moment.now.design.now in
     let fits = list_all-member
-    (driver_fits d.signals.items d.places.items) d.drivers.items c.args.driver.now c.requires.moment.well_formed.drivers c.requires.driver in
+    (driver_fits d.signals.items d.places.items) d.drivers.items c.args.driver.now
+    c.requires.moment.well_formed.drivers c.requires.driver in
     cont-side d c.args.place c.in-Cont.target c.in-Cont.side c.in-Cont.own c.in-Cont.span (rw c.in-Cont.is at fits)
