@@ -64,7 +64,7 @@ values-run_from d trace places c ch well t state (V ∷ rest) each (lt, (next, c
       (
         next,
         cycle-alike d (samples_at d trace t) state (changing ch t) (choice_at places c t) V next well
-        (subst (λ u. Same u V) here (each 0 V refl)) cycle,
+            (subst (λ u. Same u V) here (each 0 V refl)) cycle,
         values-run_from d trace places c ch well (t + 1) next rest
             (λ k W at. let same : t + suc k ≡ (t + 1) + k = omega arith in subst (λ u. Same u W) same (each (suc k) W at)) later,
       ),
@@ -129,7 +129,7 @@ changed-run_from d trace places c ch well t state (V ∷ rest) each (lt, (next, 
       (
         next,
         cycle-alike d (samples_at d trace t) state (choice_at places c t) (changing ch t) V next well
-        (subst (λ u. Same u V) here (each 0 V refl)) cycle,
+            (subst (λ u. Same u V) here (each 0 V refl)) cycle,
         changed-run_from d trace places c ch well (t + 1) next rest
             (λ k W at. let same : t + suc k ≡ (t + 1) + k = omega arith in subst (λ u. Same u W) same (each (suc k) W at)) later,
       ),

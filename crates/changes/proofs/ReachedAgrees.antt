@@ -150,8 +150,16 @@ own_unread d order ordered driver member s b read = at (cases_Bool (driver_drive
     at (inl drives) =
         let (i, is) = Contains-place d.drivers.items driver member in
         let depends : Depends d i i =
-        record { reader = driver; source = driver; is_reader = is; is_source = is; signal = s;
-            position = b; read = read; driven = drives } in
+        record {
+          reader = driver;
+          source = driver;
+          is_reader = is;
+          is_source = is;
+          signal = s;
+          position = b;
+          read = read;
+          driven = drives;
+        } in
         absurd (All-member (λ i. ¬ Depends d i i) order i ordered.not_itself
         (ordered.complete i (slice_get_within d.drivers.items i driver is)) depends)
     at (inr none) = none

@@ -100,15 +100,30 @@ pub(crate) fn walk<'a>(
         Stmt::Nothing => None,
         Stmt::Block(statements) => walk_all(seek, statements, now, later),
         Stmt::If { cond, yes, no } => walk_if(seek, cond, yes, no, now, later),
-        Stmt::Case { subject, items, other, .. } => {
-            walk_case(seek, subject, items, other, now, later)
-        }
-        Stmt::Set { place, target, value, later: is_later } => {
+        Stmt::Case {
+            subject,
+            items,
+            other,
+            ..
+        } => { walk_case(seek, subject, items, other, now, later) }
+        Stmt::Set {
+            place,
+            target,
+            value,
+            later: is_later,
+        } => {
             if *place == seek.place {
                 return Some(value);
             }
             let word = taken(seek, *place, value, now);
-            assign(&seek.moment.design.signals, now, later, &target.parts, word, *is_later);
+            assign(
+                &seek.moment.design.signals,
+                now,
+                later,
+                &target.parts,
+                word,
+                *is_later,
+            );
             None
         }
     }

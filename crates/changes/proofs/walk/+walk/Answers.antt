@@ -35,9 +35,19 @@ pub walk-walk_if-requires : goal.walk-walk_if-requires
 walk-walk_if-requires t c =
     let d : Design = c.args.seek.now.moment.design.now in
     let fits = if-fits d.signals.items d.places.items c.in-If.cond c.in-If.yes c.in-If.no
-    (rw c.in-If.is at c.requires.fits) in
-    (search (rules, the_lemmas), (c.requires.moment, (c.requires.now, (c.requires.later,
-    (fits.0, (rw c.deref-in-If.ensures fits.1.0, rw c.deref-in-If-2.ensures fits.1.1))))))
+    (rw c.in-If.is at c.requires.fits) in (
+      search (rules, the_lemmas),
+      (
+        c.requires.moment,
+        (
+          c.requires.now,
+          (
+            c.requires.later,
+            (fits.0, (rw c.deref-in-If.ensures fits.1.0, rw c.deref-in-If-2.ensures fits.1.1)),
+          ),
+        ),
+      ),
+    )
 
 pub walk-walk_case-requires : goal.walk-walk_case-requires
 walk-walk_case-requires t c =
@@ -45,9 +55,19 @@ walk-walk_case-requires t c =
     let items = case-fits d.signals.items d.places.items c.in-Case.subject c.in-Case.items c.in-Case.other c.in-Case.wild
     (rw c.in-Case.is at c.requires.fits) in
     let ends = case-ends d.signals.items d.places.items c.in-Case.subject c.in-Case.items c.in-Case.other c.in-Case.wild
-    (rw c.in-Case.is at c.requires.fits) in
-    (search (rules, the_lemmas), (c.requires.moment, (c.requires.now, (c.requires.later,
-    (ends.0, (rw c.deref-in-Case.ensures items, rw c.deref-in-Case-2.ensures ends.1))))))
+    (rw c.in-Case.is at c.requires.fits) in (
+      search (rules, the_lemmas),
+      (
+        c.requires.moment,
+        (
+          c.requires.now,
+          (
+            c.requires.later,
+            (ends.0, (rw c.deref-in-Case.ensures items, rw c.deref-in-Case-2.ensures ends.1)),
+          ),
+        ),
+      ),
+    )
 
 pub walk-returns-then-place-seek-clause-walks : goal.walk-returns-then-place-seek-clause-walks
 walk-returns-then-place-seek-clause-walks t c =
@@ -118,4 +138,3 @@ walk_case-returns-in-None-clause-walks t c =
     let first = rw (c.value-subject.ensures.value, c.deref.ensures.value) at c.in-None.ensures.first in
     λ wild. walks-other d (choice_in c.args.seek.now.moment) c.args.seek.now.place c.args.subject.now c.args.items.now c.args.other.now
     wild m _ c.walk-in-None.new.now c.walk-in-None.new.later first c.walk-in-None.ensures.walks
-
