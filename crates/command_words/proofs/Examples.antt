@@ -1,5 +1,5 @@
 -- What some words ask for.
-use Rattle.std.specs.Prelude.{◌≡◌, ℕ, List, [], ◌∷◌, Some, None, Result, Ok, Err, codes, refl}
+use Rattle.std.specs.Prelude.{◌≡◌, ℕ, true, false, List, [], ◌∷◌, Some, None, Result, Ok, Err, codes, refl}
 use Rattle.std.specs.Path.{path_components, path_names}
 use Rattle.clap.proofs.OnLiterals.{clap_on_literals}
 use Rattle.front_end.specs.declared.format.Format.TheVariants.{Verilog, Aiger}
