@@ -4,8 +4,8 @@ use loc_base::NoMemory;
 use printed_text::{push_bytes, push_number};
 use std::time::{Clock, Duration, Instant};
 
-/// The line is written over once this time has passed. A run that is shorter shows none.
-const PAUSE: Duration = Duration::from_millis(100);
+/// The line is written over once so many milliseconds have passed. A run that is shorter shows none.
+const PAUSE: u64 = 100;
 
 /// How far a search is: the size that is searched, the sets that are found, the steps that are learned, and how many may be.
 #[derive(Clone, Copy)]
@@ -60,7 +60,7 @@ impl<'a, C: Clock> ProgressLine<'a, C> {
         let Ok(now) = Instant::now(self.clock) else {
             return Ok(());
         };
-        if now.duration_since(self.written) < PAUSE {
+        if now.duration_since(self.written) < Duration::from_millis(PAUSE) {
             return Ok(());
         }
         push_line(text, progress, now.duration_since(self.begun))?;
