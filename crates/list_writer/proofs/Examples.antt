@@ -42,6 +42,7 @@ module _ (p : Problem) (inputs : Digest) (one two : Portion) (rest : List Step) 
     log = codes "l";
     report = codes "r";
     waves = None;
+    checkpoints = None;
     inputs = inputs;
     top = codes "m";
     clock = None;
@@ -90,6 +91,7 @@ module _ (p : Problem) (inputs : Digest) (one two : Portion) (rest : List Step) 
       log = codes "l";
       report = codes "r";
       waves = None;
+      checkpoints = None;
       inputs = inputs;
       top = codes "m";
       clock = None;

@@ -28,10 +28,10 @@ use Rattle.list_writer.proofs.SoFar.{found-long, own-learned, prints-sets}
 use Rattle.list_writer.proofs.Steps.{blocks_of-append}
 
 -- the first of some derived steps are no blocks, and none is learned
-abbrev IsDerived : Step → Type 0
+abbrev pub IsDerived : Step → Type 0
 IsDerived step = step.kind ≡ Derived
 
-derived-take : (steps : List Step) (count : ℕ) → All IsDerived steps → (blocks_of (take count steps) ≡ []) × (count_by is_learned (take count steps) ≡ 0)
+pub derived-take : (steps : List Step) (count : ℕ) → All IsDerived steps → (blocks_of (take count steps) ≡ []) × (count_by is_learned (take count steps) ≡ 0)
 derived-take [] zero derived = (refl, refl)
 derived-take [] (suc count) derived = (refl, refl)
 derived-take (step ∷ steps) zero derived = (refl, refl)
@@ -103,7 +103,7 @@ module _ (asked : Asked) (s new : DebugState) (found : List SetWithValues) (step
   few-more = omega (arith, length-take count s.certificate, few-certificate s has.holds)
 
   module _ (unfinished : s.finished ≡ false) (front : ending_status ending ≡ 1) (holds : IsDebugger new) (counted : HasCountedLog new) where
-    finished-ended : HasEnded asked new found steps ending portions
+    pub finished-ended : HasEnded asked new found steps ending portions
     finished-ended = record {
       holds = holds;
       problem = problem-still;

@@ -1,4 +1,5 @@
 mod Examples
+mod CheckpointExamples
 pub mod Putting
 pub mod Pairs
 pub mod Steps
@@ -14,3 +15,12 @@ pub mod Others
 pub mod Standing
 pub mod Whole
 pub mod Ongoing
+pub mod Beside
+pub mod Asides
+pub mod Appended
+pub mod Paused
+pub mod CheckpointNamed
+pub mod Saved
+pub mod Turned
+pub mod Around
+pub mod Last

@@ -28,7 +28,7 @@ use Rattle.list_writer.specs.Found.{EndsAs, IsEnded, Portion, found_of}
 use Rattle.list_writer.specs.Lines.{ending_line, memory_line}
 use Rattle.list_writer.specs.Due.{IsCut, IsListedTo, IsStopped, ended, going_on}
 use Rattle.list_writer.specs.Due.{first_writes, opening, prints, sets_in, so_far, texts, wanting, whole}
-use Rattle.list_writer.specs.Going.{AreCut, HasEnded, IsSearched, RunLeaves, SearchCut, SearchEnds}
+use Rattle.list_writer.specs.Going.{AreCut, HasEnded, IsSearched, RunLeaves, SaveFails, SearchCut, SearchEnds}
 use Rattle.list_writer.specs.Going.{SearchFails, Searched, StopCauses, StopsShort, TellsMemory, WriteCauses}
 use Rattle.list_writer.specs.Going.{closing_writes, outputs, searched_of, sets_writes}
 use Rattle.list_writer.specs.Outcomes.{Leaves as Ends}
@@ -54,8 +54,38 @@ module _ (asked : Asked) (s : DebugState) (found : List SetWithValues) (steps : 
   abbrev e : Searched
   e = searched_of asked s found steps (outputs mid is mid_printed now_printed) told
 
-  pub search-stops : SearchFails e → IsStopped asked (outputs was is printed now_printed)
-  search-stops failed = record {
+  -- where a checkpoint failed, it is as where the next write fails before any of it is written
+  not-begun : (piece : List ℕ) → StopsIn (print_piece piece ∷ []) (outputs is is now_printed now_printed)
+  not-begun piece = record {
+    count = 0;
+    failed = print_piece piece;
+    at = refl;
+    part = print_piece [] ∷ [];
+    is_part = (0, refl);
+    done = record { texts = λ name. refl; printed = sym (append-nil now_printed) };
+  }
+
+  save-stops : SaveFails e → IsStopped asked (outputs was is printed now_printed)
+  save-stops failed =
+      let body : List Write = opening asked failed.portions in
+      let all : take (length body) body ≡ body = take_all (length body) body (omega arith) in
+      let line : List ℕ = memory_line (sets_in (take (length body) body)) in
+      record {
+        vars = s.vars;
+        form = s.form;
+        is_form = is-form-here;
+        due = take (length body) body ++ print_piece line ∷ [];
+        is_due = wanting body (length body) (going_on failed.portions failed.found) (omega arith);
+        stops = stops-then (take (length body) body) (print_piece line ∷ []) was is is printed now_printed now_printed
+            (subst (λ (ws : List Write). AreDone ws (outputs was is printed now_printed)) (sym all)
+            (done-then (first_writes asked) (sets_writes asked failed.portions) was mid is printed mid_printed now_printed before
+            (failed.done tells)))
+            (not-begun line);
+      }
+
+  pub search-stops : SearchFails e ⊎ SaveFails e → IsStopped asked (outputs was is printed now_printed)
+  search-stops (inr failed) = save-stops failed
+  search-stops (inl failed) = record {
     vars = s.vars;
     form = s.form;
     is_form = is-form-here;

@@ -1,5 +1,5 @@
 -- The turns of a search: what is known behind each of them, and where it ends.
-use Rattle.std.proofs.Common.{◌≡◌, ℕ, zero, suc, ◌+◌, ◌<◌, ◌≤◌, Bool, true, false, List, [], ◌∷◌, ◌++◌, length, take, drop}
+use Rattle.std.proofs.Common.{◌≡◌, inl, inr, ℕ, zero, suc, ◌+◌, ◌<◌, ◌≤◌, Bool, true, false, List, [], ◌∷◌, ◌++◌, length, take, drop}
 use Rattle.std.proofs.Common.{Option, Some, None, refl, ap, sym, ◌∙◌, subst, arith}
 use Rattle.std.specs.Prelude.{All, cond, count_by, Ok, Err}
 use Rattle.std.proofs.lemmas.List.{append-nil, length-append, length_push, take_all}
@@ -24,6 +24,7 @@ use Rattle.log_portions.specs.Portions.{steps_text}
 use Rattle.list_writer.specs.Texts.{lines_of}
 use Rattle.list_writer.specs.Due.{prints, set_writes}
 use Rattle.list_writer.specs.Lines.{ending_status}
+use Rattle.list_writer.specs.Saving.{StopsBehind}
 use Rattle.list_writer.specs.Going.{AreCut, CutsTurn, FailsTurn, GoesOn, HasEnded, IsGoing, IsSearched, IsTurn}
 use Rattle.list_writer.specs.Going.{EndsTurn, Rests, SearchCut, SearchEnds, SearchFails, SearchGoes, TakesSet, Turn, Turns, WaitsTurn}
 use Rattle.list_writer.specs.Going.{outputs, searched_of, sets_writes, turn_of, searching, takes, waits, writing}
@@ -200,7 +201,7 @@ module _ (asked : Asked) (old new : DebugState) (found now_found : List SetWithV
 
   pub errs : (why : Stop) → IsTurn turn (Err why)
       → IsSearched (searched_of asked new now_found now_steps (outputs was is printed now_printed) told) (Err why)
-  errs Failed t = record { holds = t.holds; problem = t.searches.problem ∙ before.going.problem; answer = fails t }
+  errs Failed t = record { holds = t.holds; problem = t.searches.problem ∙ before.going.problem; answer = inl (fails t) }
   errs (Memory sets) t = record { holds = t.holds; problem = t.searches.problem ∙ before.going.problem; answer = cut sets t }
 
   pub ends-searched : (ending : Ending) → length found < most_sets asked → IsTurn turn (Ok (Some ending))
@@ -286,3 +287,39 @@ module _ (asked : Asked) (s : DebugState) (found : List SetWithValues) (steps le
         done = goes.done;
       };
     }
+
+    -- a checkpoint failed, or memory was wanted for it
+    save-cut : (sets : Option ℕ) → (told ≡ true → sets ≡ Some (length found)) → SearchCut (searched_of asked s found steps o told) sets
+    save-cut sets same =
+        let writes : List Write = sets_writes asked goes.portions in
+        let all : take (length writes) writes ≡ writes = take_all (length writes) writes (omega arith) in
+        record {
+          portions = goes.portions;
+          found = goes.going.so_far;
+          cut = λ tells. record {
+            count = length writes;
+            within = omega arith;
+            sets_are = same tells ∙ ap Some (sym (ap (λ (n : ℕ). length asked.session.sets + n) (ap (count_by prints) all
+                ∙ prints-sets asked goes.portions) ∙ many asked s found steps left goes.portions goes.going));
+            done = subst (λ (ws : List Write). AreDone ws o) (sym all) (goes.done tells);
+          };
+        }
+
+    pub save-errs : (why : Stop) → (told ≡ true → StopsBehind (length found) why)
+        → IsSearched (searched_of asked s found steps o told) (Err why)
+    save-errs Failed short = record {
+      holds = goes.going.holds;
+      problem = goes.going.problem;
+      answer = inr (record { portions = goes.portions; found = goes.going.so_far; done = goes.done });
+    }
+    save-errs (Memory sets) short = record { holds = goes.going.holds; problem = goes.going.problem; answer = save-cut sets short }
+
+-- the same where what is written stays
+pub goes-still : (asked : Asked) (s : DebugState) (found : List SetWithValues) (steps left : ℕ) (was mid is : Texts) (printed now_printed : List ℕ)
+    (told : Bool) → SearchGoes asked s found steps left (outputs was mid printed now_printed) told
+    → (told ≡ true → (name : List ℕ) → is name ≡ mid name) → SearchGoes asked s found steps left (outputs was is printed now_printed) told
+goes-still asked s found steps left was mid is printed now_printed told goes same = record {
+  portions = goes.portions;
+  going = goes.going;
+  done = λ tells. record { texts = λ name. same tells name ∙ (goes.done tells).texts name; printed = (goes.done tells).printed };
+}

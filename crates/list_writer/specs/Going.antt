@@ -3,7 +3,7 @@ use Rattle.std.specs.Prelude.{ℕ, ◌≡◌, ◌+◌, ◌<◌, ◌≤◌, ◌�
 use Rattle.std.specs.Prelude.{Option, Some, None, Result, Ok, Err}
 use Rattle.std.specs.List.{flat_map}
 use Rattle.design_core.specs.declared.values.SetWithValues.{SetWithValues}
-use Rattle.io_ports.specs.Faults.{Rose}
+use Rattle.io_ports.specs.Faults.{FaultCounts, Rose, WriteRose}
 use Rattle.clause_base.specs.declared.literal.Lit.{Lit}
 use Rattle.clause_base.specs.declared.log.Step.{Step}
 use Rattle.log_portions.specs.Portions.{steps_text}
@@ -67,6 +67,11 @@ abbrev pub SinkCause : {X : Type 0} → ℕ → ℕ → Result X Stop → Type 0
 SinkCause old new (Ok _) = new ≡ old
 SinkCause old new (Err Failed) = Rose old new
 SinkCause old new (Err (Memory sets)) = new ≡ old
+
+abbrev pub ShelfCauses : {X : Type 0} → FaultCounts → FaultCounts → Result X Stop → Type 0
+ShelfCauses old new (Ok _) = new ≡ old
+ShelfCauses old new (Err Failed) = WriteRose old new
+ShelfCauses old new (Err (Memory sets)) = new ≡ old
 
 -- ---- before the search
 -- the members of sets are numbers of suspects
@@ -262,6 +267,12 @@ pub record SearchFails (e : Searched) : Type 0 where
   pub found : AreFound e.asked e.s.form portions
   pub stops : e.told ≡ true → StopsIn (sets_writes e.asked portions) e.o
 
+-- where a checkpoint failed, all that was due by then is written
+pub record SaveFails (e : Searched) : Type 0 where
+  pub portions : List Portion
+  pub found : AreFound e.asked e.s.form portions
+  pub done : e.told ≡ true → AreDone (sets_writes e.asked portions) e.o
+
 -- some of these writes were carried out, from the first one on, and so many sets are printed by them and by the writes of a session
 pub record AreCut (before : ℕ) (writes : List Write) (sets : Option ℕ) (o : Outputs) : Type 0 where
   pub count : ℕ
@@ -279,7 +290,7 @@ searched_of asked s found steps o told = record { asked = asked; s = s; found = 
 
 abbrev pub SearchLeaves : Searched → Result Ending Stop → Type 0
 SearchLeaves e (Ok ending) = SearchEnds e ending
-SearchLeaves e (Err Failed) = SearchFails e
+SearchLeaves e (Err Failed) = SearchFails e ⊎ SaveFails e
 SearchLeaves e (Err (Memory sets)) = SearchCut e sets
 
 pub record IsSearched (e : Searched) (result : Result Ending Stop) : Type 0 where

@@ -19,6 +19,7 @@ asked_with job session = record {
   log = job.log.now;
   report = job.report.now;
   waves = option_copied job.waves;
+  checkpoints = option_copied job.checkpoints;
   inputs = job.inputs;
   top = job.top.now;
   clock = option_copied job.clock;

@@ -1,12 +1,15 @@
+pub mod CheckpointNames
 pub mod Asked
 pub mod Found
 pub mod Lines
 pub mod Jobs
 pub mod Texts
 pub mod Due
+pub mod Checkpoints
 pub mod Outcomes
 pub mod Stops
 pub mod Going
+pub mod Saving
 pub mod Reporting
 pub mod Checks
 pub mod Laws

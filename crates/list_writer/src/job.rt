@@ -16,6 +16,8 @@ pub struct Job<'a> {
     pub report: &'a str,
     /// The prefix of the waves' names, where waves are asked for: set S and trace T have `P-S-T.vcd`.
     pub waves: Option<&'a str>,
+    /// The prefix of the checkpoints' names, where they are asked for: `P-1.log` and `P-1.json`, and in turn `P-2.log` and `P-2.json`.
+    pub checkpoints: Option<&'a str>,
     /// The digest of the inputs.
     pub inputs: Digest,
     /// The module that is the top, the clock, and the kinds of suspects, as the report repeats them.

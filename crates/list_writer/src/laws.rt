@@ -12,7 +12,10 @@ ghost use Rattle.set_waves.specs.Scenes.{wave_text};
 ghost use Rattle.set_waves.specs.Writes.{scene_of};
 ghost use Rattle.list_writer.specs.Asked.{HasOwnNames, most_sets};
 ghost use Rattle.list_writer.specs.Found.{found_of, log_of};
-ghost use Rattle.list_writer.specs.Laws.{Listed, WithList};
+ghost use Rattle.list_writer.specs.declared.pair.Pair.TheVariants.{First};
+ghost use Rattle.list_writer.specs.CheckpointNames.{log_name, report_name};
+ghost use Rattle.list_writer.specs.Checkpoints.{log_text, pair_behind, report_text};
+ghost use Rattle.list_writer.specs.Laws.{Listed, WithCheckpoints, WithList};
 ghost use Rattle.list_writer.specs.Texts.{report_for, report_of, waved_for};
 
 /// What stands at the statuses 0 and 1: under the log's name the text of the log in one piece, under the report's name the report, and
@@ -47,4 +50,12 @@ pub fn listed_goes_on()
     ensures log { take (length of.asked.session.log) (log_of of.asked of.is.portions ++ of.is.rest) ≡ of.asked.session.log }
     ensures report { take (length of.asked.session.sets) (report_for of.asked (found_of of.asked of.is.portions) of.is.ending).sets
         ≡ map (set_of of.asked.problem.traces) of.asked.session.sets }
+{}
+
+/// However a listing ended, both texts of the last checkpoint that was put whole stand, under the names of its pair: a part of one more, where
+/// the listing stopped in it, is under the names of the other.
+pub fn last_stands()
+    ghost of: { WithCheckpoints }
+    ensures log { of.is (log_name of.prefix (pair_behind First of.before)) ≡ Some (log_text of.asked of.last) }
+    ensures report { of.is (report_name of.prefix (pair_behind First of.before)) ≡ Some (report_text of.asked of.last) }
 {}

@@ -9,6 +9,9 @@ ghost use Rattle.list_writer.specs.Going.{IsTurn, IsSearched, MemoryCause, RunLe
 ghost use Rattle.list_writer.specs.Lines.{ending_status};
 ghost use Rattle.list_writer.specs.Going.{WriteCauses, outputs, searched_of, turn_of};
 ghost use Rattle.list_writer.specs.Asked.{Session};
+ghost use Rattle.list_writer.specs.CheckpointNames.{beside, is_checkpoint};
+ghost use Rattle.list_writer.specs.Checkpoints.{CheckpointsStand};
+ghost use Rattle.list_writer.specs.Saving.{RunSaves};
 ghost use Rattle.list_writer.specs.Jobs.{GoesWith, IsJob, IsUpTo, asked_of, asked_with, session_of};
 ghost use Rattle.list_writer.specs.Outcomes.{Leaves as Ends, OutcomeCause};
 ghost use Rattle.list_writer.specs.Checks.{CanBeChecked, IsVerdictOn};
@@ -16,11 +19,13 @@ ghost use Rattle.set_waves.specs.Names.{IsWave};
 
 mod close;
 mod open;
+mod saving;
 
 use crate::checking::check_log;
 use crate::job::{Job, Task};
 use crate::outcome::Outcome;
 use crate::progress::Sizes;
+use crate::saves::Saves;
 use crate::search::Search;
 use crate::slice::next_in_slice;
 use crate::stop::{Stop, stopped};
@@ -158,15 +163,21 @@ impl<'a, D: Search + Drop> Listing<'a, D> {
         ensures left { IsSearched (searched_of (asked_with self.old.job (session_of self.old.found.items (D.state self.old.search)))
             (D.state self.new.search)
             self.new.found.items self.new.steps
-            (outputs (S.written shelf.old) (S.written shelf.new) (O.written out.old) (O.written out.new))
+            (outputs (beside (asked_of self.old.job).checkpoints (S.written shelf.old)) (beside (asked_of self.old.job).checkpoints (S.written shelf.new))
+            (O.written out.old) (O.written out.new))
             (S.tells shelf.old && O.tells out.old)) result }
+        ensures saved { S.tells shelf.old ≡ true → O.tells out.old ≡ true
+            → RunSaves (asked_with self.old.job (session_of self.old.found.items (D.state self.old.search)))
+            (S.written shelf.old) (S.written shelf.new) result }
         ensures goes_on { IfOk result (λ ending. ending_status ending ≡ 1 → (D.state self.new.search).ended ≡ false) }
         ensures unfinished { OnOk result ((D.state self.new.search).finished ≡ false) }
         ensures causes { StopCauses (counts_of (S.faults shelf.old) (S.faults shelf.new) (O.faults out.old) (O.faults out.new)) result }
     {
         let mut sizes = Sizes::behind(self.steps);
+        let mut saves = Saves::none();
         let most = self.found.len() + self.job.sets as usize;
         while self.found.len() < most {
+            self.save(&mut saves, shelf, notes)?;
             match self.advance(shelf, out, notes)? {
                 None => self.tell_progress(&mut sizes, notes),
                 Some(ending) => return Ok(ending),
@@ -214,8 +225,12 @@ impl<'a, D: Search + Drop> Listing<'a, D> {
         ensures left { IsSearched (searched_of (asked_with self.old.job (session_of self.old.found.items (D.state self.old.search)))
             (D.state self.new.search)
             self.new.found.items self.new.steps
-            (outputs (S.written shelf.old) (S.written shelf.new) (O.written out.old) (O.written out.new))
+            (outputs (beside (asked_of self.old.job).checkpoints (S.written shelf.old)) (beside (asked_of self.old.job).checkpoints (S.written shelf.new))
+            (O.written out.old) (O.written out.new))
             (S.tells shelf.old && O.tells out.old)) result }
+        ensures saved { S.tells shelf.old ≡ true → O.tells out.old ≡ true
+            → RunSaves (asked_with self.old.job (session_of self.old.found.items (D.state self.old.search)))
+            (S.written shelf.old) (S.written shelf.new) result }
         ensures shown { IfOk result (ShowsFront (D.state self.new.search)) }
         ensures causes { StopCauses (counts_of (S.faults shelf.old) (S.faults shelf.new) (O.faults out.old) (O.faults out.new)) result }
     {
@@ -271,7 +286,11 @@ impl<'a, D: Search + Drop> Listing<'a, D> {
         ensures texts { S.texts shelf.new ≡ S.texts shelf.old }
         ensures left { S.tells shelf.old ≡ true → O.tells out.old ≡ true
             → RunLeaves (asked_with self.old.job (session_of self.old.found.items (D.state self.old.search)))
-            (outputs (S.written shelf.old) (S.written shelf.new) (O.written out.old) (O.written out.new)) result }
+            (outputs (beside (asked_of self.old.job).checkpoints (S.written shelf.old)) (beside (asked_of self.old.job).checkpoints (S.written shelf.new))
+            (O.written out.old) (O.written out.new)) result }
+        ensures saved { S.tells shelf.old ≡ true → O.tells out.old ≡ true
+            → RunSaves (asked_with self.old.job (session_of self.old.found.items (D.state self.old.search)))
+            (S.written shelf.old) (S.written shelf.new) result }
         ensures causes { StopCauses (counts_of (S.faults shelf.old) (S.faults shelf.new) (O.faults out.old) (O.faults out.new)) result }
     {
         self.open(shelf, out, notes)?;
@@ -333,12 +352,17 @@ pub fn list<R: Threads + Sync, G: Gate + Sync, D: Search + Drop, S: Shelf, O: Si
     ensures tells_sink { O.tells out.new ≡ O.tells out.old }
     ensures texts { S.texts shelf.new ≡ S.texts shelf.old }
 
-    // What stands then, and under the other names what stood before.
+    // What stands then beside the checkpoints, where they are asked for; what they hold; and under the other names what stood before.
     ensures left { S.tells shelf.old ≡ true → O.tells out.old ≡ true
         → Ends (asked_with task.entry.job (session_of task.entry.found.items (D.state task.entry.search)))
-        (outputs (S.written shelf.old) (S.written shelf.new) (O.written out.old) (O.written out.new)) result }
+        (outputs (beside (asked_of task.entry.job).checkpoints (S.written shelf.old)) (beside (asked_of task.entry.job).checkpoints (S.written shelf.new))
+        (O.written out.old) (O.written out.new)) result }
+    ensures checkpoints { S.tells shelf.old ≡ true → O.tells out.old ≡ true
+        → CheckpointsStand (asked_of task.entry.job).checkpoints (asked_with task.entry.job (session_of task.entry.found.items (D.state task.entry.search)))
+        (S.written shelf.old) (S.written shelf.new) result }
     ensures others { S.tells shelf.old ≡ true → O.tells out.old ≡ true
         → (name : List ℕ) → name ≢ task.entry.job.log.now → name ≢ task.entry.job.report.now
+        → is_checkpoint (asked_of task.entry.job).checkpoints name ≡ false
         → ¬ IsWave (asked_of task.entry.job).waves (length task.entry.found.items + (asked_of task.entry.job).sets)
         (length (asked_of task.entry.job).problem.traces) name
         → S.written shelf.new name ≡ S.written shelf.old name }

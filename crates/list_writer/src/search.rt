@@ -34,6 +34,10 @@ pub trait Search {
             (last_of (state self.new).listed) (state self.new).log) }
         ensures counted { OnOk result ((state self.old).finished ≡ false → HasCountedLog (state self.new)) };
 
+    /// The steps that `finish` would append now.
+    fn certificate(&self) -> Result<Log, NoMemory>
+        ensures { IfOk result (λ steps. steps ≡ (state self.now).certificate) };
+
     /// The form, whose first variables are the suspects' selectors.
     fn form(&self) -> &Form
         ensures variables { result.now.vars ≡ (state self.now).vars }
@@ -53,6 +57,10 @@ impl Search for Debugger<'_> {
 
     fn finish(&mut self) -> Result<(), NoMemory> {
         Debugger::finish(self)
+    }
+
+    fn certificate(&self) -> Result<Log, NoMemory> {
+        Debugger::certificate(self)
     }
 
     fn form(&self) -> &Form {

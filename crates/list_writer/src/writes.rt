@@ -60,7 +60,7 @@ pub(crate) fn begin_log<S: Shelf, N: Notes>(
 }
 
 /// The head of the log's text, with the lines of steps.
-fn head_with(alloc: Global, inputs: &Digest, log: &Log) -> Result<Vec<u8>, NoMemory>
+pub(crate) fn head_with(alloc: Global, inputs: &Digest, log: &Log) -> Result<Vec<u8>, NoMemory>
     ensures text { IfOk result (λ text. text.items ≡ head_text inputs.now ++ steps_text log.now) }
     ensures digest { OnOk result (IsDigest inputs.now) }
 {

@@ -9,6 +9,7 @@ ghost use Rattle.list_writer.specs.Going.{AreMembers, LinesLeave, OpenLeaves, St
 ghost use Rattle.list_writer.specs.Jobs.{asked_of, asked_with, session_of};
 
 use super::Listing;
+use crate::pair::{Pair, names_of};
 use crate::search::Search;
 use crate::stop::{Stop, stopped};
 use crate::writes::{ask, begin_log, print_set, put_head};
@@ -82,7 +83,29 @@ impl<'a, D: Search + Drop> Listing<'a, D> {
         }
     }
 
-    /// Asks of each name that is to be written whether it can be begun: the log's, the report's, and with waves that of the first one.
+    /// Asks whether the log and the report of the first checkpoint can be begun.
+    fn ask_pair<S: Shelf, N: Notes>(
+        &self,
+        prefix: &str,
+        shelf: &mut S,
+        notes: &mut N,
+    ) -> Result<(), WriteErr>
+        ensures tells { S.tells shelf.new ≡ S.tells shelf.old }
+        ensures texts { S.texts shelf.new ≡ S.texts shelf.old }
+        ensures written { S.written shelf.new ≡ S.written shelf.old }
+        ensures cause { WriteCause (S.faults shelf.old) (S.faults shelf.new) result }
+    {
+        match names_of(self.alloc, prefix, Pair::First) {
+            Ok(names) => {
+                ask(shelf, names.log.as_str(), notes)?;
+                ask(shelf, names.report.as_str(), notes)
+            }
+            Err(NoMemory) => Err(WriteErr::NoMemory),
+        }
+    }
+
+    /// Asks of each name that is to be written whether it can be begun: the log's, the report's, those of the first checkpoint where they are
+    /// asked for, and with waves that of the first one.
     fn ask_names<S: Shelf, N: Notes>(&self, shelf: &mut S, notes: &mut N) -> Result<(), WriteErr>
         ensures tells { S.tells shelf.new ≡ S.tells shelf.old }
         ensures texts { S.texts shelf.new ≡ S.texts shelf.old }
@@ -91,6 +114,9 @@ impl<'a, D: Search + Drop> Listing<'a, D> {
     {
         ask(shelf, self.job.log, notes)?;
         ask(shelf, self.job.report, notes)?;
+        if let Some(prefix) = self.job.checkpoints {
+            self.ask_pair(prefix, shelf, notes)?;
+        }
         match self.job.waves {
             None => Ok(()),
             Some(prefix) => self.ask_wave(prefix, shelf, notes),

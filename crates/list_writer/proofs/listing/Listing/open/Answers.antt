@@ -1,4 +1,4 @@
-use Rattle.std.proofs.Common.{◌≡◌, ℕ, List, Option, None, Err, sym, ◌∙◌, subst}
+use Rattle.std.proofs.Common.{ℕ, List, Option, None, sym, ◌∙◌, subst}
 use Rattle.std.proofs.lemmas.Result.{err_from_is_err_and}
 use Rattle.command_contract.specs.Contract.{counts_of}
 use Rattle.io_ports.specs.Faults.{FaultCounts}
