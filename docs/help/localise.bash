@@ -8,7 +8,7 @@ _localise() {
     fi
     case ${COMP_WORDS[1]} in
         sim) words="--clock --format --exit-code" ;;
-        find) words="--format --clock --size --suspects --budget --sets --workers --log --report --waves --resume --resume-log" ;;
+        find) words="--format --clock --size --suspects --budget --sets --workers --log --report --waves --checkpoint --resume --resume-log" ;;
         check) words="--workers --format" ;;
         make) words="--design --trace --size --suspects --budget --sets --workers --log --report" ;;
         help) mapfile -t COMPREPLY < <(compgen -W "sim find check make" -- "$word") && return ;;

@@ -18,6 +18,7 @@ complete -c localise -n '__fish_seen_subcommand_from find' -l workers -x -d 'the
 complete -c localise -n '__fish_seen_subcommand_from find' -l log -r -d 'the file that the log is written to, for check (localise.log)'
 complete -c localise -n '__fish_seen_subcommand_from find' -l report -r -d 'the file that the report is written to (localise.json)'
 complete -c localise -n '__fish_seen_subcommand_from find' -l waves -r -d 'a wave of each set S and dump T to PREFIX-S-T.vcd (none)'
+complete -c localise -n '__fish_seen_subcommand_from find' -l checkpoint -r -d 'while it runs, log and report to PREFIX-1.log, .json and PREFIX-2.log, .json in turn, for --resume if killed (none)'
 complete -c localise -n '__fish_seen_subcommand_from find' -l resume -r -d 'go on from a list that ended early, by its report R (none)'
 complete -c localise -n '__fish_seen_subcommand_from find' -l resume-log -r -d 'and by its log L: give both, or neither (none)'
 complete -c localise -n '__fish_seen_subcommand_from check' -l workers -x -d 'the most threads, 1 to 64 (1)'

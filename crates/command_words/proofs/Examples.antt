@@ -47,6 +47,7 @@ what_stands_where_no_option_is_given
       listing = plain_list (codes "stmt" ∷ []);
       resume = None;
       waves = None;
+      checkpoints = None;
     }))
 unfolding clap_on_literals read_by find_arguments path_components path_names
 what_stands_where_no_option_is_given = refl
@@ -83,6 +84,7 @@ two_kinds_of_suspects_and_waves
       listing = plain_list (codes "block" ∷ codes "stmt" ∷ []);
       resume = None;
       waves = Some (codes "w");
+      checkpoints = None;
     }))
 unfolding clap_on_literals read_by find_arguments path_components path_names
 two_kinds_of_suspects_and_waves = refl
@@ -91,6 +93,26 @@ waves_among_which_a_trace_would_be : asked (find_words (codes "t-1-1.vcd" ∷ co
 unfolding clap_on_literals read_by find_arguments path_components path_names
 waves_among_which_a_trace_would_be = refl
 
+checkpoints_that_a_killed_run_leaves
+    : asked (find_words (codes "--checkpoint=run" ∷ []))
+    ≡ Ok (find (record {
+      sources = record { texts = record { design = codes "m.v"; format = Verilog; top = codes "m"; traces = codes "t" ∷ [] }; clock = None };
+      listing = plain_list (codes "stmt" ∷ []);
+      resume = None;
+      waves = None;
+      checkpoints = Some (codes "run");
+    }))
+unfolding clap_on_literals read_by find_arguments path_components path_names
+checkpoints_that_a_killed_run_leaves = refl
+
+checkpoints_among_which_the_log_would_be : asked (find_words (codes "--log=run-1.log" ∷ codes "--checkpoint=./run" ∷ [])) ≡ Err Name
+unfolding clap_on_literals read_by find_arguments path_components path_names
+checkpoints_among_which_the_log_would_be = refl
+
+checkpoints_among_which_waves_would_be : asked (find_words (codes "--waves=w" ∷ codes "--checkpoint=w" ∷ [])) ≡ Err Name
+unfolding clap_on_literals read_by find_arguments path_components path_names
+checkpoints_among_which_waves_would_be = refl
+
 a_session_that_is_gone_on_from
     : asked (find_words (codes "--resume=a.json" ∷ codes "--resume-log" ∷ codes "a.log" ∷ []))
     ≡ Ok (find (record {
@@ -98,6 +120,7 @@ a_session_that_is_gone_on_from
       listing = plain_list (codes "stmt" ∷ []);
       resume = Some (record { report = codes "a.json"; log = codes "a.log" });
       waves = None;
+      checkpoints = None;
     }))
 unfolding clap_on_literals read_by find_arguments path_components path_names
 a_session_that_is_gone_on_from = refl

@@ -9,7 +9,7 @@ use Rattle.word_values.specs.Paths.{IsOtherPath, is_same_path, path_begins}
 use Rattle.word_values.proofs.SamePaths.{no_path-All, no_path-begins, paths-apart}
 use Rattle.requests.specs.Asked.{FindAsked, SessionNames}
 use Rattle.command_words.specs.Listing.{numbers_of}
-use Rattle.command_words.specs.Find.{IsFindAsked, IsWavePrefix, are_find_names, are_written_names, is_own, is_wave_prefix, other_names, read_names}
+use Rattle.command_words.specs.Find.{IsFindAsked, IsPrefix, are_find_names, are_prefixes_apart, are_written_names, is_own, is_prefix, other_names, read_names}
 use Rattle.command_words.specs.Session.{AreSessionNames, are_session_names}
 use Rattle.command_words.specs.Sim.{are_sim_names}
 use Rattle.command_words.proofs.ListingHolding.{listing-holds}
@@ -46,10 +46,10 @@ session-holds (Some session) names =
     let both = and_parts (is_file_name session.report) (is_file_name session.log) names in
     record { report = both.0; log = both.1 }
 
-waves-hold : (asked : FindAsked) (waves : Option (List ℕ)) → option_all (is_wave_prefix asked) waves ≡ true
-    → IfSome waves (IsWavePrefix asked)
-waves-hold asked None names = tt
-waves-hold asked (Some prefix) names =
+prefix-holds : (asked : FindAsked) (prefix : Option (List ℕ)) → option_all (is_prefix asked) prefix ≡ true
+    → IfSome prefix (IsPrefix asked)
+prefix-holds asked None names = tt
+prefix-holds asked (Some prefix) names =
     let both = and_parts (is_file_name prefix) (not (list_any (path_begins (prefix ++ codes "-")) (other_names asked))) names in
     record { is_name = both.0; own = no_path-begins prefix (other_names asked) both.1 }
 
@@ -57,9 +57,13 @@ waves-hold asked (Some prefix) names =
 pub find-holds : (known : List (List ℕ)) (asked : FindAsked) → are_find_names asked ≡ true → are_kinds known asked.listing.suspects ≡ true
     → asked.listing.suspects ≢ [] → AreNumbers (numbers_of asked.listing) → IsFindAsked known asked
 find-holds known asked names kinds some within =
-    let waves = option_all (is_wave_prefix asked) asked.waves in
+    let waves = option_all (is_prefix asked) asked.waves in
     let session = option_all are_session_names asked.resume in
-    let all = and_parts (are_sim_names asked.sources && session && are_written_names asked) waves names in
+    let checkpoints = option_all (is_prefix asked) asked.checkpoints in
+    let apart = and_parts (are_sim_names asked.sources && session && are_written_names asked && waves && checkpoints)
+    (are_prefixes_apart asked.waves asked.checkpoints) names in
+    let both = and_parts (are_sim_names asked.sources && session && are_written_names asked && waves) checkpoints apart.0 in
+    let all = and_parts (are_sim_names asked.sources && session && are_written_names asked) waves both.0 in
     let read = and_parts (are_sim_names asked.sources && session) (are_written_names asked) all.0 in
     let first = and_parts (are_sim_names asked.sources) session read.0 in
     let written = written-hold asked read.1 in
@@ -72,5 +76,6 @@ find-holds known asked names kinds some within =
       apart = written.apart_names;
       own_log = written.own_log;
       own_report = written.own_report;
-      waves = waves-hold asked asked.waves all.1;
+      waves = prefix-holds asked asked.waves all.1;
+      checkpoints = prefix-holds asked asked.checkpoints both.1;
     }

@@ -20,7 +20,7 @@ find_arguments = record {
   words = codes "design" ∷ codes "top" ∷ [];
   rest = Some (codes "trace");
   options = codes "clock" ∷ codes "size" ∷ codes "budget" ∷ codes "sets" ∷ codes "suspects" ∷ codes "workers" ∷ codes "log"
-      ∷ codes "report" ∷ codes "resume" ∷ codes "resume-log" ∷ codes "waves" ∷ codes "format" ∷ [];
+      ∷ codes "report" ∷ codes "resume" ∷ codes "resume-log" ∷ codes "waves" ∷ codes "checkpoint" ∷ codes "format" ∷ [];
   flags = [];
 }
 
@@ -31,6 +31,7 @@ find_resumed sources rows listing (Ok resume) = Ok (record {
   listing = listing;
   resume = resume;
   waves = first_of (codes "waves") rows;
+  checkpoints = first_of (codes "checkpoint") rows;
 })
 find_resumed sources rows listing (Err usage) = Err usage
 
@@ -59,18 +60,28 @@ are_written_names asked =
     is_file_name asked.listing.log && is_file_name asked.listing.report
     && not (is_same_path asked.listing.log asked.listing.report) && is_own asked asked.listing.log && is_own asked asked.listing.report
 
--- what the names of waves begin with is the name of a file, and with it and `-` no other name begins, as a path
+-- what the names of waves, or of checkpoints, begin with is the name of a file, and with it and `-` no other name begins, as a path
 abbrev pub other_names : FindAsked → List (List ℕ)
 other_names asked =
     asked.sources.texts.design ∷ asked.listing.log ∷ asked.listing.report ∷ asked.sources.texts.traces ++ session_texts asked.resume
 
-abbrev pub is_wave_prefix : FindAsked → List ℕ → Bool
-is_wave_prefix asked prefix = is_file_name prefix && not (list_any (path_begins (prefix ++ codes "-")) (other_names asked))
+abbrev pub is_prefix : FindAsked → List ℕ → Bool
+is_prefix asked prefix = is_file_name prefix && not (list_any (path_begins (prefix ++ codes "-")) (other_names asked))
+
+-- and no name of a wave can begin as one of a checkpoint, nor the other way round
+abbrev pub are_fronts_apart : List ℕ → List ℕ → Bool
+are_fronts_apart waves checkpoints =
+    not (path_begins (checkpoints ++ codes "-") (waves ++ codes "-")) && not (path_begins (waves ++ codes "-") (checkpoints ++ codes "-"))
+
+abbrev pub are_prefixes_apart : Option (List ℕ) → Option (List ℕ) → Bool
+are_prefixes_apart (Some waves) (Some checkpoints) = are_fronts_apart waves checkpoints
+are_prefixes_apart _ _ = true
 
 abbrev pub are_find_names : FindAsked → Bool
 are_find_names asked =
     are_sim_names asked.sources && option_all are_session_names asked.resume && are_written_names asked
-    && option_all (is_wave_prefix asked) asked.waves
+    && option_all (is_prefix asked) asked.waves && option_all (is_prefix asked) asked.checkpoints
+    && are_prefixes_apart asked.waves asked.checkpoints
 
 -- the words of the command, itself the first, where kinds of suspects of these names are known
 abbrev pub find_asked : List (List ℕ) → List (List ℕ) → Result FindAsked Usage
@@ -78,8 +89,8 @@ find_asked known words =
     kinded known (λ asked. asked.listing.suspects) (named are_find_names (standing (with_format find_in) (values_of find_arguments words)))
 
 -- ---- what holds of what is asked for
--- the names of waves begin with a file's name and `-`, and no other name is the path of one that does
-pub record IsWavePrefix (asked : FindAsked) (prefix : List ℕ) : Type 0 where
+-- the names of waves, or of checkpoints, begin with a file's name and `-`, and no other name is the path of one that does
+pub record IsPrefix (asked : FindAsked) (prefix : List ℕ) : Type 0 where
   pub is_name : is_file_name prefix ≡ true
   pub own : All (λ name. (rest : List ℕ) → IsOtherPath name ((prefix ++ codes "-") ++ rest)) (other_names asked)
 
@@ -90,8 +101,9 @@ pub record IsFindAsked (known : List (List ℕ)) (asked : FindAsked) : Type 0 wh
   pub resume : IfSome asked.resume AreSessionNames
   pub log : is_file_name asked.listing.log ≡ true
   pub report : is_file_name asked.listing.report ≡ true
-  -- the log and the report have paths of their own, and so have the waves
+  -- the log and the report have paths of their own, and so have the waves and the checkpoints
   pub apart : IsOtherPath asked.listing.log asked.listing.report
   pub own_log : All (λ name. IsOtherPath name asked.listing.log) (read_names asked)
   pub own_report : All (λ name. IsOtherPath name asked.listing.report) (read_names asked)
-  pub waves : IfSome asked.waves (IsWavePrefix asked)
+  pub waves : IfSome asked.waves (IsPrefix asked)
+  pub checkpoints : IfSome asked.checkpoints (IsPrefix asked)

@@ -33,6 +33,7 @@ find_values values = record {
   listing = listing_values values.listing;
   resume = option_map session_values values.resume;
   waves = option_map (λ word. word.now) values.waves;
+  checkpoints = option_map (λ word. word.now) values.checkpoints;
 }
 
 abbrev pub check_values : CheckValues → CheckAsked

@@ -1,6 +1,7 @@
 //! The words of `find`.
 ghost use Rattle.std.specs.Prelude.{◌≡◌, ◌++◌, IfOk, codes, true, map, string_bytes};
 ghost use Rattle.std.specs.List.{list_all, list_any};
+ghost use Rattle.std.specs.Option.{option_map};
 ghost use Rattle.word_values.specs.Answers.{Gives, Says};
 ghost use Rattle.word_values.specs.Arguments.{IsPlain};
 ghost use Rattle.word_values.specs.Numbers.{AreNumbers};
@@ -8,8 +9,8 @@ ghost use Rattle.word_values.specs.Tables.{arguments_of};
 ghost use Rattle.word_values.specs.Paths.{path_begins};
 ghost use Rattle.word_values.specs.Values.{is_name, kinds_in, option_all};
 ghost use Rattle.word_values.specs.Views.{numbers_view};
-ghost use Rattle.command_words.specs.Find.{IsFindAsked, are_find_names, are_written_names, find_arguments};
-ghost use Rattle.command_words.specs.Find.{find_asked, find_in, is_own, is_wave_prefix, other_names};
+ghost use Rattle.command_words.specs.Find.{IsFindAsked, are_find_names, are_fronts_apart, are_prefixes_apart, are_written_names, find_arguments};
+ghost use Rattle.command_words.specs.Find.{find_asked, find_in, is_own, is_prefix, other_names};
 ghost use Rattle.requests.specs.Views.{find_asked as find_asked_of};
 ghost use Rattle.command_words.specs.Views.{find_values};
 
@@ -32,6 +33,7 @@ pub(crate) struct FindValues<'m, 'a> {
     pub(crate) listing: ListingValues<'a>,
     pub(crate) resume: Option<SessionValues<'a>>,
     pub(crate) waves: Option<&'a str>,
+    pub(crate) checkpoints: Option<&'a str>,
 }
 
 #[tactic(auto, unfolding(crate::specs::Find::find_arguments))]
@@ -55,6 +57,7 @@ fn find_table() -> Table<'static>
             "resume",
             "resume-log",
             "waves",
+            "checkpoint",
             "format",
         ],
         flags: &[],
@@ -75,6 +78,7 @@ fn values_in<'m, 'a>(given: &'m Given<'a>) -> Result<FindValues<'m, 'a>, Usage>
         listing,
         resume: session::values_in(given)?,
         waves: given.value("waves"),
+        checkpoints: given.value("checkpoint"),
     })
 }
 
@@ -99,8 +103,8 @@ fn are_written_names(values: &FindValues) -> bool
         && is_own(values, values.listing.report)
 }
 
-/// What the names of waves begin with: the prefix and `-`.
-fn wave_front(alloc: Global, prefix: &str) -> Result<String, NoMemory>
+/// What the names of waves, or of checkpoints, begin with: the prefix and `-`.
+fn front_of(alloc: Global, prefix: &str) -> Result<String, NoMemory>
     ensures { IfOk result (λ front. string_bytes front ≡ prefix.now ++ codes "-") }
 {
     let mut front = String::from_str(alloc, prefix)?;
@@ -108,7 +112,7 @@ fn wave_front(alloc: Global, prefix: &str) -> Result<String, NoMemory>
     Ok(front)
 }
 
-/// Whether a name other than a wave's begins so, as a path.
+/// Whether a name other than a wave's or a checkpoint's begins so, as a path.
 #[tactic(auto, using(crate::proofs::ReadNames::name_rules))]
 fn one_begins_with(values: &FindValues, front: &str) -> bool
     ensures { result ≡ list_any (path_begins front.now) (other_names (find_values values.now)) }
@@ -120,33 +124,57 @@ fn one_begins_with(values: &FindValues, front: &str) -> bool
         || session::one_begins_with(values.resume, front)
 }
 
-/// Whether the names of waves may begin with it.
-fn is_wave_prefix(alloc: Global, values: &FindValues, prefix: &str) -> Result<bool, NoMemory>
-    ensures { IfOk result (λ passes. passes ≡ is_wave_prefix (find_values values.now) prefix.now) }
+/// Whether the names of waves, or of checkpoints, may begin with it.
+fn is_prefix(alloc: Global, values: &FindValues, prefix: &str) -> Result<bool, NoMemory>
+    ensures { IfOk result (λ passes. passes ≡ is_prefix (find_values values.now) prefix.now) }
 {
-    let front = wave_front(alloc, prefix)?;
+    let front = front_of(alloc, prefix)?;
     Ok(is_file_name(prefix) && !one_begins_with(values, front.as_str()))
 }
 
-fn is_wave_prefix_if(alloc: Global, values: &FindValues) -> Result<bool, NoMemory>
+fn is_prefix_if(alloc: Global, values: &FindValues, prefix: Option<&str>) -> Result<bool, NoMemory>
     ensures { IfOk result (λ passes. passes
-        ≡ option_all (is_wave_prefix (find_values values.now)) (find_values values.now).waves) }
+        ≡ option_all (is_prefix (find_values values.now)) (option_map (λ word. word.now) prefix.entry)) }
 {
-    match values.waves {
-        Some(prefix) => is_wave_prefix(alloc, values, prefix),
+    match prefix {
+        Some(prefix) => is_prefix(alloc, values, prefix),
         None => Ok(true),
+    }
+}
+
+/// Whether no wave's name can begin as a checkpoint's, nor the other way round, as paths.
+fn are_fronts_apart(alloc: Global, waves: &str, checkpoints: &str) -> Result<bool, NoMemory>
+    ensures { IfOk result (λ passes. passes ≡ are_fronts_apart waves.now checkpoints.now) }
+{
+    let waves = front_of(alloc, waves)?;
+    let checkpoints = front_of(alloc, checkpoints)?;
+    Ok(!path_begins_with(waves.as_str(), checkpoints.as_str())
+        && !path_begins_with(checkpoints.as_str(), waves.as_str()))
+}
+
+fn are_fronts_apart_if(alloc: Global, values: &FindValues) -> Result<bool, NoMemory>
+    ensures { IfOk result (λ passes. passes
+        ≡ are_prefixes_apart (find_values values.now).waves (find_values values.now).checkpoints) }
+{
+    match (values.waves, values.checkpoints) {
+        (Some(waves), Some(checkpoints)) => are_fronts_apart(alloc, waves, checkpoints),
+        _ => Ok(true),
     }
 }
 
 fn are_names(alloc: Global, values: &FindValues) -> Result<bool, NoMemory>
     ensures { IfOk result (λ passes. passes ≡ are_find_names (find_values values.now)) }
 {
-    let waves = is_wave_prefix_if(alloc, values)?;
+    let waves = is_prefix_if(alloc, values, values.waves)?;
+    let checkpoints = is_prefix_if(alloc, values, values.checkpoints)?;
+    let apart = are_fronts_apart_if(alloc, values)?;
     Ok(
         sim::are_names(&values.sources)
             && session::are_names(values.resume)
             && are_written_names(values)
-            && waves,
+            && waves
+            && checkpoints
+            && apart,
     )
 }
 
@@ -161,6 +189,7 @@ fn copied(alloc: Global, values: &FindValues, suspects: &[&str]) -> Result<FindR
         listing: listing::copied(alloc, &values.listing, suspects)?,
         resume: session::copied(alloc, values.resume)?,
         waves: text_if(alloc, values.waves)?,
+        checkpoints: text_if(alloc, values.checkpoints)?,
     })
 }
 

@@ -51,6 +51,8 @@ their own, free in each cycle, they make each dump's outputs the wanted ones.
   --log NAME       the file that the log is written to, for check (localise.log)
   --report NAME    the file that the report is written to (localise.json)
   --waves PREFIX   a wave of each set S and dump T to PREFIX-S-T.vcd (none)
+  --checkpoint PREFIX  while it runs, log and report to PREFIX-1.log, .json and
+                   PREFIX-2.log, .json in turn, for --resume if killed (none)
   --resume R       go on from a list that ended early, by its report R (none)
   --resume-log L   and by its log L: give both, or neither (none)
 In parentheses: the default.

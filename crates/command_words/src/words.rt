@@ -17,7 +17,7 @@ use word_values::{Usage, WordsErr};
 /// What the words behind the program's name ask for, where kinds of suspects of these names are known:
 ///
 /// - `find DESIGN TOP TRACE.. [--clock NAME] [--size K] [--budget B] [--sets M] [--suspects A,B] [--workers N] [--log NAME]
-///   [--report NAME] [--waves PREFIX] [--resume NAME --resume-log NAME] [--format F]`
+///   [--report NAME] [--waves PREFIX] [--checkpoint PREFIX] [--resume NAME --resume-log NAME] [--format F]`
 /// - `sim DESIGN TOP TRACE.. [--clock NAME] [--format F] [--exit-code]`
 /// - `check DESIGN TOP REPORT LOG TRACE.. [--workers N] [--format F]`
 /// - `make NUMBER [--size K] [--budget B] [--sets M] [--suspects A,B] [--workers N] [--log NAME] [--report NAME] [--design NAME]
@@ -29,7 +29,7 @@ use word_values::{Usage, WordsErr};
 /// each once. The format of the design is `verilog` (so too without the option) or `aiger`. Of a session that is gone on from, the report
 /// and the log are named both, or neither. What is written, the log (`localise.log`), the report (`localise.json`), and for `make` the
 /// design (`made.v`) and the trace (`made.vcd`), have names that are other paths than each other's and than those of what is read; with
-/// `--waves` no other name begins, as a path, with its value and `-`. An option is `--x v` or `--x=v`, stands anywhere behind the command and
+/// `--waves`, and with `--checkpoint`, no other name begins, as a path, with its value and `-`. An option is `--x v` or `--x=v`, stands anywhere behind the command and
 /// once at most; after `--` all words are positional.
 pub fn request(alloc: Global, words: &[String], known: &[&str]) -> Result<Request, WordsErr>
     ensures gives { Gives asked_of (asked (map (λ w. w.now) known.now) (map string_bytes words.now)) result }

@@ -44,12 +44,13 @@ pub record SessionNames : Type 0 where
   pub report : List ℕ
   pub log : List ℕ
 
--- `find`: the session that is gone on from, and the prefix of the waves' names, where they are asked for
+-- `find`: the session that is gone on from, and the prefixes of the waves' names and of the checkpoints', where they are asked for
 pub record FindAsked : Type 0 where
   pub sources : SourcesAsked
   pub listing : ListingAsked
   pub resume : Option SessionNames
   pub waves : Option (List ℕ)
+  pub checkpoints : Option (List ℕ)
 
 abbrev pub wanted_for : FindAsked → WantedAsked
 wanted_for asked = wanted_of asked.sources asked.listing

@@ -60,6 +60,7 @@ find_asked request = record {
   listing = listing_asked request.listing;
   resume = option_map session_names request.resume;
   waves = option_map string_bytes request.waves;
+  checkpoints = option_map string_bytes request.checkpoints;
 }
 
 abbrev pub sim_asked : SimRequest → SimAsked

@@ -14,6 +14,8 @@ pub struct FindRequest {
     pub resume: Option<SessionNames>,
     /// The prefix of the waves' names, where waves are asked for: that of set S and trace T is `P-S-T.vcd`.
     pub waves: Option<String>,
+    /// The prefix of the checkpoints' names, where they are asked for: `P-1.log` and `P-1.json`, and in turn `P-2.log` and `P-2.json`.
+    pub checkpoints: Option<String>,
 }
 
 /// What `sim` is asked.
