@@ -22,4 +22,6 @@ may-alone asked may = record {
   own_log = may.own_log;
   own_report = may.own_report;
   no_waves = may.no_waves;
+  log_beside = may.log_beside;
+  report_beside = may.report_beside;
 }

@@ -7,9 +7,11 @@ use Rattle.debug_core.specs.Problems.{IsFormFor, Problem}
 use Rattle.front_end.specs.Means.{Meaning, Refusing}
 use Rattle.load_problem.specs.Means.{Means, Suspecting}
 use Rattle.list_writer.specs.Due.{IsListed}
+use Rattle.list_writer.specs.declared.outcome.Outcome.TheVariants.{Ended}
+use Rattle.report_doc.specs.declared.types.Ending.TheVariants.{Budget}
 use Rattle.list_writer.proofs.Whole.{enough-whole}
 use Rattle.requests.specs.Asked.{FindAsked, wanted_for}
-use Rattle.find_cmd.specs.Finding.{OfInputs, finding, listing_of, outputs_of}
+use Rattle.find_cmd.specs.Finding.{OfInputs, Saves, finding, listing_of, outputs_beside}
 use Rattle.find_cmd.specs.Refusals.{IsReady}
 
 -- the list of a problem, shorter than what was asked for
@@ -26,14 +28,14 @@ pub whole-or-memory : (M : Meaning) (R : Refusing) (S : Suspecting) (asked : Fin
     → (status ≡ 0) ⊎ (status ≡ 7)
 whole-or-memory M R S asked run status keeps told ready none sets budget = at (keeps.complete told ready none)
   where
-    listed : OfInputs M S asked run.texts (λ listing. IsListed listing (outputs_of run) status) → status ≡ 0
+    listed : OfInputs M S asked run.texts (λ listing. IsListed listing (outputs_beside asked run) status × Saves asked run (Ended Budget) listing) → status ≡ 0
     listed of =
         let short : HasShortList of.problem asked.listing.sets = sets of.problem of.means in
         enough-whole (record {
           asked = listing_of asked of.problem of.inputs of.session;
-          outputs = outputs_of run;
+          outputs = outputs_beside asked run;
           status = status;
-          is = of.is;
+          is = of.is.0;
           list = short.list;
         }) short.is_list (budget of.problem of.means) short.short
 

@@ -29,6 +29,8 @@ job-held asked problem inputs session may is shown few_sets few_steps =
         apart = may.apart;
         own_log = may.no_waves 1 [] (omega arith);
         own_report = may.no_waves 2 [] (omega arith);
+        log_beside = may.log_beside;
+        report_beside = may.report_beside;
       };
       session = shown;
       few = omega (arith, units, sets, few_sets, few_steps);
@@ -45,6 +47,7 @@ with_session session asked = record {
   log = asked.log;
   report = asked.report;
   waves = asked.waves;
+  checkpoints = asked.checkpoints;
   inputs = asked.inputs;
   top = asked.top;
   clock = asked.clock;

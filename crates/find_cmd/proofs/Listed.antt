@@ -1,5 +1,5 @@
 -- The promises of the command, from how a listing ends.
-use Rattle.std.proofs.Common.{ℕ, ◌≡◌, ◌≢◌, ◌≤◌, ◌+◌, true, List, Option, Some, None, ap, refl, sym, subst, ◌∙◌, arith, ◌⊎◌, inl, inr}
+use Rattle.std.proofs.Common.{ℕ, ◌≡◌, ◌≢◌, ◌≤◌, ◌+◌, true, false, List, Option, Some, None, ap, refl, sym, subst, ◌∙◌, arith, ◌⊎◌, inl, inr}
 use Rattle.command_contract.specs.Contract.{Causes, IsInputRefusal, IsStatus, Keeps, NoneRose, OneRose, Run, Texts, counts_of}
 use Rattle.io_ports.specs.Faults.{FaultCounts}
 use Rattle.std.proofs.Common.{length}
@@ -16,11 +16,15 @@ use Rattle.list_writer.specs.declared.outcome.Outcome.TheVariants.{Ended, Failed
 use Rattle.list_writer.specs.Lines.{ending_status}
 use Rattle.set_waves.specs.Names.{IsWave}
 use Rattle.list_writer.specs.Asked.{Asked as Listing, Session}
+use Rattle.list_writer.specs.CheckpointNames.{beside, is_checkpoint}
+use Rattle.list_writer.specs.Checkpoints.{CheckpointsStand}
+use Rattle.list_writer.proofs.Saved.{stand-weaker}
+use Rattle.std.proofs.lemmas.Bool.{false_from_ne_true}
 use Rattle.list_writer.specs.Due.{IsCut, IsListed, IsStopped}
 use Rattle.list_writer.specs.Outcomes.{Leaves, OutcomeCause, status_of}
 use Rattle.load_problem.specs.Means.{IsDigestOf, Means, Suspecting}
 use Rattle.requests.specs.Asked.{FindAsked, SessionNames, wanted_for}
-use Rattle.find_cmd.specs.Finding.{Causing, MayBeWave, OfInputs, finding_by, listing_of, outputs_of}
+use Rattle.find_cmd.specs.Finding.{Causing, MayBeWave, OfInputs, Saves, finding_by, listing_of, outputs_beside}
 use Rattle.find_cmd.specs.Sessions.{MeansSession}
 
 -- what is known of a run that ends by a listing
@@ -29,8 +33,10 @@ pub record IsListing (M : Meaning) (S : Suspecting) (asked : FindAsked) (run : R
   pub means : run.told ≡ true → Means M S (wanted_for asked) run.texts problem
   pub digest : run.told ≡ true → IsDigestOf (wanted_for asked) run.texts inputs
   pub begins : run.told ≡ true → MeansSession asked.resume run.texts problem inputs session
-  pub leaves : run.told ≡ true → Leaves (listing_of asked problem inputs session) (outputs_of run) o
+  pub leaves : run.told ≡ true → Leaves (listing_of asked problem inputs session) (outputs_beside asked run) o
+  pub saves : run.told ≡ true → Saves asked run o (listing_of asked problem inputs session)
   pub others : run.told ≡ true → (name : List ℕ) → name ≢ asked.listing.log → name ≢ asked.listing.report
+      → is_checkpoint asked.checkpoints name ≡ false
       → ¬ IsWave asked.waves (length session.sets + asked.listing.sets) (length problem.traces) name
       → run.now_written name ≡ run.written name
   pub cause : OutcomeCause run.counts o
@@ -117,25 +123,28 @@ module _ (M : Meaning) (S : Suspecting) (asked : FindAsked) (IsDue : Causing) (r
   }
 
   list-answered : (o : Outcome) → Means M S (wanted_for asked) run.texts problem → IsDigestOf (wanted_for asked) run.texts inputs
-      → Meant → Leaves (listing_of asked problem inputs session) (outputs_of run) o → (status_of o ≡ 0) ⊎ (status_of o ≡ 1)
-      → OfInputs M S asked run.texts (λ listing. IsListed listing (outputs_of run) (status_of o))
-  list-answered (Ended ending) means digest begins leaves is = of-inputs _ means digest begins leaves.listed
-  list-answered Failed means digest begins leaves is = absurd (omega (arith, at-most-one 6 is))
-  list-answered Memory means digest begins leaves is = absurd (omega (arith, at-most-one 7 is))
+      → Meant → Leaves (listing_of asked problem inputs session) (outputs_beside asked run) o → Saves asked run o (listing_of asked problem inputs session)
+      → (status_of o ≡ 0) ⊎ (status_of o ≡ 1)
+      → OfInputs M S asked run.texts (λ listing. IsListed listing (outputs_beside asked run) (status_of o) × Saves asked run (Ended Budget) listing)
+  list-answered (Ended ending) means digest begins leaves saves is =
+      of-inputs _ means digest begins (leaves.listed, stand-weaker asked.checkpoints (listing_of asked problem inputs session) run.written run.now_written ending
+      (Ended Budget) saves)
+  list-answered Failed means digest begins leaves saves is = absurd (omega (arith, at-most-one 6 is))
+  list-answered Memory means digest begins leaves saves is = absurd (omega (arith, at-most-one 7 is))
 
   list-stopped : (o : Outcome) → Means M S (wanted_for asked) run.texts problem → IsDigestOf (wanted_for asked) run.texts inputs
-      → Meant → Leaves (listing_of asked problem inputs session) (outputs_of run) o → status_of o ≡ 6
-      → OfInputs M S asked run.texts (λ listing. IsStopped listing (outputs_of run))
-  list-stopped (Ended ending) means digest begins leaves e = absurd (omega (arith, e, at-most-one _ (ending-range ending)))
-  list-stopped Failed means digest begins leaves e = of-inputs _ means digest begins leaves
-  list-stopped Memory means digest begins leaves e = absurd (omega (arith, e))
+      → Meant → Leaves (listing_of asked problem inputs session) (outputs_beside asked run) o → Saves asked run o (listing_of asked problem inputs session)
+      → status_of o ≡ 6 → OfInputs M S asked run.texts (λ listing. IsStopped listing (outputs_beside asked run) × Saves asked run Failed listing)
+  list-stopped (Ended ending) means digest begins leaves saves e = absurd (omega (arith, e, at-most-one _ (ending-range ending)))
+  list-stopped Failed means digest begins leaves saves e = of-inputs _ means digest begins (leaves, saves)
+  list-stopped Memory means digest begins leaves saves e = absurd (omega (arith, e))
 
   list-cut : (o : Outcome) → Means M S (wanted_for asked) run.texts problem → IsDigestOf (wanted_for asked) run.texts inputs
-      → Meant → Leaves (listing_of asked problem inputs session) (outputs_of run) o → status_of o ≡ 7
-      → OfInputs M S asked run.texts (λ listing. IsCut listing (outputs_of run))
-  list-cut (Ended ending) means digest begins leaves e = absurd (omega (arith, e, at-most-one _ (ending-range ending)))
-  list-cut Failed means digest begins leaves e = absurd (omega (arith, e))
-  list-cut Memory means digest begins leaves e = of-inputs _ means digest begins leaves
+      → Meant → Leaves (listing_of asked problem inputs session) (outputs_beside asked run) o → Saves asked run o (listing_of asked problem inputs session)
+      → status_of o ≡ 7 → OfInputs M S asked run.texts (λ listing. IsCut listing (outputs_beside asked run) × Saves asked run Memory listing)
+  list-cut (Ended ending) means digest begins leaves saves e = absurd (omega (arith, e, at-most-one _ (ending-range ending)))
+  list-cut Failed means digest begins leaves saves e = absurd (omega (arith, e))
+  list-cut Memory means digest begins leaves saves e = of-inputs _ means digest begins (leaves, saves)
 
   -- no count rises where memory was wanted
   list-none : (o : Outcome) → OutcomeCause run.counts o → status_of o ≡ 7 → NoneRose run.counts
@@ -156,21 +165,22 @@ module _ (M : Meaning) (S : Suspecting) (asked : FindAsked) (IsDue : Causing) (r
   listed-keeps o is = record {
     is_status = list-status o;
     refusals = input-refusal;
-    answered = λ told. list-answered o (is.means told) (is.digest told) (is.begins told) (is.leaves told);
+    answered = λ told. list-answered o (is.means told) (is.digest told) (is.begins told) (is.leaves told) (is.saves told);
     refused = λ told refusal. absurd (no-refusal o refusal);
     stopped = λ told six. (
       (list-causes o is.cause).write six,
-      inl (list-stopped o (is.means told) (is.digest told) (is.begins told) (is.leaves told) six),
+      inl (list-stopped o (is.means told) (is.digest told) (is.begins told) (is.leaves told) (is.saves told) six),
     );
     cut = λ told seven. inl (
       list-none o is.cause seven,
-      list-cut o (is.means told) (is.digest told) (is.begins told) (is.leaves told) seven,
+      list-cut o (is.means told) (is.digest told) (is.begins told) (is.leaves told) (is.saves told) seven,
     );
     others = λ told name may.
-        is.others told name (λ e. may (inl e)) (λ e. may (inr (inl e))) (λ e. may (inr (inr
+        is.others told name (λ e. may (inl e)) (λ e. may (inr (inl e)))
+        (false_from_ne_true (is_checkpoint asked.checkpoints name) (λ e. may (inr (inr (inr e))))) (λ e. may (inr (inr (inl
         (may-be-wave asked asked.resume run.texts problem inputs session name (is.begins told) (subst
         (λ n. IsWave asked.waves (length session.sets + asked.listing.sets) n name)
-        (AllZip-long _ asked.sources.texts.traces problem.traces (is.means told).traces) e)))));
+        (AllZip-long _ asked.sources.texts.traces problem.traces (is.means told).traces) e))))));
     causes = list-causes o is.cause;
     complete = λ told ready none. list-complete o is.cause none;
   }
@@ -183,17 +193,18 @@ pub listing-keeps : (M : Meaning) (S : Suspecting) (asked : FindAsked) (IsDue : 
     → (run.told ≡ true → IsDigestOf (wanted_for asked) run.texts inputs)
     → (run.told ≡ true → MeansSession asked.resume run.texts problem inputs session)
     → (run.told ≡ true → Leaves listing (record {
-      written = written;
-      now_written = run.now_written;
+      written = beside listing.checkpoints written;
+      now_written = beside listing.checkpoints run.now_written;
       printed = run.printed;
       now_printed = run.now_printed;
     }) o)
-    → (run.told ≡ true → (name : List ℕ) → name ≢ listing.log → name ≢ listing.report
+    → (run.told ≡ true → CheckpointsStand listing.checkpoints listing written run.now_written o)
+    → (run.told ≡ true → (name : List ℕ) → name ≢ listing.log → name ≢ listing.report → is_checkpoint listing.checkpoints name ≡ false
     → ¬ IsWave listing.waves (length listing.session.sets + listing.sets) (length listing.problem.traces) name
     → run.now_written name ≡ written name)
     → OutcomeCause (counts_of shelf run.counts.now_shelf run.counts.sink run.counts.now_sink) o
     → Keeps (finding_by M S asked IsDue) run status
-listing-keeps M S asked IsDue run problem inputs session listing written shelf o status is same kept ended means digest begins leaves others
+listing-keeps M S asked IsDue run problem inputs session listing written shelf o status is same kept ended means digest begins leaves saves others
     cause =
     subst (Keeps (finding_by M S asked IsDue) run) (sym ended)
     (listed-keeps M S asked IsDue run problem inputs session o
@@ -202,15 +213,24 @@ listing-keeps M S asked IsDue run problem inputs session listing written shelf o
       digest = digest;
       begins = begins;
       leaves = λ told.
-          subst (λ (l : Listing). Leaves l (outputs_of run) o) is
+          subst (λ (l : Listing). Leaves l (record {
+            written = beside l.checkpoints run.written;
+            now_written = beside l.checkpoints run.now_written;
+            printed = run.printed;
+            now_printed = run.now_printed;
+          }) o) is
           (subst (λ (w : Texts). Leaves listing (record {
-            written = w;
-            now_written = run.now_written;
+            written = beside listing.checkpoints w;
+            now_written = beside listing.checkpoints run.now_written;
             printed = run.printed;
             now_printed = run.now_printed;
           }) o) same (leaves told));
-      others = λ told name no_log no_report no_wave.
+      saves = λ told.
+          subst (λ (l : Listing). CheckpointsStand l.checkpoints l run.written run.now_written o) is
+          (subst (λ (w : Texts). CheckpointsStand listing.checkpoints listing w run.now_written o) same (saves told));
+      others = λ told name no_log no_report no_checkpoint no_wave.
           others told name (λ e. no_log (e ∙ ap (λ (l : Listing). l.log) is)) (λ e. no_report (e ∙ ap (λ (l : Listing). l.report) is))
+          (ap (λ (l : Listing). is_checkpoint l.checkpoints name) is ∙ no_checkpoint)
           (λ e. no_wave (subst
           (λ (l : Listing). IsWave l.waves (length l.session.sets + l.sets) (length l.problem.traces) name) is e))
           ∙ ap (λ (w : Texts). w name) same;

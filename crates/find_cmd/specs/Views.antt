@@ -8,7 +8,13 @@ use Rattle.find_cmd.specs.declared.request.ResumeRequest.{ResumeRequest}
 
 -- what is asked, with this in the place of the session
 abbrev pub with_resume : Option SessionNames → FindAsked → FindAsked
-with_resume resume asked = record { sources = asked.sources; listing = asked.listing; resume = resume; waves = asked.waves }
+with_resume resume asked = record {
+  sources = asked.sources;
+  listing = asked.listing;
+  resume = resume;
+  waves = asked.waves;
+  checkpoints = asked.checkpoints;
+}
 
 -- a list that goes on from no session
 abbrev pub list_asked : ListRequest → FindAsked
@@ -17,6 +23,7 @@ list_asked request = record {
   listing = listing_asked request.listing.now;
   resume = None;
   waves = option_copied request.waves;
+  checkpoints = option_copied request.checkpoints;
 }
 
 -- and one that goes on from one

@@ -23,6 +23,7 @@ pub(crate) fn job_of<'a>(inputs: &'a Inputs, request: &'a ListRequest<'_>) -> Jo
         log: listing.log.as_str(),
         report: listing.report.as_str(),
         waves: request.waves,
+        checkpoints: request.checkpoints,
         inputs: inputs.digest,
         top: &request.sources.texts.top,
         clock: request.sources.clock,

@@ -14,6 +14,8 @@ pub struct ListRequest<'a> {
     pub listing: &'a Listing,
     /// The prefix of the waves' names, where waves are asked for.
     pub waves: Option<&'a str>,
+    /// The prefix of the checkpoints' names, where they are asked for.
+    pub checkpoints: Option<&'a str>,
 }
 
 /// The same, of a list that goes on from the session of the names.
@@ -33,6 +35,16 @@ fn prefix_of(request: &FindRequest) -> Option<&str>
     }
 }
 
+/// The prefix of the checkpoints' names, where they are asked for.
+fn checkpoints_of(request: &FindRequest) -> Option<&str>
+    ensures { option_copied result ≡ (find_asked request.now).checkpoints }
+{
+    match &request.checkpoints {
+        Some(prefix) => Some(prefix.as_str()),
+        None => None,
+    }
+}
+
 impl<'a> ListRequest<'a> {
     /// What `find` is asked, but for the session.
     pub(crate) fn of(request: &'a FindRequest) -> ListRequest<'a>
@@ -42,6 +54,7 @@ impl<'a> ListRequest<'a> {
             sources: request.reading.sources(),
             listing: &request.listing,
             waves: prefix_of(request),
+            checkpoints: checkpoints_of(request),
         }
     }
 

@@ -97,6 +97,7 @@ returns-in-Ok-resumed g c faults reads =
     (λ (l : Listing). BeginsWith (session_names c.args.request.now.names.now) texts l.problem l.inputs session) c.job_of-job.ensures
     (ended.session (both t).0))
     (λ t. c.list.ensures.left (ended.tells ∙ (both t).0) (both t).1)
+    (λ t. c.list.ensures.checkpoints (ended.tells ∙ (both t).0) (both t).1)
     (λ t. c.list.ensures.others (ended.tells ∙ (both t).0) (both t).1)
     c.list.ensures.causes
 

@@ -60,6 +60,7 @@ returns-in-Ok-new-clause-keeps g c told texts faults on_shelf on_sink reads =
     (λ t. at-ok (λ i. IsDigestOf (wanted_for asked) texts i.digest) c.args.read inputs c.in-Ok.is (reads.digest t))
     (λ t. begun-alone _ found c.in-Ok-new.search c.new-found.ensures.items c.in-Ok-new.ensures.begins)
     (λ t. c.list.ensures.left (on_shelf t) (on_sink t))
+    (λ t. c.list.ensures.checkpoints (on_shelf t) (on_sink t))
     (λ t. c.list.ensures.others (on_shelf t) (on_sink t))
     c.list.ensures.causes
 
