@@ -1,5 +1,5 @@
 -- What may be asked: the four names differ, and the list of the made texts may be asked too.
-use Rattle.std.proofs.Common.{ℕ, zero, suc, ◌≢◌, List, [], ◌∷◌, sym, arith}
+use Rattle.std.proofs.Common.{ℕ, zero, suc, ◌≢◌, List, [], ◌∷◌, refl, sym, arith}
 use Rattle.std.specs.Prelude.{All}
 use Rattle.find_cmd.specs.Asked.{IsAsked as IsListAsked}
 use Rattle.make_cmd.specs.Asked.{IsAsked, finding_of}
@@ -40,4 +40,6 @@ module _ (asked : MakeAsked) (may : IsAsked asked) where
     own_log = all-two (λ name. name ≢ asked.listing.log) asked.design asked.trace design-log trace-log;
     own_report = all-two (λ name. name ≢ asked.listing.report) asked.design asked.trace design-report trace-report;
     no_waves = λ i d low. tt;
+    log_beside = refl;
+    report_beside = refl;
   }

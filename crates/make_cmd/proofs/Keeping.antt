@@ -1,5 +1,5 @@
 -- The promises of the command, from how a run ends: before the list, in it, or behind it.
-use Rattle.std.proofs.Common.{ℕ, zero, suc, ◌≡◌, ◌≢◌, ◌≤◌, true, List, [], ◌∷◌, ◌++◌, take, refl, sym, subst, ◌∙◌, arith}
+use Rattle.std.proofs.Common.{ℕ, zero, suc, ◌≡◌, ◌≢◌, ◌≤◌, true, false, List, [], ◌∷◌, ◌++◌, take, refl, sym, subst, ◌∙◌, arith}
 use Rattle.std.proofs.Common.{◌⊎◌, inl, inr, None, Some}
 use Rattle.std.proofs.Math.Path.{fun_ext}
 use Rattle.io_ports.specs.Faults.{FaultCounts, Rose, WriteRose}
@@ -38,12 +38,13 @@ trace-written asked written may =
 writes-spare : (asked : MakeAsked) (name : List ℕ) → name ≢ asked.design → name ≢ asked.trace → AllSpare name (made_writes asked)
 writes-spare asked name no_design no_trace = (no_design, (no_design, (no_trace, (no_trace, tt))))
 
--- the list writes its log and its report, and no waves
+-- the list writes its log and its report, no waves and no checkpoints
 unwritten : (asked : MakeAsked) (name : List ℕ) → name ≢ asked.listing.log → name ≢ asked.listing.report
-    → (name ≡ asked.listing.log) ⊎ ((name ≡ asked.listing.report) ⊎ ⊥) → ⊥
+    → (name ≡ asked.listing.log) ⊎ ((name ≡ asked.listing.report) ⊎ (⊥ ⊎ (false ≡ true))) → ⊥
 unwritten asked name other_log other_report (inl log) = other_log log
 unwritten asked name other_log other_report (inr (inl report)) = other_report report
-unwritten asked name other_log other_report (inr (inr wave)) = wave
+unwritten asked name other_log other_report (inr (inr (inl wave))) = wave
+unwritten asked name other_log other_report (inr (inr (inr checkpoint))) = absurd (cc)
 
 -- the list goes on from no session
 no-session : (names : SessionNames) → None ≡ Some names → ⊥

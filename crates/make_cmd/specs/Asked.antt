@@ -5,7 +5,7 @@ use Rattle.requests.specs.Asked.{FindAsked, MakeAsked}
 use Rattle.find_cmd.specs.Asked.{IsListing}
 
 -- the list of the made design and trace: the design is in Verilog, the top is `made`, the clock is `clk`, it goes on from no session, and no
--- waves are written
+-- waves and no checkpoints are written
 abbrev pub finding_of : MakeAsked → FindAsked
 finding_of asked = record {
   sources = record {
@@ -15,6 +15,7 @@ finding_of asked = record {
   listing = asked.listing;
   resume = None;
   waves = None;
+  checkpoints = None;
 }
 
 -- what may be asked; the four texts that are written have names of their own

@@ -62,5 +62,6 @@ pub(crate) fn list_of<'a>(reading: &'a Reading, request: &'a MakeRequest) -> Lis
         sources: reading.sources(),
         listing: &request.listing,
         waves: None,
+        checkpoints: None,
     }
 }
