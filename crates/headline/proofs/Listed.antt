@@ -22,7 +22,8 @@ use Rattle.list_writer.specs.Asked.{Asked, Session}
 use Rattle.list_writer.specs.Due.{IsListed}
 use Rattle.list_writer.specs.Found.{EndsAs, IsShown, Portion, found_of, log_of}
 use Rattle.list_writer.specs.Lines.{ending_line, ending_status, front_line}
-use Rattle.find_cmd.specs.Finding.{OfInputs, finding, listing_of, outputs_of}
+use Rattle.find_cmd.specs.Finding.{OfInputs, Saves, finding, listing_of, outputs_beside}
+use Rattle.list_writer.specs.declared.outcome.Outcome.TheVariants.{Ended}
 use Rattle.find_cmd.specs.Sessions.{MeansSession, claim_of}
 use Rattle.localise_cmd.specs.Commands.{KeepsWords, case_of}
 use Rattle.headline.specs.Runs.{FindRun}
@@ -92,7 +93,7 @@ module _ (r : FindRun) where
   promised kept =
       subst (λ (a : Result Request Usage). Keeps (case_of (tools_for r.of) a) r.of.run r.of.status) kept.words kept.keeps
 
-  module _ (of : OfThese (λ listing. IsListed listing (outputs_of r.of.run) r.of.status)) where
+  module _ (of : OfThese (λ listing. IsListed listing (outputs_beside r.asked r.of.run) r.of.status × Saves r.asked r.of.run (Ended Budget) listing)) where
     abbrev p : Problem
     p = of.problem
 
@@ -100,7 +101,7 @@ module _ (r : FindRun) where
     listing = listing_of r.asked p of.inputs of.session
 
     abbrev sets : List SetWithValues
-    sets = found_of listing of.is.portions
+    sets = found_of listing of.is.0.portions
 
     abbrev subject : Subject
     subject = subject_of p
@@ -110,25 +111,25 @@ module _ (r : FindRun) where
       subject = subject;
       is_meant = record { design = of.means.design; traces = of.means.traces; suspects = of.means.groups };
       sets = sets;
-      explained = λ k d within. (let shown = of.is.is_ended.found.shown k d within in
+      explained = λ k d within. (let shown = of.is.0.is_ended.found.shown k d within in
           record { rows = shown.rows; explains = shown.explains });
-      goes_on = goes-on r.asked.resume p of.inputs of.session (map (λ (portion : Portion). portion.set) of.is.portions) of.goes_on;
+      goes_on = goes-on r.asked.resume p of.inputs of.session (map (λ (portion : Portion). portion.set) of.is.0.portions) of.goes_on;
     }
 
     -- what is printed, where the last line is this one
-    printed : (last : List ℕ) → ending_line of.is.ending (length sets) ≡ last → IsPrinted r found last
+    printed : (last : List ℕ) → ending_line of.is.0.ending (length sets) ≡ last → IsPrinted r found last
     printed last is =
-        of.is.done.printed
+        of.is.0.done.printed
         ∙ ap (λ t. r.of.run.printed ++ t)
-        (all-print listing of.is.portions of.is.rest of.is.ending of.is.runs (ending_line of.is.ending (length sets))
+        (all-print listing of.is.0.portions of.is.0.rest of.is.0.ending of.is.0.runs (ending_line of.is.0.ending (length sets))
         ∙ ap (λ t. flat_map (set_lines p.groups p.design.places.items) (members_of sets) ++ t) is)
 
     -- ---- 0
     pub all : r.of.status ≡ 0 → ListsAll r
     all zero =
-        let is : of.is.ending ≡ Complete = ends-whole of.is.ending (sym of.is.has_status ∙ zero) in
-        let ends = subst (λ (e : Ending). EndsAs listing of.is.portions (log_of listing of.is.portions ++ of.is.rest) e)
-        is of.is.is_ended.ends in
+        let is : of.is.0.ending ≡ Complete = ends-whole of.is.0.ending (sym of.is.0.has_status ∙ zero) in
+        let ends = subst (λ (e : Ending). EndsAs listing of.is.0.portions (log_of listing of.is.0.portions ++ of.is.0.rest) e)
+        is of.is.0.is_ended.ends in
         record {
           found = found;
           is_list = subst (λ k. IsList p.design p.traces (suspects_of p) k (members_of sets)) of.means.size ends.0;
@@ -137,11 +138,11 @@ module _ (r : FindRun) where
 
     -- ---- 1
     front : (why : List ℕ) → (why ≡ codes "budget") ⊎ (why ≡ codes "sets")
-        → ending_line of.is.ending (length sets) ≡ codes "front " ++ decimal (length sets) ++ codes " " ++ why ++ newline
+        → ending_line of.is.0.ending (length sets) ≡ codes "front " ++ decimal (length sets) ++ codes " " ++ why ++ newline
         → ListsFront r
     front why is_why last = record {
       found = found;
-      is_front = subst (λ k. IsFront p.design p.traces (suspects_of p) k (members_of sets)) of.means.size of.is.is_ended.found.front;
+      is_front = subst (λ k. IsFront p.design p.traces (suspects_of p) k (members_of sets)) of.means.size of.is.0.is_ended.found.front;
       why = why;
       is_why = is_why;
       printed = printed (codes "front " ++ decimal (length sets) ++ codes " " ++ why ++ newline) last;
@@ -149,6 +150,6 @@ module _ (r : FindRun) where
 
     pub is-front : r.of.status ≡ 1 → ListsFront r
     is-front one =
-        let why = why-of of.is.ending (sym of.is.has_status ∙ one)
-        (never-earlier listing of.is.portions (log_of listing of.is.portions ++ of.is.rest) of.is.ending of.is.is_ended.ends) in
+        let why = why-of of.is.0.ending (sym of.is.0.has_status ∙ one)
+        (never-earlier listing of.is.0.portions (log_of listing of.is.0.portions ++ of.is.0.rest) of.is.0.ending of.is.0.is_ended.ends) in
         front why.why why.is_why (why.line (length sets))
