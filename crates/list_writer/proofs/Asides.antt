@@ -1,6 +1,6 @@
 -- The writes of a listing stand beside its checkpoints: log and report have other names, and waves end in other letters.
 use Rattle.std.proofs.Common.{◌≡◌, ◌≢◌, ℕ, ◌+◌, Bool, true, false, ◌||◌, List, [], ◌∷◌, ◌++◌, take}
-use Rattle.std.proofs.Common.{Option, Some, None, Result, Ok, Err, refl, ap, sym, ◌∙◌, subst, arith}
+use Rattle.std.proofs.Common.{Option, Some, None, Result, Ok, Err, refl, ap, sym, ◌∙◌, subst, append_assoc, arith}
 use Rattle.std.specs.Prelude.{codes, decimal}
 use Rattle.std.specs.Str.{bytes_eq}
 use Rattle.std.specs.Cmp.Lexicographic.{bytes_decides}
@@ -19,7 +19,7 @@ use Rattle.list_writer.specs.declared.pair.Pair.TheVariants.{First, Second}
 use Rattle.list_writer.specs.declared.stop.Stop.{Stop}
 use Rattle.list_writer.specs.declared.stop.Stop.TheVariants.{Failed, Memory}
 use Rattle.list_writer.specs.Asked.{Asked}
-use Rattle.list_writer.specs.CheckpointNames.{is_checkpoint, log_name, report_name}
+use Rattle.list_writer.specs.CheckpointNames.{is_checkpoint, is_name, log_name, report_name}
 use Rattle.list_writer.specs.Due.{first_writes, set_writes}
 use Rattle.list_writer.specs.Found.{Portion}
 use Rattle.list_writer.specs.Going.{CutsTurn, FailsTurn, GoesOn, IsTurn, OpenLeaves, Rests, Turn}
@@ -47,12 +47,29 @@ other-end name other a b first second apart = at (bytes_eq name other) refl
     at true e = absurd (apart (sym first ∙ ap last_byte ((bytes_decides name other).0 e) ∙ second))
     at false e = refl
 
-pub none-of-four : (a b c d : Bool) → a ≡ false → b ≡ false → c ≡ false → d ≡ false → ((a || b) || (c || d)) ≡ false
+none-of-four : (a b c d : Bool) → a ≡ false → b ≡ false → c ≡ false → d ≡ false → ((a || b) || (c || d)) ≡ false
 none-of-four true b c d one two three four = absurd (cc)
 none-of-four false true c d one two three four = absurd (cc)
 none-of-four false false true d one two three four = absurd (cc)
 none-of-four false false false true one two three four = absurd (cc)
 none-of-four false false false false one two three four = refl
+
+-- no name of a checkpoint begins otherwise
+pub begins-otherwise : (prefix name : List ℕ) → ((rest : List ℕ) → name ≢ (prefix ++ codes "-") ++ rest) → is_name prefix name ≡ false
+begins-otherwise prefix name own =
+    none-of-four (bytes_eq name (log_name prefix First)) (bytes_eq name (report_name prefix First))
+    (bytes_eq name (log_name prefix Second)) (bytes_eq name (report_name prefix Second))
+    (unlike (log_name prefix First) (codes "1.log") (sym (append_assoc prefix (codes "-") (codes "1.log"))))
+    (unlike (report_name prefix First) (codes "1.json") (sym (append_assoc prefix (codes "-") (codes "1.json"))))
+    (unlike (log_name prefix Second) (codes "2.log") (sym (append_assoc prefix (codes "-") (codes "2.log"))))
+    (unlike (report_name prefix Second) (codes "2.json") (sym (append_assoc prefix (codes "-") (codes "2.json"))))
+  where
+    unlike : (other rest : List ℕ) → other ≡ (prefix ++ codes "-") ++ rest → bytes_eq name other ≡ false
+    unlike other rest is = at (bytes_eq name other) refl
+      where
+        at : (b : Bool) → bytes_eq name other ≡ b → b ≡ false
+        at true e = absurd (own rest ((bytes_decides name other).0 e ∙ is))
+        at false e = refl
 
 -- a wave's name ends in `d`, a log's in `g` and a report's in `n`
 wave-aside : (checkpoints : Option (List ℕ)) (prefix : List ℕ) (set trace : ℕ) → is_checkpoint checkpoints (wave_name prefix set trace) ≡ false
