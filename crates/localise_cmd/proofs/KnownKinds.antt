@@ -1,9 +1,7 @@
 -- What words ask of `find` is what a list may be asked.
-use Rattle.std.proofs.Common.{ℕ, ◌≡◌, ◌≢◌, ◌⊎◌, Bool, true, false, List, [], ◌∷◌, ◌++◌, map, arith, refl, sym, subst, ap, ◌∙◌, append_assoc}
+use Rattle.std.proofs.Common.{ℕ, ◌≡◌, ◌≢◌, ◌⊎◌, Bool, true, false, List, [], ◌∷◌, ◌++◌, map, arith, refl, sym, subst, ap, ◌∙◌}
 use Rattle.std.proofs.Common.{inl, inr, Some, None, Option}
-use Rattle.std.specs.Prelude.{All, Contains, IfSome, codes, nat_eq}
-use Rattle.std.specs.Str.{bytes_eq}
-use Rattle.std.specs.Cmp.Lexicographic.{bytes_decides}
+use Rattle.std.specs.Prelude.{All, Contains, IfSome, nat_eq}
 use Rattle.std.specs.Cmp.Lexicographic.{pointwise}
 use Rattle.std.proofs.lemmas.Bool.{false≢true}
 use Rattle.std.proofs.lemmas.List.{get_or_append_left, length-append}
@@ -19,9 +17,8 @@ use Rattle.command_words.specs.Listing.{IsListingAsked}
 use Rattle.command_words.specs.Session.{session_texts}
 use Rattle.command_words.specs.Make.{IsMakeAsked}
 use Rattle.set_waves.specs.Names.{IsNoWave}
-use Rattle.list_writer.specs.declared.pair.Pair.TheVariants.{First, Second}
-use Rattle.list_writer.specs.CheckpointNames.{is_checkpoint, is_name, log_name, report_name}
-use Rattle.list_writer.proofs.Asides.{none-of-four}
+use Rattle.list_writer.specs.CheckpointNames.{is_checkpoint}
+use Rattle.list_writer.proofs.Asides.{begins-otherwise}
 use Rattle.find_cmd.specs.Asked.{AreKnown, IsAsked, IsListing}
 use Rattle.make_cmd.specs.Asked.{IsAsked as IsMakeable, finding_of as list_of}
 use Rattle.localise_cmd.proofs.KindNames.{kind-names}
@@ -88,26 +85,10 @@ own-name words name own =
     (λ k d below. other_path-name _ _ (own k d below))
 
 -- the log and the report have no name of a checkpoint
-checkpoint-other : (prefix name : List ℕ) → ((rest : List ℕ) → name ≢ (prefix ++ codes "-") ++ rest) → is_name prefix name ≡ false
-checkpoint-other prefix name own =
-    none-of-four (bytes_eq name (log_name prefix First)) (bytes_eq name (report_name prefix First))
-    (bytes_eq name (log_name prefix Second)) (bytes_eq name (report_name prefix Second))
-    (unlike (log_name prefix First) (codes "1.log") (sym (append_assoc prefix (codes "-") (codes "1.log"))))
-    (unlike (report_name prefix First) (codes "1.json") (sym (append_assoc prefix (codes "-") (codes "1.json"))))
-    (unlike (log_name prefix Second) (codes "2.log") (sym (append_assoc prefix (codes "-") (codes "2.log"))))
-    (unlike (report_name prefix Second) (codes "2.json") (sym (append_assoc prefix (codes "-") (codes "2.json"))))
-  where
-    unlike : (other rest : List ℕ) → other ≡ (prefix ++ codes "-") ++ rest → bytes_eq name other ≡ false
-    unlike other rest is = at (bytes_eq name other) refl
-      where
-        at : (b : Bool) → bytes_eq name other ≡ b → b ≡ false
-        at true e = absurd (own rest ((bytes_decides name other).0 e ∙ is))
-        at false e = refl
-
 checkpoints-own : (words : FindAsked) (checkpoints : Option (List ℕ)) → IfSome checkpoints (IsPrefix words)
     → All (λ name. is_checkpoint checkpoints name ≡ false) (other_names words)
 checkpoints-own words None own = λ k d below. refl
-checkpoints-own words (Some prefix) own = λ k d below. checkpoint-other prefix _ (λ rest. other_path-name _ _ (own.own k d below rest))
+checkpoints-own words (Some prefix) own = λ k d below. begins-otherwise prefix _ (λ rest. other_path-name _ _ (own.own k d below rest))
 
 pub asked-held : (known : List (List ℕ)) (words : FindAsked) → IsFindAsked known words → IsAsked words
 asked-held known words held = record {
