@@ -1,7 +1,7 @@
 #!/usr/bin/env python3
 """What it costs to show that a list which ended early is a front, on the six designs of bench/find.py.
 
-    bench/fronts.py [PROGRAM] [--beside OTHER] [--sets N] [--size K] [--runs N] [--only NAME..]
+    bench/fronts.py [PROGRAM] [--beside OTHER] [--sets N] [--size K] [--runs N] [--workers N] [--only NAME..]
 
 For each design the list is asked for one set, for two and so on up to --sets, as far as it goes. PROGRAM (crates/localise/out/localise where it
 isn't given) ends the log of a list that stops there by a step for each suspect that the last set passes over; OTHER is a program that
@@ -11,7 +11,7 @@ doesn't. Seconds are the processor's, the least of --runs. Printed are the suspe
     numbers    the numbers in their chains, and the longest chain
     bytes      the bytes of these lines, and of the whole log
     find s     `find`, and other s that of OTHER
-    check s    `check` of the front with one worker, and yes s that of the whole list
+    check s    `check` of the front with so many workers (1), and yes s that of the whole list, which asks nothing of fronts
 
 The status is 1 where `check` doesn't say `front N`, or a set differs. Debian's package `iverilog` must be installed.
 """
@@ -57,7 +57,7 @@ def row_of(asked, name, room, number, whole, whole_check):
     beside = least([asked.beside, *words], room, asked.runs)[1] if asked.beside else None
     printed, found = least([asked.program, *words], room, asked.runs)
     steps, size = shown_by(os.path.join(room, "localise.log"))
-    said, checked = least([asked.program, *check_words(name)], room, asked.runs)
+    said, checked = least([asked.program, *check_words(asked, name)], room, asked.runs)
     with open(os.path.join(room, "localise.json")) as file:
         suspects = len(json.load(file)["suspects"])
     chains = [len(it.split(":")[1].split()) for it in steps] or [0]
@@ -67,8 +67,8 @@ def row_of(asked, name, room, number, whole, whole_check):
     return sets_of(printed) == whole[:number] and last_line(said) == "front %d" % number
 
 
-def check_words(name):
-    return ["check", "wrong.v", name, "localise.json", "localise.log", "dump.vcd"]
+def check_words(asked, name):
+    return ["check", "wrong.v", name, "localise.json", "localise.log", "dump.vcd", "--workers", str(asked.workers)]
 
 
 def rows_of(asked, name):
@@ -77,7 +77,7 @@ def rows_of(asked, name):
         prepared(name, BUGS[name][0], room)
         words = ["find", "wrong.v", name, "dump.vcd", "--clock", "clk", "--size", str(asked.size)]
         whole = sets_of(measured([asked.program, *words], room)[0])
-        whole_check = least([asked.program, *check_words(name)], room, asked.runs)[1]
+        whole_check = least([asked.program, *check_words(asked, name)], room, asked.runs)[1]
         return all([row_of(asked, name, room, number, whole, whole_check) for number in range(1, min(asked.sets, len(whole)) + 1)])
 
 
@@ -85,6 +85,7 @@ def main():
     parser = argparse.ArgumentParser(description=__doc__, formatter_class=argparse.RawDescriptionHelpFormatter)
     parser.add_argument("program", nargs="?", default=BUILT), parser.add_argument("--beside")
     parser.add_argument("--sets", type=int, default=3), parser.add_argument("--size", type=int, default=2)
+    parser.add_argument("--workers", type=int, default=1)
     parser.add_argument("--runs", type=int, default=3), parser.add_argument("--only", nargs="*", choices=list(BUGS), default=list(BUGS))
     asked = parser.parse_args()
     asked.program, asked.beside = os.path.abspath(asked.program), asked.beside and os.path.abspath(asked.beside)
