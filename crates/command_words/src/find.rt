@@ -148,8 +148,10 @@ fn are_fronts_apart(alloc: Global, waves: &str, checkpoints: &str) -> Result<boo
 {
     let waves = front_of(alloc, waves)?;
     let checkpoints = front_of(alloc, checkpoints)?;
-    Ok(!path_begins_with(waves.as_str(), checkpoints.as_str())
-        && !path_begins_with(checkpoints.as_str(), waves.as_str()))
+    Ok(
+        !path_begins_with(waves.as_str(), checkpoints.as_str())
+            && !path_begins_with(checkpoints.as_str(), waves.as_str()),
+    )
 }
 
 fn are_fronts_apart_if(alloc: Global, values: &FindValues) -> Result<bool, NoMemory>

@@ -127,8 +127,11 @@ module _ (M : Meaning) (S : Suspecting) (asked : FindAsked) (IsDue : Causing) (r
       → (status_of o ≡ 0) ⊎ (status_of o ≡ 1)
       → OfInputs M S asked run.texts (λ listing. IsListed listing (outputs_beside asked run) (status_of o) × Saves asked run (Ended Budget) listing)
   list-answered (Ended ending) means digest begins leaves saves is =
-      of-inputs _ means digest begins (leaves.listed, stand-weaker asked.checkpoints (listing_of asked problem inputs session) run.written run.now_written ending
-      (Ended Budget) saves)
+      of-inputs _ means digest begins (
+        leaves.listed,
+        stand-weaker asked.checkpoints (listing_of asked problem inputs session) run.written run.now_written ending
+            (Ended Budget) saves,
+      )
   list-answered Failed means digest begins leaves saves is = absurd (omega (arith, at-most-one 6 is))
   list-answered Memory means digest begins leaves saves is = absurd (omega (arith, at-most-one 7 is))
 
