@@ -1,4 +1,4 @@
--- A listing that ended with status 0 is whole by its report and its log, and one with status 1 a front.
+-- A listing that ended as complete is whole by its report and its log, and one that ended earlier a front.
 use Rattle.std.proofs.Common.{ℕ, ◌≡◌, ◌-◌, ◌<◌, ◌≤◌, ◌⊎◌, inl, inr, List, [], ◌∷◌, length, map, Some, refl, ap, sym, ◌∙◌, subst, arith}
 use Rattle.std.proofs.Math.Path.{fun_ext}
 use Rattle.std.specs.Prelude.{IsTrue, slice_get}
@@ -26,20 +26,19 @@ use Rattle.list_verdict.specs.Claims.{Claim, IsSetAt}
 use Rattle.list_verdict.specs.Conditions.{Closes, Holds, IsAcceptedLog, IsInOrder, IsRightSet, ShowsLast, blocks_for}
 use Rattle.list_verdict.specs.Verdicts.{IsFrontShown, IsWhole}
 use Rattle.list_writer.specs.Found.{EndsAs, IsShown, Portion, found_of, sets_of}
-use Rattle.list_writer.specs.Laws.{Listed}
 use Rattle.list_writer.specs.Lines.{ending_status}
-use Rattle.writer_verdict_laws.specs.Listings.{claim_in}
+use Rattle.writer_verdict_laws.specs.Listings.{ListEnd, claim_of_end}
 use Rattle.writer_verdict_laws.proofs.Places.{got-all, got-from, got-map, got-pair}
 
-module _ (of : Listed) where
+module _ (of : ListEnd) where
   abbrev p : Problem
   p = of.asked.problem
 
   abbrev c : Claim
-  c = claim_in of
+  c = claim_of_end of
 
   abbrev portions : List Portion
-  portions = of.is.portions
+  portions = of.portions
 
   abbrev Entry : List ℕ → Type 0
   Entry set = IsEntry p.design p.traces (suspects_of p) p.k set
@@ -58,18 +57,18 @@ module _ (of : Listed) where
         found = found;
         there = got-map (λ (one : SetWithValues). one.members) (found_of of.asked portions) place found within;
         is = same;
-        shown = got-all (IsShown p) (found_of of.asked portions) place found of.is.is_ended.found.shown within;
+        shown = got-all (IsShown p) (found_of of.asked portions) place found of.is.found.shown within;
       }
 
   entry : (place : ℕ) (set : ReportSet) (f : Found place set) → Entry f.found.members
-  entry place set f = got-all Entry (sets_of of.asked portions) place f.found.members of.is.is_ended.found.front.entries f.there
+  entry place set f = got-all Entry (sets_of of.asked portions) place f.found.members of.is.found.front.entries f.there
 
   -- one set comes before another behind it
   before : (i j : ℕ) (one other : ReportSet) (f : Found i one) (g : Found j other) → i < j
       → IsTrue (is_before f.found.members g.found.members)
   before i j one other f g less =
       got-pair (λ x y. IsTrue (is_before x y)) (sets_of of.asked portions) i j f.found.members g.found.members
-      of.is.is_ended.found.front.ordered less f.there g.there
+      of.is.found.front.ordered less f.there g.there
 
   members-are : (place : ℕ) (set : ReportSet) (f : Found place set) → f.found.members ≡ set.members
   members-are place set f = ap (λ (s : ReportSet). s.members) f.is
@@ -153,8 +152,8 @@ module _ (of : Listed) where
   blocks-same [] = refl
   blocks-same (set ∷ sets) = ap (λ (rest : List (List Lit)). block_of set.members ∷ rest) (blocks-same sets)
 
-  closes : of.status ≡ 0 → Closes c
-  closes none = at of.is.ending of.is.is_ended.ends (sym of.is.has_status ∙ none)
+  closes : ending_status of.ending ≡ 0 → Closes c
+  closes none = at of.ending of.is.ends none
     where
       at : (how : Ending) → EndsAs of.asked portions c.log how → ending_status how ≡ 0 → Closes c
       at Complete ends zero = ends.1
@@ -163,9 +162,9 @@ module _ (of : Listed) where
       at Earlier ends zero = absurd ends
 
   accepted : IsAcceptedLog c
-  accepted = subst (λ (blocks : List (List Lit)). IsAccepted of.is.form blocks c.log) (blocks-same (found_of of.asked portions)) of.is.is_ended.accepted
+  accepted = subst (λ (blocks : List (List Lit)). IsAccepted of.form blocks c.log) (blocks-same (found_of of.asked portions)) of.is.accepted
 
-  pub is-whole : of.status ≡ 0 → IsWhole c
+  pub is-whole : ending_status of.ending ≡ 0 → IsWhole c
   is-whole none = record { in_order = in-order; none_holds = none-holds; right = right; accepted = accepted; closes = closes none }
 
   members-same : (sets : List SetWithValues) → map (λ (set : SetWithValues). set.members) sets
@@ -173,10 +172,10 @@ module _ (of : Listed) where
   members-same [] = refl
   members-same (set ∷ sets) = ap (λ (rest : List (List ℕ)). set.members ∷ rest) (members-same sets)
 
-  shows : of.status ≡ 1 → ShowsLast c
+  shows : ending_status of.ending ≡ 1 → ShowsLast c
   shows one =
       subst (λ (sets : List (List ℕ)). Shows (suspect_count p) p.k (last_of sets) c.log) (members-same (found_of of.asked portions))
-      (of.is.is_ended.shows (sym of.is.has_status ∙ one))
+      (of.is.shows one)
 
-  pub is-shown : of.status ≡ 1 → IsFrontShown c
+  pub is-shown : ending_status of.ending ≡ 1 → IsFrontShown c
   is-shown one = record { in_order = in-order; none_holds = none-holds; right = right; accepted = accepted; shows = shows one }

@@ -5,6 +5,6 @@
 mod laws;
 
 pub use laws::{
-    listed_front_is_judged, listed_has_table, listed_is_judged, listed_is_read, listed_is_shown,
-    listed_is_whole,
+    checkpoint_is_read, checkpoint_is_shown, listed_front_is_judged, listed_has_table,
+    listed_is_judged, listed_is_read, listed_is_shown, listed_is_whole,
 };

@@ -1,5 +1,7 @@
+use Rattle.std.proofs.Common.{◌∙◌, sym}
+use Rattle.writer_verdict_laws.specs.Listings.{end_in}
 use Rattle.writer_verdict_laws.proofs.Listings.{is-shown}
 use Rattle.writer_verdict_laws.proofs.laws.listed_is_shown.Goals as goal
 
 pub returns : goal.returns
-returns g c = is-shown g.of c.requires
+returns g c = is-shown (end_in g.of) (sym g.of.is.has_status ∙ c.requires)
