@@ -9,7 +9,7 @@ use loc_base::NoMemory;
 use sat_core::Budget;
 
 /// The most units that a search is given at once. Between two slices it is told how far the search is.
-const SLICE: u32 = 1_000;
+const SLICE: u32 = 10_000;
 
 /// The next set, that the list is whole, or that a slice of the units that are left is spent; the slice is taken from them, and what
 /// is left of it is given back. After `NoMemory` no set is lost.
