@@ -1,12 +1,11 @@
 -- What the public calls keep of the watched literals.
-use Rattle.std.proofs.Common.{◌≡◌, ℕ, ◌+◌, ◌<◌, ◌≤◌, Bool, false, not, List, [], length, get_or, Option, Some, None, Result, Ok, Err, refl, sym, ap, ◌∙◌, subst, arith, ◌⊎◌, inl, inr}
+use Rattle.std.proofs.Common.{◌≡◌, ℕ, ◌+◌, ◌<◌, ◌≤◌, Bool, true, false, not, List, [], ◌∷◌, ◌++◌, length, get_or, Option, Some, None, refl, sym, ap, ◌∙◌, subst, arith, ◌⊎◌, inl, inr}
 use Rattle.std.specs.Prelude.{IsSome, IfSome, IfNone}
-use Rattle.std.specs.Result.{OnOk, OnErr}
 use Rattle.std.specs.Vec.{vec_capacity}
-use Rattle.std.proofs.lemmas.Bool.{cases_lt, false≢true}
+use Rattle.std.proofs.lemmas.Bool.{cases_lt, cases_Bool, false≢true}
 use Rattle.std.proofs.lemmas.List.{take_all}
 use Rattle.clause_base.specs.declared.literal.Lit.{Lit}
-use Rattle.clause_base.specs.Literal.{IsWithin}
+use Rattle.clause_base.specs.Literal.{IsWithin, has_distinct_variables}
 use Rattle.clause_base.specs.Acceptance.{numbered}
 use Rattle.trail_core.specs.declared.entry.Entry.{Entry}
 use Rattle.trail_core.specs.declared.watches.Pair.{Pair}
@@ -16,8 +15,12 @@ use Rattle.trail_core.specs.declared.watch.Watched.TheVariants as watched
 use Rattle.trail_core.specs.Values.{IsVariable, IsFalsified, IsUnit, Rests, satisfied, open_at_two}
 use Rattle.trail_core.specs.TrailState.{TrailState, IsTrail, IsNumber, IsReason, AllRest, MayAdd, Propagates, values_of, up_to, back_at, with_clause, with_decision}
 use Rattle.trail_core.specs.Listing.{Listing}
-use Rattle.trail_core.specs.Watching.{IsOpen, IsKept, code_of, list_of, room_of, unwatched}
+use Rattle.trail_core.specs.declared.shorts.Shorts.{Shorts}
+use Rattle.trail_core.specs.Shorts.{HasShorts, HasNoShorts, SameShorts, HaveShortLists, Enters, IsDue, AreDue}
+use Rattle.trail_core.specs.Watching.{IsOpen, IsKept, is_short, code_of, list_of, room_of, unwatched}
 use Rattle.trail_core.specs.Visits.{HasNone, HaveLists, HavePlaces, IsWider, WatchesWell, IsWatching, WatchGives, number_of, held_in}
+use Rattle.trail_core.proofs.Due.{due_decided, due_back, due_added}
+use Rattle.trail_core.proofs.Entering.{have_lists as have_lists_shorts, has_shorts_none, has_shorts_same, has_shorts_long, has_shorts_entered}
 use Rattle.trail_core.proofs.Looks.{variable_of}
 use Rattle.trail_core.proofs.Passing.{code_within}
 use Rattle.trail_core.proofs.Placing.{well_added, well_wider}
@@ -44,6 +47,10 @@ well_new vars w n = record {
     unpaired = λ m k low high l. absurd (omega (arith, l));
   };
 }
+
+-- propagation adds no clause
+pub shorts_propagate : (t new : TrailState) (s : Shorts) → Propagates t new → HasShorts t.vars t.clauses s.lists.items → HasShorts new.vars new.clauses s.lists.items
+shorts_propagate t new s p h = subst (λ v. HasShorts v new.clauses s.lists.items) (sym p.vars) (subst (λ cs. HasShorts t.vars cs s.lists.items) (sym p.clauses) h)
 
 -- whatever propagation gives, the lists are kept
 pub well_watched : (t : TrailState) (w : Watches) (r : Watched) → WatchGives t w r → WatchesWell t w w.gone_over
@@ -132,27 +139,53 @@ well_back t k old new trail level low short which p q w = record {
     count ps l = unwatched t.clauses ps l
 
 -- a new trail
-pub new_watching : (vars : ℕ) (p : TrailState) (w : Watches) → p ≡ record { vars = vars; clauses = []; entries = []; level = 0 } → IsTrail p → HasNone vars w → IsWatching p w
-new_watching vars p w e h n = record { trail = h; well = subst (λ s. WatchesWell s w w.gone_over) (sym e) (well_new vars w n) }
+pub new_watching : (vars : ℕ) (p : TrailState) (w : Watches) (s : Shorts) → p ≡ record { vars = vars; clauses = []; entries = []; level = 0 } → IsTrail p → HasNone vars w → HasNoShorts vars s → IsWatching p w s
+new_watching vars p w s e h n m = record {
+  trail = h;
+  well = subst (λ t. WatchesWell t w w.gone_over) (sym e) (well_new vars w n);
+  shorts = subst (λ t. HasShorts t.vars t.clauses s.lists.items) (sym e) (has_shorts_none vars s m);
+  due = λ i k low. absurd (omega (arith, k.above, k.within, ap (λ (t : TrailState). length t.clauses) e));
+}
 
 -- the literals of a clause have lists
 pub have_lists : (t seen : TrailState) (w : Watches) (c : List Lit) → t ≡ seen → WatchesWell t w w.gone_over → IsWithin seen.vars c → HaveLists w c
 have_lists t seen w c e h o l k = code_within t w (held_in w.lists.items) l h.room (subst (λ (s : TrailState). IsVariable s.vars l.var) (sym e) (variable_of seen.vars c l o k))
 
-pub watching_wider : (t : TrailState) (old new : Watches) → IsWatching t old → IsWider old new → IsWatching t new
-watching_wider t old new h w = record { trail = h.trail; well = well_wider t old new w.pairs w.capacity w.size w.numbers w.rooms w.gone_over h.well }
+-- the literals of a clause have lists of clauses of at most three literals
+pub have_short_lists : (t seen : TrailState) (w : Watches) (s : Shorts) (c : List Lit) → t ≡ seen → IsWatching t w s → IsWithin seen.vars c → HaveShortLists s c
+have_short_lists t seen w s c e h o = have_lists_shorts t.vars t.clauses s c h.shorts (subst (λ (x : TrailState). IsWithin x.vars c) (sym e) o)
 
--- a clause was added, or not
-pub watching_added : {E : Type 0} (t after seen : TrailState) (old new : Watches) (c : List Lit) (count : ℕ) (r : Result ℕ E) → t ≡ seen → IsWatching t old → MayAdd seen c → count ≡ length t.clauses → IsWider old new → HavePlaces old new c → count + 1 ≤ vec_capacity new.pairs → OnOk r (after ≡ with_clause t c) → OnErr r (after ≡ t) → IsTrail after → IsWatching after new
-watching_added t after seen old new c count (Ok n) e h may q w p room ok err trail = record {
-  trail = trail;
-  well = subst (λ s. WatchesWell s new new.gone_over) (sym ok)
-      (well_added t c old new h.trail (subst (λ s. MayAdd s c) (sym e) may) (widens old new c (length t.clauses) w p (omega (arith, q, room))) h.well);
+pub watching_wider : (t : TrailState) (old new : Watches) (s : Shorts) → IsWatching t old s → IsWider old new → IsWatching t new s
+watching_wider t old new s h w = record {
+  trail = h.trail;
+  well = well_wider t old new w.pairs w.capacity w.size w.numbers w.rooms w.gone_over h.well;
+  shorts = h.shorts;
+  due = λ n k low. subst (λ g. is_short (numbered t.clauses n) ≡ true → IsDue t.entries g (numbered t.clauses n)) (sym w.gone_over) (h.due n k (omega (arith, low, ap length w.pairs)));
 }
-watching_added t after seen old new c count (Err x) e h may q w p room ok err trail = record {
+
+-- the lists of clauses of at most three literals have more room
+pub watching_same : (t : TrailState) (w : Watches) (old new : Shorts) → IsWatching t w old → SameShorts old new → IsWatching t w new
+watching_same t w old new h s = record { trail = h.trail; well = h.well; shorts = has_shorts_same t.vars t.clauses old new s h.shorts; due = h.due }
+
+-- a clause was added
+pub watching_added : (t after seen : TrailState) (old new : Watches) (before same entered : Shorts) (c : List Lit) (count n : ℕ) → t ≡ seen → IsWatching t old before → MayAdd seen c → has_distinct_variables c ≡ true → count ≡ length t.clauses → IsWider old new → (is_short c ≡ false → HavePlaces old new c) → count + 1 ≤ vec_capacity new.pairs → SameShorts before same → (is_short c ≡ true → Enters same entered n c) → (is_short c ≡ false → entered ≡ same) → n ≡ length t.clauses + 1 → after ≡ with_clause t c → IsTrail after → IsWatching after new entered
+watching_added t after seen old new before same entered c count n e h may u q w p room s short long number ok trail = record {
   trail = trail;
-  well = subst (λ s. WatchesWell s new new.gone_over) (sym err) (watching_wider t old new h w).well;
+  well = subst (λ x. WatchesWell x new new.gone_over) (sym ok)
+      (well_added t c old new h.trail (subst (λ x. MayAdd x c) (sym e) may) (widens old new c (length t.clauses) w p (omega (arith, q, room))) h.well);
+  shorts = subst (λ (x : TrailState). HasShorts x.vars x.clauses entered.lists.items) (sym ok) (elim (cases_Bool (is_short c)) [
+    | inl y ↦ has_shorts_entered t.vars t.clauses c n same entered number y u (short y) kept
+    | inr y ↦ subst (λ x. HasShorts t.vars (t.clauses ++ c ∷ []) x.lists.items) (sym (long y)) (has_shorts_long t.vars t.clauses c same y kept)
+  ]);
+  due = subst (λ x. AreDue x (length new.pairs.items) new.gone_over) (sym ok) (due_added t c (length new.pairs.items) new.gone_over (omega (arith, ap length w.pairs, h.well.kept.few)) (watching_wider t old new before h w).due);
 }
+  where
+    kept : HasShorts t.vars t.clauses same.lists.items
+    kept = has_shorts_same t.vars t.clauses before same s h.shorts
+
+-- a clause was not added
+pub watching_refused : (t after : TrailState) (old new : Watches) (before same : Shorts) → IsWatching t old before → IsWider old new → SameShorts before same → after ≡ t → IsWatching after new same
+watching_refused t after old new before same h w s err = subst (λ x. IsWatching x new same) (sym err) (watching_same t new before same (watching_wider t old new before h w) s)
 
 -- what propagation answers
 pub gives_number : (t : TrailState) (w : Watches) (r : Watched) (o : Option ℕ) → o ≡ number_of r → WatchGives t w r → IfSome o (IsNumber t.clauses)
@@ -174,18 +207,24 @@ some_entry = record { lit = record { var = 0; negated = false }; decision_level 
 pub still_there : (t new seen : TrailState) → t ≡ seen → AllRest seen.clauses (values_of seen.entries) → Propagates t new → IsTrail new → new ≡ seen
 still_there t new seen e r p h = stays_still t new some_entry (subst (λ (s : TrailState). AllRest s.clauses (values_of s.entries)) (sym e) r) p h ∙ e
 
-pub watching_decided : (t new after seen : TrailState) (l : Lit) (w : Watches) (r : Watched) → t ≡ seen → AllRest seen.clauses (values_of seen.entries) → Propagates t new → IsTrail new → WatchGives new w r → after ≡ with_decision new l → IsTrail after → IsWatching after w
-watching_decided t new after seen l w r e rest p h g q trail = record {
+pub watching_decided : (t new after seen : TrailState) (l : Lit) (old w : Watches) (s : Shorts) (r : Watched) → t ≡ seen → IsWatching t old s → AllRest seen.clauses (values_of seen.entries) → Propagates t new → IsTrail new → WatchGives new w r → AreDue new (length w.pairs.items) w.gone_over → after ≡ with_decision new l → IsTrail after → IsWatching after w s
+watching_decided t new after seen l old w s r e h rest p trail_new g due q trail = record {
   trail = trail;
-  well = subst (λ s. WatchesWell s w w.gone_over) (sym q)
-      (well_decided new l w r (subst (λ (s : TrailState). AllRest s.clauses (values_of s.entries)) (sym (still_there t new seen e rest p h)) rest) g);
+  well = subst (λ x. WatchesWell x w w.gone_over) (sym q)
+      (well_decided new l w r (subst (λ (x : TrailState). AllRest x.clauses (values_of x.entries)) (sym (still_there t new seen e rest p trail_new)) rest) g);
+  shorts = subst (λ (x : TrailState). HasShorts x.vars x.clauses s.lists.items) (sym q) (shorts_propagate t new s p h.shorts);
+  due = subst (λ x. AreDue x (length w.pairs.items) w.gone_over) (sym q) (due_decided new l (length w.pairs.items) w.gone_over (well_watched new w r g).kept.entries due);
 }
 
-pub watching_back : (t after seen : TrailState) (k : ℕ) (old new : Watches) (count : ℕ) → t ≡ seen → IsWatching t old → k ≤ seen.level → after ≡ back_at t k → IsTrail after → count ≡ length after.entries → new.gone_over ≤ old.gone_over → new.gone_over ≤ count → (new.gone_over ≡ old.gone_over) ⊎ (new.gone_over ≡ count) → new.pairs ≡ old.pairs → new.lists ≡ old.lists → IsWatching after new
-watching_back t after seen k old new count e h level q trail c low short which p l =
-    let size : count ≡ length (up_to k t.entries) = c ∙ ap (λ (s : TrailState). length s.entries) q in
+pub watching_back : (t after seen : TrailState) (k : ℕ) (old new : Watches) (s : Shorts) (count : ℕ) → t ≡ seen → IsWatching t old s → k ≤ seen.level → after ≡ back_at t k → IsTrail after → count ≡ length after.entries → new.gone_over ≤ old.gone_over → new.gone_over ≤ count → (new.gone_over ≡ old.gone_over) ⊎ (new.gone_over ≡ count) → new.pairs ≡ old.pairs → new.lists ≡ old.lists → IsWatching after new s
+watching_back t after seen k old new s count e h level q trail c low high which p l =
+    let size : count ≡ length (up_to k t.entries) = c ∙ ap (λ (x : TrailState). length x.entries) q in
+    let which_size : (new.gone_over ≡ old.gone_over) ⊎ (new.gone_over ≡ length (up_to k t.entries)) = elim which [ inl x ↦ inl x | inr x ↦ inr (x ∙ size) ] in
+    let level_is : k ≤ t.level = subst (λ (x : TrailState). k ≤ x.level) (sym e) level in
     record {
       trail = trail;
-      well = subst (λ s. WatchesWell s new new.gone_over) (sym q)
-          (well_back t k old new h.trail (subst (λ (s : TrailState). k ≤ s.level) (sym e) level) low (omega (arith, short, size)) (elim which [ inl x ↦ inl x | inr x ↦ inr (x ∙ size) ]) p l h.well);
+      well = subst (λ x. WatchesWell x new new.gone_over) (sym q) (well_back t k old new h.trail level_is low (omega (arith, high, size)) which_size p l h.well);
+      shorts = subst (λ (x : TrailState). HasShorts x.vars x.clauses s.lists.items) (sym q) h.shorts;
+      due = subst (λ x. AreDue x (length new.pairs.items) new.gone_over) (sym q)
+          (subst (λ m. AreDue (back_at t k) m new.gone_over) (sym (ap (λ v. length v.items) p)) (due_back t k (length old.pairs.items) old.gone_over new.gone_over h.trail level_is h.well.kept.entries low which_size h.due));
     }

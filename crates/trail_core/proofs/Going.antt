@@ -12,6 +12,9 @@ use Rattle.trail_core.specs.declared.entry.Entry.{Entry}
 use Rattle.trail_core.specs.TrailState.{TrailState, IsTrail, entry_of}
 use Rattle.trail_core.specs.declared.watches.Pair.{Pair}
 use Rattle.trail_core.specs.declared.watches.Watches.{Watches}
+use Rattle.clause_base.specs.Acceptance.{numbered}
+use Rattle.trail_core.specs.Shorts.{AreDue}
+use Rattle.trail_core.proofs.Due.{due_done}
 use Rattle.trail_core.specs.Visits.{IsGone, WatchesWell, IsDone}
 use Rattle.trail_core.proofs.Keeping.{kept_rests}
 use Rattle.trail_core.proofs.Listing.{at_any}
@@ -60,8 +63,12 @@ told_there (e ∷ es) zero l = refl
 told_there (e ∷ es) (suc g) l = told_there es g (omega (arith, l))
 
 -- all is done
-pub done_at : (t : TrailState) (w : Watches) → WatchesWell t w w.gone_over → length t.clauses ≤ length w.pairs.items → length t.entries ≤ w.gone_over → IsDone t w
-done_at t w h all over = record { pairs = all; entries = over; rest = kept_rests t w.pairs.items w.lists.items w.gone_over empty all over h.kept }
+pub done_at : (t : TrailState) (w : Watches) → WatchesWell t w w.gone_over → length t.clauses ≤ length w.pairs.items → length t.entries ≤ w.gone_over → AreDue t (length w.pairs.items) w.gone_over → IsDone t w
+done_at t w h all over due = record {
+  pairs = all;
+  entries = over;
+  rest = kept_rests t w.pairs.items w.lists.items w.gone_over empty all over (λ n k s. due_done t.entries w.gone_over (numbered t.clauses n) over (due n k (omega (arith, k.within, all)) s)) h.kept;
+}
   where
     none : Lit
     none = record { var = 0; negated = false }

@@ -9,6 +9,7 @@ pub mod BackFields
 pub mod Looks
 pub mod Propagating
 pub mod Keeping
+pub mod Due
 pub mod Listing
 pub mod Counting
 pub mod Visiting
@@ -18,4 +19,6 @@ pub mod Choosing
 pub mod Giving
 pub mod Going
 pub mod Widening
+pub mod Entering
+pub mod Sweeping
 pub mod Calls

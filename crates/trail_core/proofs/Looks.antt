@@ -27,7 +27,7 @@ has_in_front : (c : List Lit) (i : ℕ) (l : Lit) → has (take i c) l ≡ true 
 has_in_front c i l h = ap (λ xs. has xs l) (sym (take-append-drop i c)) ∙ (has-append (take i c) (drop i c) l ∙ or_left (has (take i c) l) (has (drop i c) l) h)
 
 -- a literal before a place is of another variable than the one there
-other_before : (c : List Lit) (i : ℕ) (d u : Lit) → i < length c → has_distinct_variables c ≡ true → has (take i c) u ≡ true → u.var ≢ (get_or c i d).var
+pub other_before : (c : List Lit) (i : ℕ) (d u : Lit) → i < length c → has_distinct_variables c ≡ true → has (take i c) u ≡ true → u.var ≢ (get_or c i d).var
 other_before c i d u l h t e =
     let split : take i c ++ (get_or c i d ∷ drop (i + 1) c) ≡ c = ap (λ xs. take i c ++ xs) (sym (drop_more c i d l)) ∙ take-append-drop i c in
     let parts = distinct_parts (take i c) (get_or c i d) (drop (i + 1) c) (ap has_distinct_variables split ∙ h) in
@@ -138,36 +138,3 @@ distinct_same c l m d a b e = elim (cases_Bool (beq l.negated m.negated)) [
     other_by true false h = refl
     other_by false true h = refl
     other_by false false h = absurd (false≢true (sym h))
-
-in_two : (x y l : Lit) → has (x ∷ y ∷ []) l ≡ true → (x ≡ l) ⊎ (y ≡ l)
-in_two x y l h = elim (or_cases (same_lit x l) (same_lit y l || false) h) [
-  | inl t ↦ inl (same_lit-true x l t)
-  | inr u ↦ elim (or_cases (same_lit y l) false u) [
-    | inl t ↦ inr (same_lit-true y l t)
-    | inr v ↦ absurd (false≢true v)
-  ]
-]
-
--- of a clause of two literals of different variables one is false: so is each that isn't of the other's variable
-pub two_literals : (values : Values) (c : List Lit) (a b l : Lit) → length c ≡ 2 → has c a ≡ true → has c b ≡ true → a.var ≢ b.var → IsFalseIn values a → has c l ≡ true → l.var ≢ b.var → IsFalseIn values l
-two_literals values [] a b l s in_a in_b d f h n = absurd (omega (arith, s))
-two_literals values (x ∷ []) a b l s in_a in_b d f h n = absurd (omega (arith, s))
-two_literals values (x ∷ y ∷ z ∷ zs) a b l s in_a in_b d f h n = absurd (omega (arith, s))
-two_literals values (x ∷ y ∷ []) a b l s in_a in_b d f h n = elim (in_two x y l h) [
-  | inl e ↦ elim (in_two x y a in_a) [
-    | inl g ↦ subst (IsFalseIn values) (sym g ∙ e) f
-    | inr g ↦ absurd (elsewhere x y e g (in_two x y b in_b))
-  ]
-  | inr e ↦ elim (in_two x y a in_a) [
-    | inl g ↦ absurd (elsewhere y x e g (swap (in_two x y b in_b)))
-    | inr g ↦ subst (IsFalseIn values) (sym g ∙ e) f
-  ]
-]
-  where
-    elsewhere : (p q : Lit) → p ≡ l → q ≡ a → (p ≡ b) ⊎ (q ≡ b) → ⊥
-    elsewhere p q e g (inl k) = n (ap (λ (m : Lit). m.var) (sym e ∙ k))
-    elsewhere p q e g (inr k) = d (ap (λ (m : Lit). m.var) (sym g ∙ k))
-
-    swap : {A B : Type 0} → A ⊎ B → B ⊎ A
-    swap (inl p) = inr p
-    swap (inr p) = inl p

@@ -30,7 +30,7 @@ use Rattle.trail_core.proofs.Counting.{same_lit-false}
 use Rattle.trail_core.proofs.Visiting.{some_same}
 
 -- the same literals at the beginning of the entries
-gone_front : (t new : TrailState) (g : ℕ) (gone : Lit) → Propagates t new → g < length t.entries → IsGone t g gone → IsGone new g gone
+pub gone_front : (t new : TrailState) (g : ℕ) (gone : Lit) → Propagates t new → g < length t.entries → IsGone t g gone → IsGone new g gone
 gone_front t new g gone p l h = record {
   variable = subst (λ v. IsVariable v gone.var) (sym p.vars) h.variable;
   is_false = values_front t.entries new.entries gone.var gone.negated p.prefix h.is_false;

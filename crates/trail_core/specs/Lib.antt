@@ -4,4 +4,6 @@ pub mod Layout
 pub mod Look
 pub mod Listing
 pub mod Watching
+pub mod ShortListing
+pub mod Shorts
 pub mod Visits

@@ -17,6 +17,8 @@ use Rattle.trail_core.specs.Listing.{Listing, nothing}
 use Rattle.trail_core.specs.Values.{IsFalseIn, IsVariable}
 use Rattle.trail_core.specs.TrailState.{TrailState, IsTrail, IsNumber, AllRest, Propagates, entry_of, values_of, level_in, up_to, with_forced}
 use Rattle.trail_core.specs.Look.{Falsifies}
+use Rattle.trail_core.specs.declared.shorts.Shorts.{Shorts}
+use Rattle.trail_core.specs.Shorts.{HasShorts, AreDue}
 use Rattle.trail_core.specs.Watching.{Stands, IsListed, IsCovered, IsWatch, IsPaired, IsKept, IsOpen, AreNumbers, list_of, room_of, code_of, with_list, watches, unwatched}
 
 -- the lists have room: `held` counts the places of a literal's list that are in use, and each clause that has the literal and
@@ -166,10 +168,21 @@ abbrev pub SweepGives : TrailState → Watches → Watched → Type 0
 SweepGives t w watched.Rests = WatchesWell t w (w.gone_over + 1)
 SweepGives t w (watched.Falsified n) = WatchesWell t w w.gone_over × Falsifies t n
 
--- what holds of each trail with its watched literals
-pub record IsWatching (t : TrailState) (w : Watches) : Type 0 where
+-- what holds of each trail with the lists of its clauses
+pub record IsWatching (t : TrailState) (w : Watches) (s : Shorts) : Type 0 where
   pub trail : IsTrail t
   pub well : WatchesWell t w w.gone_over
+  pub shorts : HasShorts t.vars t.clauses s.lists.items
+  pub due : AreDue t (length w.pairs.items) w.gone_over
+
+-- the entries from the place on are of the present level
+abbrev pub ArePresent : TrailState → ℕ → Type 0
+ArePresent t from = (place : ℕ) (d : Entry) → from ≤ place → place < length t.entries → (get_or t.entries place d).decision_level ≡ t.level
+
+-- which clauses of at most three literals are due after a pass over both lists of a literal
+abbrev pub SweepsDue : TrailState → Watches → Watched → Type 0
+SweepsDue t w watched.Rests = AreDue t (length t.clauses) (w.gone_over + 1)
+SweepsDue t w (watched.Falsified n) = AreDue t (length t.clauses) w.gone_over
 
 -- what the first clause without a pair gives: a pair
 abbrev pub LooksGives : TrailState → Watches → Watches → Watched → Type 0

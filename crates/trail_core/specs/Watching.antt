@@ -1,5 +1,5 @@
 -- Watched literals (Moskewicz, Madigan, Zhao, Zhang, Malik 2001): of each clause two literals, at which propagation looks for it.
-use Rattle.std.specs.Prelude.{◌≡◌, ◌≢◌, ℕ, ◌+◌, ◌*◌, ◌<◌, ◌≤◌, Bool, true, not, ◌&&◌, ◌||◌, cond, Some, List, [], ◌∷◌, length, take, get_or, set}
+use Rattle.std.specs.Prelude.{◌≡◌, ◌≢◌, ℕ, ◌+◌, ◌*◌, ◌<◌, ◌≤◌, Bool, true, false, not, ◌&&◌, ◌||◌, cond, nat_le, Some, List, [], ◌∷◌, length, take, get_or, set}
 use Rattle.clause_base.specs.declared.literal.Lit.{Lit}
 use Rattle.clause_base.specs.Literal.{has, same_lit}
 use Rattle.clause_base.specs.Acceptance.{numbered}
@@ -59,10 +59,15 @@ pub record IsBlank (p : Pair) : Type 0 where
   pub first : p.first.var ≡ 0
   pub second : p.second.var ≡ 0
 
--- the clause is settled, and its pair has no literals, or the two literals of the pair are its own, of different variables, and W holds of each beside the other
+-- the clause has at most three literals
+abbrev pub is_short : List Lit → Bool
+is_short clause = nat_le (length clause) 3
+
+-- the clause is settled or has at most three literals, and its pair has none, or the two literals of the pair are its own, of different variables, and W holds of each beside the other
 pub data IsPaired (entries : List Entry) (W : Lit → Lit → Type 0) (clause : List Lit) (p : Pair) : Type 0 where
   settled : IsSettled entries clause → IsBlank p → IsPaired entries W clause p
-  watched : has clause p.first ≡ true → has clause p.second ≡ true → p.first.var ≢ p.second.var → W p.first p.second → W p.second p.first → IsPaired entries W clause p
+  in_lists : is_short clause ≡ true → IsBlank p → IsPaired entries W clause p
+  watched : is_short clause ≡ false → has clause p.first ≡ true → has clause p.second ≡ true → p.first.var ≢ p.second.var → W p.first p.second → W p.second p.first → IsPaired entries W clause p
 
 -- the lists are kept: of the entries `gone_over` were gone over, each later one is of the present level, and each of the first clauses is paired
 pub record IsKept (t : TrailState) (pairs : List Pair) (lists : List Listing) (gone_over : ℕ) : Type 0 where
@@ -75,14 +80,18 @@ pub record IsKept (t : TrailState) (pairs : List Pair) (lists : List Listing) (g
 abbrev pub watches : Pair → Lit → Bool
 watches p l = same_lit p.first l || same_lit p.second l
 
--- the clause has the literal, and its pair hasn't
-abbrev pub lacks : List Lit → Pair → Lit → Bool
-lacks clause p l = has clause l && not (watches p l)
+-- the clause has the literal, and more than three
+abbrev pub has_long : List Lit → Lit → Bool
+has_long clause l = has clause l && not (is_short clause)
 
--- how many clauses have the literal and don't watch it, those without a pair among them
+-- so it is, and the pair hasn't the literal
+abbrev pub lacks : List Lit → Pair → Lit → Bool
+lacks clause p l = has_long clause l && not (watches p l)
+
+-- how many clauses of more than three literals have the literal and don't watch it, those without a pair among them
 abbrev pub unwatched : List (List Lit) → List Pair → Lit → ℕ
 unwatched [] pairs l = 0
-unwatched (c ∷ cs) [] l = cond (has c l) 1 0 + unwatched cs [] l
+unwatched (c ∷ cs) [] l = cond (has_long c l) 1 0 + unwatched cs [] l
 unwatched (c ∷ cs) (p ∷ ps) l = cond (lacks c p l) 1 0 + unwatched cs ps l
 
 -- each is one of the numbers 1 to `count`

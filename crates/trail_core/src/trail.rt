@@ -6,7 +6,8 @@ ghost use Rattle.trail_core.specs.Values.{IsVariable, IsUnassignedIn, IsFalsifie
 ghost use Rattle.trail_core.specs.TrailState.{TrailState, IsTrail, IsNumber, MayAdd, AllRest, Propagates, with_clause, with_decision, back_at, values_of, level_in, reason_in};
 
 use crate::plain::PlainTrail;
-use crate::watch::{number_of, watch};
+use crate::propagation::{number_of, watch};
+use crate::shorts::{Shorts, enter, make_short_room, no_short_clauses};
 use crate::watches::{Watches, go_back, make_room, watches_of};
 use clause_base::Lit;
 use loc_base::NoMemory;
@@ -20,6 +21,7 @@ use std::marker::Model;
 pub struct Trail {
     plain: PlainTrail,
     watches: Watches,
+    shorts: Shorts,
 }
 
 impl Model for Trail {
@@ -30,7 +32,7 @@ impl Model for Trail {
 
     ghost view = { λ t. t.plain };
 
-    ghost invariant = { λ t. IsWatching t.plain t.watches };
+    ghost invariant = { λ t. IsWatching t.plain t.watches t.shorts };
 }
 
 impl Trail {
@@ -41,7 +43,12 @@ impl Trail {
     {
         let plain = PlainTrail::new(alloc, vars)?;
         let watches = watches_of(alloc, vars)?;
-        Ok(Trail { plain, watches })
+        let shorts = no_short_clauses(alloc, vars)?;
+        Ok(Trail {
+            plain,
+            watches,
+            shorts,
+        })
     }
 
     /// Adds a clause of these literals and gives its number, the first being 1. Unchanged after `NoMemory`.
@@ -56,7 +63,10 @@ impl Trail {
         ensures trail { IsTrail self.new }
     {
         make_room(&mut self.watches, self.plain.count(), literals)?;
-        self.plain.add_clause(literals)
+        make_short_room(&mut self.shorts, literals)?;
+        let number = self.plain.add_clause(literals)?;
+        enter(&mut self.shorts, number, literals);
+        Ok(number)
     }
 
     /// Makes literals true at the present level for as long as a clause is unit, each with that clause as its
@@ -69,7 +79,7 @@ impl Trail {
         ensures rest { IfNone result (AllRest self.new.clauses (values_of self.new.entries)) }
         ensures trail { IsTrail self.new }
     {
-        number_of(watch(&mut self.plain, &mut self.watches))
+        number_of(watch(&mut self.plain, &mut self.watches, &self.shorts))
     }
 
     /// Raises the decision level by one, and makes a literal true there as its decision. It takes no memory.
@@ -81,7 +91,7 @@ impl Trail {
         ensures trail { IsTrail self.new }
     {
         // All clauses rest, so it forces nothing: it goes over the last true literals.
-        let _rests = watch(&mut self.plain, &mut self.watches);
+        let _rests = watch(&mut self.plain, &mut self.watches, &self.shorts);
         self.plain.decide(l);
     }
 

@@ -72,23 +72,6 @@ fn replacement(trail: &PlainTrail, number: u32, other: Lit) -> Option<Lit>
     None
 }
 
-/// A literal of the clause that isn't false, of another variable than the second one of its pair, the first being false. A
-/// clause of two literals has none, and isn't looked at.
-fn third_literal(trail: &PlainTrail, number: u32, pair: Pair) -> Option<Lit>
-    requires number { IsNumber trail.now.clauses number }
-    requires first { has (numbered trail.now.clauses number) pair.first ≡ true }
-    requires second { has (numbered trail.now.clauses number) pair.second ≡ true }
-    requires apart { pair.first.var ≢ pair.second.var }
-    requires gone { IsFalseIn (values_of trail.now.entries) pair.first }
-    ensures found { IfSome result (IsReplacement trail.now number pair.second) }
-    ensures none { IfNone result ((l : Lit) → has (numbered trail.now.clauses number) l ≡ true → l.var ≢ pair.second.var → IsFalseIn (values_of trail.now.entries) l) }
-{
-    if trail.clause(number).len() == 2 {
-        return None;
-    }
-    replacement(trail, number, pair.second)
-}
-
 /// Makes the literal true, the only one of the clause that isn't false, unless it is false too.
 fn force_other(trail: &mut PlainTrail, number: u32, other: Lit) -> Seen
     requires variable { IsVariable trail.old.vars other.var }
@@ -127,7 +110,7 @@ fn visit_pair(trail: &mut PlainTrail, watches: &mut Watches, number: u32, pair: 
     if has_value(trail, other.var, !other.negated) {
         return Seen::Stays;
     }
-    match third_literal(trail, number, pair) {
+    match replacement(trail, number, other) {
         Some(next) => {
             let moved = Pair {
                 first: other,

@@ -6,10 +6,12 @@ ghost use Rattle.clause_base.specs.Acceptance.{numbered};
 ghost use Rattle.trail_core.specs.Values.{IsVariable, IsFalseIn, Rests};
 ghost use Rattle.trail_core.specs.TrailState.{IsTrail, IsNumber, Propagates, values_of, level_in};
 ghost use Rattle.trail_core.specs.Look.{Falsifies};
-ghost use Rattle.trail_core.specs.Watching.{IsBlank, IsSettled, list_of, code_of, with_list};
-ghost use Rattle.trail_core.specs.Visits.{IsGone, IsGoing, SweepGives, LooksGives, PairsGives, WatchGives, WatchesWell, MayWatch, IsFreeBelow, MayList, IsPlaced, KeepsPair, IsHighest, rank_of, HighestGives, number_of};
+ghost use Rattle.trail_core.specs.Watching.{is_short, IsBlank, IsSettled, list_of, code_of, with_list};
+ghost use Rattle.trail_core.specs.Shorts.{AreDue};
+ghost use Rattle.trail_core.specs.Visits.{IsGone, IsGoing, SweepGives, LooksGives, PairsGives, WatchesWell, MayWatch, IsFreeBelow, MayList, IsPlaced, KeepsPair, IsHighest, rank_of, HighestGives};
 
 use crate::plain::{Look, PlainTrail};
+use crate::shorts::is_short;
 use crate::visit::{Seen, has_value, visit};
 use crate::watches::{Pair, Watches, code_of, push_number};
 use clause_base::Lit;
@@ -97,7 +99,7 @@ fn visit_next(trail: &mut PlainTrail, watches: &mut Watches, sweep: &mut Sweep, 
 }
 
 /// Goes over the clauses that watch a literal which became false.
-fn sweep_list(trail: &mut PlainTrail, watches: &mut Watches, gone: Lit) -> Watched
+pub(crate) fn sweep_list(trail: &mut PlainTrail, watches: &mut Watches, gone: Lit) -> Watched
     requires trail { IsTrail trail.old }
     requires well { WatchesWell trail.old watches.old watches.old.gone_over }
     requires gone { IsGone trail.old watches.old.gone_over gone }
@@ -246,6 +248,28 @@ fn keep_pair(watches: &mut Watches, pair: Pair)
     watches.pairs.push(pair).unwrap();
 }
 
+/// Pairs the clause of more than three literals, the first without a pair.
+fn pair_long(trail: &PlainTrail, watches: &mut Watches, number: u32)
+    requires trail { IsTrail trail.now }
+    requires well { WatchesWell trail.now watches.old watches.old.gone_over }
+    requires first { number ≡ length watches.old.pairs.items + 1 }
+    requires number { IsNumber trail.now.clauses number }
+    requires long { is_short (numbered trail.now.clauses number) ≡ false }
+    requires rests { Rests (values_of trail.now.entries) (numbered trail.now.clauses number) }
+    ensures well { WatchesWell trail.now watches.new watches.new.gone_over }
+    ensures more { length watches.new.pairs.items ≡ length watches.old.pairs.items + 1 }
+    ensures same { watches.new.gone_over ≡ watches.old.gone_over }
+{
+    if is_settled(trail, number) {
+        keep_pair(watches, no_pair());
+        return;
+    }
+    match best_pair(trail, number) {
+        Some(pair) => place_pair(watches, number, pair),
+        None => keep_pair(watches, no_pair()),
+    }
+}
+
 /// Pairs the clause, the first without a pair.
 fn pair_up(trail: &PlainTrail, watches: &mut Watches, number: u32)
     requires trail { IsTrail trail.now }
@@ -255,14 +279,12 @@ fn pair_up(trail: &PlainTrail, watches: &mut Watches, number: u32)
     requires rests { Rests (values_of trail.now.entries) (numbered trail.now.clauses number) }
     ensures well { WatchesWell trail.now watches.new watches.new.gone_over }
     ensures more { length watches.new.pairs.items ≡ length watches.old.pairs.items + 1 }
+    ensures same { watches.new.gone_over ≡ watches.old.gone_over }
 {
-    if is_settled(trail, number) {
+    if is_short(trail.clause(number)) {
         keep_pair(watches, no_pair());
-        return;
-    }
-    match best_pair(trail, number) {
-        Some(pair) => place_pair(watches, number, pair),
-        None => keep_pair(watches, no_pair()),
+    } else {
+        pair_long(trail, watches, number);
     }
 }
 
@@ -289,9 +311,11 @@ fn force_unit(trail: &mut PlainTrail, number: u32) -> bool
 fn pair_next(trail: &mut PlainTrail, watches: &mut Watches) -> Watched
     requires well { WatchesWell trail.old watches.old watches.old.gone_over }
     requires more { length watches.old.pairs.items < length trail.old.clauses }
+    requires due { AreDue trail.old (length watches.old.pairs.items) watches.old.gone_over }
     ensures appends { Propagates trail.old trail.new }
     ensures trail { IsTrail trail.new }
     ensures gives { LooksGives trail.new watches.old watches.new result }
+    ensures due { AreDue trail.new (length watches.new.pairs.items) watches.new.gone_over }
 {
     // The count bounds the number.
     let _bound = trail.count();
@@ -304,12 +328,14 @@ fn pair_next(trail: &mut PlainTrail, watches: &mut Watches) -> Watched
 }
 
 /// Pairs the clauses without a pair.
-fn pair_all(trail: &mut PlainTrail, watches: &mut Watches) -> Watched
+pub(crate) fn pair_all(trail: &mut PlainTrail, watches: &mut Watches) -> Watched
     requires trail { IsTrail trail.old }
     requires well { WatchesWell trail.old watches.old watches.old.gone_over }
+    requires due { AreDue trail.old (length watches.old.pairs.items) watches.old.gone_over }
     ensures appends { Propagates trail.old trail.new }
     ensures trail { IsTrail trail.new }
     ensures gives { PairsGives trail.new watches.new result }
+    ensures due { AreDue trail.new (length watches.new.pairs.items) watches.new.gone_over }
 {
     while watches.pairs.len() < trail.count() as usize {
         match pair_next(trail, watches) {
@@ -318,47 +344,4 @@ fn pair_all(trail: &mut PlainTrail, watches: &mut Watches) -> Watched
         }
     }
     Watched::Rests
-}
-
-/// Goes over the lists of the literals that became false.
-fn sweep_all(trail: &mut PlainTrail, watches: &mut Watches) -> Watched
-    requires trail { IsTrail trail.old }
-    requires well { WatchesWell trail.old watches.old watches.old.gone_over }
-    requires all { length trail.old.clauses ≤ length watches.old.pairs.items }
-    ensures appends { Propagates trail.old trail.new }
-    ensures trail { IsTrail trail.new }
-    ensures gives { WatchGives trail.new watches.new result }
-{
-    while watches.gone_over < trail.len() {
-        let l = trail.at(watches.gone_over).unwrap();
-        match sweep_list(trail, watches, l.opposite()) {
-            Watched::Rests => watches.gone_over += 1,
-            Watched::Falsified(number) => return Watched::Falsified(number),
-        }
-    }
-    Watched::Rests
-}
-
-/// Propagates by watched literals.
-pub(crate) fn watch(trail: &mut PlainTrail, watches: &mut Watches) -> Watched
-    requires trail { IsTrail trail.old }
-    requires well { WatchesWell trail.old watches.old watches.old.gone_over }
-    ensures appends { Propagates trail.old trail.new }
-    ensures trail { IsTrail trail.new }
-    ensures gives { WatchGives trail.new watches.new result }
-{
-    match pair_all(trail, watches) {
-        Watched::Rests => sweep_all(trail, watches),
-        Watched::Falsified(number) => Watched::Falsified(number),
-    }
-}
-
-/// The number of the clause whose literals are all false.
-pub(crate) fn number_of(watched: Watched) -> Option<u32>
-    ensures { result ≡ number_of watched }
-{
-    match watched {
-        Watched::Rests => None,
-        Watched::Falsified(number) => Some(number),
-    }
 }

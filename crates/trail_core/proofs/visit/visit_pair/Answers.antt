@@ -1,6 +1,6 @@
 use Rattle.std.proofs.Common.{◌-◌, get_or}
 use Rattle.trail_core.proofs.Visiting.{visits_true}
-use Rattle.trail_core.proofs.Giving.{pair_is, oriented_watched, other_variable, replacement_room, other_reason, other_falsified, moved_gives, forced_gives}
+use Rattle.trail_core.proofs.Giving.{pair_is, other_variable, replacement_room, other_reason, other_falsified, moved_gives, forced_gives}
 use Rattle.trail_core.proofs.visit.visit_pair.Goals as goal
 
 pub has_value-requires : goal.has_value-requires
@@ -11,20 +11,8 @@ returns-then-has_value-clause-gives c =
     visits_true c.args.trail.now c.args.watches.now c.args.pair (get_or c.args.watches.now.pairs.items (c.args.number - 1) c.args.pair) c.args.number c.requires.known c.requires.oriented
     (λ d. pair_is c.args.trail.now c.args.watches.now c.args.number c.args.pair.first c.args.pair d c.requires.known) (c.has_value.ensures.yes c.if-has_value.true)
 
-pub third_literal-requires-clause-number : goal.third_literal-requires-clause-number
-third_literal-requires-clause-number c = c.requires.known.number
-
-pub third_literal-requires-clause-first : goal.third_literal-requires-clause-first
-third_literal-requires-clause-first c = (oriented_watched c.args.trail.now c.args.watches.now c.args.pair c.args.number c.requires.known c.requires.oriented).0
-
-pub third_literal-requires-clause-second : goal.third_literal-requires-clause-second
-third_literal-requires-clause-second c = (oriented_watched c.args.trail.now c.args.watches.now c.args.pair c.args.number c.requires.known c.requires.oriented).1.0
-
-pub third_literal-requires-clause-apart : goal.third_literal-requires-clause-apart
-third_literal-requires-clause-apart c = (oriented_watched c.args.trail.now c.args.watches.now c.args.pair c.args.number c.requires.known c.requires.oriented).1.1
-
-pub third_literal-requires-clause-gone : goal.third_literal-requires-clause-gone
-third_literal-requires-clause-gone c = c.requires.known.is_gone.is_false
+pub replacement-requires : goal.replacement-requires
+replacement-requires c = c.requires.known.number
 
 pub move_watch-requires-clause-number : goal.move_watch-requires-clause-number
 move_watch-requires-clause-number c = (c.requires.known.above, c.requires.known.within)

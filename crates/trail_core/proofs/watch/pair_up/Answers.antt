@@ -1,37 +1,19 @@
-use Rattle.std.proofs.Common.{◌∙◌, length, ap}
+use Rattle.std.proofs.Common.{◌∙◌, length, sym, ap}
 use Rattle.std.proofs.lemmas.List.{length_push}
-use Rattle.trail_core.proofs.Placing.{pair_settled, pair_watched, may_list, pair_room, free_first}
+use Rattle.trail_core.specs.Watching.{is_short}
+use Rattle.trail_core.proofs.Placing.{pair_short, pair_room}
 use Rattle.trail_core.proofs.watch.pair_up.Goals as goal
 
 pub keep_pair-requires : goal.keep_pair-requires
 keep_pair-requires c = pair_room c.args.trail.now c.args.watches.now c.args.number c.requires.well c.requires.first c.requires.number
 
-pub returns-then-is_settled-clause-well : goal.returns-then-is_settled-clause-well
-returns-then-is_settled-clause-well c = pair_settled c.args.trail.now c.args.watches.now c.keep_pair.new.watches c.no_pair.result c.args.number c.requires.well c.requires.first c.requires.number.within (c.is_settled.ensures c.if-is_settled.true) c.no_pair.ensures c.keep_pair.ensures
+pub pair_long-requires-clause-long : goal.pair_long-requires-clause-long
+pair_long-requires-clause-long c = ap is_short (sym c.clause.ensures.value) ∙ (sym c.is_short.ensures ∙ c.if-is_short.false)
 
-pub returns-then-is_settled-clause-more : goal.returns-then-is_settled-clause-more
-returns-then-is_settled-clause-more c = ap length c.keep_pair.ensures.pairs ∙ length_push c.args.watches.now.pairs.items c.no_pair.result
+pub returns-then-is_short-clause-well : goal.returns-then-is_short-clause-well
+returns-then-is_short-clause-well c =
+    pair_short c.args.trail.now c.args.watches.now c.keep_pair.new.watches c.no_pair.result c.args.number c.requires.well c.requires.first c.requires.number.within
+    (ap is_short (sym c.clause.ensures.value) ∙ (sym c.is_short.ensures ∙ c.if-is_short.true)) c.no_pair.ensures c.keep_pair.ensures
 
-pub best_pair-requires-clause-free : goal.best_pair-requires-clause-free
-best_pair-requires-clause-free c = free_first c.args.trail.now c.args.watches.now c.args.number c.requires.well c.requires.first c.requires.number
-
-pub place_pair-requires-clause-may : goal.place_pair-requires-clause-may
-place_pair-requires-clause-may c = may_list c.args.trail.now c.args.watches.now c.in-Some.pair c.args.number c.requires.trail c.requires.well c.requires.first c.requires.number c.in-Some.ensures.found
-
-pub place_pair-requires-clause-room : goal.place_pair-requires-clause-room
-place_pair-requires-clause-room c = pair_room c.args.trail.now c.args.watches.now c.args.number c.requires.well c.requires.first c.requires.number
-
-pub keep_pair-requires-in-None : goal.keep_pair-requires-in-None
-keep_pair-requires-in-None c = pair_room c.args.trail.now c.args.watches.now c.args.number c.requires.well c.requires.first c.requires.number
-
-pub returns-in-Some-clause-well : goal.returns-in-Some-clause-well
-returns-in-Some-clause-well c = pair_watched c.args.trail.now c.args.watches.now c.place_pair.new.watches c.in-Some.pair c.args.number c.requires.well c.requires.first c.requires.number.within c.in-Some.ensures.found c.place_pair.ensures
-
-pub returns-in-Some-clause-more : goal.returns-in-Some-clause-more
-returns-in-Some-clause-more c = ap length c.place_pair.ensures.pairs ∙ length_push c.args.watches.now.pairs.items c.in-Some.pair
-
-pub returns-in-None-clause-well : goal.returns-in-None-clause-well
-returns-in-None-clause-well c = pair_settled c.args.trail.now c.args.watches.now c.keep_pair-in-None.new.watches c.no_pair-in-None.result c.args.number c.requires.well c.requires.first c.requires.number.within c.in-None.ensures.none c.no_pair-in-None.ensures c.keep_pair-in-None.ensures
-
-pub returns-in-None-clause-more : goal.returns-in-None-clause-more
-returns-in-None-clause-more c = ap length c.keep_pair-in-None.ensures.pairs ∙ length_push c.args.watches.now.pairs.items c.no_pair-in-None.result
+pub returns-then-is_short-clause-more : goal.returns-then-is_short-clause-more
+returns-then-is_short-clause-more c = ap length c.keep_pair.ensures.pairs ∙ length_push c.args.watches.now.pairs.items c.no_pair.result

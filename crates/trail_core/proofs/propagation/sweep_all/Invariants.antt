@@ -1,13 +1,16 @@
 use Rattle.std.proofs.Common.{◌-◌, ◌≤◌, length}
 use Rattle.trail_core.specs.TrailState.{IsTrail, Propagates}
+use Rattle.trail_core.specs.Shorts.{HasShorts, AreDue}
 use Rattle.trail_core.specs.Visits.{WatchesWell}
-use Rattle.trail_core.proofs.watch.sweep_all.Given as goal
+use Rattle.trail_core.proofs.propagation.sweep_all.Given as goal
 
 abbrev pub invariant-loop-watches : goal.invariant-loop-watches
 invariant-loop-watches l = record {
   trail : IsTrail l.trail;
   appends : Propagates l.fn.trail l.trail;
   well : WatchesWell l.trail l.watches l.watches.gone_over;
+  shorts : HasShorts l.trail.vars l.trail.clauses l.shorts.lists.items;
+  due : AreDue l.trail (length l.watches.pairs.items) l.watches.gone_over;
   all : length l.trail.clauses ≤ length l.watches.pairs.items;
 }
 

@@ -1,0 +1,151 @@
+ghost use Rattle.std.specs.Prelude.{◌≡◌, ℕ, ◌+◌, ◌*◌, ◌<◌, ◌≤◌, ◌++◌, ◌∷◌, [], true, false, IsTrue, length, get_or, IfOk, OnOk};
+ghost use Rattle.clause_base.specs.Literal.{has_distinct_variables};
+ghost use Rattle.trail_core.specs.Watching.{code_of, is_short};
+ghost use Rattle.trail_core.specs.ShortListing.{no_shorts};
+ghost use Rattle.trail_core.specs.Shorts.{shorts_of, entry_at, next_place, HasShortPlace, SameShorts, HaveShortLists, HaveShortPlaces, PushesShort, Enters, HasNoShorts};
+
+use crate::short_list::{Short, ShortList};
+use crate::watches::code_of;
+use clause_base::Lit;
+use loc_base::NoMemory;
+use std::alloc::Global;
+
+/// The clauses of at most three literals, in a list of each of their literals. No entry is ever moved or changed.
+#[derive(Drop)]
+pub(crate) struct Shorts {
+    /// The list of each literal, at the literal's code.
+    pub(crate) lists: Vec<ShortList>,
+}
+
+/// Whether a clause of these literals stands in the lists of all of them.
+pub(crate) fn is_short(literals: &[Lit]) -> bool
+    ensures { result ≡ is_short literals.now }
+{
+    literals.len() <= 3
+}
+
+/// The clauses that have the literal.
+pub(crate) fn clauses_with(shorts: &Shorts, l: Lit) -> &[Short]
+    requires { code_of l < length shorts.now.lists.items }
+    ensures { result.now ≡ shorts_of shorts.now.lists.items l }
+{
+    shorts.lists[code_of(l)].clauses()
+}
+
+/// So many lists without clauses.
+fn empty_lists(alloc: Global, size: usize) -> Result<Vec<ShortList>, NoMemory>
+    ensures size { IfOk result (λ v. length v.items ≡ size) }
+    ensures empty { IfOk result (λ v. (i : ℕ) → (get_or v.items i no_shorts).clauses ≡ []) }
+{
+    let mut lists = Vec::with_capacity(alloc, size)?;
+    for _ in 0..size {
+        lists.push(ShortList::new(alloc))?;
+    }
+    Ok(lists)
+}
+
+/// The lists of the literals of so many variables, without clauses.
+pub(crate) fn no_short_clauses(alloc: Global, vars: u32) -> Result<Shorts, NoMemory>
+    ensures { IfOk result (HasNoShorts vars) }
+{
+    Ok(Shorts {
+        lists: empty_lists(alloc, 2 * vars as usize + 2)?,
+    })
+}
+
+/// Makes room for one clause more in the list of a literal.
+fn make_short_place(shorts: &mut Shorts, l: Lit) -> Result<(), NoMemory>
+    requires { code_of l < length shorts.old.lists.items }
+    ensures same { SameShorts shorts.old shorts.new }
+    ensures more { OnOk result (HasShortPlace shorts.new l) }
+{
+    shorts.lists[code_of(l)].make_room()
+}
+
+/// Makes room for one clause more in the list of each of the literals.
+fn make_short_places(shorts: &mut Shorts, literals: &[Lit]) -> Result<(), NoMemory>
+    requires { HaveShortLists shorts.old literals.now }
+    ensures same { SameShorts shorts.old shorts.new }
+    ensures more { OnOk result (HaveShortPlaces shorts.new literals.now) }
+{
+    for l in literals {
+        make_short_place(shorts, *l)?;
+    }
+    Ok(())
+}
+
+/// Makes room for a clause of these literals in their lists, where it is to stand there.
+pub(crate) fn make_short_room(shorts: &mut Shorts, literals: &[Lit]) -> Result<(), NoMemory>
+    requires { HaveShortLists shorts.old literals.now }
+    ensures same { SameShorts shorts.old shorts.new }
+    ensures more { OnOk result (is_short literals.now ≡ true → HaveShortPlaces shorts.new literals.now) }
+{
+    if !is_short(literals) {
+        return Ok(());
+    }
+    make_short_places(shorts, literals)?;
+    Ok(())
+}
+
+/// The place behind another one, going round.
+fn next_place(place: usize, count: usize) -> usize
+    requires { place < count }
+    ensures { result ≡ next_place place count }
+{
+    if place + 1 < count { place + 1 } else { 0 }
+}
+
+/// What the list of the literal at that place has of the clause.
+fn entry_at(literals: &[Lit], number: u32, place: usize) -> Short
+    requires { place < length literals.now }
+    ensures { result ≡ entry_at literals.now number place }
+{
+    let next = next_place(place, literals.len());
+    let last = next_place(next, literals.len());
+    let one = literals[next];
+    let two = literals[last];
+    Short {
+        one_var: one.var,
+        two_var: two.var,
+        number,
+        one_negated: one.negated,
+        two_negated: two.negated,
+    }
+}
+
+/// Appends a clause to the list of a literal.
+fn push_short(shorts: &mut Shorts, l: Lit, short: Short)
+    requires within { code_of l < length shorts.old.lists.items }
+    requires place { HasShortPlace shorts.old l }
+    ensures { PushesShort shorts.old shorts.new l short }
+{
+    shorts.lists[code_of(l)].push(short);
+}
+
+/// Appends the clause to the list of each of its literals.
+fn enter_all(shorts: &mut Shorts, number: u32, literals: &[Lit])
+    requires distinct { IsTrue (has_distinct_variables literals.now) }
+    requires lists { HaveShortLists shorts.old literals.now }
+    requires places { HaveShortPlaces shorts.old literals.now }
+    ensures { Enters shorts.old shorts.new number literals.now }
+{
+    for place in 0..literals.len() {
+        let l = literals[place];
+        let short = entry_at(literals, number, place);
+        push_short(shorts, l, short);
+    }
+}
+
+/// Appends the clause to the lists of its literals, where it is to stand there.
+pub(crate) fn enter(shorts: &mut Shorts, number: u32, literals: &[Lit])
+    requires distinct { IsTrue (has_distinct_variables literals.now) }
+    requires lists { HaveShortLists shorts.old literals.now }
+    requires places { is_short literals.now ≡ true → HaveShortPlaces shorts.old literals.now }
+    ensures short { is_short literals.now ≡ true → Enters shorts.old shorts.new number literals.now }
+    ensures long { is_short literals.now ≡ false → shorts.new ≡ shorts.old }
+{
+    if !is_short(literals) {
+        return;
+    }
+    enter_all(shorts, number, literals);
+}
