@@ -1,8 +1,8 @@
 -- What the public calls keep of the watched literals.
-use Rattle.std.proofs.Common.{◌≡◌, ℕ, ◌+◌, ◌<◌, ◌≤◌, Bool, true, false, not, List, [], ◌∷◌, ◌++◌, length, get_or, Option, Some, None, refl, sym, ap, ◌∙◌, subst, arith, ◌⊎◌, inl, inr}
+use Rattle.std.proofs.Common.{◌≡◌, ℕ, ◌+◌, ◌<◌, ◌≤◌, Bool, true, false, not, ◌&&◌, cond, List, [], ◌∷◌, ◌++◌, length, get_or, Option, Some, None, refl, sym, ap, ◌∙◌, subst, arith, ◌⊎◌, inl, inr}
 use Rattle.std.specs.Prelude.{IsSome, IfSome, IfNone}
 use Rattle.std.specs.Vec.{vec_capacity}
-use Rattle.std.proofs.lemmas.Bool.{cases_lt, cases_Bool, false≢true}
+use Rattle.std.proofs.lemmas.Bool.{cases_lt, cases_Bool, both_ways, false≢true}
 use Rattle.std.proofs.lemmas.List.{take_all}
 use Rattle.clause_base.specs.declared.literal.Lit.{Lit}
 use Rattle.clause_base.specs.Literal.{IsWithin, has_distinct_variables}
@@ -17,10 +17,11 @@ use Rattle.trail_core.specs.TrailState.{TrailState, IsTrail, IsNumber, IsReason,
 use Rattle.trail_core.specs.Listing.{Listing}
 use Rattle.trail_core.specs.declared.shorts.Shorts.{Shorts}
 use Rattle.trail_core.specs.Shorts.{HasShorts, HasNoShorts, SameShorts, HaveShortLists, Enters, IsDue, AreDue}
-use Rattle.trail_core.specs.Watching.{IsOpen, IsKept, is_short, code_of, list_of, room_of, unwatched}
+use Rattle.trail_core.specs.Watching.{IsOpen, IsKept, is_short, is_fixed, AreMarked, code_of, list_of, room_of, unwatched}
 use Rattle.trail_core.specs.Visits.{HasNone, HaveLists, HavePlaces, IsWider, WatchesWell, IsWatching, WatchGives, number_of, held_in}
 use Rattle.trail_core.proofs.Due.{due_decided, due_back, due_added}
-use Rattle.trail_core.proofs.Entering.{have_lists as have_lists_shorts, has_shorts_none, has_shorts_same, has_shorts_long, has_shorts_entered}
+use Rattle.trail_core.proofs.Entering.{have_lists as have_lists_shorts, fixed_within, fixed_short, fixed_by, has_shorts_none, has_shorts_same, has_shorts_long, has_shorts_entered}
+use Rattle.trail_core.proofs.Marks.{marked_added}
 use Rattle.trail_core.proofs.Looks.{variable_of}
 use Rattle.trail_core.proofs.Passing.{code_within}
 use Rattle.trail_core.proofs.Placing.{well_added, well_wider}
@@ -49,8 +50,8 @@ well_new vars w n = record {
 }
 
 -- propagation adds no clause
-pub shorts_propagate : (t new : TrailState) (s : Shorts) → Propagates t new → HasShorts t.vars t.clauses s.lists.items → HasShorts new.vars new.clauses s.lists.items
-shorts_propagate t new s p h = subst (λ v. HasShorts v new.clauses s.lists.items) (sym p.vars) (subst (λ cs. HasShorts t.vars cs s.lists.items) (sym p.clauses) h)
+pub shorts_propagate : (t new : TrailState) (s : Shorts) → Propagates t new → HasShorts t.vars t.clauses s.fixed s.lists.items → HasShorts new.vars new.clauses s.fixed s.lists.items
+shorts_propagate t new s p h = subst (λ v. HasShorts v new.clauses s.fixed s.lists.items) (sym p.vars) (subst (λ cs. HasShorts t.vars cs s.fixed s.lists.items) (sym p.clauses) h)
 
 -- whatever propagation gives, the lists are kept
 pub well_watched : (t : TrailState) (w : Watches) (r : Watched) → WatchGives t w r → WatchesWell t w w.gone_over
@@ -143,7 +144,8 @@ pub new_watching : (vars : ℕ) (p : TrailState) (w : Watches) (s : Shorts) → 
 new_watching vars p w s e h n m = record {
   trail = h;
   well = subst (λ t. WatchesWell t w w.gone_over) (sym e) (well_new vars w n);
-  shorts = subst (λ t. HasShorts t.vars t.clauses s.lists.items) (sym e) (has_shorts_none vars s m);
+  shorts = subst (λ t. HasShorts t.vars t.clauses s.fixed s.lists.items) (sym e) (has_shorts_none vars s m);
+  marked = λ i d l. absurd (omega (arith, l, ap length n.pairs));
   due = λ i k low. absurd (omega (arith, k.above, k.within, ap (λ (t : TrailState). length t.clauses) e));
 }
 
@@ -160,28 +162,72 @@ watching_wider t old new s h w = record {
   trail = h.trail;
   well = well_wider t old new w.pairs w.capacity w.size w.numbers w.rooms w.gone_over h.well;
   shorts = h.shorts;
-  due = λ n k low. subst (λ g. is_short (numbered t.clauses n) ≡ true → IsDue t.entries g (numbered t.clauses n)) (sym w.gone_over) (h.due n k (omega (arith, low, ap length w.pairs)));
+  marked = subst (AreMarked t.clauses s.fixed) (sym w.pairs) h.marked;
+  due = λ n k low. subst (λ g. is_fixed s.fixed n (numbered t.clauses n) ≡ true → IsDue t.entries g (numbered t.clauses n)) (sym w.gone_over) (h.due n k (omega (arith, low, ap length w.pairs)));
 }
 
 -- the lists of clauses of at most three literals have more room
 pub watching_same : (t : TrailState) (w : Watches) (old new : Shorts) → IsWatching t w old → SameShorts old new → IsWatching t w new
-watching_same t w old new h s = record { trail = h.trail; well = h.well; shorts = has_shorts_same t.vars t.clauses old new s h.shorts; due = h.due }
+watching_same t w old new h s = record {
+  trail = h.trail;
+  well = h.well;
+  shorts = has_shorts_same t.vars t.clauses old new s h.shorts;
+  marked = subst (λ f. AreMarked t.clauses f w.pairs.items) (sym s.fixed) h.marked;
+  due = subst (λ f. AreDue t f (length w.pairs.items) w.gone_over) (sym s.fixed) h.due;
+}
+
+-- which of the earlier clauses stand in the lists of their literals once one more was counted or not
+pub class_kept : (takes : Bool) (f n count : ℕ) → (takes ≡ true → f ≡ count) → f ≤ count → count ≤ n → (m : ℕ) (x : List Lit) → m ≤ count → is_fixed (cond takes n f) m x ≡ true → is_fixed f m x ≡ true
+class_kept true f n count o few more m x l h = fixed_by f m x (omega (arith, l, o refl)) (fixed_short n m x h)
+class_kept false f n count o few more m x l h = h
+
+pub class_grows : (takes : Bool) (f n count : ℕ) → f ≤ count → count ≤ n → (m : ℕ) (x : List Lit) → m ≤ count → is_fixed f m x ≡ true → is_fixed (cond takes n f) m x ≡ true
+class_grows true f n count few more m x l h = fixed_by n m x (omega (arith, fixed_within f m x h, few, more)) (fixed_short f m x h)
+class_grows false f n count few more m x l h = h
+
+-- the lists, after the clause was entered or not
+shorts_added : (takes : Bool) (vars : ℕ) (cs : List (List Lit)) (c : List Lit) (n : ℕ) (same entered : Shorts) → n ≡ length cs + 1 → (takes ≡ true → same.fixed ≡ length cs) → has_distinct_variables c ≡ true → ((takes && is_short c) ≡ true → Enters same entered n c) → ((takes && is_short c) ≡ false → entered ≡ same) → HasShorts vars cs same.fixed same.lists.items → HasShorts vars (cs ++ c ∷ []) (cond takes n same.fixed) entered.lists.items
+shorts_added true vars cs c n same entered number o u short long k = elim (cases_Bool (is_short c)) [
+  | inl y ↦ has_shorts_entered vars cs c n same entered number y u (short y) (subst (λ f. HasShorts vars cs f same.lists.items) (o refl) k)
+  | inr y ↦
+      subst (λ (x : Shorts). HasShorts vars (cs ++ c ∷ []) n x.lists.items) (sym (long y))
+      (has_shorts_long vars cs c same.fixed n same.lists.items (omega (arith, number)) (λ h. both_ways (is_short c) y (fixed_short n (length cs + 1) c h))
+      (class_kept true same.fixed n (length cs) o k.few (omega (arith, number))) k)
+]
+shorts_added false vars cs c n same entered number o u short long k =
+    subst (λ (x : Shorts). HasShorts vars (cs ++ c ∷ []) same.fixed x.lists.items) (sym (long refl))
+    (has_shorts_long vars cs c same.fixed same.fixed same.lists.items (omega (arith, k.few)) (λ h. absurd (omega (arith, k.few, fixed_within same.fixed (length cs + 1) c h))) (λ m x l h. h) k)
 
 -- a clause was added
-pub watching_added : (t after seen : TrailState) (old new : Watches) (before same entered : Shorts) (c : List Lit) (count n : ℕ) → t ≡ seen → IsWatching t old before → MayAdd seen c → has_distinct_variables c ≡ true → count ≡ length t.clauses → IsWider old new → (is_short c ≡ false → HavePlaces old new c) → count + 1 ≤ vec_capacity new.pairs → SameShorts before same → (is_short c ≡ true → Enters same entered n c) → (is_short c ≡ false → entered ≡ same) → n ≡ length t.clauses + 1 → after ≡ with_clause t c → IsTrail after → IsWatching after new entered
-watching_added t after seen old new before same entered c count n e h may u q w p room s short long number ok trail = record {
+pub watching_added : (takes : Bool) (t after seen : TrailState) (old new : Watches) (before same entered counted : Shorts) (c : List Lit) (count n : ℕ) → t ≡ seen → IsWatching t old before → MayAdd seen c → has_distinct_variables c ≡ true → count ≡ length t.clauses → IsWider old new → HavePlaces old new c → count + 1 ≤ vec_capacity new.pairs → SameShorts before same → (takes ≡ true → before.fixed ≡ count) → ((takes && is_short c) ≡ true → Enters same entered n c) → ((takes && is_short c) ≡ false → entered ≡ same) → counted.lists ≡ entered.lists → counted.fixed ≡ cond takes n entered.fixed → n ≡ length t.clauses + 1 → after ≡ with_clause t c → IsTrail after → IsWatching after new counted
+watching_added takes t after seen old new before same entered counted c count n e h may u q w p room s takes_all short long lists fixed number ok trail = record {
   trail = trail;
   well = subst (λ x. WatchesWell x new new.gone_over) (sym ok)
       (well_added t c old new h.trail (subst (λ x. MayAdd x c) (sym e) may) (widens old new c (length t.clauses) w p (omega (arith, q, room))) h.well);
-  shorts = subst (λ (x : TrailState). HasShorts x.vars x.clauses entered.lists.items) (sym ok) (elim (cases_Bool (is_short c)) [
-    | inl y ↦ has_shorts_entered t.vars t.clauses c n same entered number y u (short y) kept
-    | inr y ↦ subst (λ x. HasShorts t.vars (t.clauses ++ c ∷ []) x.lists.items) (sym (long y)) (has_shorts_long t.vars t.clauses c same y kept)
-  ]);
-  due = subst (λ x. AreDue x (length new.pairs.items) new.gone_over) (sym ok) (due_added t c (length new.pairs.items) new.gone_over (omega (arith, ap length w.pairs, h.well.kept.few)) (watching_wider t old new before h w).due);
+  shorts = subst (λ (x : TrailState). HasShorts x.vars x.clauses counted.fixed counted.lists.items) (sym ok)
+      (subst (λ f. HasShorts t.vars (t.clauses ++ c ∷ []) f counted.lists.items) (sym fixed_is)
+      (subst (λ ls. HasShorts t.vars (t.clauses ++ c ∷ []) (cond takes n same.fixed) ls) (sym (ap (λ v. v.items) lists))
+      (shorts_added takes t.vars t.clauses c n same entered number (λ o. s.fixed ∙ (takes_all o ∙ q)) u short long kept)));
+  marked = subst (λ (x : TrailState). AreMarked x.clauses counted.fixed new.pairs.items) (sym ok)
+      (subst (λ f. AreMarked (t.clauses ++ c ∷ []) f new.pairs.items) (sym fixed_is)
+      (marked_added t.clauses c same.fixed (cond takes n same.fixed) old.pairs.items new.pairs.items h.well.kept.few w.pairs
+      (class_grows takes same.fixed n (length t.clauses) kept.few (omega (arith, number)))
+      (subst (λ f. AreMarked t.clauses f old.pairs.items) (sym s.fixed) h.marked)));
+  due = subst (λ x. AreDue x counted.fixed (length new.pairs.items) new.gone_over) (sym ok)
+      (subst (λ f. AreDue (with_clause t c) f (length new.pairs.items) new.gone_over) (sym fixed_is)
+      (due_added t c same.fixed (cond takes n same.fixed) (length new.pairs.items) new.gone_over (omega (arith, ap length w.pairs, h.well.kept.few))
+      (class_kept takes same.fixed n (length t.clauses) (λ o. s.fixed ∙ (takes_all o ∙ q)) kept.few (omega (arith, number)))
+      (watching_same t new before same (watching_wider t old new before h w) s).due));
 }
   where
-    kept : HasShorts t.vars t.clauses same.lists.items
+    kept : HasShorts t.vars t.clauses same.fixed same.lists.items
     kept = has_shorts_same t.vars t.clauses before same s h.shorts
+
+    entered_fixed : entered.fixed ≡ same.fixed
+    entered_fixed = elim (cases_Bool (takes && is_short c)) [ inl y ↦ (short y).fixed | inr y ↦ ap (λ (x : Shorts). x.fixed) (long y) ]
+
+    fixed_is : counted.fixed ≡ cond takes n same.fixed
+    fixed_is = fixed ∙ ap (cond takes n) entered_fixed
 
 -- a clause was not added
 pub watching_refused : (t after : TrailState) (old new : Watches) (before same : Shorts) → IsWatching t old before → IsWider old new → SameShorts before same → after ≡ t → IsWatching after new same
@@ -207,13 +253,14 @@ some_entry = record { lit = record { var = 0; negated = false }; decision_level 
 pub still_there : (t new seen : TrailState) → t ≡ seen → AllRest seen.clauses (values_of seen.entries) → Propagates t new → IsTrail new → new ≡ seen
 still_there t new seen e r p h = stays_still t new some_entry (subst (λ (s : TrailState). AllRest s.clauses (values_of s.entries)) (sym e) r) p h ∙ e
 
-pub watching_decided : (t new after seen : TrailState) (l : Lit) (old w : Watches) (s : Shorts) (r : Watched) → t ≡ seen → IsWatching t old s → AllRest seen.clauses (values_of seen.entries) → Propagates t new → IsTrail new → WatchGives new w r → AreDue new (length w.pairs.items) w.gone_over → after ≡ with_decision new l → IsTrail after → IsWatching after w s
-watching_decided t new after seen l old w s r e h rest p trail_new g due q trail = record {
+pub watching_decided : (t new after seen : TrailState) (l : Lit) (old w : Watches) (s : Shorts) (r : Watched) → t ≡ seen → IsWatching t old s → AllRest seen.clauses (values_of seen.entries) → Propagates t new → IsTrail new → WatchGives new w r → AreMarked new.clauses s.fixed w.pairs.items → AreDue new s.fixed (length w.pairs.items) w.gone_over → after ≡ with_decision new l → IsTrail after → IsWatching after w s
+watching_decided t new after seen l old w s r e h rest p trail_new g marked due q trail = record {
   trail = trail;
   well = subst (λ x. WatchesWell x w w.gone_over) (sym q)
       (well_decided new l w r (subst (λ (x : TrailState). AllRest x.clauses (values_of x.entries)) (sym (still_there t new seen e rest p trail_new)) rest) g);
-  shorts = subst (λ (x : TrailState). HasShorts x.vars x.clauses s.lists.items) (sym q) (shorts_propagate t new s p h.shorts);
-  due = subst (λ x. AreDue x (length w.pairs.items) w.gone_over) (sym q) (due_decided new l (length w.pairs.items) w.gone_over (well_watched new w r g).kept.entries due);
+  shorts = subst (λ (x : TrailState). HasShorts x.vars x.clauses s.fixed s.lists.items) (sym q) (shorts_propagate t new s p h.shorts);
+  marked = subst (λ (x : TrailState). AreMarked x.clauses s.fixed w.pairs.items) (sym q) marked;
+  due = subst (λ x. AreDue x s.fixed (length w.pairs.items) w.gone_over) (sym q) (due_decided new l s.fixed (length w.pairs.items) w.gone_over (well_watched new w r g).kept.entries due);
 }
 
 pub watching_back : (t after seen : TrailState) (k : ℕ) (old new : Watches) (s : Shorts) (count : ℕ) → t ≡ seen → IsWatching t old s → k ≤ seen.level → after ≡ back_at t k → IsTrail after → count ≡ length after.entries → new.gone_over ≤ old.gone_over → new.gone_over ≤ count → (new.gone_over ≡ old.gone_over) ⊎ (new.gone_over ≡ count) → new.pairs ≡ old.pairs → new.lists ≡ old.lists → IsWatching after new s
@@ -224,7 +271,8 @@ watching_back t after seen k old new s count e h level q trail c low high which 
     record {
       trail = trail;
       well = subst (λ x. WatchesWell x new new.gone_over) (sym q) (well_back t k old new h.trail level_is low (omega (arith, high, size)) which_size p l h.well);
-      shorts = subst (λ (x : TrailState). HasShorts x.vars x.clauses s.lists.items) (sym q) h.shorts;
-      due = subst (λ x. AreDue x (length new.pairs.items) new.gone_over) (sym q)
-          (subst (λ m. AreDue (back_at t k) m new.gone_over) (sym (ap (λ v. length v.items) p)) (due_back t k (length old.pairs.items) old.gone_over new.gone_over h.trail level_is h.well.kept.entries low which_size h.due));
+      shorts = subst (λ (x : TrailState). HasShorts x.vars x.clauses s.fixed s.lists.items) (sym q) h.shorts;
+      marked = subst (λ (x : TrailState). AreMarked x.clauses s.fixed new.pairs.items) (sym q) (subst (AreMarked t.clauses s.fixed) (sym (ap (λ v. v.items) p)) h.marked);
+      due = subst (λ x. AreDue x s.fixed (length new.pairs.items) new.gone_over) (sym q)
+          (subst (λ m. AreDue (back_at t k) s.fixed m new.gone_over) (sym (ap (λ v. length v.items) p)) (due_back t s.fixed k (length old.pairs.items) old.gone_over new.gone_over h.trail level_is h.well.kept.entries low which_size h.due));
     }

@@ -5,25 +5,9 @@ use Rattle.clause_base.specs.declared.literal.Lit.{Lit}
 use Rattle.clause_base.specs.Literal.{has, same_lit}
 use Rattle.clause_base.proofs.Sets.{same_lit-true, same_lit_itself}
 use Rattle.trail_core.specs.declared.watches.Pair.{Pair}
-use Rattle.trail_core.specs.Watching.{watches, is_short, has_long, lacks, unwatched}
+use Rattle.trail_core.specs.Watching.{watches, lacks, unwatched}
 use Rattle.trail_core.specs.Visits.{IsOriented}
 use Rattle.trail_core.proofs.Listing.{cases_lit, counts_one}
-
--- a literal of a clause of more than three
-pub has_long-true : (c : List Lit) (l : Lit) → is_short c ≡ false → has c l ≡ true → has_long c l ≡ true
-has_long-true c l s h = rw (h, s) refl
-
--- a clause of at most three literals counts for none
-pub has_long-short : (c : List Lit) (l : Lit) → is_short c ≡ true → has_long c l ≡ false
-has_long-short c l s = rw s (by (has c l))
-  where
-    by : (b : Bool) → (b && false) ≡ false
-    by true = refl
-    by false = refl
-
--- nor does one for a literal that it hasn't
-pub has_long-none : (c : List Lit) (l : Lit) → has c l ≡ false → has_long c l ≡ false
-has_long-none c l h = rw h refl
 
 -- another pair for a clause
 pub unwatched-set : (cs : List (List Lit)) (ps : List Pair) (i : ℕ) (q d : Pair) (l : Lit) → i < length ps → i < length cs → unwatched cs (set ps i q) l + cond (lacks (get_or cs i []) (get_or ps i d) l) 1 0 ≡ unwatched cs ps l + cond (lacks (get_or cs i []) q l) 1 0
@@ -33,13 +17,13 @@ unwatched-set (c ∷ cs) (p ∷ ps) zero q d l h k = omega arith
 unwatched-set (c ∷ cs) (p ∷ ps) (suc i) q d l h k = omega (arith, unwatched-set cs ps i q d l (omega (arith, h)) (omega (arith, k)))
 
 -- a pair for the first clause without one
-pub unwatched-push : (cs : List (List Lit)) (ps : List Pair) (q : Pair) (l : Lit) → length ps < length cs → unwatched cs (ps ++ q ∷ []) l + cond (has_long (get_or cs (length ps) []) l) 1 0 ≡ unwatched cs ps l + cond (lacks (get_or cs (length ps) []) q l) 1 0
+pub unwatched-push : (cs : List (List Lit)) (ps : List Pair) (q : Pair) (l : Lit) → length ps < length cs → unwatched cs (ps ++ q ∷ []) l + cond (has (get_or cs (length ps) []) l) 1 0 ≡ unwatched cs ps l + cond (lacks (get_or cs (length ps) []) q l) 1 0
 unwatched-push [] ps q l h = absurd (omega (arith, h))
 unwatched-push (c ∷ cs) [] q l h = omega arith
 unwatched-push (c ∷ cs) (p ∷ ps) q l h = omega (arith, unwatched-push cs ps q l (omega (arith, h)))
 
 -- a clause more
-pub unwatched-clause : (cs : List (List Lit)) (c : List Lit) (ps : List Pair) (l : Lit) → length ps ≤ length cs → unwatched (cs ++ c ∷ []) ps l ≡ unwatched cs ps l + cond (has_long c l) 1 0
+pub unwatched-clause : (cs : List (List Lit)) (c : List Lit) (ps : List Pair) (l : Lit) → length ps ≤ length cs → unwatched (cs ++ c ∷ []) ps l ≡ unwatched cs ps l + cond (has c l) 1 0
 unwatched-clause [] c [] l h = omega arith
 unwatched-clause [] c (p ∷ ps) l h = absurd (omega (arith, h))
 unwatched-clause (x ∷ xs) c [] l h = omega (arith, unwatched-clause xs c [] l (omega arith))
@@ -53,9 +37,9 @@ some_unwatched (c ∷ cs) (p ∷ ps) zero d l h k e = omega (arith, counts_one (
 some_unwatched (c ∷ cs) (p ∷ ps) (suc i) d l h k e = omega (arith, some_unwatched cs ps i d l (omega (arith, h)) (omega (arith, k)) e)
 
 -- a clause without a pair that has the literal is counted
-pub some_unpaired : (cs : List (List Lit)) (ps : List Pair) (l : Lit) → length ps < length cs → has_long (get_or cs (length ps) []) l ≡ true → 1 ≤ unwatched cs ps l
+pub some_unpaired : (cs : List (List Lit)) (ps : List Pair) (l : Lit) → length ps < length cs → has (get_or cs (length ps) []) l ≡ true → 1 ≤ unwatched cs ps l
 some_unpaired [] ps l h e = absurd (omega (arith, h))
-some_unpaired (c ∷ cs) [] l h e = omega (arith, counts_one (has_long c l) e)
+some_unpaired (c ∷ cs) [] l h e = omega (arith, counts_one (has c l) e)
 some_unpaired (c ∷ cs) (p ∷ ps) l h e = omega (arith, some_unpaired cs ps l (omega (arith, h)) e)
 
 pub same_lit-false : (l m : Lit) → l ≢ m → same_lit l m ≡ false
@@ -71,11 +55,11 @@ lacks_by false true h = absurd (no (h refl))
 lacks_by false false h = refl
 
 -- each literal of the clause is in its pair or lacks there
-pub lacks_or_watches : (c : List Lit) (p : Pair) (l : Lit) → (watches p l ≡ true → has_long c l ≡ true) → cond (lacks c p l) 1 0 + cond (watches p l) 1 0 ≡ cond (has_long c l) 1 0
-lacks_or_watches c p l h = lacks_by (has_long c l) (watches p l) h
+pub lacks_or_watches : (c : List Lit) (p : Pair) (l : Lit) → (watches p l ≡ true → has c l ≡ true) → cond (lacks c p l) 1 0 + cond (watches p l) 1 0 ≡ cond (has c l) 1 0
+lacks_or_watches c p l h = lacks_by (has c l) (watches p l) h
 
-pub lacks-le : (c : List Lit) (p : Pair) (l : Lit) → cond (lacks c p l) 1 0 ≤ cond (has_long c l) 1 0
-lacks-le c p l = by (has_long c l) (watches p l)
+pub lacks-le : (c : List Lit) (p : Pair) (l : Lit) → cond (lacks c p l) 1 0 ≤ cond (has c l) 1 0
+lacks-le c p l = by (has c l) (watches p l)
   where
     by : (a b : Bool) → cond (a && not b) 1 0 ≤ cond a 1 0
     by true true = omega arith
@@ -92,11 +76,11 @@ watches-is p l h = elim (cases_lit p.first l) [
   | inr d ↦ inr (same_lit-true p.second l (subst (λ (b : Bool). b || same_lit p.second l ≡ true) (same_lit-false p.first l d) h))
 ]
 
-pub lacks-true : (c : List Lit) (p : Pair) (l : Lit) → has_long c l ≡ true → p.first ≢ l → p.second ≢ l → lacks c p l ≡ true
+pub lacks-true : (c : List Lit) (p : Pair) (l : Lit) → has c l ≡ true → p.first ≢ l → p.second ≢ l → lacks c p l ≡ true
 lacks-true c p l h a b = rw (h, watches-neither p l a b) refl
 
 -- where the pair changes one literal, that one isn't lacking any more, and what lacks of others is the same
-pub lacks-moved : (c : List Lit) (q p : Pair) (next l : Lit) → IsOriented q p → has_long c next ≡ true → next ≢ p.second → next ≢ p.first → l ≢ p.first → cond (same_lit next l) 1 0 + cond (lacks c record { first = p.second; second = next } l) 1 0 ≤ cond (lacks c q l) 1 0
+pub lacks-moved : (c : List Lit) (q p : Pair) (next l : Lit) → IsOriented q p → has c next ≡ true → next ≢ p.second → next ≢ p.first → l ≢ p.first → cond (same_lit next l) 1 0 + cond (lacks c record { first = p.second; second = next } l) 1 0 ≤ cond (lacks c q l) 1 0
 lacks-moved c q p next l o h m n d = elim (cases_lit l next) [
   | inl e ↦
       let lacking : lacks c q next ≡ true = elim o [
@@ -104,7 +88,7 @@ lacks-moved c q p next l o h m n d = elim (cases_lit l next) [
         | inr x ↦ subst (λ r. lacks c r next ≡ true) (sym x) (lacks-true c record { first = p.second; second = p.first } next h (λ z. m (sym z)) (λ z. n (sym z)))
       ] in
       subst (λ z. cond (same_lit next z) 1 0 + cond (lacks c moved z) 1 0 ≤ cond (lacks c q z) 1 0) (sym e)
-      (rw (lacking, same_lit_itself next, watched_there (has_long c next)) (omega arith))
+      (rw (lacking, same_lit_itself next, watched_there (has c next)) (omega arith))
   | inr g ↦
       let same : watches q l ≡ watches moved l = elim o [
         | inl x ↦ subst (λ r. watches r l ≡ watches moved l) (sym x) (rw (same_lit-false p.first l (λ z. d (sym z)), same_lit-false next l (λ z. g (sym z))) (sym (or_false (same_lit p.second l))))

@@ -1,4 +1,4 @@
--- Which clauses of at most three literals are due, and what keeps them so.
+-- Which clauses that stand in the lists of their literals are due, and what keeps them so.
 use Rattle.std.proofs.Common.{◌≡◌, ◌≢◌, ℕ, ◌+◌, ◌<◌, ◌≤◌, Bool, true, false, not, List, [], ◌∷◌, ◌++◌, length, get_or, take, Some, None, refl, sym, ap, ◌∙◌, subst, arith, ◌⊎◌, inl, inr}
 use Rattle.std.specs.Option.{option_map}
 use Rattle.std.proofs.lemmas.Bool.{cases_lt, cases_eq, both_ways}
@@ -10,7 +10,7 @@ use Rattle.clause_base.proofs.Sets.{lit_ext}
 use Rattle.trail_core.specs.declared.entry.Entry.{Entry}
 use Rattle.trail_core.specs.Values.{IsTrueIn, IsFalseIn, Rests, satisfied, open_at_two}
 use Rattle.trail_core.specs.TrailState.{TrailState, IsTrail, IsNumber, Propagates, values_of, up_to, back_at, with_clause, with_decision}
-use Rattle.trail_core.specs.Watching.{IsOpen, is_short}
+use Rattle.trail_core.specs.Watching.{IsOpen, is_fixed}
 use Rattle.trail_core.specs.Shorts.{IsDue, due_true, due_open, AreDue}
 use Rattle.trail_core.proofs.Truth.{values-take_none}
 use Rattle.trail_core.proofs.Levels.{up_to_all}
@@ -43,18 +43,18 @@ pub due_front : (old new : List Entry) (g : ℕ) (c : List Lit) → IsFront old 
 due_front old new g c f l (due_true x h t) = due_true x h (values_front old new x.var (not x.negated) f t)
 due_front old new g c f l (due_open o) = due_open (subst (λ es. IsOpen (values_of es) c) (sym (part_front old new g f l)) o)
 
-pub due_propagates : (t new : TrailState) (count g : ℕ) → Propagates t new → g ≤ length t.entries → AreDue t count g → AreDue new count g
-due_propagates t new count g p l h n k low s =
+pub due_propagates : (t new : TrailState) (f count g : ℕ) → Propagates t new → g ≤ length t.entries → AreDue t f count g → AreDue new f count g
+due_propagates t new f count g p l h n k low s =
     subst (λ cs. IsDue new.entries g (numbered cs n)) (sym p.clauses)
-    (due_front t.entries new.entries g (numbered t.clauses n) p.prefix l (h n (subst (λ cs. IsNumber cs n) p.clauses k) low (subst (λ cs. is_short (numbered cs n) ≡ true) p.clauses s)))
+    (due_front t.entries new.entries g (numbered t.clauses n) p.prefix l (h n (subst (λ cs. IsNumber cs n) p.clauses k) low (subst (λ cs. is_fixed f n (numbered cs n) ≡ true) p.clauses s)))
 
 -- a count of all clauses is as good as a greater one
-pub due_all : (t : TrailState) (a b g : ℕ) → length t.clauses ≤ a → AreDue t a g → AreDue t b g
-due_all t a b g l h n k low s = h n k (omega (arith, k.within, l)) s
+pub due_all : (t : TrailState) (f a b g : ℕ) → length t.clauses ≤ a → AreDue t f a g → AreDue t f b g
+due_all t f a b g l h n k low s = h n k (omega (arith, k.within, l)) s
 
 -- one clause more that rests
-pub due_more : (t : TrailState) (a b g : ℕ) → b ≡ a + 1 → Rests (values_of t.entries) (numbered t.clauses (a + 1)) → AreDue t a g → AreDue t b g
-due_more t a b g q r h m k low s = elim (cases_lt a m) [
+pub due_more : (t : TrailState) (f a b g : ℕ) → b ≡ a + 1 → Rests (values_of t.entries) (numbered t.clauses (a + 1)) → AreDue t f a g → AreDue t f b g
+due_more t f a b g q r h m k low s = elim (cases_lt a m) [
   | inl more ↦
       let same : a + 1 ≡ m = omega (arith, q, low, more) in
       subst (λ i. IsDue t.entries g (numbered t.clauses i)) same (due_rests t.entries g (numbered t.clauses (a + 1)) r)
@@ -100,8 +100,8 @@ due_next es g d gone c l f here lacking (due_open o) = elim (cases_eq gone.var o
     own x h e = elim (true_or_gone es gone x f e) [ inl t ↦ due_true x h t | inr q ↦ absurd (both_ways (has c gone) lacking (ap (has c) (sym q) ∙ h)) ]
 
 -- going back
-pub due_back : (t : TrailState) (k count g h : ℕ) → IsTrail t → k ≤ t.level → g ≤ length t.entries → h ≤ g → (h ≡ g) ⊎ (h ≡ length (up_to k t.entries)) → AreDue t count g → AreDue (back_at t k) count h
-due_back t k count g h trail level within low which due n number counted s = elim (cases_lt k t.level) [
+pub due_back : (t : TrailState) (f k count g h : ℕ) → IsTrail t → k ≤ t.level → g ≤ length t.entries → h ≤ g → (h ≡ g) ⊎ (h ≡ length (up_to k t.entries)) → AreDue t f count g → AreDue (back_at t k) f count h
+due_back t f k count g h trail level within low which due n number counted s = elim (cases_lt k t.level) [
   | inl b ↦ due_rests (up_to k t.entries) h (numbered t.clauses n) (trail.rests k b n number)
   | inr b ↦
       let same : up_to k t.entries ≡ t.entries = up_to_all t.entries k trail.leveled (omega (arith, b, trail.level)) in
@@ -110,15 +110,15 @@ due_back t k count g h trail level within low which due n number counted s = eli
 ]
 
 -- a decision
-pub due_decided : (t : TrailState) (l : Lit) (count g : ℕ) → g ≤ length t.entries → AreDue t count g → AreDue (with_decision t l) count g
-due_decided t l count g within h n k low s = due_front t.entries (t.entries ++ e ∷ []) g (numbered t.clauses n) (front_push t.entries e) within (h n k low s)
+pub due_decided : (t : TrailState) (l : Lit) (f count g : ℕ) → g ≤ length t.entries → AreDue t f count g → AreDue (with_decision t l) f count g
+due_decided t l f count g within h n k low s = due_front t.entries (t.entries ++ e ∷ []) g (numbered t.clauses n) (front_push t.entries e) within (h n k low s)
   where
     e : Entry
     e = record { lit = l; decision_level = t.level + 1; reason = None }
 
 -- a clause more, which is not yet counted
-pub due_added : (t : TrailState) (c : List Lit) (count g : ℕ) → count ≤ length t.clauses → AreDue t count g → AreDue (with_clause t c) count g
-due_added t c count g within h n k low s =
+pub due_added : (t : TrailState) (c : List Lit) (f h count g : ℕ) → count ≤ length t.clauses → ((n : ℕ) (x : List Lit) → n ≤ length t.clauses → is_fixed h n x ≡ true → is_fixed f n x ≡ true) → AreDue t f count g → AreDue (with_clause t c) h count g
+due_added t c f h count g within same_class due n k low s =
     let old : IsNumber t.clauses n = record { above = k.above; within = omega (arith, low, within) } in
     let same : numbered (t.clauses ++ c ∷ []) n ≡ numbered t.clauses n = numbered-push_old t.clauses c n old in
-    subst (IsDue t.entries g) (sym same) (h n old low (ap is_short (sym same) ∙ s))
+    subst (IsDue t.entries g) (sym same) (due n old low (same_class n (numbered t.clauses n) old.within (ap (is_fixed h n) (sym same) ∙ s)))

@@ -1,6 +1,6 @@
 -- A clause of at most three literals in the lists of its literals.
-use Rattle.std.proofs.Common.{◌≡◌, ◌≢◌, ℕ, zero, suc, ◌+◌, ◌<◌, ◌≤◌, Bool, true, false, ◌||◌, cond, List, [], ◌∷◌, ◌++◌, length, get_or, set, take, refl, sym, ap, ◌∙◌, subst, arith, ◌⊎◌, inl, inr}
-use Rattle.std.proofs.lemmas.Bool.{cases_lt, cases_Bool, false≢true, both_ways, or_cases, or_parts, leb-true, lt-ltb, le-ltb}
+use Rattle.std.proofs.Common.{◌≡◌, ◌≢◌, ℕ, zero, suc, ◌+◌, ◌<◌, ◌≤◌, Bool, true, false, ◌||◌, cond, nat_le, List, [], ◌∷◌, ◌++◌, length, get_or, set, take, refl, sym, ap, ◌∙◌, subst, arith, ◌⊎◌, inl, inr}
+use Rattle.std.proofs.lemmas.Bool.{cases_lt, cases_Bool, false≢true, both_ways, or_cases, or_parts, and_parts, leb-true, le-leb, lt-ltb, le-ltb}
 use Rattle.std.proofs.lemmas.List.{get_or-set_same, get_or-set_other, get_or-take, get_or_append_left, get_or_push, length-set, length_push, length-take-le, take_more, take_all}
 use Rattle.clause_base.specs.declared.literal.Lit.{Lit}
 use Rattle.clause_base.specs.Literal.{IsWithin, has, same_lit, has_distinct_variables}
@@ -11,7 +11,7 @@ use Rattle.trail_core.specs.declared.shorts.Shorts.{Shorts}
 use Rattle.trail_core.specs.ShortListing.{ShortListing, no_shorts, one_of, two_of}
 use Rattle.trail_core.specs.Values.{IsVariable}
 use Rattle.trail_core.specs.TrailState.{IsNumber}
-use Rattle.trail_core.specs.Watching.{code_of, is_short}
+use Rattle.trail_core.specs.Watching.{code_of, is_short, is_fixed}
 use Rattle.trail_core.specs.Shorts.{no_literal, shorts_of, IsEntry, IsEntered, HasShorts, HasNoShorts, SameShorts, HasShortPlace, HaveShortLists, HaveShortPlaces, PushesShort, Enters, entry_at, next_place}
 use Rattle.trail_core.proofs.Listing.{cases_lit, code_same, apart_lit, at_any}
 use Rattle.trail_core.proofs.Looks.{has_at, other_before, variable_of}
@@ -22,10 +22,10 @@ abbrev pub listing : Shorts → Lit → ShortListing
 listing s l = get_or s.lists.items (code_of l) no_shorts
 
 pub same_itself : (s : Shorts) → SameShorts s s
-same_itself s = record { size = refl; same = λ l. refl; rooms = λ l. omega arith }
+same_itself s = record { fixed = refl; size = refl; same = λ l. refl; rooms = λ l. omega arith }
 
 pub same_then : (a b c : Shorts) → SameShorts a b → SameShorts b c → SameShorts a c
-same_then a b c p q = record { size = q.size ∙ p.size; same = λ l. q.same l ∙ p.same l; rooms = λ l. omega (arith, p.rooms l, q.rooms l) }
+same_then a b c p q = record { fixed = q.fixed ∙ p.fixed; size = q.size ∙ p.size; same = λ l. q.same l ∙ p.same l; rooms = λ l. omega (arith, p.rooms l, q.rooms l) }
 
 -- one list more without clauses
 pub empty_push : (xs : List ShortListing) (x : ShortListing) → x.clauses ≡ [] → ((i : ℕ) → (get_or xs i no_shorts).clauses ≡ []) → (i : ℕ) → (get_or (xs ++ x ∷ []) i no_shorts).clauses ≡ []
@@ -50,8 +50,9 @@ listing_set_other : (old new : Shorts) (l m : Lit) (x : ShortListing) → m ≢ 
 listing_set_other old new l m x d e = ap (λ ls. get_or ls (code_of m) no_shorts) e ∙ get_or-set_other old.lists.items (code_of l) (code_of m) x no_shorts (λ z. d (code_same m l z))
 
 -- one list with more room
-pub same_set : (old new : Shorts) (l : Lit) (x : ShortListing) → code_of l < length old.lists.items → new.lists.items ≡ set old.lists.items (code_of l) x → x.clauses ≡ shorts_of old.lists.items l → (listing old l).room ≤ x.room → SameShorts old new
-same_set old new l x h e n r = record {
+pub same_set : (old new : Shorts) (l : Lit) (x : ShortListing) → new.fixed ≡ old.fixed → code_of l < length old.lists.items → new.lists.items ≡ set old.lists.items (code_of l) x → x.clauses ≡ shorts_of old.lists.items l → (listing old l).room ≤ x.room → SameShorts old new
+same_set old new l x f h e n r = record {
+  fixed = f;
   size = ap length e ∙ length-set old.lists.items (code_of l) x;
   same = λ m. elim (cases_lit m l) [
     | inl q ↦ subst (λ z. shorts_of new.lists.items z ≡ shorts_of old.lists.items z) (sym q) (ap (λ (y : ShortListing). y.clauses) (listing_set_same old new l x h e) ∙ n)
@@ -66,8 +67,9 @@ same_set old new l x h e n r = record {
 pub place_set : (old new : Shorts) (l : Lit) (x : ShortListing) → code_of l < length old.lists.items → new.lists.items ≡ set old.lists.items (code_of l) x → x.clauses ≡ shorts_of old.lists.items l → length (shorts_of old.lists.items l) < x.room → HasShortPlace new l
 place_set old new l x h e n r = omega (arith, r, ap length n, ap (λ (y : ShortListing). y.room) (listing_set_same old new l x h e), ap (λ (y : ShortListing). length y.clauses) (listing_set_same old new l x h e))
 
-pub pushes_set : (old new : Shorts) (l : Lit) (x : ShortListing) (s : Short) → code_of l < length old.lists.items → new.lists.items ≡ set old.lists.items (code_of l) x → x.clauses ≡ shorts_of old.lists.items l ++ s ∷ [] → PushesShort old new l s
-pushes_set old new l x s h e n = record {
+pub pushes_set : (old new : Shorts) (l : Lit) (x : ShortListing) (s : Short) → new.fixed ≡ old.fixed → code_of l < length old.lists.items → new.lists.items ≡ set old.lists.items (code_of l) x → x.clauses ≡ shorts_of old.lists.items l ++ s ∷ [] → PushesShort old new l s
+pushes_set old new l x s f h e n = record {
+  fixed = f;
   size = ap length e ∙ length-set old.lists.items (code_of l) x;
   own = ap (λ (y : ShortListing). y.clauses) (listing_set_same old new l x h e) ∙ n;
   others = λ m d. listing_set_other old new l m x d e;
@@ -108,12 +110,13 @@ before_at c i k d l b = ap (has (take k c)) (sym (get_or-take k c i d l)) ∙ ha
 
 -- the first literals of a clause have it in their lists
 pub record EnteredTo (old new : Shorts) (n : ℕ) (c : List Lit) (k : ℕ) : Type 0 where
+  pub fixed : new.fixed ≡ old.fixed
   pub size : length new.lists.items ≡ length old.lists.items
   pub own : (i : ℕ) (d : Lit) → i < k → i < length c → shorts_of new.lists.items (get_or c i d) ≡ shorts_of old.lists.items (get_or c i d) ++ entry_at c n i ∷ []
   pub others : (l : Lit) → has (take k c) l ≡ false → listing new l ≡ listing old l
 
 pub entered_none : (s : Shorts) (n : ℕ) (c : List Lit) → EnteredTo s s n c 0
-entered_none s n c = record { size = refl; own = λ i d l. absurd (omega (arith, l)); others = λ l h. refl }
+entered_none s n c = record { fixed = refl; size = refl; own = λ i d l. absurd (omega (arith, l)); others = λ l h. refl }
 
 -- the next one has room and gets the clause
 pub entered_place : (old a : Shorts) (n : ℕ) (c : List Lit) (k : ℕ) (d : Lit) → has_distinct_variables c ≡ true → k < length c → HaveShortPlaces old c → EnteredTo old a n c k → HasShortPlace a (get_or c k d)
@@ -122,7 +125,7 @@ entered_place old a n c k d u l h e =
     omega (arith, h (get_or c k d) (has_at c k d l), ap (λ (y : ShortListing). y.room) same, ap (λ (y : ShortListing). length y.clauses) same)
 
 pub entered_more : (old a b : Shorts) (n : ℕ) (c : List Lit) (k : ℕ) (d : Lit) → has_distinct_variables c ≡ true → k < length c → EnteredTo old a n c k → PushesShort a b (get_or c k d) (entry_at c n k) → EnteredTo old b n c (k + 1)
-entered_more old a b n c k d u l e p = record { size = p.size ∙ e.size; own = own; others = others }
+entered_more old a b n c k d u l e p = record { fixed = p.fixed ∙ e.fixed; size = p.size ∙ e.size; own = own; others = others }
   where
     here : Lit
     here = get_or c k d
@@ -147,28 +150,31 @@ entered_more old a b n c k d u l e p = record { size = p.size ∙ e.size; own = 
 
 pub entered_all : (old new : Shorts) (n : ℕ) (c : List Lit) (k : ℕ) → length c ≤ k → EnteredTo old new n c k → Enters old new n c
 entered_all old new n c k l e = record {
+  fixed = e.fixed;
   size = e.size;
   own = λ i d h. e.own i d (omega (arith, h, l)) h;
   others = λ m h. ap (λ (y : ShortListing). y.clauses) (e.others m (ap (λ xs. has xs m) (take_all k c l) ∙ h));
 }
 
 -- no clauses
-pub has_shorts_none : (vars : ℕ) (s : Shorts) → HasNoShorts vars s → HasShorts vars [] s.lists.items
+pub has_shorts_none : (vars : ℕ) (s : Shorts) → HasNoShorts vars s → HasShorts vars [] s.fixed s.lists.items
 has_shorts_none vars s h = record {
   size = h.size;
+  few = omega (arith, h.fixed);
   sound = λ l i d b. absurd (omega (arith, b, ap length (h.empty l)));
   listed = λ n l k s t. absurd (omega (arith, k.above, k.within));
 }
 
-pub has_shorts_same : (vars : ℕ) (cs : List (List Lit)) (old new : Shorts) → SameShorts old new → HasShorts vars cs old.lists.items → HasShorts vars cs new.lists.items
+pub has_shorts_same : (vars : ℕ) (cs : List (List Lit)) (old new : Shorts) → SameShorts old new → HasShorts vars cs old.fixed old.lists.items → HasShorts vars cs new.fixed new.lists.items
 has_shorts_same vars cs old new s h = record {
   size = s.size ∙ h.size;
+  few = omega (arith, s.fixed, h.few);
   sound = λ l i d b. subst (λ xs. i < length xs → IsEntry cs l (get_or xs i d)) (sym (s.same l)) (h.sound l i d) b;
-  listed = λ n l k t m. subst (λ xs. IsEntered xs n) (sym (s.same l)) (h.listed n l k t m);
+  listed = λ n l k t m. subst (λ xs. IsEntered xs n) (sym (s.same l)) (h.listed n l k (subst (λ f. is_fixed f n (numbered cs n) ≡ true) s.fixed t) m);
 }
 
 -- each literal of a clause has a list
-pub have_lists : (vars : ℕ) (cs : List (List Lit)) (s : Shorts) (c : List Lit) → HasShorts vars cs s.lists.items → IsWithin vars c → HaveShortLists s c
+pub have_lists : (vars : ℕ) (cs : List (List Lit)) (s : Shorts) (c : List Lit) → HasShorts vars cs s.fixed s.lists.items → IsWithin vars c → HaveShortLists s c
 have_lists vars cs s c h w l t =
     let v : IsVariable vars l.var = variable_of vars c l w t in
     omega (arith, h.size, v.within, cond_le l.negated)
@@ -189,17 +195,30 @@ entry_push cs c l s e =
       apart = e.apart;
     }
 
--- a clause of more than three literals
-pub has_shorts_long : (vars : ℕ) (cs : List (List Lit)) (c : List Lit) (s : Shorts) → is_short c ≡ false → HasShorts vars cs s.lists.items → HasShorts vars (cs ++ c ∷ []) s.lists.items
-has_shorts_long vars cs c s long h = record {
-  size = h.size;
-  sound = λ l i d b. entry_push cs c l (get_or (shorts_of s.lists.items l) i d) (h.sound l i d b);
-  listed = λ n l k t m. elim (cases_lt (length cs) n) [
-    | inl last ↦ absurd (both_ways (is_short c) long (ap is_short (sym (numbered-push_new cs c n (omega (arith, last, k.within, length_push cs c)))) ∙ t))
+-- whether a clause is one of the first ones that stand in the lists
+pub fixed_within : (f n : ℕ) (c : List Lit) → is_fixed f n c ≡ true → n ≤ f
+fixed_within f n c h = leb-true n f (and_parts (nat_le n f) (is_short c) h).0
+
+pub fixed_short : (f n : ℕ) (c : List Lit) → is_fixed f n c ≡ true → is_short c ≡ true
+fixed_short f n c h = (and_parts (nat_le n f) (is_short c) h).1
+
+pub fixed_by : (f n : ℕ) (c : List Lit) → n ≤ f → is_short c ≡ true → is_fixed f n c ≡ true
+fixed_by f n c l s = rw (le-leb n f l, s) refl
+
+-- a clause that doesn't stand there
+pub has_shorts_long : (vars : ℕ) (cs : List (List Lit)) (c : List Lit) (f h : ℕ) (s : List ShortListing) → h ≤ length cs + 1 → (is_fixed h (length cs + 1) c ≡ true → ⊥) → ((n : ℕ) (x : List Lit) → n ≤ length cs → is_fixed h n x ≡ true → is_fixed f n x ≡ true) → HasShorts vars cs f s → HasShorts vars (cs ++ c ∷ []) h s
+has_shorts_long vars cs c f h s few long class k = record {
+  size = k.size;
+  few = omega (arith, few, length_push cs c);
+  sound = λ l i d b. entry_push cs c l (get_or (shorts_of s l) i d) (k.sound l i d b);
+  listed = λ n l number t m. elim (cases_lt (length cs) n) [
+    | inl last ↦
+        let q : n ≡ length cs + 1 = omega (arith, last, number.within, length_push cs c) in
+        absurd (long (subst (λ i. is_fixed h i c ≡ true) q (ap (is_fixed h n) (sym (numbered-push_new cs c n q)) ∙ t)))
     | inr old ↦
-        let number : IsNumber cs n = record { above = k.above; within = old } in
-        let same : numbered (cs ++ c ∷ []) n ≡ numbered cs n = numbered-push_old cs c n number in
-        h.listed n l number (ap is_short (sym same) ∙ t) (ap (λ x. has x l) (sym same) ∙ m)
+        let before : IsNumber cs n = record { above = number.above; within = old } in
+        let same : numbered (cs ++ c ∷ []) n ≡ numbered cs n = numbered-push_old cs c n before in
+        k.listed n l before (class n (numbered cs n) old (ap (is_fixed h n) (sym same) ∙ t)) (ap (λ x. has x l) (sym same) ∙ m)
   ];
 }
 
@@ -302,8 +321,8 @@ entry_own cs c n j e s u l =
     }
 
 -- a clause of at most three literals, once it stands in its lists
-pub has_shorts_entered : (vars : ℕ) (cs : List (List Lit)) (c : List Lit) (n : ℕ) (old new : Shorts) → n ≡ length cs + 1 → is_short c ≡ true → has_distinct_variables c ≡ true → Enters old new n c → HasShorts vars cs old.lists.items → HasShorts vars (cs ++ c ∷ []) new.lists.items
-has_shorts_entered vars cs c n old new e s u h k = record { size = h.size ∙ k.size; sound = sound; listed = listed }
+pub has_shorts_entered : (vars : ℕ) (cs : List (List Lit)) (c : List Lit) (n : ℕ) (old new : Shorts) → n ≡ length cs + 1 → is_short c ≡ true → has_distinct_variables c ≡ true → Enters old new n c → HasShorts vars cs (length cs) old.lists.items → HasShorts vars (cs ++ c ∷ []) n new.lists.items
+has_shorts_entered vars cs c n old new e s u h k = record { size = h.size ∙ k.size; few = omega (arith, e, length_push cs c); sound = sound; listed = listed }
   where
     list : (j : ℕ) (l : Lit) → j < length c → get_or c j no_literal ≡ l → shorts_of new.lists.items l ≡ shorts_of old.lists.items l ++ entry_at c n j ∷ []
     list j l b q = subst (λ z. shorts_of new.lists.items z ≡ shorts_of old.lists.items z ++ entry_at c n j ∷ []) q (h.own j no_literal b)
@@ -330,7 +349,7 @@ has_shorts_entered vars cs c n old new e s u h k = record { size = h.size ∙ k.
       | inl t ↦ let p = place_in c l t in subst (λ xs. IsEntered xs m) (sym (list p.0 l p.1.0 p.1.1)) (entered_push (shorts_of old.lists.items l) (entry_at c n p.0) m x)
     ]
 
-    listed : (m : ℕ) (l : Lit) → IsNumber (cs ++ c ∷ []) m → is_short (numbered (cs ++ c ∷ []) m) ≡ true → has (numbered (cs ++ c ∷ []) m) l ≡ true → IsEntered (shorts_of new.lists.items l) m
+    listed : (m : ℕ) (l : Lit) → IsNumber (cs ++ c ∷ []) m → is_fixed n m (numbered (cs ++ c ∷ []) m) ≡ true → has (numbered (cs ++ c ∷ []) m) l ≡ true → IsEntered (shorts_of new.lists.items l) m
     listed m l number t x = elim (cases_lt (length cs) m) [
       | inl last ↦
           let q : m ≡ length cs + 1 = omega (arith, last, number.within, length_push cs c) in
@@ -339,5 +358,5 @@ has_shorts_entered vars cs c n old new e s u h k = record { size = h.size ∙ k.
       | inr less ↦
           let before : IsNumber cs m = record { above = number.above; within = less } in
           let same : numbered (cs ++ c ∷ []) m ≡ numbered cs m = numbered-push_old cs c m before in
-          kept l m (k.listed m l before (ap is_short (sym same) ∙ t) (ap (λ y. has y l) (sym same) ∙ x))
+          kept l m (k.listed m l before (fixed_by (length cs) m (numbered cs m) less (ap is_short (sym same) ∙ fixed_short n m (numbered (cs ++ c ∷ []) m) t)) (ap (λ y. has y l) (sym same) ∙ x))
     ]

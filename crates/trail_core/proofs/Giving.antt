@@ -16,14 +16,14 @@ use Rattle.trail_core.specs.declared.visit.Seen.TheVariants as seen
 use Rattle.trail_core.specs.Values.{IsFalseIn, IsTrueIn, IsUnassignedIn, IsVariable}
 use Rattle.trail_core.specs.TrailState.{TrailState, IsReason, values_of}
 use Rattle.trail_core.specs.Look.{Falsifies}
-use Rattle.trail_core.specs.Watching.{with_list, room_of, lacks, unwatched, AreNumbers, IsCovered, IsPaired, settled, in_lists, watched, has_long, Stands, list_of, code_of}
+use Rattle.trail_core.specs.Watching.{with_list, room_of, lacks, unwatched, AreNumbers, IsCovered, IsPaired, settled, in_lists, watched, Stands, list_of, code_of}
 use Rattle.trail_core.specs.Visits.{IsKnown, IsOther, IsOriented, IsReplacement, IsVisited, IsWatchNow, IsGoing, IsMoved, ForceGives, SeenGives, VisitsAs, Holds, leaving}
 use Rattle.trail_core.proofs.Propagating.{Propagates-none}
 use Rattle.trail_core.proofs.Keeping.{paired_map}
 use Rattle.trail_core.proofs.Looks.{variable_of, distinct_same}
 use Rattle.trail_core.proofs.Listing.{at_any, list_set_same, list_set_other, with_list-length, with_list-room, with_list-numbers, numbers_set, kept_last}
-use Rattle.trail_core.proofs.Counting.{some_unwatched, lacks-true, has_long-true}
-use Rattle.trail_core.proofs.Visiting.{blank_gone, oriented_long, visits_moved, visits_forced, visits_falsified}
+use Rattle.trail_core.proofs.Counting.{some_unwatched, lacks-true}
+use Rattle.trail_core.proofs.Visiting.{blank_gone, visits_moved, visits_forced, visits_falsified}
 use Rattle.trail_core.proofs.Passing.{Turns, turns_keep, turns_leave, Follows, going_next}
 
 -- the pair of the clause, by any default
@@ -46,8 +46,8 @@ oriented_watched t w p n k o = at (get_or w.pairs.items (n - 1) p) o (k.paired p
     at : (q : Pair) → IsOriented q p → IsPaired t.entries (IsOther t.entries w.gone_over w.lists.items p.first n) (numbered t.clauses n) q → (has (numbered t.clauses n) p.first ≡ true) × ((has (numbered t.clauses n) p.second ≡ true) × (p.first.var ≢ p.second.var))
     at q o (settled z e) = absurd (blank_gone p q o e k.is_gone.variable.above)
     at q o (in_lists z e) = absurd (blank_gone p q o e k.is_gone.variable.above)
-    at q (inl e) (watched long a b d u v) = subst (λ (x : Pair). (has (numbered t.clauses n) x.first ≡ true) × ((has (numbered t.clauses n) x.second ≡ true) × (x.first.var ≢ x.second.var))) e (a, (b, d))
-    at q (inr e) (watched long a b d u v) =
+    at q (inl e) (watched a b d u v) = subst (λ (x : Pair). (has (numbered t.clauses n) x.first ≡ true) × ((has (numbered t.clauses n) x.second ≡ true) × (x.first.var ≢ x.second.var))) e (a, (b, d))
+    at q (inr e) (watched a b d u v) =
         let f : q.first ≡ p.second = ap (λ (x : Pair). x.first) e in
         let g : q.second ≡ p.first = ap (λ (x : Pair). x.second) e in (
           subst (λ x. has (numbered t.clauses n) x ≡ true) g b,
@@ -64,10 +64,9 @@ replacement_room t w p next n k o r =
     let v : IsVariable t.vars next.var = variable_of t.vars (numbered t.clauses n) next (k.trail.within n k.number) r.member in
     let not_gone : next ≢ p.first = λ e. r.not_false (subst (IsFalseIn (values_of t.entries)) (sym e) k.is_gone.is_false) in
     let not_other : next ≢ p.second = λ e. r.apart (ap (λ (x : Lit). x.var) e) in
-    let member : has_long (numbered t.clauses n) next ≡ true = has_long-true (numbered t.clauses n) next (oriented_long t w p n k o) r.member in
     let lacking : lacks (numbered t.clauses n) (get_or w.pairs.items (n - 1) p) next ≡ true = elim o [
-      | inl e ↦ subst (λ q. lacks (numbered t.clauses n) q next ≡ true) (sym e) (lacks-true (numbered t.clauses n) p next member (λ z. not_gone (sym z)) (λ z. not_other (sym z)))
-      | inr e ↦ subst (λ q. lacks (numbered t.clauses n) q next ≡ true) (sym e) (lacks-true (numbered t.clauses n) record { first = p.second; second = p.first } next member (λ z. not_other (sym z)) (λ z. not_gone (sym z)))
+      | inl e ↦ subst (λ q. lacks (numbered t.clauses n) q next ≡ true) (sym e) (lacks-true (numbered t.clauses n) p next r.member (λ z. not_gone (sym z)) (λ z. not_other (sym z)))
+      | inr e ↦ subst (λ q. lacks (numbered t.clauses n) q next ≡ true) (sym e) (lacks-true (numbered t.clauses n) record { first = p.second; second = p.first } next r.member (λ z. not_other (sym z)) (λ z. not_gone (sym z)))
     ] in
     let some : 1 ≤ unwatched t.clauses w.pairs.items next = some_unwatched t.clauses w.pairs.items (n - 1) p next (omega (arith, k.above, k.within)) (omega (arith, k.above, k.number.within)) lacking in
     (omega (arith, k.lists, v.within, cond_le next.negated), omega (arith, k.room next not_gone v, some))

@@ -13,6 +13,7 @@ use Rattle.trail_core.specs.TrailState.{TrailState, IsTrail, entry_of}
 use Rattle.trail_core.specs.declared.watches.Pair.{Pair}
 use Rattle.trail_core.specs.declared.watches.Watches.{Watches}
 use Rattle.clause_base.specs.Acceptance.{numbered}
+use Rattle.trail_core.specs.Watching.{is_fixed, AreMarked}
 use Rattle.trail_core.specs.Shorts.{AreDue}
 use Rattle.trail_core.proofs.Due.{due_done}
 use Rattle.trail_core.specs.Visits.{IsGone, WatchesWell, IsDone}
@@ -63,11 +64,14 @@ told_there (e ∷ es) zero l = refl
 told_there (e ∷ es) (suc g) l = told_there es g (omega (arith, l))
 
 -- all is done
-pub done_at : (t : TrailState) (w : Watches) → WatchesWell t w w.gone_over → length t.clauses ≤ length w.pairs.items → length t.entries ≤ w.gone_over → AreDue t (length w.pairs.items) w.gone_over → IsDone t w
-done_at t w h all over due = record {
+pub done_at : (t : TrailState) (f : ℕ) (w : Watches) → WatchesWell t w w.gone_over → length t.clauses ≤ length w.pairs.items → length t.entries ≤ w.gone_over → AreMarked t.clauses f w.pairs.items → AreDue t f (length w.pairs.items) w.gone_over → IsDone t w
+done_at t f w h all over marked due = record {
   pairs = all;
   entries = over;
-  rest = kept_rests t w.pairs.items w.lists.items w.gone_over empty all over (λ n k s. due_done t.entries w.gone_over (numbered t.clauses n) over (due n k (omega (arith, k.within, all)) s)) h.kept;
+  rest = kept_rests t w.pairs.items w.lists.items w.gone_over empty all over (λ n k m.
+      let q : n - 1 + 1 ≡ n = omega (arith, k.above) in
+      due_done t.entries w.gone_over (numbered t.clauses n) over
+      (due n k (omega (arith, k.within, all)) (subst (λ i. is_fixed f i (numbered t.clauses i) ≡ true) q (marked (n - 1) empty (omega (arith, k.above, k.within, all)) m)))) h.kept;
 }
   where
     none : Lit

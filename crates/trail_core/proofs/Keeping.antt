@@ -10,7 +10,7 @@ use Rattle.trail_core.specs.declared.watches.Pair.{Pair}
 use Rattle.trail_core.specs.Values.{IsFalseIn, Rests, satisfied, open_at_two}
 use Rattle.trail_core.specs.TrailState.{TrailState, IsTrail, IsNumber, AllRest, entry_of, values_of, level_in, up_to, back_at, with_decision}
 use Rattle.trail_core.specs.Listing.{Listing}
-use Rattle.trail_core.specs.Watching.{IsCovered, IsWatch, IsSettled, IsPaired, settled, in_lists, watched, is_short, IsKept}
+use Rattle.trail_core.specs.Watching.{IsCovered, IsWatch, IsSettled, IsPaired, settled, in_lists, watched, is_mark, IsKept}
 use Rattle.trail_core.proofs.Lists.{find-take_some, find-filter_passes, find-filter_keeps, filter_at}
 use Rattle.trail_core.proofs.Levels.{IsLeveled, up_to_front, up_to-length}
 use Rattle.trail_core.proofs.Truth.{mapped, values-take_some}
@@ -68,7 +68,7 @@ settled_front old new c f s = record {
 pub paired_map : (old new : List Entry) (W V : Lit → Lit → Type 0) (c : List Lit) (p : Pair) → (IsSettled old c → IsSettled new c) → ((x y : Lit) → W x y → V x y) → IsPaired old W c p → IsPaired new V c p
 paired_map old new W V c p f g (settled s z) = settled (f s) z
 paired_map old new W V c p f g (in_lists s z) = in_lists s z
-paired_map old new W V c p f g (watched long a b n u v) = watched long a b n (g p.first p.second u) (g p.second p.first v)
+paired_map old new W V c p f g (watched a b n u v) = watched a b n (g p.first p.second u) (g p.second p.first v)
 
 -- a decision, where all entries were gone over
 pub kept_decided : (t : TrailState) (l : Lit) (pairs : List Pair) (lists : List Listing) (g : ℕ) → g ≡ length t.entries → IsKept t pairs lists g → IsKept (with_decision t l) pairs lists g
@@ -151,10 +151,10 @@ cases_value (Some false) true = inr (inl refl)
 cases_value (Some false) false = inl refl
 
 -- a paired clause rests, where all entries were gone over
-pub paired_rests : (es : List Entry) (g : ℕ) (lists : List Listing) (n : ℕ) (c : List Lit) (p : Pair) → length es ≤ g → (is_short c ≡ true → Rests (values_of es) c) → IsPaired es (IsWatch es g lists n) c p → Rests (values_of es) c
+pub paired_rests : (es : List Entry) (g : ℕ) (lists : List Listing) (n : ℕ) (c : List Lit) (p : Pair) → length es ≤ g → (is_mark p ≡ true → Rests (values_of es) c) → IsPaired es (IsWatch es g lists n) c p → Rests (values_of es) c
 paired_rests es g lists n c p l due (settled s z) = satisfied s.literal s.member s.is_true
 paired_rests es g lists n c p l due (in_lists s z) = due s
-paired_rests es g lists n c p l due (watched long a b apart u v) =
+paired_rests es g lists n c p l due (watched a b apart u v) =
     let all : take g es ≡ es = take_all g es l in
     elim (cases_value (values_of es p.first.var) p.first.negated) [
       | inl f ↦ satisfied p.second b (u.covered (ap (λ xs. values_of xs p.first.var) all ∙ f)).is_true
@@ -168,8 +168,8 @@ paired_rests es g lists n c p l due (watched long a b apart u v) =
     ]
 
 -- where each clause is paired, and all entries were gone over, all clauses rest
-pub kept_rests : (t : TrailState) (pairs : List Pair) (lists : List Listing) (g : ℕ) (d : Pair) → length t.clauses ≤ length pairs → length t.entries ≤ g → ((n : ℕ) → IsNumber t.clauses n → is_short (numbered t.clauses n) ≡ true → Rests (values_of t.entries) (numbered t.clauses n)) → IsKept t pairs lists g → AllRest t.clauses (values_of t.entries)
+pub kept_rests : (t : TrailState) (pairs : List Pair) (lists : List Listing) (g : ℕ) (d : Pair) → length t.clauses ≤ length pairs → length t.entries ≤ g → ((n : ℕ) → IsNumber t.clauses n → is_mark (get_or pairs (n - 1) d) ≡ true → Rests (values_of t.entries) (numbered t.clauses n)) → IsKept t pairs lists g → AllRest t.clauses (values_of t.entries)
 kept_rests t pairs lists g d all over due h n k =
     let q : n - 1 + 1 ≡ n = omega (arith, k.above) in
     subst (λ m. Rests (values_of t.entries) (numbered t.clauses m)) q
-    (paired_rests t.entries g lists (n - 1 + 1) (numbered t.clauses (n - 1 + 1)) (get_or pairs (n - 1) d) over (due (n - 1 + 1) (subst (IsNumber t.clauses) (sym q) k)) (h.paired (n - 1) d (omega (arith, k.above, k.within, all))))
+    (paired_rests t.entries g lists (n - 1 + 1) (numbered t.clauses (n - 1 + 1)) (get_or pairs (n - 1) d) over (λ m. subst (λ x. Rests (values_of t.entries) (numbered t.clauses x)) (sym q) (due n k m)) (h.paired (n - 1) d (omega (arith, k.above, k.within, all))))

@@ -3,6 +3,7 @@ pub mod Levels
 pub mod Truth
 pub mod Changes
 pub mod LayoutLemmas
+pub mod Marks
 pub mod Fields
 pub mod Back
 pub mod BackFields

@@ -12,12 +12,12 @@ use Rattle.trail_core.specs.declared.watches.Watches.{Watches}
 use Rattle.trail_core.specs.Listing.{Listing}
 use Rattle.trail_core.specs.Values.{IsFalseIn, IsVariable}
 use Rattle.trail_core.specs.TrailState.{TrailState, IsTrail, IsNumber, MayAdd, Propagates, values_of, up_to, with_clause}
-use Rattle.trail_core.specs.Watching.{IsWatch, IsCovered, IsSettled, IsBlank, IsOpen, IsPaired, settled, in_lists, watched as watches_both, is_short, has_long, Stands, IsListed, IsKept, AreNumbers, list_of, room_of, code_of, watches, lacks, unwatched}
+use Rattle.trail_core.specs.Watching.{IsWatch, IsCovered, IsSettled, IsBlank, IsOpen, IsPaired, settled, in_lists, watched as watches_both, is_mark, Stands, IsListed, IsKept, AreNumbers, list_of, room_of, code_of, watches, lacks, unwatched}
 use Rattle.trail_core.specs.Visits.{IsListedMore, KeepsPair, IsPlaced, MayWatch, MayList, WatchesWell, IsFreeBelow, AreKept, held_in}
 use Rattle.trail_core.proofs.Truth.{values-take_some}
 use Rattle.trail_core.proofs.Keeping.{paired_map, watch_front, settled_front}
 use Rattle.trail_core.proofs.Listing.{cases_lit, listed_push, listed_last, list_set_other, with_list-length, with_list-room, with_list-numbers, with_list-held, numbers_push}
-use Rattle.trail_core.proofs.Counting.{has_long-true, unwatched-push, unwatched-clause, some_unpaired, lacks-le, lacks_or_watches, watches-is}
+use Rattle.trail_core.proofs.Counting.{unwatched-push, unwatched-clause, some_unpaired, lacks-le, lacks_or_watches, watches-is}
 use Rattle.trail_core.proofs.Looks.{variable_of}
 use Rattle.trail_core.proofs.Passing.{present_front, code_within, free_propagates}
 use Rattle.trail_core.proofs.Changes.{numbered-push_old, numbered-push_new, new_open}
@@ -131,23 +131,23 @@ pair_blank t old new p n w e l s h = record {
     size : length new.pairs.items ≡ length old.pairs.items + 1
     size = ap length h.pairs ∙ length_push old.pairs.items p
 
-    count : (x : Lit) → unwatched t.clauses new.pairs.items x + cond (has_long (get_or t.clauses (length old.pairs.items) []) x) 1 0 ≡ unwatched t.clauses old.pairs.items x + cond (lacks (get_or t.clauses (length old.pairs.items) []) p x) 1 0
-    count x = subst (λ ps. unwatched t.clauses ps x + cond (has_long (get_or t.clauses (length old.pairs.items) []) x) 1 0 ≡ unwatched t.clauses old.pairs.items x + cond (lacks (get_or t.clauses (length old.pairs.items) []) p x) 1 0) (sym h.pairs)
+    count : (x : Lit) → unwatched t.clauses new.pairs.items x + cond (has (get_or t.clauses (length old.pairs.items) []) x) 1 0 ≡ unwatched t.clauses old.pairs.items x + cond (lacks (get_or t.clauses (length old.pairs.items) []) p x) 1 0
+    count x = subst (λ ps. unwatched t.clauses ps x + cond (has (get_or t.clauses (length old.pairs.items) []) x) 1 0 ≡ unwatched t.clauses old.pairs.items x + cond (lacks (get_or t.clauses (length old.pairs.items) []) p x) 1 0) (sym h.pairs)
         (unwatched-push t.clauses old.pairs.items p x (omega (arith, e, l)))
 
--- a clause that is settled, and one of at most three literals
+-- a clause that is settled, and one that stands in the lists of its literals
 pub pair_settled : (t : TrailState) (old new : Watches) (p : Pair) (n : ℕ) → WatchesWell t old old.gone_over → n ≡ length old.pairs.items + 1 → n ≤ length t.clauses → IsSettled t.entries (numbered t.clauses n) → IsBlank p → KeepsPair old new p → WatchesWell t new new.gone_over
 pair_settled t old new p n w e l s blank h = pair_blank t old new p n w e l (λ W. settled s blank) h
 
-pub pair_short : (t : TrailState) (old new : Watches) (p : Pair) (n : ℕ) → WatchesWell t old old.gone_over → n ≡ length old.pairs.items + 1 → n ≤ length t.clauses → is_short (numbered t.clauses n) ≡ true → IsBlank p → KeepsPair old new p → WatchesWell t new new.gone_over
+pub pair_short : (t : TrailState) (old new : Watches) (p : Pair) (n : ℕ) → WatchesWell t old old.gone_over → n ≡ length old.pairs.items + 1 → n ≤ length t.clauses → is_mark p ≡ true → IsBlank p → KeepsPair old new p → WatchesWell t new new.gone_over
 pair_short t old new p n w e l s blank h = pair_blank t old new p n w e l (λ W. in_lists s blank) h
 
 -- a clause that watches two literals takes its place in their lists
-pub pair_watched : (t : TrailState) (old new : Watches) (p : Pair) (n : ℕ) → WatchesWell t old old.gone_over → n ≡ length old.pairs.items + 1 → n ≤ length t.clauses → is_short (numbered t.clauses n) ≡ false → MayWatch t n p → IsPlaced old new n p → WatchesWell t new new.gone_over
-pair_watched t old new p n w e l long s h = record {
+pub pair_watched : (t : TrailState) (old new : Watches) (p : Pair) (n : ℕ) → WatchesWell t old old.gone_over → n ≡ length old.pairs.items + 1 → n ≤ length t.clauses → MayWatch t n p → IsPlaced old new n p → WatchesWell t new new.gone_over
+pair_watched t old new p n w e l s h = record {
   kept = kept_paired t old new p w.kept (omega (arith, e, l)) h.pairs h.gone_over h.listed
       (subst (λ m. IsPaired t.entries (IsWatch t.entries old.gone_over new.lists.items m) (numbered t.clauses m) p) e
-      (watches_both long s.first s.second s.apart
+      (watches_both s.first s.second s.apart
       record { listed = h.first; covered = λ f. s.covers_first (values-take_some t.entries old.gone_over p.first.var p.first.negated f) }
       record { listed = h.second; covered = λ f. s.covers_second (values-take_some t.entries old.gone_over p.second.var p.second.negated f) }));
   room = record {
@@ -168,19 +168,19 @@ pair_watched t old new p n w e l long s h = record {
     size : length new.pairs.items ≡ length old.pairs.items + 1
     size = ap length h.pairs ∙ length_push old.pairs.items p
 
-    mine : (x : Lit) → watches p x ≡ true → has_long clause x ≡ true
-    mine x y = has_long-true clause x (ap is_short (sym clause_is) ∙ long) (elim (watches-is p x y) [
+    mine : (x : Lit) → watches p x ≡ true → has clause x ≡ true
+    mine x y = elim (watches-is p x y) [
       | inl z ↦ subst (λ u. has clause u ≡ true) z (subst (λ c. has c p.first ≡ true) clause_is s.first)
       | inr z ↦ subst (λ u. has clause u ≡ true) z (subst (λ c. has c p.second ≡ true) clause_is s.second)
-    ])
+    ]
 
-    count : (x : Lit) → unwatched t.clauses new.pairs.items x + cond (has_long clause x) 1 0 ≡ unwatched t.clauses old.pairs.items x + cond (lacks clause p x) 1 0
-    count x = subst (λ ps. unwatched t.clauses ps x + cond (has_long clause x) 1 0 ≡ unwatched t.clauses old.pairs.items x + cond (lacks clause p x) 1 0) (sym h.pairs)
+    count : (x : Lit) → unwatched t.clauses new.pairs.items x + cond (has clause x) 1 0 ≡ unwatched t.clauses old.pairs.items x + cond (lacks clause p x) 1 0
+    count x = subst (λ ps. unwatched t.clauses ps x + cond (has clause x) 1 0 ≡ unwatched t.clauses old.pairs.items x + cond (lacks clause p x) 1 0) (sym h.pairs)
         (unwatched-push t.clauses old.pairs.items p x (omega (arith, e, l)))
 
 -- the two literals have lists with room
-pub may_list : (t : TrailState) (w : Watches) (p : Pair) (n : ℕ) → IsTrail t → WatchesWell t w w.gone_over → n ≡ length w.pairs.items + 1 → IsNumber t.clauses n → is_short (numbered t.clauses n) ≡ false → MayWatch t n p → MayList w p
-may_list t w p n h well e k long s = record {
+pub may_list : (t : TrailState) (w : Watches) (p : Pair) (n : ℕ) → IsTrail t → WatchesWell t w w.gone_over → n ≡ length w.pairs.items + 1 → IsNumber t.clauses n → MayWatch t n p → MayList w p
+may_list t w p n h well e k s = record {
   first = code_within t w (held_in w.lists.items) p.first well.room first;
   second = code_within t w (held_in w.lists.items) p.second well.room second;
   apart = λ z. s.apart (ap (λ (l : Lit). l.var) z);
@@ -197,7 +197,11 @@ may_list t w p n h well e k long s = record {
     second = variable_of t.vars (numbered t.clauses n) p.second (h.within n k) s.second
 
     free : (l : Lit) → IsVariable t.vars l.var → has (numbered t.clauses n) l ≡ true → length (list_of w.lists.items l) < room_of w.lists.items l
-    free l v m = omega (arith, well.room.room l v, some_unpaired t.clauses w.pairs.items l (omega (arith, e, k.within)) (subst (λ i. has_long (get_or t.clauses i []) l ≡ true) (omega (arith, e)) (has_long-true (numbered t.clauses n) l long m)))
+    free l v m = omega (arith, well.room.room l v, some_unpaired t.clauses w.pairs.items l (omega (arith, e, k.within)) (subst (λ i. has (get_or t.clauses i []) l ≡ true) (omega (arith, e)) m))
+
+-- the first literal of a pair is of a variable
+pub first_above : (t : TrailState) (p : Pair) (n : ℕ) → IsTrail t → IsNumber t.clauses n → MayWatch t n p → 1 ≤ p.first.var
+first_above t p n h k s = (variable_of t.vars (numbered t.clauses n) p.first (h.within n k) s.first).above
 
 -- there is room for the pair of a clause
 pub pair_room : (t : TrailState) (w : Watches) (n : ℕ) → WatchesWell t w w.gone_over → n ≡ length w.pairs.items + 1 → IsNumber t.clauses n → length w.pairs.items < vec_capacity w.pairs
@@ -247,7 +251,7 @@ pub record Widens (old new : Watches) (c : List Lit) (count : ℕ) : Type 0 wher
   pub pair : count + 1 ≤ vec_capacity new.pairs
   pub lists : length new.lists.items ≡ length old.lists.items
   pub numbers : (l : Lit) → list_of new.lists.items l ≡ list_of old.lists.items l
-  pub more : (l : Lit) → room_of old.lists.items l + cond (has_long c l) 1 0 ≤ room_of new.lists.items l
+  pub more : (l : Lit) → room_of old.lists.items l + cond (has c l) 1 0 ≤ room_of new.lists.items l
   pub gone_over : new.gone_over ≡ old.gone_over
 
 kept_widens : (t : TrailState) (old new : Watches) → new.pairs.items ≡ old.pairs.items → ((l : Lit) → list_of new.lists.items l ≡ list_of old.lists.items l) → new.gone_over ≡ old.gone_over → AreKept t old old.gone_over → AreKept t new new.gone_over

@@ -13,7 +13,7 @@ use Rattle.trail_core.specs.ShortListing.{ShortListing, one_of, two_of}
 use Rattle.trail_core.specs.Values.{IsTrueIn, IsFalseIn, IsUnassignedIn, Rests, satisfied, open_at_two, IsVariable}
 use Rattle.trail_core.specs.TrailState.{TrailState, IsTrail, IsNumber, IsReason, Propagates, values_of}
 use Rattle.trail_core.specs.Look.{Falsifies}
-use Rattle.trail_core.specs.Watching.{is_short, code_of}
+use Rattle.trail_core.specs.Watching.{is_fixed, code_of}
 use Rattle.trail_core.specs.Shorts.{shorts_of, IsEntry, IsLast, IsEntered, HasShorts, IsDue, AreDue}
 use Rattle.trail_core.specs.Visits.{IsGone, SweepsDue}
 use Rattle.trail_core.proofs.Listing.{at_any}
@@ -105,16 +105,16 @@ last_falsified t gone last s e f (inl p) a b u = two_falsified t gone s e f p.1 
 last_falsified t gone last s e f (inr p) a b u = one_falsified t gone s e f p.1 a (λ z. u (subst (IsUnassignedIn (values_of t.entries)) (sym p.0) z))
 
 -- the list of the literal that is gone
-pub list_within : (t : TrailState) (lists : List ShortListing) (g : ℕ) (gone : Lit) → HasShorts t.vars t.clauses lists → IsGone t g gone → code_of gone < length lists
-list_within t lists g gone h is = omega (arith, h.size, is.variable.within, cond_le gone.negated)
+pub list_within : (t : TrailState) (f : ℕ) (lists : List ShortListing) (g : ℕ) (gone : Lit) → HasShorts t.vars t.clauses f lists → IsGone t g gone → code_of gone < length lists
+list_within t f lists g gone h is = omega (arith, h.size, is.variable.within, cond_le gone.negated)
   where
     cond_le : (b : Bool) → cond b 1 0 ≤ 1
     cond_le true = omega arith
     cond_le false = omega arith
 
 -- what is visited at a place of it
-pub entry_here : (t new : TrailState) (lists : List ShortListing) (items : List Short) (gone : Lit) (k : ℕ) (d : Short) → HasShorts t.vars t.clauses lists → items ≡ shorts_of lists gone → k < length items → Propagates t new → IsEntry new.clauses gone (get_or items k d)
-entry_here t new lists items gone k d h e l p = subst (λ cs. IsEntry cs gone (get_or items k d)) (sym p.clauses) (subst (λ xs. k < length xs → IsEntry t.clauses gone (get_or xs k d)) (sym e) (h.sound gone k d) l)
+pub entry_here : (t new : TrailState) (f : ℕ) (lists : List ShortListing) (items : List Short) (gone : Lit) (k : ℕ) (d : Short) → HasShorts t.vars t.clauses f lists → items ≡ shorts_of lists gone → k < length items → Propagates t new → IsEntry new.clauses gone (get_or items k d)
+entry_here t new f lists items gone k d h e l p = subst (λ cs. IsEntry cs gone (get_or items k d)) (sym p.clauses) (subst (λ xs. k < length xs → IsEntry t.clauses gone (get_or xs k d)) (sym e) (h.sound gone k d) l)
 
 pub gone_still : (t new : TrailState) (g : ℕ) (gone : Lit) → IsGone t g gone → Propagates t new → IsFalseIn (values_of new.entries) gone
 gone_still t new g gone h p = values_front t.entries new.entries gone.var gone.negated p.prefix h.is_false
@@ -139,13 +139,13 @@ seen_more t a b items k g d l p q within rests seen i x low inside = elim (cases
 ]
 
 -- the whole list was gone over
-pub sweep_rests : (t new : TrailState) (lists : List ShortListing) (items : List Short) (gone : Lit) (g k : ℕ) (e : Entry) (d : Short) → IsGone t g gone → g < length t.entries → HasShorts t.vars t.clauses lists → items ≡ shorts_of lists gone → length items ≤ k → Propagates t new → AreDue t (length t.clauses) g → AreSeen new items k g → AreDue new (length new.clauses) (g + 1)
-sweep_rests t new lists items gone g k e d is l h q over p due seen n number low s = elim (cases_Bool (has (numbered new.clauses n) gone)) [
-  | inl t ↦ at (subst (λ xs. IsEntered xs n) (sym q) (h.listed n gone old_number (ap is_short (sym same) ∙ s) (ap (λ c. has c gone) (sym same) ∙ t)))
+pub sweep_rests : (t new : TrailState) (f : ℕ) (lists : List ShortListing) (items : List Short) (gone : Lit) (g k : ℕ) (e : Entry) (d : Short) → IsGone t g gone → g < length t.entries → HasShorts t.vars t.clauses f lists → items ≡ shorts_of lists gone → length items ≤ k → Propagates t new → AreDue t f (length t.clauses) g → AreSeen new items k g → AreDue new f (length new.clauses) (g + 1)
+sweep_rests t new f lists items gone g k e d is l h q over p due seen n number low s = elim (cases_Bool (has (numbered new.clauses n) gone)) [
+  | inl t ↦ at (subst (λ xs. IsEntered xs n) (sym q) (h.listed n gone old_number (ap (is_fixed f n) (sym same) ∙ s) (ap (λ c. has c gone) (sym same) ∙ t)))
   | inr f ↦
       let there = gone_front t new g gone p l is in
       due_next new.entries g e gone (numbered new.clauses n) (omega (arith, l, p.longer)) there.is_false (there.here e) f
-      (due_propagates t new (length t.clauses) g p (omega (arith, l)) due n number (omega (arith, number.within, ap length p.clauses)) s)
+      (due_propagates t new f (length t.clauses) g p (omega (arith, l)) due n number (omega (arith, number.within, ap length p.clauses)) s)
 ]
   where
     old_number : IsNumber t.clauses n
@@ -158,10 +158,10 @@ sweep_rests t new lists items gone g k e d is l h q over p due seen n number low
     at x = subst (λ m. IsDue new.entries (g + 1) (numbered new.clauses m)) (x.is d) (seen x.place d (omega (arith, x.within, over)) x.within)
 
 -- both lists of the literal were gone over
-pub sweeps_due : (t a b : TrailState) (w v : Watches) (r : Watched) → Propagates t a → Propagates a b → v.gone_over ≡ w.gone_over → w.gone_over < length t.entries → AreDue t (length t.clauses) w.gone_over → AreDue a (length a.clauses) (w.gone_over + 1) → SweepsDue b v r
-sweeps_due t a b w v watched.Rests p q e l old new =
-    subst (λ g. AreDue b (length b.clauses) (g + 1)) (sym e)
-    (due_all b (length a.clauses) (length b.clauses) (w.gone_over + 1) (omega (arith, ap length q.clauses)) (due_propagates a b (length a.clauses) (w.gone_over + 1) q (omega (arith, l, p.longer)) new))
-sweeps_due t a b w v (watched.Falsified n) p q e l old new =
-    subst (λ g. AreDue b (length b.clauses) g) (sym e)
-    (due_all b (length t.clauses) (length b.clauses) w.gone_over (omega (arith, ap length q.clauses, ap length p.clauses)) (due_propagates t b (length t.clauses) w.gone_over (Propagates-then t a b p q) (omega (arith, l)) old))
+pub sweeps_due : (t a b : TrailState) (f : ℕ) (w v : Watches) (r : Watched) → Propagates t a → Propagates a b → v.gone_over ≡ w.gone_over → w.gone_over < length t.entries → AreDue t f (length t.clauses) w.gone_over → AreDue a f (length a.clauses) (w.gone_over + 1) → SweepsDue b f v r
+sweeps_due t a b f w v watched.Rests p q e l old new =
+    subst (λ g. AreDue b f (length b.clauses) (g + 1)) (sym e)
+    (due_all b f (length a.clauses) (length b.clauses) (w.gone_over + 1) (omega (arith, ap length q.clauses)) (due_propagates a b f (length a.clauses) (w.gone_over + 1) q (omega (arith, l, p.longer)) new))
+sweeps_due t a b f w v (watched.Falsified n) p q e l old new =
+    subst (λ g. AreDue b f (length b.clauses) g) (sym e)
+    (due_all b f (length t.clauses) (length b.clauses) w.gone_over (omega (arith, ap length q.clauses, ap length p.clauses)) (due_propagates t b f (length t.clauses) w.gone_over (Propagates-then t a b p q) (omega (arith, l)) old))

@@ -14,7 +14,7 @@ use Rattle.trail_core.specs.declared.visit.Seen.TheVariants as seen
 use Rattle.trail_core.specs.Values.{IsTrueIn, IsFalseIn}
 use Rattle.trail_core.specs.TrailState.{TrailState, IsTrail, Propagates, entry_of, values_of, level_in, with_forced}
 use Rattle.trail_core.specs.Listing.{Listing}
-use Rattle.trail_core.specs.Watching.{room_of, lacks, unwatched, AreNumbers, IsBlank, IsCovered, IsWatch, IsPaired, settled, in_lists, watched, is_short, has_long, IsListed, list_of}
+use Rattle.trail_core.specs.Watching.{room_of, lacks, unwatched, AreNumbers, IsBlank, IsCovered, IsWatch, IsPaired, settled, in_lists, watched, IsListed, list_of}
 use Rattle.trail_core.specs.Visits.{IsGone, IsOther, IsVisited, IsKnown, IsOriented, IsMoved, IsReplacement, VisitsAs, Holds}
 use Rattle.trail_core.proofs.Lists.{find_found}
 use Rattle.trail_core.proofs.Levels.{level_le_all}
@@ -23,7 +23,7 @@ use Rattle.trail_core.proofs.LayoutLemmas.{entry_of_push_same}
 use Rattle.trail_core.proofs.Propagating.{Propagates-none, Propagates-forced}
 use Rattle.trail_core.proofs.Keeping.{IsFront, front_push, settled_front, watch_front, level_front}
 use Rattle.trail_core.proofs.Listing.{cases_lit, listed_push, listed_last, list_set_other, with_list-length, with_list-room, with_list-numbers, with_list-held, numbers_push}
-use Rattle.trail_core.proofs.Counting.{has_long-true, unwatched-set, lacks-moved, lacks-le}
+use Rattle.trail_core.proofs.Counting.{unwatched-set, lacks-moved, lacks-le}
 
 -- what an option holds is one
 pub some_same : {X : Type 0} (a b : X) (o : Option X) → o ≡ Some a → o ≡ Some b → a ≡ b
@@ -64,9 +64,9 @@ other_first q p a b (inr e) x y = subst a (ap (λ (r : Pair). r.first) e) x
 stays_paired : (old new : List Entry) (g : ℕ) (lists : List Listing) (s : Seen) (n : ℕ) (c : List Lit) (q p : Pair) → IsFront old new → g ≤ length old → IsOriented q p → Holds s (IsCovered new p.first p.second) → IsPaired old (IsOther old g lists p.first n) c q → IsPaired new (IsVisited new g lists p.first s n) c q
 stays_paired old new g lists s n c q p f l o h (settled z e) = settled (settled_front old new c f z) e
 stays_paired old new g lists s n c q p f l o h (in_lists z e) = in_lists z e
-stays_paired old new g lists s n c q p f l o h (watched long a b apart u v) =
+stays_paired old new g lists s n c q p f l o h (watched a b apart u v) =
     let at = beside q p o apart in
-    watched long a b apart
+    watched a b apart
     record { at_gone = λ e. subst (λ x. Holds s (IsCovered new x q.second)) (sym e) (subst (λ y. Holds s (IsCovered new p.first y)) (sym (at.0 e)) h); elsewhere = λ d. watch_front old new g lists n q.first q.second f l (u d) }
     record { at_gone = λ e. subst (λ x. Holds s (IsCovered new x q.first)) (sym e) (subst (λ y. Holds s (IsCovered new p.first y)) (sym (at.1 e)) h); elsewhere = λ d. watch_front old new g lists n q.second q.first f l (v d) }
 
@@ -128,21 +128,12 @@ pub blank_gone : (p q : Pair) → IsOriented q p → IsBlank q → 1 ≤ p.first
 blank_gone p q (inl e) z above = absurd (omega (arith, z.first, ap (λ (x : Pair). x.first.var) e, above))
 blank_gone p q (inr e) z above = absurd (omega (arith, z.second, ap (λ (x : Pair). x.second.var) e, above))
 
--- a clause that watches the literal that is gone has more than three
-pub oriented_long : (t : TrailState) (w : Watches) (p : Pair) (n : ℕ) → IsKnown t w n p.first → IsOriented (get_or w.pairs.items (n - 1) p) p → is_short (numbered t.clauses n) ≡ false
-oriented_long t w p n k o = at (get_or w.pairs.items (n - 1) p) o (k.paired p)
-  where
-    at : (q : Pair) → IsOriented q p → IsPaired t.entries (IsOther t.entries w.gone_over w.lists.items p.first n) (numbered t.clauses n) q → is_short (numbered t.clauses n) ≡ false
-    at q o (settled z e) = absurd (blank_gone p q o e k.is_gone.variable.above)
-    at q o (in_lists z e) = absurd (blank_gone p q o e k.is_gone.variable.above)
-    at q o (watched long a b d u v) = long
-
 -- the clause watches another literal in place of the one that is gone
 moved_paired : (es : List Entry) (g : ℕ) (old new : List Listing) (n : ℕ) (c : List Lit) (q p : Pair) (next : Lit) → IsFalseIn (values_of es) p.first → 1 ≤ p.first.var → IsOriented q p → has c next ≡ true → next.var ≢ p.second.var → (IsFalseIn (values_of es) next → ⊥) → ((x : Lit) → IsListed old x n → IsListed new x n) → IsListed new next n → IsPaired es (IsOther es g old p.first n) c q → IsPaired es (IsVisited es g new p.first seen.Leaves n) c record { first = p.second; second = next }
 moved_paired es g old new n c q p next gone above o member apart still grows last (settled z e) = absurd (blank_gone p q o e above)
 moved_paired es g old new n c q p next gone above o member apart still grows last (in_lists z e) = absurd (blank_gone p q o e above)
-moved_paired es g old new n c q p next gone above o member apart still grows last (watched long a b d u v) =
-    watched long (other_first q p (λ l. has c l ≡ true) (λ l. has c l ≡ true) o a b) member (λ e. apart (sym e))
+moved_paired es g old new n c q p next gone above o member apart still grows last (watched a b d u v) =
+    watched (other_first q p (λ l. has c l ≡ true) (λ l. has c l ≡ true) o a b) member (λ e. apart (sym e))
     record { at_gone = λ e. absurd (other_gone e); elsewhere = λ f. record { listed = grows p.second (old_watch f).listed; covered = λ h. absurd (true_false es p.first ((old_watch f).covered h).is_true gone) } }
     record { at_gone = λ e. absurd (still (subst (IsFalseIn (values_of es)) (sym e) gone)); elsewhere = λ f. record { listed = last; covered = λ h. absurd (still (values-take_some es g next.var next.negated h)) } }
   where
@@ -172,8 +163,8 @@ visits_moved t w v p q next n k o is r m = record {
     | inl e ↦ with_list-numbers w.lists.items next l (list_of w.lists.items next ++ n ∷ []) (length w.pairs.items) m.within (numbers_push (list_of w.lists.items next) n (length w.pairs.items) k.above k.within (subst (λ z. AreNumbers (list_of w.lists.items z) (length w.pairs.items)) e h)) h
     | inr d ↦ subst (λ ys. AreNumbers ys (length w.pairs.items)) (sym (list_set_other w.lists.items next l (list_of w.lists.items next ++ n ∷ []) d)) h
   ]);
-  spare = λ l d. omega (arith, count l, held l, lacks-moved (numbered t.clauses n) q p next l o (has_long-true (numbered t.clauses n) next long r.member) not_other not_gone d);
-  left = omega (arith, count p.first, lacks-le (numbered t.clauses n) moved p.first, one_at_most (has_long (numbered t.clauses n) p.first));
+  spare = λ l d. omega (arith, count l, held l, lacks-moved (numbered t.clauses n) q p next l o r.member not_other not_gone d);
+  left = omega (arith, count p.first, lacks-le (numbered t.clauses n) moved p.first, one_at_most (has (numbered t.clauses n) p.first));
   paired = λ i d e l.
       let here : i ≡ n - 1 = omega (arith, e) in
       let at : get_or v.pairs.items i d ≡ moved = ap (λ xs. get_or xs i d) m.pairs ∙ (ap (λ j. get_or (set w.pairs.items (n - 1) moved) j d) here ∙ get_or-set_same w.pairs.items (n - 1) moved d (omega (arith, k.above, k.within))) in
@@ -184,9 +175,6 @@ visits_moved t w v p q next n k o is r m = record {
   where
     moved : Pair
     moved = record { first = p.second; second = next }
-
-    long : is_short (numbered t.clauses n) ≡ false
-    long = oriented_long t w p n k (subst (λ x. IsOriented x p) (sym (is p)) o)
 
     grows : (l : Lit) (x : ℕ) → IsListed w.lists.items l x → IsListed v.lists.items l x
     grows l x h = subst (λ ls. IsListed ls l x) (sym m.lists) (listed_push w.lists.items next l n x m.within h)
@@ -216,7 +204,7 @@ visits_moved t w v p q next n k o is r m = record {
 absent_paired : (es : List Entry) (g : ℕ) (lists : List Listing) (gone : Lit) (n : ℕ) (c : List Lit) (q : Pair) → q.first ≢ gone → q.second ≢ gone → IsPaired es (IsOther es g lists gone n) c q → IsPaired es (IsVisited es g lists gone seen.Leaves n) c q
 absent_paired es g lists gone n c q a b (settled z e) = settled z e
 absent_paired es g lists gone n c q a b (in_lists z e) = in_lists z e
-absent_paired es g lists gone n c q a b (watched long x y d u v) = watched long x y d record { at_gone = λ e. absurd (a e); elsewhere = u } record { at_gone = λ e. absurd (b e); elsewhere = v }
+absent_paired es g lists gone n c q a b (watched x y d u v) = watched x y d record { at_gone = λ e. absurd (a e); elsewhere = u } record { at_gone = λ e. absurd (b e); elsewhere = v }
 
 -- the clause doesn't watch the literal
 pub visits_absent : (t : TrailState) (w : Watches) (gone : Lit) (q : Pair) (n : ℕ) → IsKnown t w n gone → ((d : Pair) → get_or w.pairs.items (n - 1) d ≡ q) → q.first ≢ gone → q.second ≢ gone → VisitsAs t t w w gone n seen.Leaves

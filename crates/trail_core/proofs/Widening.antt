@@ -1,5 +1,5 @@
 -- Lists with more room.
-use Rattle.std.proofs.Common.{◌≡◌, ℕ, zero, suc, ◌+◌, ◌<◌, ◌≤◌, Bool, true, false, cond, List, [], ◌∷◌, ◌++◌, length, get_or, set, take, refl, sym, ap, ◌∙◌, subst, arith, inl, inr, ⊎_elim}
+use Rattle.std.proofs.Common.{◌≡◌, ℕ, zero, suc, ◌+◌, ◌<◌, ◌≤◌, List, [], ◌∷◌, ◌++◌, length, get_or, set, take, refl, sym, ap, ◌∙◌, subst, arith, inl, inr, ⊎_elim}
 use Rattle.std.specs.Vec.{vec_capacity}
 use Rattle.std.proofs.lemmas.Bool.{false≢true, cases_lt, cases_Bool, or_cases}
 use Rattle.std.proofs.lemmas.List.{get_or-set_same, get_or-set_other, get_or_append_left, get_or_push, length-set, length_push, take_more, take_all}
@@ -8,10 +8,9 @@ use Rattle.clause_base.specs.Literal.{has, same_lit}
 use Rattle.clause_base.proofs.Sets.{has-push, same_lit-true}
 use Rattle.trail_core.specs.declared.watches.Watches.{Watches}
 use Rattle.trail_core.specs.Listing.{Listing, nothing}
-use Rattle.trail_core.specs.Watching.{code_of, list_of, room_of, is_short, has_long}
+use Rattle.trail_core.specs.Watching.{code_of, list_of, room_of}
 use Rattle.trail_core.specs.Visits.{IsWider, HavePlaces}
 use Rattle.trail_core.proofs.Listing.{cases_lit, code_same}
-use Rattle.trail_core.proofs.Counting.{has_long-short, has_long-none}
 use Rattle.trail_core.proofs.Placing.{Widens}
 
 pub wider_itself : (w : Watches) → IsWider w w
@@ -59,22 +58,15 @@ pub places_all : (a b : Watches) (ls : List Lit) (i : ℕ) → length ls ≤ i �
 places_all a b ls i l h m k = h m (ap (λ xs. has xs m) (take_all i ls l) ∙ k)
 
 -- all that a clause more needs
-pub widens : (old new : Watches) (c : List Lit) (count : ℕ) → IsWider old new → (is_short c ≡ false → HavePlaces old new c) → count + 1 ≤ vec_capacity new.pairs → Widens old new c count
+pub widens : (old new : Watches) (c : List Lit) (count : ℕ) → IsWider old new → HavePlaces old new c → count + 1 ≤ vec_capacity new.pairs → Widens old new c count
 widens old new c count h p room = record {
   pairs = h.pairs;
   pair = room;
   lists = h.size;
   numbers = h.numbers;
-  more = λ l. elim (cases_Bool (is_short c)) [
-    | inl s ↦ rw (has_long-short c l s) (omega (arith, h.rooms l))
-    | inr s ↦ elim (cases_Bool (has c l)) [ inl t ↦ omega (arith, p s l t, one_at_most (has_long c l)) | inr f ↦ rw (has_long-none c l f) (omega (arith, h.rooms l)) ]
-  ];
+  more = λ l. elim (cases_Bool (has c l)) [ inl t ↦ rw t (p l t) | inr f ↦ rw f (omega (arith, h.rooms l)) ];
   gone_over = h.gone_over;
 }
-  where
-    one_at_most : (b : Bool) → cond b 1 0 ≤ 1
-    one_at_most true = omega arith
-    one_at_most false = omega arith
 
 -- a list of nothing more
 pub nothing_push : (xs : List Listing) → ((i : ℕ) → get_or xs i nothing ≡ nothing) → (i : ℕ) → get_or (xs ++ nothing ∷ []) i nothing ≡ nothing

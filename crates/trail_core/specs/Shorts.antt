@@ -12,7 +12,7 @@ use Rattle.trail_core.specs.ShortListing.{ShortListing, no_shorts, one_of, two_o
 use Rattle.trail_core.specs.Values.{Values, IsTrueIn, IsFalseIn}
 use Rattle.trail_core.specs.TrailState.{TrailState, IsNumber, values_of}
 use Rattle.trail_core.specs.Look.{Falsifies}
-use Rattle.trail_core.specs.Watching.{IsOpen, code_of, is_short}
+use Rattle.trail_core.specs.Watching.{IsOpen, code_of, is_fixed}
 
 -- no literal of a variable
 abbrev pub no_literal : Lit
@@ -41,33 +41,37 @@ pub record IsEntered (list : List Short) (n : ℕ) : Type 0 where
   pub within : place < length list
   pub is : (d : Short) → (get_or list place d).number ≡ n
 
--- each literal has a list, in which such clauses stand, and each clause of at most three literals stands in the lists of all of them
-pub record HasShorts (vars : ℕ) (clauses : List (List Lit)) (lists : List ShortListing) : Type 0 where
+-- each literal has a list, in which such clauses stand, and of the first `fixed` clauses each one of at most three literals stands in
+-- the lists of all of them
+pub record HasShorts (vars : ℕ) (clauses : List (List Lit)) (fixed : ℕ) (lists : List ShortListing) : Type 0 where
   pub size : length lists ≡ 2 * vars + 2
+  pub few : fixed ≤ length clauses
   pub sound : (l : Lit) (i : ℕ) (d : Short) → i < length (shorts_of lists l) → IsEntry clauses l (get_or (shorts_of lists l) i d)
-  pub listed : (n : ℕ) (l : Lit) → IsNumber clauses n → is_short (numbered clauses n) ≡ true → has (numbered clauses n) l ≡ true → IsEntered (shorts_of lists l) n
+  pub listed : (n : ℕ) (l : Lit) → IsNumber clauses n → is_fixed fixed n (numbered clauses n) ≡ true → has (numbered clauses n) l ≡ true → IsEntered (shorts_of lists l) n
 
 -- the clause has a true literal, or two that are unassigned by the entries gone over
 pub data IsDue (entries : List Entry) (gone_over : ℕ) (clause : List Lit) : Type 0 where
   due_true : (l : Lit) → has clause l ≡ true → IsTrueIn (values_of entries) l → IsDue entries gone_over clause
   due_open : IsOpen (values_of (take gone_over entries)) clause → IsDue entries gone_over clause
 
--- so are the first clauses, where they have at most three literals
-abbrev pub AreDue : TrailState → ℕ → ℕ → Type 0
-AreDue t count gone_over = (n : ℕ) → IsNumber t.clauses n → n ≤ count → is_short (numbered t.clauses n) ≡ true → IsDue t.entries gone_over (numbered t.clauses n)
+-- so are the first clauses, where they stand in such lists
+abbrev pub AreDue : TrailState → ℕ → ℕ → ℕ → Type 0
+AreDue t fixed count gone_over = (n : ℕ) → IsNumber t.clauses n → n ≤ count → is_fixed fixed n (numbered t.clauses n) ≡ true → IsDue t.entries gone_over (numbered t.clauses n)
 
 -- what going over the list of a literal gives, which is the opposite of the one at the place
-abbrev pub ShortsGive : TrailState → ℕ → Watched → Type 0
-ShortsGive t place watched.Rests = AreDue t (length t.clauses) (place + 1)
-ShortsGive t place (watched.Falsified n) = Falsifies t n
+abbrev pub ShortsGive : TrailState → ℕ → ℕ → Watched → Type 0
+ShortsGive t fixed place watched.Rests = AreDue t fixed (length t.clauses) (place + 1)
+ShortsGive t fixed place (watched.Falsified n) = Falsifies t n
 
 -- there are no clauses, and two lists for each variable
 pub record HasNoShorts (vars : ℕ) (s : Shorts) : Type 0 where
   pub size : length s.lists.items ≡ 2 * vars + 2
   pub empty : (l : Lit) → shorts_of s.lists.items l ≡ []
+  pub fixed : s.fixed ≡ 0
 
 -- the lists have the same clauses
 pub record SameShorts (old new : Shorts) : Type 0 where
+  pub fixed : new.fixed ≡ old.fixed
   pub size : length new.lists.items ≡ length old.lists.items
   pub same : (l : Lit) → shorts_of new.lists.items l ≡ shorts_of old.lists.items l
   pub rooms : (l : Lit) → (get_or old.lists.items (code_of l) no_shorts).room ≤ (get_or new.lists.items (code_of l) no_shorts).room
@@ -98,12 +102,14 @@ entry_at c n place = entry_with (get_or c (next_place place (length c)) no_liter
 
 -- the clause is the last in the literal's list, and no other list has changed
 pub record PushesShort (old new : Shorts) (l : Lit) (s : Short) : Type 0 where
+  pub fixed : new.fixed ≡ old.fixed
   pub size : length new.lists.items ≡ length old.lists.items
   pub own : shorts_of new.lists.items l ≡ shorts_of old.lists.items l ++ s ∷ []
   pub others : (m : Lit) → m ≢ l → get_or new.lists.items (code_of m) no_shorts ≡ get_or old.lists.items (code_of m) no_shorts
 
 -- the clause is the last in the list of each of its literals, and no other list has changed
 pub record Enters (old new : Shorts) (n : ℕ) (c : List Lit) : Type 0 where
+  pub fixed : new.fixed ≡ old.fixed
   pub size : length new.lists.items ≡ length old.lists.items
   pub own : (i : ℕ) (d : Lit) → i < length c → shorts_of new.lists.items (get_or c i d) ≡ shorts_of old.lists.items (get_or c i d) ++ entry_at c n i ∷ []
   pub others : (l : Lit) → has c l ≡ false → shorts_of new.lists.items l ≡ shorts_of old.lists.items l

@@ -19,7 +19,7 @@ use Rattle.trail_core.specs.TrailState.{TrailState, IsTrail, IsNumber, AllRest, 
 use Rattle.trail_core.specs.Look.{Falsifies}
 use Rattle.trail_core.specs.declared.shorts.Shorts.{Shorts}
 use Rattle.trail_core.specs.Shorts.{HasShorts, AreDue}
-use Rattle.trail_core.specs.Watching.{Stands, IsListed, IsCovered, IsWatch, IsPaired, IsKept, IsOpen, AreNumbers, list_of, room_of, code_of, with_list, watches, unwatched}
+use Rattle.trail_core.specs.Watching.{Stands, IsListed, IsCovered, IsWatch, IsPaired, IsKept, IsOpen, AreMarked, AreNumbers, list_of, room_of, code_of, with_list, watches, unwatched}
 
 -- the lists have room: `held` counts the places of a literal's list that are in use, and each clause that has the literal and
 -- doesn't watch it has one more; each number is that of a clause with a pair, and a clause without one has two literals that are
@@ -172,17 +172,18 @@ SweepGives t w (watched.Falsified n) = WatchesWell t w w.gone_over × Falsifies 
 pub record IsWatching (t : TrailState) (w : Watches) (s : Shorts) : Type 0 where
   pub trail : IsTrail t
   pub well : WatchesWell t w w.gone_over
-  pub shorts : HasShorts t.vars t.clauses s.lists.items
-  pub due : AreDue t (length w.pairs.items) w.gone_over
+  pub shorts : HasShorts t.vars t.clauses s.fixed s.lists.items
+  pub marked : AreMarked t.clauses s.fixed w.pairs.items
+  pub due : AreDue t s.fixed (length w.pairs.items) w.gone_over
 
 -- the entries from the place on are of the present level
 abbrev pub ArePresent : TrailState → ℕ → Type 0
 ArePresent t from = (place : ℕ) (d : Entry) → from ≤ place → place < length t.entries → (get_or t.entries place d).decision_level ≡ t.level
 
 -- which clauses of at most three literals are due after a pass over both lists of a literal
-abbrev pub SweepsDue : TrailState → Watches → Watched → Type 0
-SweepsDue t w watched.Rests = AreDue t (length t.clauses) (w.gone_over + 1)
-SweepsDue t w (watched.Falsified n) = AreDue t (length t.clauses) w.gone_over
+abbrev pub SweepsDue : TrailState → ℕ → Watches → Watched → Type 0
+SweepsDue t fixed w watched.Rests = AreDue t fixed (length t.clauses) (w.gone_over + 1)
+SweepsDue t fixed w (watched.Falsified n) = AreDue t fixed (length t.clauses) w.gone_over
 
 -- what the first clause without a pair gives: a pair
 abbrev pub LooksGives : TrailState → Watches → Watches → Watched → Type 0

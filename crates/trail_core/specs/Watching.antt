@@ -1,5 +1,5 @@
 -- Watched literals (Moskewicz, Madigan, Zhao, Zhang, Malik 2001): of each clause two literals, at which propagation looks for it.
-use Rattle.std.specs.Prelude.{◌≡◌, ◌≢◌, ℕ, ◌+◌, ◌*◌, ◌<◌, ◌≤◌, Bool, true, false, not, ◌&&◌, ◌||◌, cond, nat_le, Some, List, [], ◌∷◌, length, take, get_or, set}
+use Rattle.std.specs.Prelude.{◌≡◌, ◌≢◌, ℕ, ◌+◌, ◌*◌, ◌<◌, ◌≤◌, Bool, true, not, ◌&&◌, ◌||◌, ◌==◌, cond, nat_le, Some, List, [], ◌∷◌, length, take, get_or, set}
 use Rattle.clause_base.specs.declared.literal.Lit.{Lit}
 use Rattle.clause_base.specs.Literal.{has, same_lit}
 use Rattle.clause_base.specs.Acceptance.{numbered}
@@ -63,11 +63,19 @@ pub record IsBlank (p : Pair) : Type 0 where
 abbrev pub is_short : List Lit → Bool
 is_short clause = nat_le (length clause) 3
 
--- the clause is settled or has at most three literals, and its pair has none, or the two literals of the pair are its own, of different variables, and W holds of each beside the other
+-- the clause with the number stands in a list of each of its literals: it is one of the first `fixed` ones, and has at most three literals
+abbrev pub is_fixed : ℕ → ℕ → List Lit → Bool
+is_fixed fixed n clause = nat_le n fixed && is_short clause
+
+-- the pair is that of such a clause, which watches none
+abbrev pub is_mark : Pair → Bool
+is_mark p = (p.first.var == 0) && p.first.negated
+
+-- the clause is settled or stands in the lists of its literals, and its pair has none, or the two literals of the pair are its own, of different variables, and W holds of each beside the other
 pub data IsPaired (entries : List Entry) (W : Lit → Lit → Type 0) (clause : List Lit) (p : Pair) : Type 0 where
   settled : IsSettled entries clause → IsBlank p → IsPaired entries W clause p
-  in_lists : is_short clause ≡ true → IsBlank p → IsPaired entries W clause p
-  watched : is_short clause ≡ false → has clause p.first ≡ true → has clause p.second ≡ true → p.first.var ≢ p.second.var → W p.first p.second → W p.second p.first → IsPaired entries W clause p
+  in_lists : is_mark p ≡ true → IsBlank p → IsPaired entries W clause p
+  watched : has clause p.first ≡ true → has clause p.second ≡ true → p.first.var ≢ p.second.var → W p.first p.second → W p.second p.first → IsPaired entries W clause p
 
 -- the lists are kept: of the entries `gone_over` were gone over, each later one is of the present level, and each of the first clauses is paired
 pub record IsKept (t : TrailState) (pairs : List Pair) (lists : List Listing) (gone_over : ℕ) : Type 0 where
@@ -80,18 +88,14 @@ pub record IsKept (t : TrailState) (pairs : List Pair) (lists : List Listing) (g
 abbrev pub watches : Pair → Lit → Bool
 watches p l = same_lit p.first l || same_lit p.second l
 
--- the clause has the literal, and more than three
-abbrev pub has_long : List Lit → Lit → Bool
-has_long clause l = has clause l && not (is_short clause)
-
--- so it is, and the pair hasn't the literal
+-- the clause has the literal, and its pair hasn't
 abbrev pub lacks : List Lit → Pair → Lit → Bool
-lacks clause p l = has_long clause l && not (watches p l)
+lacks clause p l = has clause l && not (watches p l)
 
--- how many clauses of more than three literals have the literal and don't watch it, those without a pair among them
+-- how many clauses have the literal and don't watch it, those without a pair among them
 abbrev pub unwatched : List (List Lit) → List Pair → Lit → ℕ
 unwatched [] pairs l = 0
-unwatched (c ∷ cs) [] l = cond (has_long c l) 1 0 + unwatched cs [] l
+unwatched (c ∷ cs) [] l = cond (has c l) 1 0 + unwatched cs [] l
 unwatched (c ∷ cs) (p ∷ ps) l = cond (lacks c p l) 1 0 + unwatched cs ps l
 
 -- each is one of the numbers 1 to `count`
@@ -107,3 +111,11 @@ pub record IsOpen (values : Values) (clause : List Lit) : Type 0 where
   pub apart : one.var ≢ two.var
   pub one_free : IsUnassignedIn values one
   pub two_free : IsUnassignedIn values two
+
+-- each pair that says so is that of such a clause
+abbrev pub AreMarked : List (List Lit) → ℕ → List Pair → Type 0
+AreMarked clauses fixed pairs = (i : ℕ) (d : Pair) → i < length pairs → is_mark (get_or pairs i d) ≡ true → is_fixed fixed (i + 1) (numbered clauses (i + 1)) ≡ true
+
+-- no pair says so that didn't before
+abbrev pub KeepsMarks : List Pair → List Pair → Type 0
+KeepsMarks old new = (i : ℕ) (d : Pair) → i < length new → is_mark (get_or new i d) ≡ true → is_mark (get_or old i d) ≡ true

@@ -1,5 +1,6 @@
 ghost use Rattle.std.specs.Prelude.{◌≡◌, ◌+◌, ◌<◌, ◌≤◌, length};
 ghost use Rattle.trail_core.specs.TrailState.{IsTrail, Propagates};
+ghost use Rattle.trail_core.specs.Watching.{AreMarked};
 ghost use Rattle.trail_core.specs.Shorts.{HasShorts, AreDue};
 ghost use Rattle.trail_core.specs.Visits.{SweepsDue, SweepGives, WatchGives, WatchesWell, number_of};
 
@@ -13,13 +14,15 @@ use crate::watches::Watches;
 fn sweep_next(trail: &mut PlainTrail, watches: &mut Watches, shorts: &Shorts) -> Watched
     requires trail { IsTrail trail.old }
     requires well { WatchesWell trail.old watches.old watches.old.gone_over }
-    requires shorts { HasShorts trail.old.vars trail.old.clauses shorts.now.lists.items }
-    requires due { AreDue trail.old (length trail.old.clauses) watches.old.gone_over }
+    requires shorts { HasShorts trail.old.vars trail.old.clauses shorts.now.fixed shorts.now.lists.items }
+    requires due { AreDue trail.old shorts.now.fixed (length trail.old.clauses) watches.old.gone_over }
     requires next { watches.old.gone_over < length trail.old.entries }
+    requires marked { AreMarked trail.old.clauses shorts.now.fixed watches.old.pairs.items }
+    ensures marked { AreMarked trail.new.clauses shorts.now.fixed watches.new.pairs.items }
     ensures appends { Propagates trail.old trail.new }
     ensures trail { IsTrail trail.new }
     ensures gives { SweepGives trail.new watches.new result }
-    ensures due { SweepsDue trail.new watches.new result }
+    ensures due { SweepsDue trail.new shorts.now.fixed watches.new result }
     ensures gone_over { watches.new.gone_over ≡ watches.old.gone_over }
     ensures size { length watches.new.pairs.items ≡ length watches.old.pairs.items }
 {
@@ -36,13 +39,15 @@ fn sweep_next(trail: &mut PlainTrail, watches: &mut Watches, shorts: &Shorts) ->
 fn sweep_all(trail: &mut PlainTrail, watches: &mut Watches, shorts: &Shorts) -> Watched
     requires trail { IsTrail trail.old }
     requires well { WatchesWell trail.old watches.old watches.old.gone_over }
-    requires shorts { HasShorts trail.old.vars trail.old.clauses shorts.now.lists.items }
-    requires due { AreDue trail.old (length watches.old.pairs.items) watches.old.gone_over }
+    requires shorts { HasShorts trail.old.vars trail.old.clauses shorts.now.fixed shorts.now.lists.items }
+    requires due { AreDue trail.old shorts.now.fixed (length watches.old.pairs.items) watches.old.gone_over }
+    requires marked { AreMarked trail.old.clauses shorts.now.fixed watches.old.pairs.items }
     requires all { length trail.old.clauses ≤ length watches.old.pairs.items }
     ensures appends { Propagates trail.old trail.new }
     ensures trail { IsTrail trail.new }
     ensures gives { WatchGives trail.new watches.new result }
-    ensures due { AreDue trail.new (length watches.new.pairs.items) watches.new.gone_over }
+    ensures due { AreDue trail.new shorts.now.fixed (length watches.new.pairs.items) watches.new.gone_over }
+    ensures marked { AreMarked trail.new.clauses shorts.now.fixed watches.new.pairs.items }
 {
     while watches.gone_over < trail.len() {
         match sweep_next(trail, watches, shorts) {
@@ -57,14 +62,16 @@ fn sweep_all(trail: &mut PlainTrail, watches: &mut Watches, shorts: &Shorts) -> 
 pub(crate) fn watch(trail: &mut PlainTrail, watches: &mut Watches, shorts: &Shorts) -> Watched
     requires trail { IsTrail trail.old }
     requires well { WatchesWell trail.old watches.old watches.old.gone_over }
-    requires shorts { HasShorts trail.old.vars trail.old.clauses shorts.now.lists.items }
-    requires due { AreDue trail.old (length watches.old.pairs.items) watches.old.gone_over }
+    requires shorts { HasShorts trail.old.vars trail.old.clauses shorts.now.fixed shorts.now.lists.items }
+    requires due { AreDue trail.old shorts.now.fixed (length watches.old.pairs.items) watches.old.gone_over }
+    requires marked { AreMarked trail.old.clauses shorts.now.fixed watches.old.pairs.items }
     ensures appends { Propagates trail.old trail.new }
     ensures trail { IsTrail trail.new }
     ensures gives { WatchGives trail.new watches.new result }
-    ensures due { AreDue trail.new (length watches.new.pairs.items) watches.new.gone_over }
+    ensures due { AreDue trail.new shorts.now.fixed (length watches.new.pairs.items) watches.new.gone_over }
+    ensures marked { AreMarked trail.new.clauses shorts.now.fixed watches.new.pairs.items }
 {
-    match pair_all(trail, watches) {
+    match pair_all(trail, watches, shorts.fixed) {
         Watched::Rests => sweep_all(trail, watches, shorts),
         Watched::Falsified(number) => Watched::Falsified(number),
     }

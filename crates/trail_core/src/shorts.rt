@@ -1,4 +1,4 @@
-ghost use Rattle.std.specs.Prelude.{◌≡◌, ℕ, ◌+◌, ◌*◌, ◌<◌, ◌≤◌, ◌++◌, ◌∷◌, [], true, false, IsTrue, length, get_or, IfOk, OnOk};
+ghost use Rattle.std.specs.Prelude.{◌≡◌, ℕ, ◌+◌, ◌*◌, ◌<◌, ◌≤◌, ◌++◌, ◌∷◌, [], ◌&&◌, true, false, cond, IsTrue, length, get_or, IfOk, OnOk};
 ghost use Rattle.clause_base.specs.Literal.{has_distinct_variables};
 ghost use Rattle.trail_core.specs.Watching.{code_of, is_short};
 ghost use Rattle.trail_core.specs.ShortListing.{no_shorts};
@@ -10,18 +10,38 @@ use clause_base::Lit;
 use loc_base::NoMemory;
 use std::alloc::Global;
 
-/// The clauses of at most three literals, in a list of each of their literals. No entry is ever moved or changed.
+/// The clauses of at most three literals that were there before the first propagation, in a list of each of their literals. No
+/// entry is ever moved or changed.
 #[derive(Drop)]
 pub(crate) struct Shorts {
     /// The list of each literal, at the literal's code.
     pub(crate) lists: Vec<ShortList>,
+    /// Of so many first clauses those of at most three literals stand there.
+    pub(crate) fixed: u32,
 }
 
-/// Whether a clause of these literals stands in the lists of all of them.
+/// Whether a clause has at most three literals.
 pub(crate) fn is_short(literals: &[Lit]) -> bool
     ensures { result ≡ is_short literals.now }
 {
     literals.len() <= 3
+}
+
+/// Whether a clause of these literals stands in the lists of all of them, where the lists take more clauses.
+fn is_taken(takes: bool, literals: &[Lit]) -> bool
+    ensures { result ≡ (takes && is_short literals.now) }
+{
+    takes && is_short(literals)
+}
+
+/// Counts the clause among the first ones, where the lists take more clauses.
+pub(crate) fn count_clause(shorts: &mut Shorts, takes: bool, number: u32)
+    ensures lists { shorts.new.lists ≡ shorts.old.lists }
+    ensures fixed { shorts.new.fixed ≡ cond takes number shorts.old.fixed }
+{
+    if takes {
+        shorts.fixed = number;
+    }
 }
 
 /// The clauses that have the literal.
@@ -50,6 +70,7 @@ pub(crate) fn no_short_clauses(alloc: Global, vars: u32) -> Result<Shorts, NoMem
 {
     Ok(Shorts {
         lists: empty_lists(alloc, 2 * vars as usize + 2)?,
+        fixed: 0,
     })
 }
 
@@ -75,12 +96,16 @@ fn make_short_places(shorts: &mut Shorts, literals: &[Lit]) -> Result<(), NoMemo
 }
 
 /// Makes room for a clause of these literals in their lists, where it is to stand there.
-pub(crate) fn make_short_room(shorts: &mut Shorts, literals: &[Lit]) -> Result<(), NoMemory>
+pub(crate) fn make_short_room(
+    shorts: &mut Shorts,
+    takes: bool,
+    literals: &[Lit],
+) -> Result<(), NoMemory>
     requires { HaveShortLists shorts.old literals.now }
     ensures same { SameShorts shorts.old shorts.new }
-    ensures more { OnOk result (is_short literals.now ≡ true → HaveShortPlaces shorts.new literals.now) }
+    ensures more { OnOk result ((takes && is_short literals.now) ≡ true → HaveShortPlaces shorts.new literals.now) }
 {
-    if !is_short(literals) {
+    if !is_taken(takes, literals) {
         return Ok(());
     }
     make_short_places(shorts, literals)?;
@@ -137,14 +162,14 @@ fn enter_all(shorts: &mut Shorts, number: u32, literals: &[Lit])
 }
 
 /// Appends the clause to the lists of its literals, where it is to stand there.
-pub(crate) fn enter(shorts: &mut Shorts, number: u32, literals: &[Lit])
+pub(crate) fn enter(shorts: &mut Shorts, takes: bool, number: u32, literals: &[Lit])
     requires distinct { IsTrue (has_distinct_variables literals.now) }
     requires lists { HaveShortLists shorts.old literals.now }
-    requires places { is_short literals.now ≡ true → HaveShortPlaces shorts.old literals.now }
-    ensures short { is_short literals.now ≡ true → Enters shorts.old shorts.new number literals.now }
-    ensures long { is_short literals.now ≡ false → shorts.new ≡ shorts.old }
+    requires places { (takes && is_short literals.now) ≡ true → HaveShortPlaces shorts.old literals.now }
+    ensures short { (takes && is_short literals.now) ≡ true → Enters shorts.old shorts.new number literals.now }
+    ensures long { (takes && is_short literals.now) ≡ false → shorts.new ≡ shorts.old }
 {
-    if !is_short(literals) {
+    if !is_taken(takes, literals) {
         return;
     }
     enter_all(shorts, number, literals);

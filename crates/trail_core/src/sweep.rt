@@ -85,13 +85,13 @@ fn visit_short(trail: &mut PlainTrail, short: Short, gone: Lit) -> bool
 /// Goes over the clauses of at most three literals that have the opposite of the true literal at that place.
 pub(crate) fn sweep_shorts(trail: &mut PlainTrail, shorts: &Shorts, place: u32) -> Watched
     requires trail { IsTrail trail.old }
-    requires shorts { HasShorts trail.old.vars trail.old.clauses shorts.now.lists.items }
+    requires shorts { HasShorts trail.old.vars trail.old.clauses shorts.now.fixed shorts.now.lists.items }
     requires within { place < length trail.old.entries }
     requires present { ArePresent trail.old place }
-    requires due { AreDue trail.old (length trail.old.clauses) place }
+    requires due { AreDue trail.old shorts.now.fixed (length trail.old.clauses) place }
     ensures appends { Propagates trail.old trail.new }
     ensures trail { IsTrail trail.new }
-    ensures gives { ShortsGive trail.new place result }
+    ensures gives { ShortsGive trail.new shorts.now.fixed place result }
 {
     let l = trail.at(place).unwrap();
     let gone = l.opposite();

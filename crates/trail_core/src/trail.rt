@@ -7,7 +7,7 @@ ghost use Rattle.trail_core.specs.TrailState.{TrailState, IsTrail, IsNumber, May
 
 use crate::plain::PlainTrail;
 use crate::propagation::{number_of, watch};
-use crate::shorts::{Shorts, enter, make_short_room, no_short_clauses};
+use crate::shorts::{Shorts, count_clause, enter, make_short_room, no_short_clauses};
 use crate::watches::{Watches, go_back, make_room, watches_of};
 use clause_base::Lit;
 use loc_base::NoMemory;
@@ -22,6 +22,13 @@ pub struct Trail {
     plain: PlainTrail,
     watches: Watches,
     shorts: Shorts,
+}
+
+/// Whether propagation has looked at none of so many clauses, so that the lists of clauses of at most three literals take more.
+fn takes_more(watches: &Watches, shorts: &Shorts, count: u32) -> bool
+    ensures { IsTrue result → shorts.now.fixed ≡ count }
+{
+    watches.pairs.is_empty() && shorts.fixed == count
 }
 
 impl Model for Trail {
@@ -62,10 +69,13 @@ impl Trail {
         ensures err { OnErr result (self.new ≡ self.old) }
         ensures trail { IsTrail self.new }
     {
-        make_room(&mut self.watches, self.plain.count(), literals)?;
-        make_short_room(&mut self.shorts, literals)?;
+        let count = self.plain.count();
+        let takes = takes_more(&self.watches, &self.shorts, count);
+        make_room(&mut self.watches, count, literals)?;
+        make_short_room(&mut self.shorts, takes, literals)?;
         let number = self.plain.add_clause(literals)?;
-        enter(&mut self.shorts, number, literals);
+        enter(&mut self.shorts, takes, number, literals);
+        count_clause(&mut self.shorts, takes, number);
         Ok(number)
     }
 

@@ -6,7 +6,7 @@ ghost use Rattle.clause_base.specs.Acceptance.{numbered};
 ghost use Rattle.trail_core.specs.Values.{IsVariable, IsTrueIn, IsFalseIn, IsUnassignedIn};
 ghost use Rattle.trail_core.specs.TrailState.{IsTrail, IsNumber, IsReason, Propagates, values_of};
 ghost use Rattle.trail_core.specs.Look.{Falsifies};
-ghost use Rattle.trail_core.specs.Watching.{list_of, room_of, code_of};
+ghost use Rattle.trail_core.specs.Watching.{KeepsMarks, list_of, room_of, code_of};
 ghost use Rattle.trail_core.specs.Visits.{IsGone, IsReplacement, IsOriented, SeenGives, ForceGives, IsMoved, IsKnown};
 
 use crate::plain::PlainTrail;
@@ -105,6 +105,7 @@ fn visit_pair(trail: &mut PlainTrail, watches: &mut Watches, number: u32, pair: 
     ensures same { watches.new.gone_over ≡ watches.old.gone_over }
     ensures size { length watches.new.pairs.items ≡ length watches.old.pairs.items }
     ensures capacity { vec_capacity watches.new.pairs ≡ vec_capacity watches.old.pairs }
+    ensures marks { KeepsMarks watches.old.pairs.items watches.new.pairs.items }
 {
     let other = pair.second;
     if has_value(trail, other.var, !other.negated) {
@@ -130,6 +131,7 @@ pub(crate) fn visit(trail: &mut PlainTrail, watches: &mut Watches, number: u32, 
     ensures same { watches.new.gone_over ≡ watches.old.gone_over }
     ensures size { length watches.new.pairs.items ≡ length watches.old.pairs.items }
     ensures capacity { vec_capacity watches.new.pairs ≡ vec_capacity watches.old.pairs }
+    ensures marks { KeepsMarks watches.old.pairs.items watches.new.pairs.items }
 {
     let pair = watches.pairs[number as usize - 1];
     let other = if are_same(pair.first, gone) {

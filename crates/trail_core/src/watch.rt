@@ -6,7 +6,7 @@ ghost use Rattle.clause_base.specs.Acceptance.{numbered};
 ghost use Rattle.trail_core.specs.Values.{IsVariable, IsFalseIn, Rests};
 ghost use Rattle.trail_core.specs.TrailState.{IsTrail, IsNumber, Propagates, values_of, level_in};
 ghost use Rattle.trail_core.specs.Look.{Falsifies};
-ghost use Rattle.trail_core.specs.Watching.{is_short, IsBlank, IsSettled, list_of, code_of, with_list};
+ghost use Rattle.trail_core.specs.Watching.{is_fixed, is_mark, IsBlank, IsSettled, AreMarked, KeepsMarks, list_of, code_of, with_list};
 ghost use Rattle.trail_core.specs.Shorts.{AreDue};
 ghost use Rattle.trail_core.specs.Visits.{IsGone, IsGoing, SweepGives, LooksGives, PairsGives, WatchesWell, MayWatch, IsFreeBelow, MayList, IsPlaced, KeepsPair, IsHighest, rank_of, HighestGives};
 
@@ -82,6 +82,7 @@ fn visit_next(trail: &mut PlainTrail, watches: &mut Watches, sweep: &mut Sweep, 
     ensures gone { sweep.new.gone ≡ sweep.old.gone }
     ensures gone_over { watches.new.gone_over ≡ watches.old.gone_over }
     ensures size { length watches.new.pairs.items ≡ length watches.old.pairs.items }
+    ensures marks { KeepsMarks watches.old.pairs.items watches.new.pairs.items }
 {
     let number = number_at(watches, sweep.gone, place);
     if sweep.conflict.is_some() {
@@ -109,6 +110,7 @@ pub(crate) fn sweep_list(trail: &mut PlainTrail, watches: &mut Watches, gone: Li
     ensures gives { SweepGives trail.new watches.new result }
     ensures gone_over { watches.new.gone_over ≡ watches.old.gone_over }
     ensures size { length watches.new.pairs.items ≡ length watches.old.pairs.items }
+    ensures marks { KeepsMarks watches.old.pairs.items watches.new.pairs.items }
 {
     let mut sweep = Sweep {
         gone,
@@ -226,9 +228,33 @@ fn place_pair(watches: &mut Watches, number: u32, pair: Pair)
     keep_pair(watches, pair);
 }
 
+/// A pair of no literals, of a clause that stands in the lists of all of its literals.
+fn mark() -> Pair
+    ensures blank { IsBlank result }
+    ensures mark { is_mark result ≡ true }
+{
+    let none = Lit {
+        var: 0,
+        negated: true,
+    };
+    Pair {
+        first: none,
+        second: none,
+    }
+}
+
+/// Whether the clause stands in the lists of all of its literals, where so many first ones do that have at most three.
+fn is_fixed(trail: &PlainTrail, number: u32, fixed: u32) -> bool
+    requires { IsNumber trail.now.clauses number }
+    ensures { result ≡ is_fixed fixed number (numbered trail.now.clauses number) }
+{
+    number <= fixed && is_short(trail.clause(number))
+}
+
 /// A pair of no literals.
 fn no_pair() -> Pair
-    ensures { IsBlank result }
+    ensures blank { IsBlank result }
+    ensures mark { is_mark result ≡ false }
 {
     let none = Lit {
         var: 0,
@@ -248,17 +274,17 @@ fn keep_pair(watches: &mut Watches, pair: Pair)
     watches.pairs.push(pair).unwrap();
 }
 
-/// Pairs the clause of more than three literals, the first without a pair.
+/// Pairs the clause, the first without a pair, which stands in no list of all of its literals.
 fn pair_long(trail: &PlainTrail, watches: &mut Watches, number: u32)
     requires trail { IsTrail trail.now }
     requires well { WatchesWell trail.now watches.old watches.old.gone_over }
     requires first { number ≡ length watches.old.pairs.items + 1 }
     requires number { IsNumber trail.now.clauses number }
-    requires long { is_short (numbered trail.now.clauses number) ≡ false }
     requires rests { Rests (values_of trail.now.entries) (numbered trail.now.clauses number) }
     ensures well { WatchesWell trail.now watches.new watches.new.gone_over }
     ensures more { length watches.new.pairs.items ≡ length watches.old.pairs.items + 1 }
     ensures same { watches.new.gone_over ≡ watches.old.gone_over }
+    ensures marked { (clauses : List (List Lit)) (fixed : ℕ) → AreMarked clauses fixed watches.old.pairs.items → AreMarked clauses fixed watches.new.pairs.items }
 {
     if is_settled(trail, number) {
         keep_pair(watches, no_pair());
@@ -271,7 +297,7 @@ fn pair_long(trail: &PlainTrail, watches: &mut Watches, number: u32)
 }
 
 /// Pairs the clause, the first without a pair.
-fn pair_up(trail: &PlainTrail, watches: &mut Watches, number: u32)
+fn pair_up(trail: &PlainTrail, watches: &mut Watches, number: u32, fixed: u32)
     requires trail { IsTrail trail.now }
     requires well { WatchesWell trail.now watches.old watches.old.gone_over }
     requires first { number ≡ length watches.old.pairs.items + 1 }
@@ -280,9 +306,10 @@ fn pair_up(trail: &PlainTrail, watches: &mut Watches, number: u32)
     ensures well { WatchesWell trail.now watches.new watches.new.gone_over }
     ensures more { length watches.new.pairs.items ≡ length watches.old.pairs.items + 1 }
     ensures same { watches.new.gone_over ≡ watches.old.gone_over }
+    ensures marked { AreMarked trail.now.clauses fixed watches.old.pairs.items → AreMarked trail.now.clauses fixed watches.new.pairs.items }
 {
-    if is_short(trail.clause(number)) {
-        keep_pair(watches, no_pair());
+    if is_fixed(trail, number, fixed) {
+        keep_pair(watches, mark());
     } else {
         pair_long(trail, watches, number);
     }
@@ -308,14 +335,16 @@ fn force_unit(trail: &mut PlainTrail, number: u32) -> bool
 }
 
 /// Pairs the first clause without a pair, and makes its literal true where it is unit.
-fn pair_next(trail: &mut PlainTrail, watches: &mut Watches) -> Watched
+fn pair_next(trail: &mut PlainTrail, watches: &mut Watches, fixed: u32) -> Watched
     requires well { WatchesWell trail.old watches.old watches.old.gone_over }
     requires more { length watches.old.pairs.items < length trail.old.clauses }
-    requires due { AreDue trail.old (length watches.old.pairs.items) watches.old.gone_over }
+    requires due { AreDue trail.old fixed (length watches.old.pairs.items) watches.old.gone_over }
+    requires marked { AreMarked trail.old.clauses fixed watches.old.pairs.items }
     ensures appends { Propagates trail.old trail.new }
     ensures trail { IsTrail trail.new }
     ensures gives { LooksGives trail.new watches.old watches.new result }
-    ensures due { AreDue trail.new (length watches.new.pairs.items) watches.new.gone_over }
+    ensures due { AreDue trail.new fixed (length watches.new.pairs.items) watches.new.gone_over }
+    ensures marked { AreMarked trail.new.clauses fixed watches.new.pairs.items }
 {
     // The count bounds the number.
     let _bound = trail.count();
@@ -323,22 +352,24 @@ fn pair_next(trail: &mut PlainTrail, watches: &mut Watches) -> Watched
     if !force_unit(trail, number) {
         return Watched::Falsified(number);
     }
-    pair_up(trail, watches, number);
+    pair_up(trail, watches, number, fixed);
     Watched::Rests
 }
 
 /// Pairs the clauses without a pair.
-pub(crate) fn pair_all(trail: &mut PlainTrail, watches: &mut Watches) -> Watched
+pub(crate) fn pair_all(trail: &mut PlainTrail, watches: &mut Watches, fixed: u32) -> Watched
     requires trail { IsTrail trail.old }
     requires well { WatchesWell trail.old watches.old watches.old.gone_over }
-    requires due { AreDue trail.old (length watches.old.pairs.items) watches.old.gone_over }
+    requires due { AreDue trail.old fixed (length watches.old.pairs.items) watches.old.gone_over }
+    requires marked { AreMarked trail.old.clauses fixed watches.old.pairs.items }
     ensures appends { Propagates trail.old trail.new }
     ensures trail { IsTrail trail.new }
     ensures gives { PairsGives trail.new watches.new result }
-    ensures due { AreDue trail.new (length watches.new.pairs.items) watches.new.gone_over }
+    ensures due { AreDue trail.new fixed (length watches.new.pairs.items) watches.new.gone_over }
+    ensures marked { AreMarked trail.new.clauses fixed watches.new.pairs.items }
 {
     while watches.pairs.len() < trail.count() as usize {
-        match pair_next(trail, watches) {
+        match pair_next(trail, watches, fixed) {
             Watched::Rests => {}
             Watched::Falsified(number) => return Watched::Falsified(number),
         }

@@ -1,11 +1,10 @@
-ghost use Rattle.std.specs.Prelude.{◌≡◌, ℕ, ◌+◌, ◌*◌, ◌<◌, ◌^◌, ◌≤◌, ◌++◌, ◌∷◌, [], true, false, length, take, slice_index, slice_set, get_or, IfOk, OnOk, ◌⊎◌};
+ghost use Rattle.std.specs.Prelude.{◌≡◌, ℕ, ◌+◌, ◌*◌, ◌<◌, ◌^◌, ◌≤◌, ◌++◌, ◌∷◌, [], true, length, take, slice_index, slice_set, get_or, IfOk, OnOk, ◌⊎◌};
 ghost use Rattle.std.specs.Vec.{vec_capacity};
 ghost use Rattle.clause_base.specs.Literal.{same_lit};
 ghost use Rattle.trail_core.specs.Listing.{nothing};
-ghost use Rattle.trail_core.specs.Watching.{code_of, list_of, room_of, is_short};
+ghost use Rattle.trail_core.specs.Watching.{code_of, list_of, room_of};
 ghost use Rattle.trail_core.specs.Visits.{IsListedMore, HasNone, HaveLists, HavePlaces, IsWider};
 
-use crate::shorts::is_short;
 use clause_base::Lit;
 use loc_base::NoMemory;
 use std::alloc::Global;
@@ -178,27 +177,14 @@ fn make_places(watches: &mut Watches, literals: &[Lit]) -> Result<(), NoMemory>
     Ok(())
 }
 
-/// Makes room for the number of a clause of these literals in their lists, where it is to watch two of them.
-fn make_long_places(watches: &mut Watches, literals: &[Lit]) -> Result<(), NoMemory>
-    requires { HaveLists watches.old literals.now }
-    ensures wider { IsWider watches.old watches.new }
-    ensures more { OnOk result (is_short literals.now ≡ false → HavePlaces watches.old watches.new literals.now) }
-{
-    if is_short(literals) {
-        return Ok(());
-    }
-    make_places(watches, literals)?;
-    Ok(())
-}
-
 /// Makes room for the pairs of so many clauses and one more, which has these literals, and for its number in their lists.
 pub(crate) fn make_room(watches: &mut Watches, count: u32, literals: &[Lit]) -> Result<(), NoMemory>
     requires { HaveLists watches.old literals.now }
     ensures wider { IsWider watches.old watches.new }
-    ensures more { OnOk result (is_short literals.now ≡ false → HavePlaces watches.old watches.new literals.now) }
+    ensures more { OnOk result (HavePlaces watches.old watches.new literals.now) }
     ensures pair { OnOk result (count + 1 ≤ vec_capacity watches.new.pairs) }
 {
-    make_long_places(watches, literals)?;
+    make_places(watches, literals)?;
     make_pairs(&mut watches.pairs, count)
 }
 

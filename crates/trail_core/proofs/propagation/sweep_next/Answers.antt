@@ -5,6 +5,7 @@ use Rattle.trail_core.proofs.Due.{due_propagates, due_all}
 use Rattle.trail_core.proofs.Sweeping.{sweeps_due}
 use Rattle.trail_core.proofs.Placing.{well_propagates}
 use Rattle.trail_core.proofs.Propagating.{Propagates-then}
+use Rattle.trail_core.proofs.Marks.{marked_propagates, marked_swept}
 use Rattle.trail_core.proofs.Going.{gone_told, told_there}
 use Rattle.trail_core.proofs.propagation.sweep_next.Goals as goal
 
@@ -30,12 +31,18 @@ pub returns-in-Rests-clause-appends : goal.returns-in-Rests-clause-appends
 returns-in-Rests-clause-appends c = Propagates-then c.args.trail.now c.sweep_shorts.new.trail c.sweep_list.new.trail c.sweep_shorts.ensures.appends c.sweep_list.ensures.appends
 
 pub returns-in-Rests-clause-due : goal.returns-in-Rests-clause-due
-returns-in-Rests-clause-due c = sweeps_due c.args.trail.now c.sweep_shorts.new.trail c.sweep_list.new.trail c.args.watches.now c.sweep_list.new.watches c.sweep_list.result c.sweep_shorts.ensures.appends c.sweep_list.ensures.appends c.sweep_list.ensures.gone_over c.requires.next c.requires.due c.in-Rests.ensures.gives
+returns-in-Rests-clause-due c = sweeps_due c.args.trail.now c.sweep_shorts.new.trail c.sweep_list.new.trail c.args.shorts.now.fixed c.args.watches.now c.sweep_list.new.watches c.sweep_list.result c.sweep_shorts.ensures.appends c.sweep_list.ensures.appends c.sweep_list.ensures.gone_over c.requires.next c.requires.due c.in-Rests.ensures.gives
 
 pub returns-in-Falsified-clause-gives : goal.returns-in-Falsified-clause-gives
 returns-in-Falsified-clause-gives c = (well_propagates c.args.trail.now c.sweep_shorts.new.trail c.args.watches.now c.sweep_shorts.ensures.appends c.requires.well, c.in-Falsified.ensures.gives)
 
 pub returns-in-Falsified-clause-due : goal.returns-in-Falsified-clause-due
 returns-in-Falsified-clause-due c =
-    due_all c.sweep_shorts.new.trail (length c.args.trail.now.clauses) (length c.sweep_shorts.new.trail.clauses) c.args.watches.now.gone_over (omega (arith, ap length c.sweep_shorts.ensures.appends.clauses))
-    (due_propagates c.args.trail.now c.sweep_shorts.new.trail (length c.args.trail.now.clauses) c.args.watches.now.gone_over c.sweep_shorts.ensures.appends c.requires.well.kept.entries c.requires.due)
+    due_all c.sweep_shorts.new.trail c.args.shorts.now.fixed (length c.args.trail.now.clauses) (length c.sweep_shorts.new.trail.clauses) c.args.watches.now.gone_over (omega (arith, ap length c.sweep_shorts.ensures.appends.clauses))
+    (due_propagates c.args.trail.now c.sweep_shorts.new.trail c.args.shorts.now.fixed (length c.args.trail.now.clauses) c.args.watches.now.gone_over c.sweep_shorts.ensures.appends c.requires.well.kept.entries c.requires.due)
+
+pub returns-in-Rests-clause-marked : goal.returns-in-Rests-clause-marked
+returns-in-Rests-clause-marked c = marked_swept c.args.trail.now c.sweep_list.new.trail c.args.shorts.now.fixed c.args.watches.now.pairs.items c.sweep_list.new.watches.pairs.items (Propagates-then c.args.trail.now c.sweep_shorts.new.trail c.sweep_list.new.trail c.sweep_shorts.ensures.appends c.sweep_list.ensures.appends) c.sweep_list.ensures.size c.sweep_list.ensures.marks c.requires.marked
+
+pub returns-in-Falsified-clause-marked : goal.returns-in-Falsified-clause-marked
+returns-in-Falsified-clause-marked c = marked_propagates c.args.trail.now c.sweep_shorts.new.trail c.args.shorts.now.fixed c.args.watches.now.pairs.items c.sweep_shorts.ensures.appends c.requires.marked

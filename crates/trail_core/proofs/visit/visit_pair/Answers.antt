@@ -1,4 +1,5 @@
-use Rattle.std.proofs.Common.{◌-◌, get_or}
+use Rattle.std.proofs.Common.{◌-◌, get_or, refl}
+use Rattle.trail_core.proofs.Marks.{marks_same, marks_set}
 use Rattle.trail_core.proofs.Visiting.{visits_true}
 use Rattle.trail_core.proofs.Giving.{pair_is, other_variable, replacement_room, other_reason, other_falsified, moved_gives, forced_gives}
 use Rattle.trail_core.proofs.visit.visit_pair.Goals as goal
@@ -39,3 +40,13 @@ force_other-requires-clause-falsified c = other_falsified c.args.trail.now c.arg
 pub returns-in-None-clause-gives : goal.returns-in-None-clause-gives
 returns-in-None-clause-gives c =
     forced_gives c.args.trail.now c.force_other.new.trail c.args.watches.now c.args.pair c.args.number c.force_other.result c.requires.known c.requires.oriented c.force_other.ensures
+
+pub returns-then-has_value-clause-marks : goal.returns-then-has_value-clause-marks
+returns-then-has_value-clause-marks c = marks_same c.args.watches.now.pairs.items c.args.watches.now.pairs.items refl
+
+pub returns-in-Some-clause-marks : goal.returns-in-Some-clause-marks
+returns-in-Some-clause-marks c = marks_set c.args.watches.now.pairs.items c.move_watch.new.watches.pairs.items (c.args.number - 1) record { first = c.args.pair.second; second = c.in-Some.next }
+    (other_variable c.args.trail.now c.args.watches.now c.args.pair c.args.number c.requires.known c.requires.oriented).above c.move_watch.ensures.pairs
+
+pub returns-in-None-clause-marks : goal.returns-in-None-clause-marks
+returns-in-None-clause-marks c = marks_same c.args.watches.now.pairs.items c.args.watches.now.pairs.items refl

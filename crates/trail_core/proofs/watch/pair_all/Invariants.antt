@@ -1,5 +1,6 @@
 use Rattle.std.proofs.Common.{◌-◌, length}
 use Rattle.trail_core.specs.TrailState.{IsTrail, Propagates}
+use Rattle.trail_core.specs.Watching.{AreMarked}
 use Rattle.trail_core.specs.Shorts.{AreDue}
 use Rattle.trail_core.specs.Visits.{WatchesWell}
 use Rattle.trail_core.proofs.watch.pair_all.Given as goal
@@ -9,7 +10,8 @@ invariant-loop-trail l = record {
   trail : IsTrail l.trail;
   appends : Propagates l.fn.trail l.trail;
   well : WatchesWell l.trail l.watches l.watches.gone_over;
-  due : AreDue l.trail (length l.watches.pairs.items) l.watches.gone_over;
+  marked : AreMarked l.trail.clauses l.fixed l.watches.pairs.items;
+  due : AreDue l.trail l.fixed (length l.watches.pairs.items) l.watches.gone_over;
 }
 
 abbrev pub decreases-loop-trail : goal.decreases-loop-trail

@@ -1,13 +1,16 @@
 use Rattle.std.proofs.Common.{◌∙◌, length, ap}
 use Rattle.std.proofs.lemmas.List.{length_push}
-use Rattle.trail_core.proofs.Placing.{pair_settled, pair_watched, may_list, pair_room, free_first}
+use Rattle.std.proofs.lemmas.Bool.{both_ways}
+use Rattle.trail_core.specs.Watching.{is_mark}
+use Rattle.trail_core.proofs.Marks.{marked_push, mark_none}
+use Rattle.trail_core.proofs.Placing.{pair_settled, pair_watched, may_list, first_above, pair_room, free_first}
 use Rattle.trail_core.proofs.watch.pair_long.Goals as goal
 
 pub keep_pair-requires : goal.keep_pair-requires
 keep_pair-requires c = pair_room c.args.trail.now c.args.watches.now c.args.number c.requires.well c.requires.first c.requires.number
 
 pub returns-then-is_settled-clause-well : goal.returns-then-is_settled-clause-well
-returns-then-is_settled-clause-well c = pair_settled c.args.trail.now c.args.watches.now c.keep_pair.new.watches c.no_pair.result c.args.number c.requires.well c.requires.first c.requires.number.within (c.is_settled.ensures c.if-is_settled.true) c.no_pair.ensures c.keep_pair.ensures
+returns-then-is_settled-clause-well c = pair_settled c.args.trail.now c.args.watches.now c.keep_pair.new.watches c.no_pair.result c.args.number c.requires.well c.requires.first c.requires.number.within (c.is_settled.ensures c.if-is_settled.true) c.no_pair.ensures.blank c.keep_pair.ensures
 
 pub returns-then-is_settled-clause-more : goal.returns-then-is_settled-clause-more
 returns-then-is_settled-clause-more c = ap length c.keep_pair.ensures.pairs ∙ length_push c.args.watches.now.pairs.items c.no_pair.result
@@ -16,7 +19,7 @@ pub best_pair-requires-clause-free : goal.best_pair-requires-clause-free
 best_pair-requires-clause-free c = free_first c.args.trail.now c.args.watches.now c.args.number c.requires.well c.requires.first c.requires.number
 
 pub place_pair-requires-clause-may : goal.place_pair-requires-clause-may
-place_pair-requires-clause-may c = may_list c.args.trail.now c.args.watches.now c.in-Some.pair c.args.number c.requires.trail c.requires.well c.requires.first c.requires.number c.requires.long c.in-Some.ensures.found
+place_pair-requires-clause-may c = may_list c.args.trail.now c.args.watches.now c.in-Some.pair c.args.number c.requires.trail c.requires.well c.requires.first c.requires.number c.in-Some.ensures.found
 
 pub place_pair-requires-clause-room : goal.place_pair-requires-clause-room
 place_pair-requires-clause-room c = pair_room c.args.trail.now c.args.watches.now c.args.number c.requires.well c.requires.first c.requires.number
@@ -25,13 +28,23 @@ pub keep_pair-requires-in-None : goal.keep_pair-requires-in-None
 keep_pair-requires-in-None c = pair_room c.args.trail.now c.args.watches.now c.args.number c.requires.well c.requires.first c.requires.number
 
 pub returns-in-Some-clause-well : goal.returns-in-Some-clause-well
-returns-in-Some-clause-well c = pair_watched c.args.trail.now c.args.watches.now c.place_pair.new.watches c.in-Some.pair c.args.number c.requires.well c.requires.first c.requires.number.within c.requires.long c.in-Some.ensures.found c.place_pair.ensures
+returns-in-Some-clause-well c = pair_watched c.args.trail.now c.args.watches.now c.place_pair.new.watches c.in-Some.pair c.args.number c.requires.well c.requires.first c.requires.number.within c.in-Some.ensures.found c.place_pair.ensures
 
 pub returns-in-Some-clause-more : goal.returns-in-Some-clause-more
 returns-in-Some-clause-more c = ap length c.place_pair.ensures.pairs ∙ length_push c.args.watches.now.pairs.items c.in-Some.pair
 
 pub returns-in-None-clause-well : goal.returns-in-None-clause-well
-returns-in-None-clause-well c = pair_settled c.args.trail.now c.args.watches.now c.keep_pair-in-None.new.watches c.no_pair-in-None.result c.args.number c.requires.well c.requires.first c.requires.number.within c.in-None.ensures.none c.no_pair-in-None.ensures c.keep_pair-in-None.ensures
+returns-in-None-clause-well c = pair_settled c.args.trail.now c.args.watches.now c.keep_pair-in-None.new.watches c.no_pair-in-None.result c.args.number c.requires.well c.requires.first c.requires.number.within c.in-None.ensures.none c.no_pair-in-None.ensures.blank c.keep_pair-in-None.ensures
 
 pub returns-in-None-clause-more : goal.returns-in-None-clause-more
 returns-in-None-clause-more c = ap length c.keep_pair-in-None.ensures.pairs ∙ length_push c.args.watches.now.pairs.items c.no_pair-in-None.result
+
+pub returns-then-is_settled-clause-marked : goal.returns-then-is_settled-clause-marked
+returns-then-is_settled-clause-marked c = λ cs f. marked_push cs f c.args.watches.now.pairs.items c.keep_pair.new.watches.pairs.items c.no_pair.result c.keep_pair.ensures.pairs (λ m. absurd (both_ways (is_mark c.no_pair.result) c.no_pair.ensures.mark m))
+
+pub returns-in-Some-clause-marked : goal.returns-in-Some-clause-marked
+returns-in-Some-clause-marked c = λ cs f. marked_push cs f c.args.watches.now.pairs.items c.place_pair.new.watches.pairs.items c.in-Some.pair c.place_pair.ensures.pairs
+    (λ m. absurd (mark_none c.in-Some.pair (first_above c.args.trail.now c.in-Some.pair c.args.number c.requires.trail c.requires.number c.in-Some.ensures.found) m))
+
+pub returns-in-None-clause-marked : goal.returns-in-None-clause-marked
+returns-in-None-clause-marked c = λ cs f. marked_push cs f c.args.watches.now.pairs.items c.keep_pair-in-None.new.watches.pairs.items c.no_pair-in-None.result c.keep_pair-in-None.ensures.pairs (λ m. absurd (both_ways (is_mark c.no_pair-in-None.result) c.no_pair-in-None.ensures.mark m))

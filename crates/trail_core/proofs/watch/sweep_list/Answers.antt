@@ -1,8 +1,9 @@
-use Rattle.std.proofs.Common.{◌<◌, false, None, length, sym, subst, arith}
+use Rattle.std.proofs.Common.{◌<◌, false, None, length, sym, ap, subst, arith}
 use Rattle.std.specs.Prelude.{IfSome}
 use Rattle.trail_core.specs.declared.entry.Entry.{Entry}
 use Rattle.trail_core.specs.Look.{Falsifies}
 use Rattle.trail_core.specs.Watching.{list_of}
+use Rattle.trail_core.proofs.Marks.{marks_after}
 use Rattle.trail_core.proofs.Passing.{ends_from, ends_rests, ends_falsified}
 use Rattle.trail_core.proofs.watch.sweep_list.Goals as goal
 
@@ -28,3 +29,9 @@ returns-in-None-clause-gives c =
     ends_rests c.loop-place.trail c.loop-place.watches c.end_list.new.watches c.loop-place.sweep c.loop-place.place entry c.loop-place.invariant.going
     (ends_from c.loop-place.trail c.loop-place.watches c.end_list.new.watches c.loop-place.sweep c.loop-place.place c.len-place-end.result c.args.gone c.loop-place.invariant.going c.loop-place.invariant.gone c.loop-place.invariant.end (omega (arith, c.loop-place-test.false)) (omega (arith, c.loop-place.auto.place-end)) c.end_list.ensures.pairs c.end_list.ensures.gone_over c.end_list.ensures.lists)
     c.in-None.is
+
+pub returns-in-Some-clause-marks : goal.returns-in-Some-clause-marks
+returns-in-Some-clause-marks c = marks_after c.args.watches.now.pairs.items c.loop-place.watches.pairs.items c.end_list.new.watches.pairs.items (ap (λ v. v.items) c.end_list.ensures.pairs) c.loop-place.invariant.marks
+
+pub returns-in-None-clause-marks : goal.returns-in-None-clause-marks
+returns-in-None-clause-marks c = marks_after c.args.watches.now.pairs.items c.loop-place.watches.pairs.items c.end_list.new.watches.pairs.items (ap (λ v. v.items) c.end_list.ensures.pairs) c.loop-place.invariant.marks

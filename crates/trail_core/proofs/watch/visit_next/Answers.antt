@@ -1,4 +1,5 @@
-use Rattle.std.proofs.Common.{◌∙◌, Some, refl, sym}
+use Rattle.std.proofs.Common.{◌∙◌, Some, refl, sym, ap}
+use Rattle.trail_core.proofs.Marks.{marks_same, marks_after}
 use Rattle.trail_core.proofs.Passing.{going_known}
 use Rattle.trail_core.proofs.Giving.{going_copied, going_stays, going_falsified, going_left}
 use Rattle.trail_core.proofs.watch.visit_next.Goals as goal
@@ -29,3 +30,12 @@ returns-in-Falsified-clause-going c =
     c.args.place c.number_at-number.result c.requires.going c.requires.within (sym c.number_at-number.ensures) c.in-Falsified.ensures.gives.0 c.in-Falsified.ensures.gives.1 c.visit.ensures.same
     record { lists = c.keep-in-Falsified.ensures.lists; pairs = c.keep-in-Falsified.ensures.pairs; gone_over = c.keep-in-Falsified.ensures.gone_over; kept = c.keep-in-Falsified.ensures.kept; gone = c.keep-in-Falsified.ensures.gone }
     refl c.visit.ensures.capacity
+
+pub returns-then-is_some-clause-marks : goal.returns-then-is_some-clause-marks
+returns-then-is_some-clause-marks c = marks_same c.args.watches.now.pairs.items c.keep.new.watches.pairs.items (ap (λ v. v.items) c.keep.ensures.pairs)
+
+pub returns-in-Stays-clause-marks : goal.returns-in-Stays-clause-marks
+returns-in-Stays-clause-marks c = marks_after c.args.watches.now.pairs.items c.visit.new.watches.pairs.items c.keep-in-Stays.new.watches.pairs.items (ap (λ v. v.items) c.keep-in-Stays.ensures.pairs) c.visit.ensures.marks
+
+pub returns-in-Falsified-clause-marks : goal.returns-in-Falsified-clause-marks
+returns-in-Falsified-clause-marks c = marks_after c.args.watches.now.pairs.items c.visit.new.watches.pairs.items c.keep-in-Falsified.new.watches.pairs.items (ap (λ v. v.items) c.keep-in-Falsified.ensures.pairs) c.visit.ensures.marks

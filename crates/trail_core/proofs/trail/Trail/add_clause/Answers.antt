@@ -28,4 +28,4 @@ pub invariant_of-self-in_err-number : goal.invariant_of-self-in_err-number
 invariant_of-self-in_err-number c = watching_refused c.self.inside.plain c.add_clause.new.self c.self.inside.watches c.make_room.new.watches c.self.inside.shorts c.make_short_room.new.shorts c.self.invariant c.make_room.ensures.wider c.make_short_room.ensures.same c.in_err-number.ensures.err
 
 pub invariant_of-self-2 : goal.invariant_of-self-2
-invariant_of-self-2 c = watching_added c.self.inside.plain c.add_clause.new.self c.args.self.now c.self.inside.watches c.make_room.new.watches c.self.inside.shorts c.make_short_room.new.shorts c.enter.new.shorts c.args.literals.now c.count.result c.in_ok-number.number c.self.view_is c.self.invariant c.requires.may c.requires.distinct c.count.ensures.count c.make_room.ensures.wider c.in_ok-make_room.ensures.more c.in_ok-make_room.ensures.pair c.make_short_room.ensures.same c.enter.ensures.short c.enter.ensures.long c.in_ok-number.ensures.number c.in_ok-number.ensures.ok c.add_clause.ensures.trail
+invariant_of-self-2 c = watching_added c.takes_more-takes.result c.self.inside.plain c.add_clause.new.self c.args.self.now c.self.inside.watches c.make_room.new.watches c.self.inside.shorts c.make_short_room.new.shorts c.enter.new.shorts c.count_clause.new.shorts c.args.literals.now c.count-count.result c.in_ok-number.number c.self.view_is c.self.invariant c.requires.may c.requires.distinct c.count-count.ensures.count c.make_room.ensures.wider c.in_ok-make_room.ensures.more c.in_ok-make_room.ensures.pair c.make_short_room.ensures.same c.takes_more-takes.ensures c.enter.ensures.short c.enter.ensures.long c.count_clause.ensures.lists c.count_clause.ensures.fixed c.in_ok-number.ensures.number c.in_ok-number.ensures.ok c.add_clause.ensures.trail

@@ -2,7 +2,7 @@ use Rattle.trail_core.proofs.Calls.{well_watched, shorts_propagate, gives_number
 use Rattle.trail_core.proofs.trail.Trail.propagate.Goals as goal
 
 pub invariant_of-self : goal.invariant_of-self
-invariant_of-self c = record { trail = c.watch.ensures.trail; well = well_watched c.watch.new.trail c.watch.new.watches c.watch.result c.watch.ensures.gives; shorts = shorts_propagate c.self.inside.plain c.watch.new.trail c.self.inside.shorts c.watch.ensures.appends c.self.invariant.shorts; due = c.watch.ensures.due }
+invariant_of-self c = record { trail = c.watch.ensures.trail; well = well_watched c.watch.new.trail c.watch.new.watches c.watch.result c.watch.ensures.gives; shorts = shorts_propagate c.self.inside.plain c.watch.new.trail c.self.inside.shorts c.watch.ensures.appends c.self.invariant.shorts; marked = c.watch.ensures.marked; due = c.watch.ensures.due }
 
 pub returns-clause-falsified : goal.returns-clause-falsified
 returns-clause-falsified c = gives_number c.watch.new.trail c.watch.new.watches c.watch.result c.number_of.result c.number_of.ensures c.watch.ensures.gives
