@@ -142,9 +142,9 @@ seen_more t a b items k g d l p q within rests seen i x low inside = elim (cases
 pub sweep_rests : (t new : TrailState) (f : ℕ) (lists : List ShortListing) (items : List Short) (gone : Lit) (g k : ℕ) (e : Entry) (d : Short) → IsGone t g gone → g < length t.entries → HasShorts t.vars t.clauses f lists → items ≡ shorts_of lists gone → length items ≤ k → Propagates t new → AreDue t f (length t.clauses) g → AreSeen new items k g → AreDue new f (length new.clauses) (g + 1)
 sweep_rests t new f lists items gone g k e d is l h q over p due seen n number low s = elim (cases_Bool (has (numbered new.clauses n) gone)) [
   | inl t ↦ at (subst (λ xs. IsEntered xs n) (sym q) (h.listed n gone old_number (ap (is_fixed f n) (sym same) ∙ s) (ap (λ c. has c gone) (sym same) ∙ t)))
-  | inr f ↦
+  | inr none ↦
       let there = gone_front t new g gone p l is in
-      due_next new.entries g e gone (numbered new.clauses n) (omega (arith, l, p.longer)) there.is_false (there.here e) f
+      due_next new.entries g e gone (numbered new.clauses n) (omega (arith, l, p.longer)) there.is_false (there.here e) none
       (due_propagates t new f (length t.clauses) g p (omega (arith, l)) due n number (omega (arith, number.within, ap length p.clauses)) s)
 ]
   where
