@@ -1,4 +1,4 @@
--- The clauses of at most three literals, each of which stands in a list of each of its literals.
+-- The clauses of at most three literals among the first ones: each stands in a list of each of its literals.
 use Rattle.std.specs.Prelude.{◌≡◌, ◌≢◌, ℕ, ◌+◌, ◌*◌, ◌<◌, ◌≤◌, ◌⊎◌, true, false, cond, nat_lt, List, [], ◌∷◌, ◌++◌, length, take, get_or}
 use Rattle.clause_base.specs.declared.literal.Lit.{Lit}
 use Rattle.clause_base.specs.Literal.{has}

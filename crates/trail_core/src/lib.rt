@@ -1,5 +1,5 @@
 //! The trail of a clause solver: the true literals in the order in which they became true, with unit propagation by lists of
-//! the clauses of at most three literals, and by watched literals of the longer ones.
+//! the clauses of at most three literals, and by watched literals of the others.
 #![tactic(auto)]
 
 mod entry;
