@@ -16,11 +16,13 @@ use Rattle.trail_core.specs.Values.{IsVariable, IsFalsified, IsUnit, Rests, sati
 use Rattle.trail_core.specs.TrailState.{TrailState, IsTrail, IsNumber, IsReason, AllRest, MayAdd, Propagates, values_of, up_to, back_at, with_clause, with_decision}
 use Rattle.trail_core.specs.Listing.{Listing}
 use Rattle.trail_core.specs.declared.shorts.Shorts.{Shorts}
-use Rattle.trail_core.specs.Shorts.{HasShorts, HasNoShorts, SameShorts, HaveShortLists, Enters, IsDue, AreDue}
+use Rattle.trail_core.specs.ShortListing.{lists_in}
+use Rattle.trail_core.specs.Shorts.{lists_of, SameLists, HasShorts, HasNoShorts, SameShorts, HaveShortLists, Enters, IsDue, AreDue}
 use Rattle.trail_core.specs.Watching.{IsOpen, IsKept, is_short, is_fixed, AreMarked, code_of, list_of, room_of, unwatched}
 use Rattle.trail_core.specs.Visits.{HasNone, HaveLists, HavePlaces, IsWider, WatchesWell, IsWatching, WatchGives, number_of, held_in}
 use Rattle.trail_core.proofs.Due.{due_decided, due_back, due_added}
 use Rattle.trail_core.proofs.Entering.{have_lists as have_lists_shorts, fixed_within, fixed_short, fixed_by, has_shorts_none, has_shorts_same, has_shorts_long, has_shorts_entered}
+use Rattle.trail_core.proofs.Flat.{growing_count, same_lists}
 use Rattle.trail_core.proofs.Marks.{marked_added}
 use Rattle.trail_core.proofs.Looks.{variable_of}
 use Rattle.trail_core.proofs.Passing.{code_within}
@@ -50,8 +52,8 @@ well_new vars w n = record {
 }
 
 -- propagation adds no clause
-pub shorts_propagate : (t new : TrailState) (s : Shorts) → Propagates t new → HasShorts t.vars t.clauses s.fixed s.lists.items → HasShorts new.vars new.clauses s.fixed s.lists.items
-shorts_propagate t new s p h = subst (λ v. HasShorts v new.clauses s.fixed s.lists.items) (sym p.vars) (subst (λ cs. HasShorts t.vars cs s.fixed s.lists.items) (sym p.clauses) h)
+pub shorts_propagate : (t new : TrailState) (s : Shorts) → Propagates t new → HasShorts t.vars t.clauses s.fixed (lists_of s) → HasShorts new.vars new.clauses s.fixed (lists_of s)
+shorts_propagate t new s p h = subst (λ v. HasShorts v new.clauses s.fixed (lists_of s)) (sym p.vars) (subst (λ cs. HasShorts t.vars cs s.fixed (lists_of s)) (sym p.clauses) h)
 
 -- whatever propagation gives, the lists are kept
 pub well_watched : (t : TrailState) (w : Watches) (r : Watched) → WatchGives t w r → WatchesWell t w w.gone_over
@@ -144,7 +146,7 @@ pub new_watching : (vars : ℕ) (p : TrailState) (w : Watches) (s : Shorts) → 
 new_watching vars p w s e h n m = record {
   trail = h;
   well = subst (λ t. WatchesWell t w w.gone_over) (sym e) (well_new vars w n);
-  shorts = subst (λ t. HasShorts t.vars t.clauses s.fixed s.lists.items) (sym e) (has_shorts_none vars s m);
+  shorts = subst (λ t. HasShorts t.vars t.clauses s.fixed (lists_of s)) (sym e) (has_shorts_none vars s m);
   marked = λ i d l. absurd (omega (arith, l, ap length n.pairs));
   due = λ i k low. absurd (omega (arith, k.above, k.within, ap (λ (t : TrailState). length t.clauses) e));
 }
@@ -154,8 +156,8 @@ pub have_lists : (t seen : TrailState) (w : Watches) (c : List Lit) → t ≡ se
 have_lists t seen w c e h o l k = code_within t w (held_in w.lists.items) l h.room (subst (λ (s : TrailState). IsVariable s.vars l.var) (sym e) (variable_of seen.vars c l o k))
 
 -- the literals of a clause have lists of clauses of at most three literals
-pub have_short_lists : (t seen : TrailState) (w : Watches) (s : Shorts) (c : List Lit) → t ≡ seen → IsWatching t w s → IsWithin seen.vars c → HaveShortLists s c
-have_short_lists t seen w s c e h o = have_lists_shorts t.vars t.clauses s c h.shorts (subst (λ (x : TrailState). IsWithin x.vars c) (sym e) o)
+pub have_short_lists : (t seen : TrailState) (w : Watches) (s : Shorts) (c : List Lit) → t ≡ seen → s.flat ≡ [] → IsWatching t w s → IsWithin seen.vars c → HaveShortLists s c
+have_short_lists t seen w s c e g h o = have_lists_shorts t.vars t.clauses s c g h.shorts (subst (λ (x : TrailState). IsWithin x.vars c) (sym e) o)
 
 pub watching_wider : (t : TrailState) (old new : Watches) (s : Shorts) → IsWatching t old s → IsWider old new → IsWatching t new s
 watching_wider t old new s h w = record {
@@ -166,8 +168,8 @@ watching_wider t old new s h w = record {
   due = λ n k low. subst (λ g. is_fixed s.fixed n (numbered t.clauses n) ≡ true → IsDue t.entries g (numbered t.clauses n)) (sym w.gone_over) (h.due n k (omega (arith, low, ap length w.pairs)));
 }
 
--- the lists of clauses of at most three literals have more room
-pub watching_same : (t : TrailState) (w : Watches) (old new : Shorts) → IsWatching t w old → SameShorts old new → IsWatching t w new
+-- the lists of clauses of at most three literals have the same clauses
+pub watching_same : (t : TrailState) (w : Watches) (old new : Shorts) → IsWatching t w old → SameLists old new → IsWatching t w new
 watching_same t w old new h s = record {
   trail = h.trail;
   well = h.well;
@@ -186,28 +188,30 @@ class_grows true f n count few more m x l h = fixed_by n m x (omega (arith, fixe
 class_grows false f n count few more m x l h = h
 
 -- the lists, after the clause was entered or not
-shorts_added : (takes : Bool) (vars : ℕ) (cs : List (List Lit)) (c : List Lit) (n : ℕ) (same entered : Shorts) → n ≡ length cs + 1 → (takes ≡ true → same.fixed ≡ length cs) → has_distinct_variables c ≡ true → ((takes && is_short c) ≡ true → Enters same entered n c) → ((takes && is_short c) ≡ false → entered ≡ same) → HasShorts vars cs same.fixed same.lists.items → HasShorts vars (cs ++ c ∷ []) (cond takes n same.fixed) entered.lists.items
-shorts_added true vars cs c n same entered number o u short long k = elim (cases_Bool (is_short c)) [
-  | inl y ↦ has_shorts_entered vars cs c n same entered number y u (short y) (subst (λ f. HasShorts vars cs f same.lists.items) (o refl) k)
+shorts_added : (takes : Bool) (vars : ℕ) (cs : List (List Lit)) (c : List Lit) (n : ℕ) (same entered : Shorts) → n ≡ length cs + 1 → (takes ≡ true → same.fixed ≡ length cs) → (takes ≡ true → same.flat ≡ []) → has_distinct_variables c ≡ true → ((takes && is_short c) ≡ true → Enters same entered n c) → ((takes && is_short c) ≡ false → entered ≡ same) → HasShorts vars cs same.fixed (lists_of same) → HasShorts vars (cs ++ c ∷ []) (cond takes n same.fixed) (lists_of entered)
+shorts_added true vars cs c n same entered number o grows u short long k = elim (cases_Bool (is_short c)) [
+  | inl y ↦
+      subst (HasShorts vars (cs ++ c ∷ []) n) (sym (growing_count entered ((short y).flat ∙ grows refl)))
+      (has_shorts_entered vars cs c n same entered number y u (short y) (subst (HasShorts vars cs (length cs)) (growing_count same (grows refl)) (subst (λ f. HasShorts vars cs f (lists_of same)) (o refl) k)))
   | inr y ↦
-      subst (λ (x : Shorts). HasShorts vars (cs ++ c ∷ []) n x.lists.items) (sym (long y))
-      (has_shorts_long vars cs c same.fixed n same.lists.items (omega (arith, number)) (λ h. both_ways (is_short c) y (fixed_short n (length cs + 1) c h))
+      subst (λ (x : Shorts). HasShorts vars (cs ++ c ∷ []) n (lists_of x)) (sym (long y))
+      (has_shorts_long vars cs c same.fixed n (lists_of same) (omega (arith, number)) (λ h. both_ways (is_short c) y (fixed_short n (length cs + 1) c h))
       (class_kept true same.fixed n (length cs) o k.few (omega (arith, number))) k)
 ]
-shorts_added false vars cs c n same entered number o u short long k =
-    subst (λ (x : Shorts). HasShorts vars (cs ++ c ∷ []) same.fixed x.lists.items) (sym (long refl))
-    (has_shorts_long vars cs c same.fixed same.fixed same.lists.items (omega (arith, k.few)) (λ h. absurd (omega (arith, k.few, fixed_within same.fixed (length cs + 1) c h))) (λ m x l h. h) k)
+shorts_added false vars cs c n same entered number o grows u short long k =
+    subst (λ (x : Shorts). HasShorts vars (cs ++ c ∷ []) same.fixed (lists_of x)) (sym (long refl))
+    (has_shorts_long vars cs c same.fixed same.fixed (lists_of same) (omega (arith, k.few)) (λ h. absurd (omega (arith, k.few, fixed_within same.fixed (length cs + 1) c h))) (λ m x l h. h) k)
 
 -- a clause was added
-pub watching_added : (takes : Bool) (t after seen : TrailState) (old new : Watches) (before same entered counted : Shorts) (c : List Lit) (count n : ℕ) → t ≡ seen → IsWatching t old before → MayAdd seen c → has_distinct_variables c ≡ true → count ≡ length t.clauses → IsWider old new → HavePlaces old new c → count + 1 ≤ vec_capacity new.pairs → SameShorts before same → (takes ≡ true → before.fixed ≡ count) → ((takes && is_short c) ≡ true → Enters same entered n c) → ((takes && is_short c) ≡ false → entered ≡ same) → counted.lists ≡ entered.lists → counted.fixed ≡ cond takes n entered.fixed → n ≡ length t.clauses + 1 → after ≡ with_clause t c → IsTrail after → IsWatching after new counted
-watching_added takes t after seen old new before same entered counted c count n e h may u q w p room s takes_all short long lists fixed number ok trail = record {
+pub watching_added : (takes : Bool) (t after seen : TrailState) (old new : Watches) (before same entered counted : Shorts) (c : List Lit) (count n : ℕ) → t ≡ seen → IsWatching t old before → MayAdd seen c → has_distinct_variables c ≡ true → count ≡ length t.clauses → IsWider old new → HavePlaces old new c → count + 1 ≤ vec_capacity new.pairs → SameShorts before same → (takes ≡ true → before.fixed ≡ count) → (takes ≡ true → before.flat ≡ []) → ((takes && is_short c) ≡ true → Enters same entered n c) → ((takes && is_short c) ≡ false → entered ≡ same) → counted.growing ≡ entered.growing → counted.flat ≡ entered.flat → counted.fixed ≡ cond takes n entered.fixed → n ≡ length t.clauses + 1 → after ≡ with_clause t c → IsTrail after → IsWatching after new counted
+watching_added takes t after seen old new before same entered counted c count n e h may u q w p room s takes_all grows short long lists flat fixed number ok trail = record {
   trail = trail;
   well = subst (λ x. WatchesWell x new new.gone_over) (sym ok)
       (well_added t c old new h.trail (subst (λ x. MayAdd x c) (sym e) may) (widens old new c (length t.clauses) w p (omega (arith, q, room))) h.well);
-  shorts = subst (λ (x : TrailState). HasShorts x.vars x.clauses counted.fixed counted.lists.items) (sym ok)
-      (subst (λ f. HasShorts t.vars (t.clauses ++ c ∷ []) f counted.lists.items) (sym fixed_is)
-      (subst (λ ls. HasShorts t.vars (t.clauses ++ c ∷ []) (cond takes n same.fixed) ls) (sym (ap (λ v. v.items) lists))
-      (shorts_added takes t.vars t.clauses c n same entered number (λ o. s.fixed ∙ (takes_all o ∙ q)) u short long kept)));
+  shorts = subst (λ (x : TrailState). HasShorts x.vars x.clauses counted.fixed (lists_of counted)) (sym ok)
+      (subst (λ f. HasShorts t.vars (t.clauses ++ c ∷ []) f (lists_of counted)) (sym fixed_is)
+      (subst (HasShorts t.vars (t.clauses ++ c ∷ []) (cond takes n same.fixed)) (sym (ap (λ v. lists_in counted.flat v.items) lists ∙ ap (λ r. lists_in r entered.growing.items) flat))
+      (shorts_added takes t.vars t.clauses c n same entered number (λ o. s.fixed ∙ (takes_all o ∙ q)) (λ o. s.flat ∙ grows o) u short long kept)));
   marked = subst (λ (x : TrailState). AreMarked x.clauses counted.fixed new.pairs.items) (sym ok)
       (subst (λ f. AreMarked (t.clauses ++ c ∷ []) f new.pairs.items) (sym fixed_is)
       (marked_added t.clauses c same.fixed (cond takes n same.fixed) old.pairs.items new.pairs.items h.well.kept.few w.pairs
@@ -217,11 +221,11 @@ watching_added takes t after seen old new before same entered counted c count n 
       (subst (λ f. AreDue (with_clause t c) f (length new.pairs.items) new.gone_over) (sym fixed_is)
       (due_added t c same.fixed (cond takes n same.fixed) (length new.pairs.items) new.gone_over (omega (arith, ap length w.pairs, h.well.kept.few))
       (class_kept takes same.fixed n (length t.clauses) (λ o. s.fixed ∙ (takes_all o ∙ q)) kept.few (omega (arith, number)))
-      (watching_same t new before same (watching_wider t old new before h w) s).due));
+      (watching_same t new before same (watching_wider t old new before h w) (same_lists before same s)).due));
 }
   where
-    kept : HasShorts t.vars t.clauses same.fixed same.lists.items
-    kept = has_shorts_same t.vars t.clauses before same s h.shorts
+    kept : HasShorts t.vars t.clauses same.fixed (lists_of same)
+    kept = has_shorts_same t.vars t.clauses before same (same_lists before same s) h.shorts
 
     entered_fixed : entered.fixed ≡ same.fixed
     entered_fixed = elim (cases_Bool (takes && is_short c)) [ inl y ↦ (short y).fixed | inr y ↦ ap (λ (x : Shorts). x.fixed) (long y) ]
@@ -231,7 +235,7 @@ watching_added takes t after seen old new before same entered counted c count n 
 
 -- a clause was not added
 pub watching_refused : (t after : TrailState) (old new : Watches) (before same : Shorts) → IsWatching t old before → IsWider old new → SameShorts before same → after ≡ t → IsWatching after new same
-watching_refused t after old new before same h w s err = subst (λ x. IsWatching x new same) (sym err) (watching_same t new before same (watching_wider t old new before h w) s)
+watching_refused t after old new before same h w s err = subst (λ x. IsWatching x new same) (sym err) (watching_same t new before same (watching_wider t old new before h w) (same_lists before same s))
 
 -- what propagation answers
 pub gives_number : (t : TrailState) (w : Watches) (r : Watched) (o : Option ℕ) → o ≡ number_of r → WatchGives t w r → IfSome o (IsNumber t.clauses)
@@ -258,7 +262,7 @@ watching_decided t new after seen l old w s r e h rest p trail_new g marked due 
   trail = trail;
   well = subst (λ x. WatchesWell x w w.gone_over) (sym q)
       (well_decided new l w r (subst (λ (x : TrailState). AllRest x.clauses (values_of x.entries)) (sym (still_there t new seen e rest p trail_new)) rest) g);
-  shorts = subst (λ (x : TrailState). HasShorts x.vars x.clauses s.fixed s.lists.items) (sym q) (shorts_propagate t new s p h.shorts);
+  shorts = subst (λ (x : TrailState). HasShorts x.vars x.clauses s.fixed (lists_of s)) (sym q) (shorts_propagate t new s p h.shorts);
   marked = subst (λ (x : TrailState). AreMarked x.clauses s.fixed w.pairs.items) (sym q) marked;
   due = subst (λ x. AreDue x s.fixed (length w.pairs.items) w.gone_over) (sym q) (due_decided new l s.fixed (length w.pairs.items) w.gone_over (well_watched new w r g).kept.entries due);
 }
@@ -271,7 +275,7 @@ watching_back t after seen k old new s count e h level q trail c low high which 
     record {
       trail = trail;
       well = subst (λ x. WatchesWell x new new.gone_over) (sym q) (well_back t k old new h.trail level_is low (omega (arith, high, size)) which_size p l h.well);
-      shorts = subst (λ (x : TrailState). HasShorts x.vars x.clauses s.fixed s.lists.items) (sym q) h.shorts;
+      shorts = subst (λ (x : TrailState). HasShorts x.vars x.clauses s.fixed (lists_of s)) (sym q) h.shorts;
       marked = subst (λ (x : TrailState). AreMarked x.clauses s.fixed new.pairs.items) (sym q) (subst (AreMarked t.clauses s.fixed) (sym (ap (λ v. v.items) p)) h.marked);
       due = subst (λ x. AreDue x s.fixed (length new.pairs.items) new.gone_over) (sym q)
           (subst (λ m. AreDue (back_at t k) s.fixed m new.gone_over) (sym (ap (λ v. length v.items) p)) (due_back t s.fixed k (length old.pairs.items) old.gone_over new.gone_over h.trail level_is h.well.kept.entries low which_size h.due));

@@ -12,20 +12,21 @@ use Rattle.trail_core.specs.ShortListing.{ShortListing, no_shorts, one_of, two_o
 use Rattle.trail_core.specs.Values.{IsVariable}
 use Rattle.trail_core.specs.TrailState.{IsNumber}
 use Rattle.trail_core.specs.Watching.{code_of, is_short, is_fixed}
-use Rattle.trail_core.specs.Shorts.{no_literal, shorts_of, IsEntry, IsEntered, HasShorts, HasNoShorts, SameShorts, HasShortPlace, HaveShortLists, HaveShortPlaces, PushesShort, Enters, entry_at, next_place}
+use Rattle.trail_core.specs.Shorts.{no_literal, lists_of, SameLists, shorts_of, IsEntry, IsEntered, HasShorts, HasNoShorts, SameShorts, HasShortPlace, HaveShortLists, HaveShortPlaces, PushesShort, Enters, entry_at, next_place}
 use Rattle.trail_core.proofs.Listing.{cases_lit, code_same, apart_lit, at_any}
 use Rattle.trail_core.proofs.Looks.{has_at, other_before, variable_of}
+use Rattle.trail_core.proofs.Flat.{growing_count}
 use Rattle.trail_core.proofs.Changes.{numbered-push_old, numbered-push_new, number_push}
 
 -- the listing of a literal
 abbrev pub listing : Shorts → Lit → ShortListing
-listing s l = get_or s.lists.items (code_of l) no_shorts
+listing s l = get_or s.growing.items (code_of l) no_shorts
 
 pub same_itself : (s : Shorts) → SameShorts s s
-same_itself s = record { fixed = refl; size = refl; same = λ l. refl; rooms = λ l. omega arith }
+same_itself s = record { fixed = refl; flat = refl; size = refl; same = λ l. refl; rooms = λ l. omega arith }
 
 pub same_then : (a b c : Shorts) → SameShorts a b → SameShorts b c → SameShorts a c
-same_then a b c p q = record { fixed = q.fixed ∙ p.fixed; size = q.size ∙ p.size; same = λ l. q.same l ∙ p.same l; rooms = λ l. omega (arith, p.rooms l, q.rooms l) }
+same_then a b c p q = record { fixed = q.fixed ∙ p.fixed; flat = q.flat ∙ p.flat; size = q.size ∙ p.size; same = λ l. q.same l ∙ p.same l; rooms = λ l. omega (arith, p.rooms l, q.rooms l) }
 
 -- one list more without clauses
 pub empty_push : (xs : List ShortListing) (x : ShortListing) → x.clauses ≡ [] → ((i : ℕ) → (get_or xs i no_shorts).clauses ≡ []) → (i : ℕ) → (get_or (xs ++ x ∷ []) i no_shorts).clauses ≡ []
@@ -43,19 +44,20 @@ empty_push xs x e h i = elim (cases_lt i (length xs)) [
     past (y ∷ ys) (suc j) d l = past ys j d (omega (arith, l))
 
 -- another listing for one literal
-listing_set_same : (old new : Shorts) (l : Lit) (x : ShortListing) → code_of l < length old.lists.items → new.lists.items ≡ set old.lists.items (code_of l) x → listing new l ≡ x
-listing_set_same old new l x h e = ap (λ ls. get_or ls (code_of l) no_shorts) e ∙ get_or-set_same old.lists.items (code_of l) x no_shorts h
+listing_set_same : (old new : Shorts) (l : Lit) (x : ShortListing) → code_of l < length old.growing.items → new.growing.items ≡ set old.growing.items (code_of l) x → listing new l ≡ x
+listing_set_same old new l x h e = ap (λ ls. get_or ls (code_of l) no_shorts) e ∙ get_or-set_same old.growing.items (code_of l) x no_shorts h
 
-listing_set_other : (old new : Shorts) (l m : Lit) (x : ShortListing) → m ≢ l → new.lists.items ≡ set old.lists.items (code_of l) x → listing new m ≡ listing old m
-listing_set_other old new l m x d e = ap (λ ls. get_or ls (code_of m) no_shorts) e ∙ get_or-set_other old.lists.items (code_of l) (code_of m) x no_shorts (λ z. d (code_same m l z))
+listing_set_other : (old new : Shorts) (l m : Lit) (x : ShortListing) → m ≢ l → new.growing.items ≡ set old.growing.items (code_of l) x → listing new m ≡ listing old m
+listing_set_other old new l m x d e = ap (λ ls. get_or ls (code_of m) no_shorts) e ∙ get_or-set_other old.growing.items (code_of l) (code_of m) x no_shorts (λ z. d (code_same m l z))
 
 -- one list with more room
-pub same_set : (old new : Shorts) (l : Lit) (x : ShortListing) → new.fixed ≡ old.fixed → code_of l < length old.lists.items → new.lists.items ≡ set old.lists.items (code_of l) x → x.clauses ≡ shorts_of old.lists.items l → (listing old l).room ≤ x.room → SameShorts old new
-same_set old new l x f h e n r = record {
+pub same_set : (old new : Shorts) (l : Lit) (x : ShortListing) → new.fixed ≡ old.fixed → new.flat ≡ old.flat → code_of l < length old.growing.items → new.growing.items ≡ set old.growing.items (code_of l) x → x.clauses ≡ shorts_of old.growing.items l → (listing old l).room ≤ x.room → SameShorts old new
+same_set old new l x f g h e n r = record {
   fixed = f;
-  size = ap length e ∙ length-set old.lists.items (code_of l) x;
+  flat = g;
+  size = ap length e ∙ length-set old.growing.items (code_of l) x;
   same = λ m. elim (cases_lit m l) [
-    | inl q ↦ subst (λ z. shorts_of new.lists.items z ≡ shorts_of old.lists.items z) (sym q) (ap (λ (y : ShortListing). y.clauses) (listing_set_same old new l x h e) ∙ n)
+    | inl q ↦ subst (λ z. shorts_of new.growing.items z ≡ shorts_of old.growing.items z) (sym q) (ap (λ (y : ShortListing). y.clauses) (listing_set_same old new l x h e) ∙ n)
     | inr d ↦ ap (λ (y : ShortListing). y.clauses) (listing_set_other old new l m x d e)
   ];
   rooms = λ m. elim (cases_lit m l) [
@@ -64,13 +66,14 @@ same_set old new l x f h e n r = record {
   ];
 }
 
-pub place_set : (old new : Shorts) (l : Lit) (x : ShortListing) → code_of l < length old.lists.items → new.lists.items ≡ set old.lists.items (code_of l) x → x.clauses ≡ shorts_of old.lists.items l → length (shorts_of old.lists.items l) < x.room → HasShortPlace new l
+pub place_set : (old new : Shorts) (l : Lit) (x : ShortListing) → code_of l < length old.growing.items → new.growing.items ≡ set old.growing.items (code_of l) x → x.clauses ≡ shorts_of old.growing.items l → length (shorts_of old.growing.items l) < x.room → HasShortPlace new l
 place_set old new l x h e n r = omega (arith, r, ap length n, ap (λ (y : ShortListing). y.room) (listing_set_same old new l x h e), ap (λ (y : ShortListing). length y.clauses) (listing_set_same old new l x h e))
 
-pub pushes_set : (old new : Shorts) (l : Lit) (x : ShortListing) (s : Short) → new.fixed ≡ old.fixed → code_of l < length old.lists.items → new.lists.items ≡ set old.lists.items (code_of l) x → x.clauses ≡ shorts_of old.lists.items l ++ s ∷ [] → PushesShort old new l s
-pushes_set old new l x s f h e n = record {
+pub pushes_set : (old new : Shorts) (l : Lit) (x : ShortListing) (s : Short) → new.fixed ≡ old.fixed → new.flat ≡ old.flat → code_of l < length old.growing.items → new.growing.items ≡ set old.growing.items (code_of l) x → x.clauses ≡ shorts_of old.growing.items l ++ s ∷ [] → PushesShort old new l s
+pushes_set old new l x s f g h e n = record {
   fixed = f;
-  size = ap length e ∙ length-set old.lists.items (code_of l) x;
+  flat = g;
+  size = ap length e ∙ length-set old.growing.items (code_of l) x;
   own = ap (λ (y : ShortListing). y.clauses) (listing_set_same old new l x h e) ∙ n;
   others = λ m d. listing_set_other old new l m x d e;
 }
@@ -111,12 +114,13 @@ before_at c i k d l b = ap (has (take k c)) (sym (get_or-take k c i d l)) ∙ ha
 -- the first literals of a clause have it in their lists
 pub record EnteredTo (old new : Shorts) (n : ℕ) (c : List Lit) (k : ℕ) : Type 0 where
   pub fixed : new.fixed ≡ old.fixed
-  pub size : length new.lists.items ≡ length old.lists.items
-  pub own : (i : ℕ) (d : Lit) → i < k → i < length c → shorts_of new.lists.items (get_or c i d) ≡ shorts_of old.lists.items (get_or c i d) ++ entry_at c n i ∷ []
+  pub flat : new.flat ≡ old.flat
+  pub size : length new.growing.items ≡ length old.growing.items
+  pub own : (i : ℕ) (d : Lit) → i < k → i < length c → shorts_of new.growing.items (get_or c i d) ≡ shorts_of old.growing.items (get_or c i d) ++ entry_at c n i ∷ []
   pub others : (l : Lit) → has (take k c) l ≡ false → listing new l ≡ listing old l
 
 pub entered_none : (s : Shorts) (n : ℕ) (c : List Lit) → EnteredTo s s n c 0
-entered_none s n c = record { fixed = refl; size = refl; own = λ i d l. absurd (omega (arith, l)); others = λ l h. refl }
+entered_none s n c = record { fixed = refl; flat = refl; size = refl; own = λ i d l. absurd (omega (arith, l)); others = λ l h. refl }
 
 -- the next one has room and gets the clause
 pub entered_place : (old a : Shorts) (n : ℕ) (c : List Lit) (k : ℕ) (d : Lit) → has_distinct_variables c ≡ true → k < length c → HaveShortPlaces old c → EnteredTo old a n c k → HasShortPlace a (get_or c k d)
@@ -125,7 +129,7 @@ entered_place old a n c k d u l h e =
     omega (arith, h (get_or c k d) (has_at c k d l), ap (λ (y : ShortListing). y.room) same, ap (λ (y : ShortListing). length y.clauses) same)
 
 pub entered_more : (old a b : Shorts) (n : ℕ) (c : List Lit) (k : ℕ) (d : Lit) → has_distinct_variables c ≡ true → k < length c → EnteredTo old a n c k → PushesShort a b (get_or c k d) (entry_at c n k) → EnteredTo old b n c (k + 1)
-entered_more old a b n c k d u l e p = record { fixed = p.fixed ∙ e.fixed; size = p.size ∙ e.size; own = own; others = others }
+entered_more old a b n c k d u l e p = record { fixed = p.fixed ∙ e.fixed; flat = p.flat ∙ e.flat; size = p.size ∙ e.size; own = own; others = others }
   where
     here : Lit
     here = get_or c k d
@@ -133,13 +137,13 @@ entered_more old a b n c k d u l e p = record { fixed = p.fixed ∙ e.fixed; siz
     fresh : has (take k c) here ≡ false
     fresh = fresh_at c k d u l
 
-    own : (i : ℕ) (x : Lit) → i < k + 1 → i < length c → shorts_of b.lists.items (get_or c i x) ≡ shorts_of old.lists.items (get_or c i x) ++ entry_at c n i ∷ []
+    own : (i : ℕ) (x : Lit) → i < k + 1 → i < length c → shorts_of b.growing.items (get_or c i x) ≡ shorts_of old.growing.items (get_or c i x) ++ entry_at c n i ∷ []
     own i x low within = elim (cases_lt i k) [
       | inl less ↦ ap (λ (y : ShortListing). y.clauses) (p.others (get_or c i x) (λ q. both_ways (has (take k c) here) fresh (ap (has (take k c)) (sym q) ∙ before_at c i k x less l))) ∙ e.own i x less within
       | inr more ↦
           let same : k ≡ i = omega (arith, low, more) in
-          subst (λ j. shorts_of b.lists.items (get_or c j x) ≡ shorts_of old.lists.items (get_or c j x) ++ entry_at c n j ∷ []) same
-          (subst (λ z. shorts_of b.lists.items z ≡ shorts_of old.lists.items z ++ entry_at c n k ∷ []) (at_any c k d x l)
+          subst (λ j. shorts_of b.growing.items (get_or c j x) ≡ shorts_of old.growing.items (get_or c j x) ++ entry_at c n j ∷ []) same
+          (subst (λ z. shorts_of b.growing.items z ≡ shorts_of old.growing.items z ++ entry_at c n k ∷ []) (at_any c k d x l)
           (p.own ∙ ap (λ (y : ShortListing). y.clauses ++ entry_at c n k ∷ []) (e.others here fresh)))
     ]
 
@@ -151,21 +155,22 @@ entered_more old a b n c k d u l e p = record { fixed = p.fixed ∙ e.fixed; siz
 pub entered_all : (old new : Shorts) (n : ℕ) (c : List Lit) (k : ℕ) → length c ≤ k → EnteredTo old new n c k → Enters old new n c
 entered_all old new n c k l e = record {
   fixed = e.fixed;
+  flat = e.flat;
   size = e.size;
   own = λ i d h. e.own i d (omega (arith, h, l)) h;
   others = λ m h. ap (λ (y : ShortListing). y.clauses) (e.others m (ap (λ xs. has xs m) (take_all k c l) ∙ h));
 }
 
 -- no clauses
-pub has_shorts_none : (vars : ℕ) (s : Shorts) → HasNoShorts vars s → HasShorts vars [] s.fixed s.lists.items
-has_shorts_none vars s h = record {
+pub has_shorts_none : (vars : ℕ) (s : Shorts) → HasNoShorts vars s → HasShorts vars [] s.fixed (lists_of s)
+has_shorts_none vars s h = subst (HasShorts vars [] s.fixed) (sym (growing_count s h.flat)) record {
   size = h.size;
   few = omega (arith, h.fixed);
   sound = λ l i d b. absurd (omega (arith, b, ap length (h.empty l)));
   listed = λ n l k s t. absurd (omega (arith, k.above, k.within));
 }
 
-pub has_shorts_same : (vars : ℕ) (cs : List (List Lit)) (old new : Shorts) → SameShorts old new → HasShorts vars cs old.fixed old.lists.items → HasShorts vars cs new.fixed new.lists.items
+pub has_shorts_same : (vars : ℕ) (cs : List (List Lit)) (old new : Shorts) → SameLists old new → HasShorts vars cs old.fixed (lists_of old) → HasShorts vars cs new.fixed (lists_of new)
 has_shorts_same vars cs old new s h = record {
   size = s.size ∙ h.size;
   few = omega (arith, s.fixed, h.few);
@@ -174,10 +179,10 @@ has_shorts_same vars cs old new s h = record {
 }
 
 -- each literal of a clause has a list
-pub have_lists : (vars : ℕ) (cs : List (List Lit)) (s : Shorts) (c : List Lit) → HasShorts vars cs s.fixed s.lists.items → IsWithin vars c → HaveShortLists s c
-have_lists vars cs s c h w l t =
+pub have_lists : (vars : ℕ) (cs : List (List Lit)) (s : Shorts) (c : List Lit) → s.flat ≡ [] → HasShorts vars cs s.fixed (lists_of s) → IsWithin vars c → HaveShortLists s c
+have_lists vars cs s c e h w l t =
     let v : IsVariable vars l.var = variable_of vars c l w t in
-    omega (arith, h.size, v.within, cond_le l.negated)
+    omega (arith, h.size, ap length (growing_count s e), v.within, cond_le l.negated)
   where
     cond_le : (b : Bool) → cond b 1 0 ≤ 1
     cond_le true = omega arith
@@ -321,40 +326,40 @@ entry_own cs c n j e s u l =
     }
 
 -- a clause of at most three literals, once it stands in its lists
-pub has_shorts_entered : (vars : ℕ) (cs : List (List Lit)) (c : List Lit) (n : ℕ) (old new : Shorts) → n ≡ length cs + 1 → is_short c ≡ true → has_distinct_variables c ≡ true → Enters old new n c → HasShorts vars cs (length cs) old.lists.items → HasShorts vars (cs ++ c ∷ []) n new.lists.items
+pub has_shorts_entered : (vars : ℕ) (cs : List (List Lit)) (c : List Lit) (n : ℕ) (old new : Shorts) → n ≡ length cs + 1 → is_short c ≡ true → has_distinct_variables c ≡ true → Enters old new n c → HasShorts vars cs (length cs) old.growing.items → HasShorts vars (cs ++ c ∷ []) n new.growing.items
 has_shorts_entered vars cs c n old new e s u h k = record { size = h.size ∙ k.size; few = omega (arith, e, length_push cs c); sound = sound; listed = listed }
   where
-    list : (j : ℕ) (l : Lit) → j < length c → get_or c j no_literal ≡ l → shorts_of new.lists.items l ≡ shorts_of old.lists.items l ++ entry_at c n j ∷ []
-    list j l b q = subst (λ z. shorts_of new.lists.items z ≡ shorts_of old.lists.items z ++ entry_at c n j ∷ []) q (h.own j no_literal b)
+    list : (j : ℕ) (l : Lit) → j < length c → get_or c j no_literal ≡ l → shorts_of new.growing.items l ≡ shorts_of old.growing.items l ++ entry_at c n j ∷ []
+    list j l b q = subst (λ z. shorts_of new.growing.items z ≡ shorts_of old.growing.items z ++ entry_at c n j ∷ []) q (h.own j no_literal b)
 
-    sound : (l : Lit) (i : ℕ) (d : Short) → i < length (shorts_of new.lists.items l) → IsEntry (cs ++ c ∷ []) l (get_or (shorts_of new.lists.items l) i d)
+    sound : (l : Lit) (i : ℕ) (d : Short) → i < length (shorts_of new.growing.items l) → IsEntry (cs ++ c ∷ []) l (get_or (shorts_of new.growing.items l) i d)
     sound l i d b = elim (cases_Bool (has c l)) [
       | inr f ↦
-          let same : shorts_of new.lists.items l ≡ shorts_of old.lists.items l = h.others l f in
-          subst (λ xs. IsEntry (cs ++ c ∷ []) l (get_or xs i d)) (sym same) (entry_push cs c l (get_or (shorts_of old.lists.items l) i d) (k.sound l i d (omega (arith, b, ap length same))))
+          let same : shorts_of new.growing.items l ≡ shorts_of old.growing.items l = h.others l f in
+          subst (λ xs. IsEntry (cs ++ c ∷ []) l (get_or xs i d)) (sym same) (entry_push cs c l (get_or (shorts_of old.growing.items l) i d) (k.sound l i d (omega (arith, b, ap length same))))
       | inl t ↦
           let p = place_in c l t in
           let own = list p.0 l p.1.0 p.1.1 in
-          subst (λ xs. IsEntry (cs ++ c ∷ []) l (get_or xs i d)) (sym own) (elim (cases_lt i (length (shorts_of old.lists.items l))) [
-            | inl low ↦ subst (IsEntry (cs ++ c ∷ []) l) (sym (get_or_append_left (shorts_of old.lists.items l) (entry_at c n p.0 ∷ []) d i low)) (entry_push cs c l (get_or (shorts_of old.lists.items l) i d) (k.sound l i d low))
+          subst (λ xs. IsEntry (cs ++ c ∷ []) l (get_or xs i d)) (sym own) (elim (cases_lt i (length (shorts_of old.growing.items l))) [
+            | inl low ↦ subst (IsEntry (cs ++ c ∷ []) l) (sym (get_or_append_left (shorts_of old.growing.items l) (entry_at c n p.0 ∷ []) d i low)) (entry_push cs c l (get_or (shorts_of old.growing.items l) i d) (k.sound l i d low))
             | inr high ↦
-                let last : length (shorts_of old.lists.items l) ≡ i = omega (arith, b, high, ap length own, length_push (shorts_of old.lists.items l) (entry_at c n p.0)) in
-                subst (IsEntry (cs ++ c ∷ []) l) (sym (get_or_push (shorts_of old.lists.items l) (entry_at c n p.0) d i last)) (subst (λ z. IsEntry (cs ++ c ∷ []) z (entry_at c n p.0)) p.1.1 (entry_own cs c n p.0 e s u p.1.0))
+                let last : length (shorts_of old.growing.items l) ≡ i = omega (arith, b, high, ap length own, length_push (shorts_of old.growing.items l) (entry_at c n p.0)) in
+                subst (IsEntry (cs ++ c ∷ []) l) (sym (get_or_push (shorts_of old.growing.items l) (entry_at c n p.0) d i last)) (subst (λ z. IsEntry (cs ++ c ∷ []) z (entry_at c n p.0)) p.1.1 (entry_own cs c n p.0 e s u p.1.0))
           ])
     ]
 
-    kept : (l : Lit) (m : ℕ) → IsEntered (shorts_of old.lists.items l) m → IsEntered (shorts_of new.lists.items l) m
+    kept : (l : Lit) (m : ℕ) → IsEntered (shorts_of old.growing.items l) m → IsEntered (shorts_of new.growing.items l) m
     kept l m x = elim (cases_Bool (has c l)) [
       | inr f ↦ subst (λ xs. IsEntered xs m) (sym (h.others l f)) x
-      | inl t ↦ let p = place_in c l t in subst (λ xs. IsEntered xs m) (sym (list p.0 l p.1.0 p.1.1)) (entered_push (shorts_of old.lists.items l) (entry_at c n p.0) m x)
+      | inl t ↦ let p = place_in c l t in subst (λ xs. IsEntered xs m) (sym (list p.0 l p.1.0 p.1.1)) (entered_push (shorts_of old.growing.items l) (entry_at c n p.0) m x)
     ]
 
-    listed : (m : ℕ) (l : Lit) → IsNumber (cs ++ c ∷ []) m → is_fixed n m (numbered (cs ++ c ∷ []) m) ≡ true → has (numbered (cs ++ c ∷ []) m) l ≡ true → IsEntered (shorts_of new.lists.items l) m
+    listed : (m : ℕ) (l : Lit) → IsNumber (cs ++ c ∷ []) m → is_fixed n m (numbered (cs ++ c ∷ []) m) ≡ true → has (numbered (cs ++ c ∷ []) m) l ≡ true → IsEntered (shorts_of new.growing.items l) m
     listed m l number t x = elim (cases_lt (length cs) m) [
       | inl last ↦
           let q : m ≡ length cs + 1 = omega (arith, last, number.within, length_push cs c) in
           let p = place_in c l (ap (λ y. has y l) (sym (numbered-push_new cs c m q)) ∙ x) in
-          subst (λ xs. IsEntered xs m) (sym (list p.0 l p.1.0 p.1.1)) (entered_last (shorts_of old.lists.items l) (entry_at c n p.0) m (e ∙ sym q))
+          subst (λ xs. IsEntered xs m) (sym (list p.0 l p.1.0 p.1.1)) (entered_last (shorts_of old.growing.items l) (entry_at c n p.0) m (e ∙ sym q))
       | inr less ↦
           let before : IsNumber cs m = record { above = number.above; within = less } in
           let same : numbered (cs ++ c ∷ []) m ≡ numbered cs m = numbered-push_old cs c m before in

@@ -20,6 +20,7 @@ pub mod Choosing
 pub mod Giving
 pub mod Going
 pub mod Widening
+pub mod Flat
 pub mod Entering
 pub mod Sweeping
 pub mod Calls

@@ -1,12 +1,12 @@
 -- Which pairs say that their clauses stand in the lists of their literals.
-use Rattle.std.proofs.Common.{◌≡◌, ℕ, ◌+◌, ◌-◌, ◌<◌, ◌≤◌, Bool, true, false, ◌&&◌, ◌==◌, cond, nat_le, List, [], ◌∷◌, ◌++◌, length, get_or, set, refl, sym, ap, ◌∙◌, subst, arith, ◌⊎◌, inl, inr}
-use Rattle.std.proofs.lemmas.Bool.{cases_lt, cases_Bool, false≢true, both_ways, and_parts, eqb-true, le-leb}
+use Rattle.std.proofs.Common.{◌≡◌, ℕ, ◌+◌, ◌<◌, ◌≤◌, true, ◌==◌, List, [], ◌∷◌, ◌++◌, length, get_or, set, sym, ap, ◌∙◌, subst, arith, inl, inr}
+use Rattle.std.proofs.lemmas.Bool.{cases_lt, and_parts, eqb-true}
 use Rattle.std.proofs.lemmas.List.{get_or-set_same, get_or-set_other, get_or_append_left, get_or_push, length-set, length_push}
 use Rattle.clause_base.specs.declared.literal.Lit.{Lit}
 use Rattle.clause_base.specs.Acceptance.{numbered}
 use Rattle.trail_core.specs.declared.watches.Pair.{Pair}
 use Rattle.trail_core.specs.TrailState.{TrailState, IsNumber, Propagates}
-use Rattle.trail_core.specs.Watching.{is_short, is_fixed, is_mark, AreMarked, KeepsMarks}
+use Rattle.trail_core.specs.Watching.{is_fixed, is_mark, AreMarked, KeepsMarks}
 use Rattle.trail_core.proofs.Changes.{numbered-push_old}
 
 -- propagation adds no clause

@@ -8,7 +8,7 @@ use Rattle.trail_core.specs.declared.short_list.Short.{Short}
 use Rattle.trail_core.specs.declared.shorts.Shorts.{Shorts}
 use Rattle.trail_core.specs.declared.watch.Watched.{Watched}
 use Rattle.trail_core.specs.declared.watch.Watched.TheVariants as watched
-use Rattle.trail_core.specs.ShortListing.{ShortListing, no_shorts, one_of, two_of}
+use Rattle.trail_core.specs.ShortListing.{ShortListing, no_shorts, lists_in, one_of, two_of}
 use Rattle.trail_core.specs.Values.{Values, IsTrueIn, IsFalseIn}
 use Rattle.trail_core.specs.TrailState.{TrailState, IsNumber, values_of}
 use Rattle.trail_core.specs.Look.{Falsifies}
@@ -17,6 +17,10 @@ use Rattle.trail_core.specs.Watching.{IsOpen, code_of, is_fixed}
 -- no literal of a variable
 abbrev pub no_literal : Lit
 no_literal = record { var = 0; negated = false }
+
+-- the list of each literal
+abbrev pub lists_of : Shorts → List ShortListing
+lists_of s = lists_in s.flat s.growing.items
 
 -- the list of a literal
 abbrev pub shorts_of : List ShortListing → Lit → List Short
@@ -65,24 +69,26 @@ ShortsGive t fixed place (watched.Falsified n) = Falsifies t n
 
 -- there are no clauses, and two lists for each variable
 pub record HasNoShorts (vars : ℕ) (s : Shorts) : Type 0 where
-  pub size : length s.lists.items ≡ 2 * vars + 2
-  pub empty : (l : Lit) → shorts_of s.lists.items l ≡ []
+  pub size : length s.growing.items ≡ 2 * vars + 2
+  pub empty : (l : Lit) → shorts_of s.growing.items l ≡ []
+  pub flat : s.flat ≡ []
   pub fixed : s.fixed ≡ 0
 
--- the lists have the same clauses
+-- the lists that take more clauses have the same ones
 pub record SameShorts (old new : Shorts) : Type 0 where
   pub fixed : new.fixed ≡ old.fixed
-  pub size : length new.lists.items ≡ length old.lists.items
-  pub same : (l : Lit) → shorts_of new.lists.items l ≡ shorts_of old.lists.items l
-  pub rooms : (l : Lit) → (get_or old.lists.items (code_of l) no_shorts).room ≤ (get_or new.lists.items (code_of l) no_shorts).room
+  pub flat : new.flat ≡ old.flat
+  pub size : length new.growing.items ≡ length old.growing.items
+  pub same : (l : Lit) → shorts_of new.growing.items l ≡ shorts_of old.growing.items l
+  pub rooms : (l : Lit) → (get_or old.growing.items (code_of l) no_shorts).room ≤ (get_or new.growing.items (code_of l) no_shorts).room
 
 -- the literal's list has room for one clause more
 abbrev pub HasShortPlace : Shorts → Lit → Type 0
-HasShortPlace s l = length (shorts_of s.lists.items l) < (get_or s.lists.items (code_of l) no_shorts).room
+HasShortPlace s l = length (shorts_of s.growing.items l) < (get_or s.growing.items (code_of l) no_shorts).room
 
 -- each literal has a list
 abbrev pub HaveShortLists : Shorts → List Lit → Type 0
-HaveShortLists s literals = (l : Lit) → has literals l ≡ true → code_of l < length s.lists.items
+HaveShortLists s literals = (l : Lit) → has literals l ≡ true → code_of l < length s.growing.items
 
 -- and room in it
 abbrev pub HaveShortPlaces : Shorts → List Lit → Type 0
@@ -103,13 +109,21 @@ entry_at c n place = entry_with (get_or c (next_place place (length c)) no_liter
 -- the clause is the last in the literal's list, and no other list has changed
 pub record PushesShort (old new : Shorts) (l : Lit) (s : Short) : Type 0 where
   pub fixed : new.fixed ≡ old.fixed
-  pub size : length new.lists.items ≡ length old.lists.items
-  pub own : shorts_of new.lists.items l ≡ shorts_of old.lists.items l ++ s ∷ []
-  pub others : (m : Lit) → m ≢ l → get_or new.lists.items (code_of m) no_shorts ≡ get_or old.lists.items (code_of m) no_shorts
+  pub flat : new.flat ≡ old.flat
+  pub size : length new.growing.items ≡ length old.growing.items
+  pub own : shorts_of new.growing.items l ≡ shorts_of old.growing.items l ++ s ∷ []
+  pub others : (m : Lit) → m ≢ l → get_or new.growing.items (code_of m) no_shorts ≡ get_or old.growing.items (code_of m) no_shorts
 
 -- the clause is the last in the list of each of its literals, and no other list has changed
 pub record Enters (old new : Shorts) (n : ℕ) (c : List Lit) : Type 0 where
   pub fixed : new.fixed ≡ old.fixed
-  pub size : length new.lists.items ≡ length old.lists.items
-  pub own : (i : ℕ) (d : Lit) → i < length c → shorts_of new.lists.items (get_or c i d) ≡ shorts_of old.lists.items (get_or c i d) ++ entry_at c n i ∷ []
-  pub others : (l : Lit) → has c l ≡ false → shorts_of new.lists.items l ≡ shorts_of old.lists.items l
+  pub flat : new.flat ≡ old.flat
+  pub size : length new.growing.items ≡ length old.growing.items
+  pub own : (i : ℕ) (d : Lit) → i < length c → shorts_of new.growing.items (get_or c i d) ≡ shorts_of old.growing.items (get_or c i d) ++ entry_at c n i ∷ []
+  pub others : (l : Lit) → has c l ≡ false → shorts_of new.growing.items l ≡ shorts_of old.growing.items l
+
+-- the lists have the same clauses, however they stand in memory
+pub record SameLists (old new : Shorts) : Type 0 where
+  pub fixed : new.fixed ≡ old.fixed
+  pub size : length (lists_of new) ≡ length (lists_of old)
+  pub same : (l : Lit) → shorts_of (lists_of new) l ≡ shorts_of (lists_of old) l

@@ -18,7 +18,7 @@ use Rattle.trail_core.specs.Values.{IsFalseIn, IsVariable}
 use Rattle.trail_core.specs.TrailState.{TrailState, IsTrail, IsNumber, AllRest, Propagates, entry_of, values_of, level_in, up_to, with_forced}
 use Rattle.trail_core.specs.Look.{Falsifies}
 use Rattle.trail_core.specs.declared.shorts.Shorts.{Shorts}
-use Rattle.trail_core.specs.Shorts.{HasShorts, AreDue}
+use Rattle.trail_core.specs.Shorts.{HasShorts, AreDue, lists_of}
 use Rattle.trail_core.specs.Watching.{Stands, IsListed, IsCovered, IsWatch, IsPaired, IsKept, IsOpen, AreMarked, AreNumbers, list_of, room_of, code_of, with_list, watches, unwatched}
 
 -- the lists have room: `held` counts the places of a literal's list that are in use, and each clause that has the literal and
@@ -172,7 +172,7 @@ SweepGives t w (watched.Falsified n) = WatchesWell t w w.gone_over × Falsifies 
 pub record IsWatching (t : TrailState) (w : Watches) (s : Shorts) : Type 0 where
   pub trail : IsTrail t
   pub well : WatchesWell t w w.gone_over
-  pub shorts : HasShorts t.vars t.clauses s.fixed s.lists.items
+  pub shorts : HasShorts t.vars t.clauses s.fixed (lists_of s)
   pub marked : AreMarked t.clauses s.fixed w.pairs.items
   pub due : AreDue t s.fixed (length w.pairs.items) w.gone_over
 

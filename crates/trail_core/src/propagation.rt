@@ -1,7 +1,7 @@
 ghost use Rattle.std.specs.Prelude.{◌≡◌, ◌+◌, ◌<◌, ◌≤◌, length};
 ghost use Rattle.trail_core.specs.TrailState.{IsTrail, Propagates};
 ghost use Rattle.trail_core.specs.Watching.{AreMarked};
-ghost use Rattle.trail_core.specs.Shorts.{HasShorts, AreDue};
+ghost use Rattle.trail_core.specs.Shorts.{lists_of, HasShorts, AreDue};
 ghost use Rattle.trail_core.specs.Visits.{SweepsDue, SweepGives, WatchGives, WatchesWell, number_of};
 
 use crate::plain::PlainTrail;
@@ -14,7 +14,7 @@ use crate::watches::Watches;
 fn sweep_next(trail: &mut PlainTrail, watches: &mut Watches, shorts: &Shorts) -> Watched
     requires trail { IsTrail trail.old }
     requires well { WatchesWell trail.old watches.old watches.old.gone_over }
-    requires shorts { HasShorts trail.old.vars trail.old.clauses shorts.now.fixed shorts.now.lists.items }
+    requires shorts { HasShorts trail.old.vars trail.old.clauses shorts.now.fixed (lists_of shorts.now) }
     requires due { AreDue trail.old shorts.now.fixed (length trail.old.clauses) watches.old.gone_over }
     requires next { watches.old.gone_over < length trail.old.entries }
     requires marked { AreMarked trail.old.clauses shorts.now.fixed watches.old.pairs.items }
@@ -39,7 +39,7 @@ fn sweep_next(trail: &mut PlainTrail, watches: &mut Watches, shorts: &Shorts) ->
 fn sweep_all(trail: &mut PlainTrail, watches: &mut Watches, shorts: &Shorts) -> Watched
     requires trail { IsTrail trail.old }
     requires well { WatchesWell trail.old watches.old watches.old.gone_over }
-    requires shorts { HasShorts trail.old.vars trail.old.clauses shorts.now.fixed shorts.now.lists.items }
+    requires shorts { HasShorts trail.old.vars trail.old.clauses shorts.now.fixed (lists_of shorts.now) }
     requires due { AreDue trail.old shorts.now.fixed (length watches.old.pairs.items) watches.old.gone_over }
     requires marked { AreMarked trail.old.clauses shorts.now.fixed watches.old.pairs.items }
     requires all { length trail.old.clauses ≤ length watches.old.pairs.items }
@@ -62,7 +62,7 @@ fn sweep_all(trail: &mut PlainTrail, watches: &mut Watches, shorts: &Shorts) -> 
 pub(crate) fn watch(trail: &mut PlainTrail, watches: &mut Watches, shorts: &Shorts) -> Watched
     requires trail { IsTrail trail.old }
     requires well { WatchesWell trail.old watches.old watches.old.gone_over }
-    requires shorts { HasShorts trail.old.vars trail.old.clauses shorts.now.fixed shorts.now.lists.items }
+    requires shorts { HasShorts trail.old.vars trail.old.clauses shorts.now.fixed (lists_of shorts.now) }
     requires due { AreDue trail.old shorts.now.fixed (length watches.old.pairs.items) watches.old.gone_over }
     requires marked { AreMarked trail.old.clauses shorts.now.fixed watches.old.pairs.items }
     ensures appends { Propagates trail.old trail.new }

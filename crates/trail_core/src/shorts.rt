@@ -1,21 +1,23 @@
-ghost use Rattle.std.specs.Prelude.{◌≡◌, ℕ, ◌+◌, ◌*◌, ◌<◌, ◌≤◌, ◌++◌, ◌∷◌, [], ◌&&◌, true, false, cond, IsTrue, length, get_or, IfOk, OnOk};
+ghost use Rattle.std.specs.Prelude.{◌≡◌, ℕ, ◌+◌, ◌*◌, ◌<◌, ◌≤◌, ◌++◌, ◌∷◌, [], ◌&&◌, true, false, cond, IsTrue, length, get_or, map, IfOk, OnOk};
 ghost use Rattle.clause_base.specs.Literal.{has_distinct_variables};
 ghost use Rattle.trail_core.specs.Watching.{code_of, is_short};
 ghost use Rattle.trail_core.specs.ShortListing.{no_shorts};
-ghost use Rattle.trail_core.specs.Shorts.{shorts_of, entry_at, next_place, HasShortPlace, SameShorts, HaveShortLists, HaveShortPlaces, PushesShort, Enters, HasNoShorts};
+ghost use Rattle.trail_core.specs.Shorts.{lists_of, shorts_of, SameLists, entry_at, next_place, HasShortPlace, SameShorts, HaveShortLists, HaveShortPlaces, PushesShort, Enters, HasNoShorts};
 
 use crate::short_list::{Short, ShortList};
 use crate::watches::code_of;
 use clause_base::Lit;
-use loc_base::NoMemory;
+use loc_base::{NoMemory, Rows};
 use std::alloc::Global;
 
 /// The clauses of at most three literals that were there before the first propagation, in a list of each of their literals. No
 /// entry is ever moved or changed.
 #[derive(Drop)]
 pub(crate) struct Shorts {
-    /// The list of each literal, at the literal's code.
-    pub(crate) lists: Vec<ShortList>,
+    /// The list of each literal, at the literal's code, while the lists take more clauses.
+    pub(crate) growing: Vec<ShortList>,
+    /// The list of each literal, at the literal's code, in one piece of memory; no lists where that wasn't made.
+    pub(crate) flat: Rows<Short>,
     /// Of so many first clauses those of at most three literals stand there.
     pub(crate) fixed: u32,
 }
@@ -36,7 +38,8 @@ fn is_taken(takes: bool, literals: &[Lit]) -> bool
 
 /// Counts the clause among the first ones, where the lists take more clauses.
 pub(crate) fn count_clause(shorts: &mut Shorts, takes: bool, number: u32)
-    ensures lists { shorts.new.lists ≡ shorts.old.lists }
+    ensures growing { shorts.new.growing ≡ shorts.old.growing }
+    ensures flat { shorts.new.flat ≡ shorts.old.flat }
     ensures fixed { shorts.new.fixed ≡ cond takes number shorts.old.fixed }
 {
     if takes {
@@ -46,10 +49,39 @@ pub(crate) fn count_clause(shorts: &mut Shorts, takes: bool, number: u32)
 
 /// The clauses that have the literal.
 pub(crate) fn clauses_with(shorts: &Shorts, l: Lit) -> &[Short]
-    requires { code_of l < length shorts.now.lists.items }
-    ensures { result.now ≡ shorts_of shorts.now.lists.items l }
+    requires { code_of l < length (lists_of shorts.now) }
+    ensures { result.now ≡ shorts_of (lists_of shorts.now) l }
 {
-    shorts.lists[code_of(l)].clauses()
+    if shorts.flat.is_empty() {
+        shorts.growing[code_of(l)].clauses()
+    } else {
+        shorts.flat.row(code_of(l))
+    }
+}
+
+/// The lists in one piece of memory.
+fn rows_of(alloc: Global, lists: &[ShortList]) -> Result<Rows<Short>, NoMemory>
+    ensures { IfOk result (λ r. r ≡ map (λ s. s.clauses) lists.now) }
+{
+    let mut rows = Rows::new(alloc);
+    for list in lists {
+        rows.push(list.clauses())?;
+    }
+    Ok(rows)
+}
+
+/// Puts the lists into one piece of memory, unless they stand there. Where there is no memory for that they stay as they are.
+pub(crate) fn flatten(shorts: &mut Shorts)
+    ensures { SameLists shorts.old shorts.new }
+{
+    if !shorts.flat.is_empty() {
+        return;
+    }
+    let alloc = *shorts.growing.allocator();
+    if let Ok(rows) = rows_of(alloc, &shorts.growing) {
+        shorts.flat = rows;
+        shorts.growing = Vec::new(alloc);
+    }
 }
 
 /// So many lists without clauses.
@@ -69,18 +101,19 @@ pub(crate) fn no_short_clauses(alloc: Global, vars: u32) -> Result<Shorts, NoMem
     ensures { IfOk result (HasNoShorts vars) }
 {
     Ok(Shorts {
-        lists: empty_lists(alloc, 2 * vars as usize + 2)?,
+        growing: empty_lists(alloc, 2 * vars as usize + 2)?,
+        flat: Rows::new(alloc),
         fixed: 0,
     })
 }
 
 /// Makes room for one clause more in the list of a literal.
 fn make_short_place(shorts: &mut Shorts, l: Lit) -> Result<(), NoMemory>
-    requires { code_of l < length shorts.old.lists.items }
+    requires { code_of l < length shorts.old.growing.items }
     ensures same { SameShorts shorts.old shorts.new }
     ensures more { OnOk result (HasShortPlace shorts.new l) }
 {
-    shorts.lists[code_of(l)].make_room()
+    shorts.growing[code_of(l)].make_room()
 }
 
 /// Makes room for one clause more in the list of each of the literals.
@@ -101,7 +134,7 @@ pub(crate) fn make_short_room(
     takes: bool,
     literals: &[Lit],
 ) -> Result<(), NoMemory>
-    requires { HaveShortLists shorts.old literals.now }
+    requires { takes ≡ true → HaveShortLists shorts.old literals.now }
     ensures same { SameShorts shorts.old shorts.new }
     ensures more { OnOk result ((takes && is_short literals.now) ≡ true → HaveShortPlaces shorts.new literals.now) }
 {
@@ -140,11 +173,11 @@ fn entry_at(literals: &[Lit], number: u32, place: usize) -> Short
 
 /// Appends a clause to the list of a literal.
 fn push_short(shorts: &mut Shorts, l: Lit, short: Short)
-    requires within { code_of l < length shorts.old.lists.items }
+    requires within { code_of l < length shorts.old.growing.items }
     requires place { HasShortPlace shorts.old l }
     ensures { PushesShort shorts.old shorts.new l short }
 {
-    shorts.lists[code_of(l)].push(short);
+    shorts.growing[code_of(l)].push(short);
 }
 
 /// Appends the clause to the list of each of its literals.
@@ -164,7 +197,7 @@ fn enter_all(shorts: &mut Shorts, number: u32, literals: &[Lit])
 /// Appends the clause to the lists of its literals, where it is to stand there.
 pub(crate) fn enter(shorts: &mut Shorts, takes: bool, number: u32, literals: &[Lit])
     requires distinct { IsTrue (has_distinct_variables literals.now) }
-    requires lists { HaveShortLists shorts.old literals.now }
+    requires lists { takes ≡ true → HaveShortLists shorts.old literals.now }
     requires places { (takes && is_short literals.now) ≡ true → HaveShortPlaces shorts.old literals.now }
     ensures short { (takes && is_short literals.now) ≡ true → Enters shorts.old shorts.new number literals.now }
     ensures long { (takes && is_short literals.now) ≡ false → shorts.new ≡ shorts.old }

@@ -4,7 +4,7 @@ ghost use Rattle.trail_core.specs.Values.{IsVariable, IsTrueIn, IsFalseIn, IsUna
 ghost use Rattle.trail_core.specs.TrailState.{IsTrail, IsReason, Propagates, values_of};
 ghost use Rattle.trail_core.specs.Look.{Falsifies};
 ghost use Rattle.trail_core.specs.ShortListing.{one_of, two_of};
-ghost use Rattle.trail_core.specs.Shorts.{HasShorts, IsEntry, AreDue, IsLast, ShortsGive};
+ghost use Rattle.trail_core.specs.Shorts.{lists_of, HasShorts, IsEntry, AreDue, IsLast, ShortsGive};
 ghost use Rattle.trail_core.specs.Visits.{ArePresent};
 
 use crate::plain::PlainTrail;
@@ -85,7 +85,7 @@ fn visit_short(trail: &mut PlainTrail, short: Short, gone: Lit) -> bool
 /// Goes over the clauses of at most three literals that have the opposite of the true literal at that place.
 pub(crate) fn sweep_shorts(trail: &mut PlainTrail, shorts: &Shorts, place: u32) -> Watched
     requires trail { IsTrail trail.old }
-    requires shorts { HasShorts trail.old.vars trail.old.clauses shorts.now.fixed shorts.now.lists.items }
+    requires shorts { HasShorts trail.old.vars trail.old.clauses shorts.now.fixed (lists_of shorts.now) }
     requires within { place < length trail.old.entries }
     requires present { ArePresent trail.old place }
     requires due { AreDue trail.old shorts.now.fixed (length trail.old.clauses) place }

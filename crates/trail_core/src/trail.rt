@@ -3,11 +3,12 @@ ghost use Rattle.std.specs.Option.{option_map};
 ghost use Rattle.clause_base.specs.Literal.{IsWithin, has_distinct_variables};
 ghost use Rattle.clause_base.specs.Acceptance.{numbered};
 ghost use Rattle.trail_core.specs.Values.{IsVariable, IsUnassignedIn, IsFalsified};
+ghost use Rattle.trail_core.specs.Shorts.{SameLists};
 ghost use Rattle.trail_core.specs.TrailState.{TrailState, IsTrail, IsNumber, MayAdd, AllRest, Propagates, with_clause, with_decision, back_at, values_of, level_in, reason_in};
 
 use crate::plain::PlainTrail;
 use crate::propagation::{number_of, watch};
-use crate::shorts::{Shorts, count_clause, enter, make_short_room, no_short_clauses};
+use crate::shorts::{Shorts, count_clause, enter, flatten, make_short_room, no_short_clauses};
 use crate::watches::{Watches, go_back, make_room, watches_of};
 use clause_base::Lit;
 use loc_base::NoMemory;
@@ -26,9 +27,19 @@ pub struct Trail {
 
 /// Whether propagation has looked at none of so many clauses, so that the lists of clauses of at most three literals take more.
 fn takes_more(watches: &Watches, shorts: &Shorts, count: u32) -> bool
-    ensures { IsTrue result → shorts.now.fixed ≡ count }
+    ensures count { IsTrue result → shorts.now.fixed ≡ count }
+    ensures growing { IsTrue result → shorts.now.flat ≡ [] }
 {
-    watches.pairs.is_empty() && shorts.fixed == count
+    shorts.flat.is_empty() && watches.pairs.is_empty() && shorts.fixed == count
+}
+
+/// Before the first propagation: puts the lists of clauses of at most three literals into one piece of memory.
+fn flatten_first(watches: &Watches, shorts: &mut Shorts)
+    ensures { SameLists shorts.old shorts.new }
+{
+    if watches.pairs.is_empty() && shorts.fixed > 0 {
+        flatten(shorts);
+    }
 }
 
 impl Model for Trail {
@@ -89,6 +100,7 @@ impl Trail {
         ensures rest { IfNone result (AllRest self.new.clauses (values_of self.new.entries)) }
         ensures trail { IsTrail self.new }
     {
+        flatten_first(&self.watches, &mut self.shorts);
         number_of(watch(&mut self.plain, &mut self.watches, &self.shorts))
     }
 

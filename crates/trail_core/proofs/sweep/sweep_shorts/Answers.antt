@@ -2,6 +2,7 @@ use Rattle.std.proofs.Common.{◌∙◌, false, None, sym, subst}
 use Rattle.std.specs.Prelude.{IsSome}
 use Rattle.trail_core.specs.declared.entry.Entry.{Entry}
 use Rattle.trail_core.specs.declared.short_list.Short.{Short}
+use Rattle.trail_core.specs.Shorts.{lists_of}
 use Rattle.trail_core.specs.Visits.{IsGone}
 use Rattle.trail_core.proofs.Propagating.{Propagates-none, Propagates-then}
 use Rattle.trail_core.proofs.Going.{gone_told, told_there}
@@ -18,14 +19,14 @@ pub unwrap-l-requires : goal.unwrap-l-requires
 unwrap-l-requires c = subst (λ o. IsSome o) (sym c.at.ensures) (told_there c.args.trail.now.entries c.args.place c.requires.within)
 
 pub clauses_with-short-items-requires : goal.clauses_with-short-items-requires
-clauses_with-short-items-requires c = list_within c.args.trail.now c.args.shorts.now.fixed c.args.shorts.now.lists.items c.args.place c.opposite-gone.result c.requires.shorts
+clauses_with-short-items-requires c = list_within c.args.trail.now c.args.shorts.now.fixed (lists_of c.args.shorts.now) c.args.place c.opposite-gone.result c.requires.shorts
     (subst (IsGone c.args.trail.now c.args.place) (sym c.opposite-gone.ensures) (gone_told c.args.trail.now c.args.place c.unwrap-l.result c.requires.trail c.requires.present (sym c.at.ensures ∙ c.unwrap-l.ensures)))
 
 pub loop-short-init : goal.loop-short-init
 loop-short-init c = record { trail = c.requires.trail; appends = Propagates-none c.args.trail.now; seen = seen_none c.args.trail.now c.clauses_with-short-items.result.now c.args.place }
 
 pub visit_short-requires-clause-entry : goal.visit_short-requires-clause-entry
-visit_short-requires-clause-entry c = entry_here c.args.trail.now c.loop-short.trail c.args.shorts.now.fixed c.args.shorts.now.lists.items c.clauses_with-short-items.result.now c.opposite-gone.result c.loop-short.short-index none c.requires.shorts c.clauses_with-short-items.ensures c.loop-short-test.true c.loop-short.invariant.appends
+visit_short-requires-clause-entry c = entry_here c.args.trail.now c.loop-short.trail c.args.shorts.now.fixed (lists_of c.args.shorts.now) c.clauses_with-short-items.result.now c.opposite-gone.result c.loop-short.short-index none c.requires.shorts c.clauses_with-short-items.ensures c.loop-short-test.true c.loop-short.invariant.appends
 
 pub visit_short-requires-clause-gone : goal.visit_short-requires-clause-gone
 visit_short-requires-clause-gone c = gone_still c.args.trail.now c.loop-short.trail c.args.place c.opposite-gone.result
@@ -42,5 +43,5 @@ loop-short-preserved c = record {
 }
 
 pub returns-clause-gives : goal.returns-clause-gives
-returns-clause-gives c = sweep_rests c.args.trail.now c.loop-short.trail c.args.shorts.now.fixed c.args.shorts.now.lists.items c.clauses_with-short-items.result.now c.opposite-gone.result c.args.place c.loop-short.short-index entry none
+returns-clause-gives c = sweep_rests c.args.trail.now c.loop-short.trail c.args.shorts.now.fixed (lists_of c.args.shorts.now) c.clauses_with-short-items.result.now c.opposite-gone.result c.args.place c.loop-short.short-index entry none
     (subst (IsGone c.args.trail.now c.args.place) (sym c.opposite-gone.ensures) (gone_told c.args.trail.now c.args.place c.unwrap-l.result c.requires.trail c.requires.present (sym c.at.ensures ∙ c.unwrap-l.ensures))) c.requires.within c.requires.shorts c.clauses_with-short-items.ensures c.loop-short-test.false c.loop-short.invariant.appends c.requires.due c.loop-short.invariant.seen

@@ -1,4 +1,4 @@
-use Rattle.std.proofs.Common.{◌≡◌, ◌+◌, ◌∙◌, length, true, sym, ap, subst}
+use Rattle.std.proofs.Common.{◌≡◌, ◌∙◌, length, true, sym, ap, subst}
 use Rattle.std.proofs.lemmas.List.{length_push}
 use Rattle.clause_base.specs.Acceptance.{numbered}
 use Rattle.trail_core.specs.Watching.{is_fixed}
