@@ -34,8 +34,8 @@ use Rattle.trail_core.proofs.Choosing.{rests_not_false, not_free}
 use Rattle.trail_core.proofs.Visiting.{true_false}
 
 -- a trail with no clause
-pub well_new : (vars : ℕ) (w : Watches) → HasNone vars w → WatchesWell record { vars = vars; clauses = []; entries = []; level = 0 } w w.gone_over
-well_new vars w n = record {
+pub well_new : (vars : ℕ) (f : ℕ) (w : Watches) → HasNone vars w → WatchesWell record { vars = vars; clauses = []; entries = []; level = 0 } w f w.gone_over
+well_new vars f w n = record {
   kept = record {
     few = omega (arith, ap length n.pairs);
     entries = omega (arith, n.gone_over);
@@ -56,9 +56,9 @@ pub shorts_propagate : (t new : TrailState) (s : Shorts) → Propagates t new �
 shorts_propagate t new s p h = subst (λ v. HasShorts v new.clauses s.fixed (lists_of s)) (sym p.vars) (subst (λ cs. HasShorts t.vars cs s.fixed (lists_of s)) (sym p.clauses) h)
 
 -- whatever propagation gives, the lists are kept
-pub well_watched : (t : TrailState) (w : Watches) (r : Watched) → WatchGives t w r → WatchesWell t w w.gone_over
-well_watched t w watched.Rests g = g.0
-well_watched t w (watched.Falsified n) g = g.0
+pub well_watched : (t : TrailState) (w : Watches) (f : ℕ) (r : Watched) → WatchGives t w f r → WatchesWell t w f w.gone_over
+well_watched t w f watched.Rests g = g.0
+well_watched t w f (watched.Falsified n) g = g.0
 
 -- a clause that rests isn't unit
 rests_unit : (es : List Entry) (c : List Lit) (l : Lit) → Rests (values_of es) c → IsUnit (values_of es) c l → ⊥
@@ -108,8 +108,8 @@ stays_still t new d r p h = elim (cases_lt (length t.entries) (length new.entrie
         rests_unit t.entries (numbered t.clauses n.0) (get_or new.entries (length t.entries) d).lit (r n.0 before.number) before.unit
 
 -- a decision, after propagation found that all clauses rest
-pub well_decided : (t : TrailState) (l : Lit) (w : Watches) (r : Watched) → AllRest t.clauses (values_of t.entries) → WatchGives t w r → WatchesWell (with_decision t l) w w.gone_over
-well_decided t l w watched.Rests rest g = record {
+pub well_decided : (t : TrailState) (l : Lit) (w : Watches) (f : ℕ) (r : Watched) → AllRest t.clauses (values_of t.entries) → WatchGives t w f r → WatchesWell (with_decision t l) w f w.gone_over
+well_decided t l w f watched.Rests rest g = record {
   kept = kept_decided t l w.pairs.items w.lists.items w.gone_over (omega (arith, g.1.entries, g.0.kept.entries)) g.0.kept;
   room = record {
     lists = g.0.room.lists;
@@ -119,11 +119,11 @@ well_decided t l w watched.Rests rest g = record {
     unpaired = λ n k low high. absurd (omega (arith, low, high, g.1.pairs));
   };
 }
-well_decided t l w (watched.Falsified n) rest g = absurd (rests_not_false t.entries (numbered t.clauses n) (rest n g.1.number) g.1.falsified)
+well_decided t l w f (watched.Falsified n) rest g = absurd (rests_not_false t.entries (numbered t.clauses n) (rest n g.1.number) g.1.falsified)
 
 -- going back
-pub well_back : (t : TrailState) (k : ℕ) (old new : Watches) → IsTrail t → k ≤ t.level → new.gone_over ≤ old.gone_over → new.gone_over ≤ length (up_to k t.entries) → (new.gone_over ≡ old.gone_over) ⊎ (new.gone_over ≡ length (up_to k t.entries)) → new.pairs ≡ old.pairs → new.lists ≡ old.lists → WatchesWell t old old.gone_over → WatchesWell (back_at t k) new new.gone_over
-well_back t k old new trail level low short which p q w = record {
+pub well_back : (t : TrailState) (f k : ℕ) (old new : Watches) → IsTrail t → k ≤ t.level → new.gone_over ≤ old.gone_over → new.gone_over ≤ length (up_to k t.entries) → (new.gone_over ≡ old.gone_over) ⊎ (new.gone_over ≡ length (up_to k t.entries)) → new.pairs ≡ old.pairs → new.lists ≡ old.lists → WatchesWell t old f old.gone_over → WatchesWell (back_at t k) new f new.gone_over
+well_back t f k old new trail level low short which p q w = record {
   kept = subst (λ ps. IsKept (back_at t k) ps new.lists.items new.gone_over) (sym (ap (λ v. v.items) p))
       (subst (λ ls. IsKept (back_at t k) old.pairs.items ls new.gone_over) (sym (ap (λ v. v.items) q))
       (kept_back t k old.pairs.items old.lists.items old.gone_over new.gone_over trail level low short which w.kept));
@@ -139,21 +139,21 @@ well_back t k old new trail level low short which p q w = record {
 }
   where
     count : List Pair → Lit → ℕ
-    count ps l = unwatched t.clauses ps l
+    count ps l = unwatched f t.clauses ps l
 
 -- a new trail
 pub new_watching : (vars : ℕ) (p : TrailState) (w : Watches) (s : Shorts) → p ≡ record { vars = vars; clauses = []; entries = []; level = 0 } → IsTrail p → HasNone vars w → HasNoShorts vars s → IsWatching p w s
 new_watching vars p w s e h n m = record {
   trail = h;
-  well = subst (λ t. WatchesWell t w w.gone_over) (sym e) (well_new vars w n);
+  well = subst (λ t. WatchesWell t w s.fixed w.gone_over) (sym e) (well_new vars s.fixed w n);
   shorts = subst (λ t. HasShorts t.vars t.clauses s.fixed (lists_of s)) (sym e) (has_shorts_none vars s m);
   marked = λ i d l. absurd (omega (arith, l, ap length n.pairs));
   due = λ i k low. absurd (omega (arith, k.above, k.within, ap (λ (t : TrailState). length t.clauses) e));
 }
 
 -- the literals of a clause have lists
-pub have_lists : (t seen : TrailState) (w : Watches) (c : List Lit) → t ≡ seen → WatchesWell t w w.gone_over → IsWithin seen.vars c → HaveLists w c
-have_lists t seen w c e h o l k = code_within t w (held_in w.lists.items) l h.room (subst (λ (s : TrailState). IsVariable s.vars l.var) (sym e) (variable_of seen.vars c l o k))
+pub have_lists : (t seen : TrailState) (w : Watches) (f : ℕ) (c : List Lit) → t ≡ seen → WatchesWell t w f w.gone_over → IsWithin seen.vars c → HaveLists w c
+have_lists t seen w f c e h o l k = code_within t w f (held_in w.lists.items) l h.room (subst (λ (s : TrailState). IsVariable s.vars l.var) (sym e) (variable_of seen.vars c l o k))
 
 -- the literals of a clause have lists of clauses of at most three literals
 pub have_short_lists : (t seen : TrailState) (w : Watches) (s : Shorts) (c : List Lit) → t ≡ seen → s.flat ≡ [] → IsWatching t w s → IsWithin seen.vars c → HaveShortLists s c
@@ -162,7 +162,7 @@ have_short_lists t seen w s c e g h o = have_lists_shorts t.vars t.clauses s c g
 pub watching_wider : (t : TrailState) (old new : Watches) (s : Shorts) → IsWatching t old s → IsWider old new → IsWatching t new s
 watching_wider t old new s h w = record {
   trail = h.trail;
-  well = well_wider t old new w.pairs w.capacity w.size w.numbers w.rooms w.gone_over h.well;
+  well = well_wider t s.fixed old new w.pairs w.capacity w.size w.numbers w.rooms w.gone_over h.well;
   shorts = h.shorts;
   marked = subst (AreMarked t.clauses s.fixed) (sym w.pairs) h.marked;
   due = λ n k low. subst (λ g. is_fixed s.fixed n (numbered t.clauses n) ≡ true → IsDue t.entries g (numbered t.clauses n)) (sym w.gone_over) (h.due n k (omega (arith, low, ap length w.pairs)));
@@ -172,7 +172,7 @@ watching_wider t old new s h w = record {
 pub watching_same : (t : TrailState) (w : Watches) (old new : Shorts) → IsWatching t w old → SameLists old new → IsWatching t w new
 watching_same t w old new h s = record {
   trail = h.trail;
-  well = h.well;
+  well = subst (λ f. WatchesWell t w f w.gone_over) (sym s.fixed) h.well;
   shorts = has_shorts_same t.vars t.clauses old new s h.shorts;
   marked = subst (λ f. AreMarked t.clauses f w.pairs.items) (sym s.fixed) h.marked;
   due = subst (λ f. AreDue t f (length w.pairs.items) w.gone_over) (sym s.fixed) h.due;
@@ -203,11 +203,13 @@ shorts_added false vars cs c n same entered number o grows u short long k =
     (has_shorts_long vars cs c same.fixed same.fixed (lists_of same) (omega (arith, k.few)) (λ h. absurd (omega (arith, k.few, fixed_within same.fixed (length cs + 1) c h))) (λ m x l h. h) k)
 
 -- a clause was added
-pub watching_added : (takes : Bool) (t after seen : TrailState) (old new : Watches) (before same entered counted : Shorts) (c : List Lit) (count n : ℕ) → t ≡ seen → IsWatching t old before → MayAdd seen c → has_distinct_variables c ≡ true → count ≡ length t.clauses → IsWider old new → HavePlaces old new c → count + 1 ≤ vec_capacity new.pairs → SameShorts before same → (takes ≡ true → before.fixed ≡ count) → (takes ≡ true → before.flat ≡ []) → ((takes && is_short c) ≡ true → Enters same entered n c) → ((takes && is_short c) ≡ false → entered ≡ same) → counted.growing ≡ entered.growing → counted.flat ≡ entered.flat → counted.fixed ≡ cond takes n entered.fixed → n ≡ length t.clauses + 1 → after ≡ with_clause t c → IsTrail after → IsWatching after new counted
+pub watching_added : (takes : Bool) (t after seen : TrailState) (old new : Watches) (before same entered counted : Shorts) (c : List Lit) (count n : ℕ) → t ≡ seen → IsWatching t old before → MayAdd seen c → has_distinct_variables c ≡ true → count ≡ length t.clauses → IsWider old new → ((takes && is_short c) ≡ false → HavePlaces old new c) → count + 1 ≤ vec_capacity new.pairs → SameShorts before same → (takes ≡ true → before.fixed ≡ count) → (takes ≡ true → before.flat ≡ []) → ((takes && is_short c) ≡ true → Enters same entered n c) → ((takes && is_short c) ≡ false → entered ≡ same) → counted.growing ≡ entered.growing → counted.flat ≡ entered.flat → counted.fixed ≡ cond takes n entered.fixed → n ≡ length t.clauses + 1 → after ≡ with_clause t c → IsTrail after → IsWatching after new counted
 watching_added takes t after seen old new before same entered counted c count n e h may u q w p room s takes_all grows short long lists flat fixed number ok trail = record {
   trail = trail;
-  well = subst (λ x. WatchesWell x new new.gone_over) (sym ok)
-      (well_added t c old new h.trail (subst (λ x. MayAdd x c) (sym e) may) (widens old new c (length t.clauses) w p (omega (arith, q, room))) h.well);
+  well = subst (λ x. WatchesWell x new counted.fixed new.gone_over) (sym ok)
+      (subst (λ f. WatchesWell (with_clause t c) new f new.gone_over) (sym fixed_is)
+      (well_added t c takes same.fixed n old new h.trail (subst (λ x. MayAdd x c) (sym e) may) number kept.few (widens old new c (takes && is_short c) (length t.clauses) w p (omega (arith, q, room)))
+      (subst (λ f. WatchesWell t old f old.gone_over) (sym s.fixed) h.well)));
   shorts = subst (λ (x : TrailState). HasShorts x.vars x.clauses counted.fixed (lists_of counted)) (sym ok)
       (subst (λ f. HasShorts t.vars (t.clauses ++ c ∷ []) f (lists_of counted)) (sym fixed_is)
       (subst (HasShorts t.vars (t.clauses ++ c ∷ []) (cond takes n same.fixed)) (sym (ap (λ v. lists_in counted.flat v.items) lists ∙ ap (λ r. lists_in r entered.growing.items) flat))
@@ -238,17 +240,17 @@ pub watching_refused : (t after : TrailState) (old new : Watches) (before same :
 watching_refused t after old new before same h w s err = subst (λ x. IsWatching x new same) (sym err) (watching_same t new before same (watching_wider t old new before h w) (same_lists before same s))
 
 -- what propagation answers
-pub gives_number : (t : TrailState) (w : Watches) (r : Watched) (o : Option ℕ) → o ≡ number_of r → WatchGives t w r → IfSome o (IsNumber t.clauses)
-gives_number t w watched.Rests o e g = subst (λ x. IfSome x (IsNumber t.clauses)) (sym e) tt
-gives_number t w (watched.Falsified n) o e g = subst (λ x. IfSome x (IsNumber t.clauses)) (sym e) g.1.number
+pub gives_number : (t : TrailState) (w : Watches) (f : ℕ) (r : Watched) (o : Option ℕ) → o ≡ number_of r → WatchGives t w f r → IfSome o (IsNumber t.clauses)
+gives_number t w f watched.Rests o e g = subst (λ x. IfSome x (IsNumber t.clauses)) (sym e) tt
+gives_number t w f (watched.Falsified n) o e g = subst (λ x. IfSome x (IsNumber t.clauses)) (sym e) g.1.number
 
-pub gives_conflict : (t : TrailState) (w : Watches) (r : Watched) (o : Option ℕ) → o ≡ number_of r → WatchGives t w r → IfSome o (λ n. IsFalsified (values_of t.entries) (numbered t.clauses n))
-gives_conflict t w watched.Rests o e g = subst (λ x. IfSome x (λ n. IsFalsified (values_of t.entries) (numbered t.clauses n))) (sym e) tt
-gives_conflict t w (watched.Falsified n) o e g = subst (λ x. IfSome x (λ n. IsFalsified (values_of t.entries) (numbered t.clauses n))) (sym e) g.1.falsified
+pub gives_conflict : (t : TrailState) (w : Watches) (f : ℕ) (r : Watched) (o : Option ℕ) → o ≡ number_of r → WatchGives t w f r → IfSome o (λ n. IsFalsified (values_of t.entries) (numbered t.clauses n))
+gives_conflict t w f watched.Rests o e g = subst (λ x. IfSome x (λ n. IsFalsified (values_of t.entries) (numbered t.clauses n))) (sym e) tt
+gives_conflict t w f (watched.Falsified n) o e g = subst (λ x. IfSome x (λ n. IsFalsified (values_of t.entries) (numbered t.clauses n))) (sym e) g.1.falsified
 
-pub gives_rest : (t : TrailState) (w : Watches) (r : Watched) (o : Option ℕ) → o ≡ number_of r → WatchGives t w r → IfNone o (AllRest t.clauses (values_of t.entries))
-gives_rest t w watched.Rests o e g = subst (λ x. IfNone x (AllRest t.clauses (values_of t.entries))) (sym e) g.1.rest
-gives_rest t w (watched.Falsified n) o e g = subst (λ x. IfNone x (AllRest t.clauses (values_of t.entries))) (sym e) tt
+pub gives_rest : (t : TrailState) (w : Watches) (f : ℕ) (r : Watched) (o : Option ℕ) → o ≡ number_of r → WatchGives t w f r → IfNone o (AllRest t.clauses (values_of t.entries))
+gives_rest t w f watched.Rests o e g = subst (λ x. IfNone x (AllRest t.clauses (values_of t.entries))) (sym e) g.1.rest
+gives_rest t w f (watched.Falsified n) o e g = subst (λ x. IfNone x (AllRest t.clauses (values_of t.entries))) (sym e) tt
 
 abbrev some_entry : Entry
 some_entry = record { lit = record { var = 0; negated = false }; decision_level = 0; reason = None }
@@ -257,14 +259,14 @@ some_entry = record { lit = record { var = 0; negated = false }; decision_level 
 pub still_there : (t new seen : TrailState) → t ≡ seen → AllRest seen.clauses (values_of seen.entries) → Propagates t new → IsTrail new → new ≡ seen
 still_there t new seen e r p h = stays_still t new some_entry (subst (λ (s : TrailState). AllRest s.clauses (values_of s.entries)) (sym e) r) p h ∙ e
 
-pub watching_decided : (t new after seen : TrailState) (l : Lit) (old w : Watches) (s : Shorts) (r : Watched) → t ≡ seen → IsWatching t old s → AllRest seen.clauses (values_of seen.entries) → Propagates t new → IsTrail new → WatchGives new w r → AreMarked new.clauses s.fixed w.pairs.items → AreDue new s.fixed (length w.pairs.items) w.gone_over → after ≡ with_decision new l → IsTrail after → IsWatching after w s
+pub watching_decided : (t new after seen : TrailState) (l : Lit) (old w : Watches) (s : Shorts) (r : Watched) → t ≡ seen → IsWatching t old s → AllRest seen.clauses (values_of seen.entries) → Propagates t new → IsTrail new → WatchGives new w s.fixed r → AreMarked new.clauses s.fixed w.pairs.items → AreDue new s.fixed (length w.pairs.items) w.gone_over → after ≡ with_decision new l → IsTrail after → IsWatching after w s
 watching_decided t new after seen l old w s r e h rest p trail_new g marked due q trail = record {
   trail = trail;
-  well = subst (λ x. WatchesWell x w w.gone_over) (sym q)
-      (well_decided new l w r (subst (λ (x : TrailState). AllRest x.clauses (values_of x.entries)) (sym (still_there t new seen e rest p trail_new)) rest) g);
+  well = subst (λ x. WatchesWell x w s.fixed w.gone_over) (sym q)
+      (well_decided new l w s.fixed r (subst (λ (x : TrailState). AllRest x.clauses (values_of x.entries)) (sym (still_there t new seen e rest p trail_new)) rest) g);
   shorts = subst (λ (x : TrailState). HasShorts x.vars x.clauses s.fixed (lists_of s)) (sym q) (shorts_propagate t new s p h.shorts);
   marked = subst (λ (x : TrailState). AreMarked x.clauses s.fixed w.pairs.items) (sym q) marked;
-  due = subst (λ x. AreDue x s.fixed (length w.pairs.items) w.gone_over) (sym q) (due_decided new l s.fixed (length w.pairs.items) w.gone_over (well_watched new w r g).kept.entries due);
+  due = subst (λ x. AreDue x s.fixed (length w.pairs.items) w.gone_over) (sym q) (due_decided new l s.fixed (length w.pairs.items) w.gone_over (well_watched new w s.fixed r g).kept.entries due);
 }
 
 pub watching_back : (t after seen : TrailState) (k : ℕ) (old new : Watches) (s : Shorts) (count : ℕ) → t ≡ seen → IsWatching t old s → k ≤ seen.level → after ≡ back_at t k → IsTrail after → count ≡ length after.entries → new.gone_over ≤ old.gone_over → new.gone_over ≤ count → (new.gone_over ≡ old.gone_over) ⊎ (new.gone_over ≡ count) → new.pairs ≡ old.pairs → new.lists ≡ old.lists → IsWatching after new s
@@ -274,7 +276,7 @@ watching_back t after seen k old new s count e h level q trail c low high which 
     let level_is : k ≤ t.level = subst (λ (x : TrailState). k ≤ x.level) (sym e) level in
     record {
       trail = trail;
-      well = subst (λ x. WatchesWell x new new.gone_over) (sym q) (well_back t k old new h.trail level_is low (omega (arith, high, size)) which_size p l h.well);
+      well = subst (λ x. WatchesWell x new s.fixed new.gone_over) (sym q) (well_back t s.fixed k old new h.trail level_is low (omega (arith, high, size)) which_size p l h.well);
       shorts = subst (λ (x : TrailState). HasShorts x.vars x.clauses s.fixed (lists_of s)) (sym q) h.shorts;
       marked = subst (λ (x : TrailState). AreMarked x.clauses s.fixed new.pairs.items) (sym q) (subst (AreMarked t.clauses s.fixed) (sym (ap (λ v. v.items) p)) h.marked);
       due = subst (λ x. AreDue x s.fixed (length new.pairs.items) new.gone_over) (sym q)

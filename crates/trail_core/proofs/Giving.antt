@@ -3,7 +3,7 @@ use Rattle.std.proofs.Common.{◌≡◌, ◌≢◌, ℕ, ◌+◌, ◌-◌, ◌<�
 use Rattle.std.specs.Prelude.{IfSome, is_some}
 use Rattle.loc_base.proofs.ShelfOptions.{is_some-false}
 use Rattle.std.specs.Vec.{vec_capacity}
-use Rattle.std.proofs.lemmas.Bool.{cases_eq}
+use Rattle.std.proofs.lemmas.Bool.{cases_eq, cases_Bool}
 use Rattle.std.proofs.lemmas.List.{length-set}
 use Rattle.clause_base.specs.declared.literal.Lit.{Lit}
 use Rattle.clause_base.specs.Literal.{has}
@@ -16,22 +16,20 @@ use Rattle.trail_core.specs.declared.visit.Seen.TheVariants as seen
 use Rattle.trail_core.specs.Values.{IsFalseIn, IsTrueIn, IsUnassignedIn, IsVariable}
 use Rattle.trail_core.specs.TrailState.{TrailState, IsReason, values_of}
 use Rattle.trail_core.specs.Look.{Falsifies}
-use Rattle.trail_core.specs.Watching.{with_list, room_of, lacks, unwatched, AreNumbers, IsCovered, IsPaired, settled, in_lists, watched, Stands, list_of, code_of}
+use Rattle.trail_core.specs.Watching.{with_list, room_of, is_mark, lacks, unwatched, AreNumbers, IsCovered, IsPaired, settled, in_lists, watched, Stands, list_of, code_of}
 use Rattle.trail_core.specs.Visits.{IsKnown, IsOther, IsOriented, IsReplacement, IsVisited, IsWatchNow, IsGoing, IsMoved, ForceGives, SeenGives, VisitsAs, Holds, leaving}
 use Rattle.trail_core.proofs.Propagating.{Propagates-none}
 use Rattle.trail_core.proofs.Keeping.{paired_map}
 use Rattle.trail_core.proofs.Looks.{variable_of, distinct_same}
 use Rattle.trail_core.proofs.Listing.{at_any, list_set_same, list_set_other, with_list-length, with_list-room, with_list-numbers, numbers_set, kept_last}
 use Rattle.trail_core.proofs.Counting.{some_unwatched, lacks-true}
+use Rattle.trail_core.proofs.Marks.{mark_none}
 use Rattle.trail_core.proofs.Visiting.{blank_gone, visits_moved, visits_forced, visits_falsified}
 use Rattle.trail_core.proofs.Passing.{Turns, turns_keep, turns_leave, Follows, going_next}
 
 -- the pair of the clause, by any default
 pub pair_is : (t : TrailState) (w : Watches) (n : ℕ) (gone : Lit) (p d : Pair) → IsKnown t w n gone → get_or w.pairs.items (n - 1) d ≡ get_or w.pairs.items (n - 1) p
 pair_is t w n gone p d k = at_any w.pairs.items (n - 1) d p (omega (arith, k.above, k.within))
-
-pub moved_gives : (t : TrailState) (w v : Watches) (p : Pair) (next : Lit) (n : ℕ) → IsKnown t w n p.first → IsOriented (get_or w.pairs.items (n - 1) p) p → IsReplacement t n p.second next → IsMoved w v n record { first = p.second; second = next } → SeenGives t t w v p.first n seen.Leaves
-moved_gives t w v p next n k o h m = visits_moved t w v p (get_or w.pairs.items (n - 1) p) next n k o (λ d. pair_is t w n p.first p d k) h m
 
 pub forced_gives : (t new : TrailState) (w : Watches) (p : Pair) (n : ℕ) (r : Seen) → IsKnown t w n p.first → IsOriented (get_or w.pairs.items (n - 1) p) p → ForceGives t new n p.second r → SeenGives t new w w p.first n r
 forced_gives t new w p n seen.Stays k o f = visits_forced t new w p (get_or w.pairs.items (n - 1) p) n k o (λ d. pair_is t w n p.first p d k) f.0 f.1.0 f.1.1
@@ -58,17 +56,34 @@ oriented_watched t w p n k o = at (get_or w.pairs.items (n - 1) p) o (k.paired p
 pub other_variable : (t : TrailState) (w : Watches) (p : Pair) (n : ℕ) → IsKnown t w n p.first → IsOriented (get_or w.pairs.items (n - 1) p) p → IsVariable t.vars p.second.var
 other_variable t w p n k o = variable_of t.vars (numbered t.clauses n) p.second (k.trail.within n k.number) (oriented_watched t w p n k o).1.0
 
+-- the pair doesn't say that the clause stands in the lists of its literals
+no_mark : (t : TrailState) (w : Watches) (p : Pair) (n : ℕ) → IsKnown t w n p.first → IsOriented (get_or w.pairs.items (n - 1) p) p → is_mark (get_or w.pairs.items (n - 1) p) ≡ false
+no_mark t w p n k o = elim (cases_Bool (is_mark (get_or w.pairs.items (n - 1) p))) [ inl m ↦ absurd (mark_none (get_or w.pairs.items (n - 1) p) above m) | inr f ↦ f ]
+  where
+    other : IsVariable t.vars p.second.var
+    other = other_variable t w p n k o
+
+    above : 1 ≤ (get_or w.pairs.items (n - 1) p).first.var
+    above = elim o [
+      | inl e ↦ omega (arith, ap (λ (q : Pair). q.first.var) e, k.is_gone.variable.above)
+      | inr e ↦ omega (arith, ap (λ (q : Pair). q.first.var) e, other.above)
+    ]
+
+pub moved_gives : (t : TrailState) (w v : Watches) (p : Pair) (next : Lit) (n : ℕ) → IsKnown t w n p.first → IsOriented (get_or w.pairs.items (n - 1) p) p → IsReplacement t n p.second next → IsMoved w v n record { first = p.second; second = next } → SeenGives t t w v p.first n seen.Leaves
+moved_gives t w v p next n k o h m = visits_moved t w v p (get_or w.pairs.items (n - 1) p) next n k (no_mark t w p n k o) o (λ d. pair_is t w n p.first p d k) h m
+
 -- a literal that the clause may watch has a list, with room
 pub replacement_room : (t : TrailState) (w : Watches) (p : Pair) (next : Lit) (n : ℕ) → IsKnown t w n p.first → IsOriented (get_or w.pairs.items (n - 1) p) p → IsReplacement t n p.second next → (code_of next < length w.lists.items) × (length (list_of w.lists.items next) < room_of w.lists.items next)
 replacement_room t w p next n k o r =
     let v : IsVariable t.vars next.var = variable_of t.vars (numbered t.clauses n) next (k.trail.within n k.number) r.member in
     let not_gone : next ≢ p.first = λ e. r.not_false (subst (IsFalseIn (values_of t.entries)) (sym e) k.is_gone.is_false) in
     let not_other : next ≢ p.second = λ e. r.apart (ap (λ (x : Lit). x.var) e) in
+    let mark : is_mark (get_or w.pairs.items (n - 1) p) ≡ false = no_mark t w p n k o in
     let lacking : lacks (numbered t.clauses n) (get_or w.pairs.items (n - 1) p) next ≡ true = elim o [
-      | inl e ↦ subst (λ q. lacks (numbered t.clauses n) q next ≡ true) (sym e) (lacks-true (numbered t.clauses n) p next r.member (λ z. not_gone (sym z)) (λ z. not_other (sym z)))
-      | inr e ↦ subst (λ q. lacks (numbered t.clauses n) q next ≡ true) (sym e) (lacks-true (numbered t.clauses n) record { first = p.second; second = p.first } next r.member (λ z. not_other (sym z)) (λ z. not_gone (sym z)))
+      | inl e ↦ subst (λ q. lacks (numbered t.clauses n) q next ≡ true) (sym e) (lacks-true (numbered t.clauses n) p next (subst (λ q. is_mark q ≡ false) e mark) r.member (λ z. not_gone (sym z)) (λ z. not_other (sym z)))
+      | inr e ↦ subst (λ q. lacks (numbered t.clauses n) q next ≡ true) (sym e) (lacks-true (numbered t.clauses n) record { first = p.second; second = p.first } next (subst (λ q. is_mark q ≡ false) e mark) r.member (λ z. not_other (sym z)) (λ z. not_gone (sym z)))
     ] in
-    let some : 1 ≤ unwatched t.clauses w.pairs.items next = some_unwatched t.clauses w.pairs.items (n - 1) p next (omega (arith, k.above, k.within)) (omega (arith, k.above, k.number.within)) lacking in
+    let some : 1 ≤ unwatched 0 t.clauses w.pairs.items next = some_unwatched 0 t.clauses w.pairs.items (n - 1) p next (omega (arith, k.above, k.within)) (omega (arith, k.above, k.number.within)) lacking in
     (omega (arith, k.lists, v.within, cond_le next.negated), omega (arith, k.room next not_gone v, some))
   where
     cond_le : (b : Bool) → cond b 1 0 ≤ 1

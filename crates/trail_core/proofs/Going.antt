@@ -15,8 +15,11 @@ use Rattle.trail_core.specs.declared.watches.Watches.{Watches}
 use Rattle.clause_base.specs.Acceptance.{numbered}
 use Rattle.trail_core.specs.Watching.{is_fixed, AreMarked}
 use Rattle.trail_core.specs.Shorts.{AreDue}
+use Rattle.trail_core.specs.declared.watch.Watched.{Watched}
+use Rattle.trail_core.specs.declared.watch.Watched.TheVariants as watched
+use Rattle.trail_core.proofs.Counting.{unwatched-paired}
 use Rattle.trail_core.proofs.Due.{due_done}
-use Rattle.trail_core.specs.Visits.{IsGone, WatchesWell, IsDone}
+use Rattle.trail_core.specs.Visits.{SweepGives, IsGone, WatchesWell, IsDone}
 use Rattle.trail_core.proofs.Keeping.{kept_rests}
 use Rattle.trail_core.proofs.Listing.{at_any}
 
@@ -64,7 +67,7 @@ told_there (e ∷ es) zero l = refl
 told_there (e ∷ es) (suc g) l = told_there es g (omega (arith, l))
 
 -- all is done
-pub done_at : (t : TrailState) (f : ℕ) (w : Watches) → WatchesWell t w w.gone_over → length t.clauses ≤ length w.pairs.items → length t.entries ≤ w.gone_over → AreMarked t.clauses f w.pairs.items → AreDue t f (length w.pairs.items) w.gone_over → IsDone t w
+pub done_at : (t : TrailState) (f : ℕ) (w : Watches) → WatchesWell t w f w.gone_over → length t.clauses ≤ length w.pairs.items → length t.entries ≤ w.gone_over → AreMarked t.clauses f w.pairs.items → AreDue t f (length w.pairs.items) w.gone_over → IsDone t w
 done_at t f w h all over marked due = record {
   pairs = all;
   entries = over;
@@ -81,8 +84,25 @@ done_at t f w h all over marked due = record {
     empty = record { first = none; second = none }
 
 -- one entry more was gone over
-pub well_counted : (t : TrailState) (w : Watches) (k g : ℕ) → WatchesWell t w g → WatchesWell t record { pairs = w.pairs; lists = w.lists; gone_over = k } g
-well_counted t w k g h = record {
+pub well_counted : (t : TrailState) (w : Watches) (f k g : ℕ) → WatchesWell t w f g → WatchesWell t record { pairs = w.pairs; lists = w.lists; gone_over = k } f g
+well_counted t w f k g h = record {
   kept = h.kept;
   room = record { lists = h.room.lists; pairs = h.room.pairs; numbers = h.room.numbers; room = h.room.room; unpaired = h.room.unpaired };
 }
+
+-- where all clauses have pairs, the count of those in lists plays no part
+pub well_paired : (t : TrailState) (w : Watches) (f h g : ℕ) → length t.clauses ≤ length w.pairs.items → WatchesWell t w f g → WatchesWell t w h g
+well_paired t w f h g all k = record {
+  kept = k.kept;
+  room = record {
+    lists = k.room.lists;
+    pairs = k.room.pairs;
+    numbers = k.room.numbers;
+    room = λ l v. omega (arith, k.room.room l v, unwatched-paired f h t.clauses w.pairs.items l all);
+    unpaired = k.room.unpaired;
+  };
+}
+
+pub sweep_paired : (t : TrailState) (w : Watches) (f : ℕ) (r : Watched) → length t.clauses ≤ length w.pairs.items → SweepGives t w 0 r → SweepGives t w f r
+sweep_paired t w f watched.Rests all g = well_paired t w 0 f (w.gone_over + 1) all g
+sweep_paired t w f (watched.Falsified n) all g = (well_paired t w 0 f w.gone_over all g.0, g.1)

@@ -50,8 +50,8 @@ present_front t new g p h at d low high = elim (cases_lt at (length t.entries)) 
 ]
 
 -- a literal of a variable has a list
-pub code_within : (t : TrailState) (w : Watches) (held : Lit → ℕ) (l : Lit) → HasRoom t w held → IsVariable t.vars l.var → code_of l < length w.lists.items
-code_within t w held l h v = omega (arith, h.lists, v.within, cond_le l.negated)
+pub code_within : (t : TrailState) (w : Watches) (f : ℕ) (held : Lit → ℕ) (l : Lit) → HasRoom t w f held → IsVariable t.vars l.var → code_of l < length w.lists.items
+code_within t w f held l h v = omega (arith, h.lists, v.within, cond_le l.negated)
   where
     cond_le : (b : Bool) → cond b 1 0 ≤ 1
     cond_le true = omega arith
@@ -89,14 +89,14 @@ free_propagates t new n p h k l =
     subst (λ cs. IsOpen (values_of (up_to k new.entries)) (numbered cs n)) (sym p.clauses) (subst (λ es. IsOpen (values_of es) (numbered t.clauses n)) (sym (up_to_propagates t new k p low)) (h k low))
 
 -- the pass begins
-pub going_begin : (t : TrailState) (w : Watches) (gone : Lit) → IsTrail t → WatchesWell t w w.gone_over → IsGone t w.gone_over gone → w.gone_over < length t.entries → IsGoing t w record { gone = gone; kept = 0; conflict = None } 0
+pub going_begin : (t : TrailState) (w : Watches) (gone : Lit) → IsTrail t → WatchesWell t w 0 w.gone_over → IsGone t w.gone_over gone → w.gone_over < length t.entries → IsGoing t w record { gone = gone; kept = 0; conflict = None } 0
 going_begin t w gone trail well is l = record {
   trail = trail;
   few = well.kept.few;
   entries = l;
   present = well.kept.present;
   gone = is;
-  list = code_within t w (held_in w.lists.items) gone well.room is.variable;
+  list = code_within t w 0 (held_in w.lists.items) gone well.room is.variable;
   kept = omega arith;
   conflict = tt;
   room = record {
@@ -207,23 +207,23 @@ going_next t new a b w s r place n k h f = record {
     now : Lit → Lit → ℕ → Type 0
     now x y m = IsWatchNow new.entries w.gone_over w.lists.items r (place + 1) m x y
 
-    counts : (l : Lit) → unwatched new.clauses w.pairs.items l ≡ unwatched t.clauses b.pairs.items l
-    counts l = ap (λ cs. unwatched cs w.pairs.items l) f.visits.appends.clauses ∙ ap (λ ps. unwatched t.clauses ps l) f.pairs
+    counts : (l : Lit) → unwatched 0 new.clauses w.pairs.items l ≡ unwatched 0 t.clauses b.pairs.items l
+    counts l = ap (λ cs. unwatched 0 cs w.pairs.items l) f.visits.appends.clauses ∙ ap (λ ps. unwatched 0 t.clauses ps l) f.pairs
 
     rooms : (l : Lit) → room_of w.lists.items l ≡ room_of a.lists.items l
     rooms l = f.rooms l ∙ f.visits.rooms l
 
-    at_gone : IsVariable t.vars s.gone.var → r.kept + (length (list_of w.lists.items s.gone) - (place + 1)) + unwatched new.clauses w.pairs.items s.gone ≤ room_of w.lists.items s.gone
+    at_gone : IsVariable t.vars s.gone.var → r.kept + (length (list_of w.lists.items s.gone) - (place + 1)) + unwatched 0 new.clauses w.pairs.items s.gone ≤ room_of w.lists.items s.gone
     at_gone v = omega (arith, h.room.room s.gone v, held_gone a.lists.items s place, counts s.gone, rooms s.gone, f.counted, f.same_length, ap length f.visits.same, f.within, f.visits.left)
 
-    room : (l : Lit) → IsVariable new.vars l.var → held_at w.lists.items r (place + 1) l + unwatched new.clauses w.pairs.items l ≤ room_of w.lists.items l
+    room : (l : Lit) → IsVariable new.vars l.var → held_at w.lists.items r (place + 1) l + unwatched 0 new.clauses w.pairs.items l ≤ room_of w.lists.items l
     room l v =
         let u : IsVariable t.vars l.var = subst (λ m. IsVariable m l.var) f.visits.appends.vars v in
         elim (cases_lit l s.gone) [
           | inl e ↦
               let g : held_at w.lists.items r (place + 1) r.gone ≡ r.kept + (length (list_of w.lists.items r.gone) - (place + 1)) = held_gone w.lists.items r (place + 1) in
               let q : held_at w.lists.items r (place + 1) s.gone ≡ r.kept + (length (list_of w.lists.items s.gone) - (place + 1)) = subst (λ z. held_at w.lists.items r (place + 1) z ≡ r.kept + (length (list_of w.lists.items z) - (place + 1))) f.gone g in
-              subst (λ z. held_at w.lists.items r (place + 1) z + unwatched new.clauses w.pairs.items z ≤ room_of w.lists.items z) (sym e) (omega (arith, q, at_gone (subst (λ z. IsVariable t.vars z.var) e u)))
+              subst (λ z. held_at w.lists.items r (place + 1) z + unwatched 0 new.clauses w.pairs.items z ≤ room_of w.lists.items z) (sym e) (omega (arith, q, at_gone (subst (λ z. IsVariable t.vars z.var) e u)))
           | inr d ↦ omega (arith, held_other w.lists.items r (place + 1) l (λ e. d (e ∙ f.gone)), ap length (f.others l d), f.visits.spare l d, counts l, rooms l, h.room.room l u, held_other a.lists.items s place l d)
         ]
 
@@ -312,7 +312,7 @@ ended_listed t a w s place n x y h e u = subst (λ ls. IsListed ls x n) (sym e.l
     left = take s.kept (list_of a.lists.items s.gone)
 
 -- the room that is left
-ends_room : (t : TrailState) (a w : Watches) (s : Sweep) (place : ℕ) → IsGoing t a s place → Ends t a w s place → HasRoom t w (held_in w.lists.items)
+ends_room : (t : TrailState) (a w : Watches) (s : Sweep) (place : ℕ) → IsGoing t a s place → Ends t a w s place → HasRoom t w 0 (held_in w.lists.items)
 ends_room t a w s place h e = record {
   lists = ap length e.lists ∙ (with_list-length a.lists.items s.gone left ∙ h.room.lists);
   pairs = omega (arith, e.capacity, h.room.pairs);
@@ -325,20 +325,20 @@ ends_room t a w s place h e = record {
     left : List ℕ
     left = take s.kept (list_of a.lists.items s.gone)
 
-    counts : (l : Lit) → unwatched t.clauses w.pairs.items l ≡ unwatched t.clauses a.pairs.items l
-    counts l = ap (λ ps. unwatched t.clauses ps l) e.pairs
+    counts : (l : Lit) → unwatched 0 t.clauses w.pairs.items l ≡ unwatched 0 t.clauses a.pairs.items l
+    counts l = ap (λ ps. unwatched 0 t.clauses ps l) e.pairs
 
     rooms : (l : Lit) → room_of w.lists.items l ≡ room_of a.lists.items l
     rooms l = ap (λ ls. room_of ls l) e.lists ∙ with_list-room a.lists.items s.gone l left h.list
 
-    at_gone : IsVariable t.vars s.gone.var → length (list_of w.lists.items s.gone) + unwatched t.clauses w.pairs.items s.gone ≤ room_of w.lists.items s.gone
+    at_gone : IsVariable t.vars s.gone.var → length (list_of w.lists.items s.gone) + unwatched 0 t.clauses w.pairs.items s.gone ≤ room_of w.lists.items s.gone
     at_gone v =
         let list : list_of w.lists.items s.gone ≡ left = ap (λ ls. list_of ls s.gone) e.lists ∙ list_set_same a.lists.items s.gone left h.list in
         omega (arith, h.room.room s.gone v, held_gone a.lists.items s place, counts s.gone, rooms s.gone, ap length list, length-take-le s.kept (list_of a.lists.items s.gone) e.short)
 
-    room : (l : Lit) → IsVariable t.vars l.var → length (list_of w.lists.items l) + unwatched t.clauses w.pairs.items l ≤ room_of w.lists.items l
+    room : (l : Lit) → IsVariable t.vars l.var → length (list_of w.lists.items l) + unwatched 0 t.clauses w.pairs.items l ≤ room_of w.lists.items l
     room l v = elim (cases_lit l s.gone) [
-      | inl q ↦ subst (λ z. length (list_of w.lists.items z) + unwatched t.clauses w.pairs.items z ≤ room_of w.lists.items z) (sym q) (at_gone (subst (λ z. IsVariable t.vars z.var) q v))
+      | inl q ↦ subst (λ z. length (list_of w.lists.items z) + unwatched 0 t.clauses w.pairs.items z ≤ room_of w.lists.items z) (sym q) (at_gone (subst (λ z. IsVariable t.vars z.var) q v))
       | inr d ↦ omega (arith, h.room.room l v, held_other a.lists.items s place l d, counts l, rooms l, ap length (ap (λ ls. list_of ls l) e.lists ∙ list_set_other a.lists.items s.gone l left d))
     ]
 
@@ -360,7 +360,7 @@ kept_rests t a w s place d h e none = record {
       (h.paired i p (omega (arith, m, ap length e.pairs))));
 }
 
-pub ends_rests : (t : TrailState) (a w : Watches) (s : Sweep) (place : ℕ) (d : Entry) → IsGoing t a s place → Ends t a w s place → s.conflict ≡ None → WatchesWell t w (w.gone_over + 1)
+pub ends_rests : (t : TrailState) (a w : Watches) (s : Sweep) (place : ℕ) (d : Entry) → IsGoing t a s place → Ends t a w s place → s.conflict ≡ None → WatchesWell t w 0 (w.gone_over + 1)
 ends_rests t a w s place d h e none = record { kept = kept_rests t a w s place d h e none; room = ends_room t a w s place h e }
 
 kept_falsified : (t : TrailState) (a w : Watches) (s : Sweep) (place : ℕ) → IsGoing t a s place → Ends t a w s place → IsKept t w.pairs.items w.lists.items w.gone_over
@@ -386,5 +386,5 @@ kept_falsified t a w s place h e = record {
     none_some : (o : Option Bool) (b : Bool) → o ≡ None → o ≡ Some b → ⊥
     none_some o b p q = cc
 
-pub ends_falsified : (t : TrailState) (a w : Watches) (s : Sweep) (place : ℕ) → IsGoing t a s place → Ends t a w s place → WatchesWell t w w.gone_over
+pub ends_falsified : (t : TrailState) (a w : Watches) (s : Sweep) (place : ℕ) → IsGoing t a s place → Ends t a w s place → WatchesWell t w 0 w.gone_over
 ends_falsified t a w s place h e = record { kept = kept_falsified t a w s place h e; room = ends_room t a w s place h e }

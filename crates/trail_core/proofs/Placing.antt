@@ -1,5 +1,5 @@
 -- The pair of a clause that had none.
-use Rattle.std.proofs.Common.{◌≡◌, ◌≢◌, ℕ, ◌+◌, ◌*◌, ◌<◌, ◌≤◌, Bool, true, false, ◌||◌, cond, List, [], ◌∷◌, ◌++◌, length, get_or, take, refl, sym, ap, ◌∙◌, subst, arith, inl, inr}
+use Rattle.std.proofs.Common.{◌≡◌, ◌≢◌, ℕ, ◌+◌, ◌-◌, ◌*◌, ◌<◌, ◌≤◌, Bool, true, false, not, ◌&&◌, ◌||◌, cond, List, [], ◌∷◌, ◌++◌, length, get_or, take, refl, sym, ap, ◌∙◌, subst, arith, inl, inr}
 use Rattle.std.specs.Vec.{vec_capacity}
 use Rattle.std.proofs.lemmas.Bool.{cases_lt, or_left, or_right}
 use Rattle.std.proofs.lemmas.List.{get_or_append_left, get_or_push, length_push}
@@ -12,12 +12,12 @@ use Rattle.trail_core.specs.declared.watches.Watches.{Watches}
 use Rattle.trail_core.specs.Listing.{Listing}
 use Rattle.trail_core.specs.Values.{IsFalseIn, IsVariable}
 use Rattle.trail_core.specs.TrailState.{TrailState, IsTrail, IsNumber, MayAdd, Propagates, values_of, up_to, with_clause}
-use Rattle.trail_core.specs.Watching.{IsWatch, IsCovered, IsSettled, IsBlank, IsOpen, IsPaired, settled, in_lists, watched as watches_both, is_mark, Stands, IsListed, IsKept, AreNumbers, list_of, room_of, code_of, watches, lacks, unwatched}
+use Rattle.trail_core.specs.Watching.{IsWatch, IsCovered, IsSettled, IsBlank, IsOpen, IsPaired, settled, in_lists, watched as watches_both, is_mark, Stands, IsListed, IsKept, AreNumbers, list_of, room_of, code_of, watches, is_short, is_fixed, lacks, needs, unwatched}
 use Rattle.trail_core.specs.Visits.{IsListedMore, KeepsPair, IsPlaced, MayWatch, MayList, WatchesWell, IsFreeBelow, AreKept, held_in}
 use Rattle.trail_core.proofs.Truth.{values-take_some}
 use Rattle.trail_core.proofs.Keeping.{paired_map, watch_front, settled_front}
 use Rattle.trail_core.proofs.Listing.{cases_lit, listed_push, listed_last, list_set_other, with_list-length, with_list-room, with_list-numbers, with_list-held, numbers_push}
-use Rattle.trail_core.proofs.Counting.{unwatched-push, unwatched-clause, some_unpaired, lacks-le, lacks_or_watches, watches-is}
+use Rattle.trail_core.proofs.Counting.{unwatched-push, unwatched-clause, unwatched-le, some_unpaired, needs_first, needs_last, lacks-le, lacks-mark, lacks_or_watches, watches-is}
 use Rattle.trail_core.proofs.Looks.{variable_of}
 use Rattle.trail_core.proofs.Passing.{present_front, code_within, free_propagates}
 use Rattle.trail_core.proofs.Changes.{numbered-push_old, numbered-push_new, new_open}
@@ -112,15 +112,15 @@ numbers_more : (xs : List ℕ) (m k : ℕ) → m ≤ k → AreNumbers xs m → A
 numbers_more xs m k l h i b = let p = h i b in (p.0, omega (arith, p.1, l))
 
 -- a clause that watches none takes no place
-pair_blank : (t : TrailState) (old new : Watches) (p : Pair) (n : ℕ) → WatchesWell t old old.gone_over → n ≡ length old.pairs.items + 1 → n ≤ length t.clauses → ((W : Lit → Lit → Type 0) → IsPaired t.entries W (numbered t.clauses n) p) → KeepsPair old new p → WatchesWell t new new.gone_over
-pair_blank t old new p n w e l s h = record {
+pair_blank : (t : TrailState) (f : ℕ) (old new : Watches) (p : Pair) (n : ℕ) → WatchesWell t old f old.gone_over → n ≡ length old.pairs.items + 1 → n ≤ length t.clauses → ((W : Lit → Lit → Type 0) → IsPaired t.entries W (numbered t.clauses n) p) → ((x : Lit) → cond (lacks (numbered t.clauses n) p x) 1 0 ≤ cond (needs (f - length old.pairs.items) (numbered t.clauses n) x) 1 0) → KeepsPair old new p → WatchesWell t new f new.gone_over
+pair_blank t f old new p n w e l s less h = record {
   kept = kept_paired t old new p w.kept (omega (arith, e, l)) h.pairs h.gone_over (λ x m z. subst (λ ls. IsListed ls x m) (sym lists) z)
       (subst (λ m. (W : Lit → Lit → Type 0) → IsPaired t.entries W (numbered t.clauses m) p) e s (IsWatch t.entries old.gone_over new.lists.items (length old.pairs.items + 1)));
   room = record {
     lists = ap length lists ∙ w.room.lists;
     pairs = omega (arith, h.capacity, w.room.pairs);
     numbers = λ x. subst (λ ls. AreNumbers (list_of ls x) (length new.pairs.items)) (sym lists) (numbers_more (list_of old.lists.items x) (length old.pairs.items) (length new.pairs.items) (omega (arith, size)) (w.room.numbers x));
-    room = λ x v. omega (arith, ap (λ ls. length (list_of ls x)) lists, ap (λ ls. room_of ls x) lists, w.room.room x v, count x, lacks-le (get_or t.clauses (length old.pairs.items) []) p x);
+    room = λ x v. omega (arith, ap (λ ls. length (list_of ls x)) lists, ap (λ ls. room_of ls x) lists, w.room.room x v, count x, less x);
     unpaired = λ m k low. w.room.unpaired m k (omega (arith, low, size));
   };
 }
@@ -131,20 +131,31 @@ pair_blank t old new p n w e l s h = record {
     size : length new.pairs.items ≡ length old.pairs.items + 1
     size = ap length h.pairs ∙ length_push old.pairs.items p
 
-    count : (x : Lit) → unwatched t.clauses new.pairs.items x + cond (has (get_or t.clauses (length old.pairs.items) []) x) 1 0 ≡ unwatched t.clauses old.pairs.items x + cond (lacks (get_or t.clauses (length old.pairs.items) []) p x) 1 0
-    count x = subst (λ ps. unwatched t.clauses ps x + cond (has (get_or t.clauses (length old.pairs.items) []) x) 1 0 ≡ unwatched t.clauses old.pairs.items x + cond (lacks (get_or t.clauses (length old.pairs.items) []) p x) 1 0) (sym h.pairs)
-        (unwatched-push t.clauses old.pairs.items p x (omega (arith, e, l)))
+    clause : List Lit
+    clause = get_or t.clauses (length old.pairs.items) []
+
+    clause_is : clause ≡ numbered t.clauses n
+    clause_is = ap (λ i. get_or t.clauses i []) (omega (arith, e))
+
+    waiting : ℕ
+    waiting = f - length old.pairs.items
+
+    count : (x : Lit) → unwatched f t.clauses new.pairs.items x + cond (needs waiting (numbered t.clauses n) x) 1 0 ≡ unwatched f t.clauses old.pairs.items x + cond (lacks (numbered t.clauses n) p x) 1 0
+    count x = subst (λ ps. unwatched f t.clauses ps x + cond (needs waiting (numbered t.clauses n) x) 1 0 ≡ unwatched f t.clauses old.pairs.items x + cond (lacks (numbered t.clauses n) p x) 1 0) (sym h.pairs)
+        (subst (λ c. unwatched f t.clauses (old.pairs.items ++ p ∷ []) x + cond (needs waiting c x) 1 0 ≡ unwatched f t.clauses old.pairs.items x + cond (lacks c p x) 1 0) clause_is
+        (unwatched-push f waiting t.clauses old.pairs.items p x refl (omega (arith, e, l))))
 
 -- a clause that is settled, and one that stands in the lists of its literals
-pub pair_settled : (t : TrailState) (old new : Watches) (p : Pair) (n : ℕ) → WatchesWell t old old.gone_over → n ≡ length old.pairs.items + 1 → n ≤ length t.clauses → IsSettled t.entries (numbered t.clauses n) → IsBlank p → KeepsPair old new p → WatchesWell t new new.gone_over
-pair_settled t old new p n w e l s blank h = pair_blank t old new p n w e l (λ W. settled s blank) h
+pub pair_settled : (t : TrailState) (f : ℕ) (old new : Watches) (p : Pair) (n : ℕ) → WatchesWell t old f old.gone_over → n ≡ length old.pairs.items + 1 → n ≤ length t.clauses → IsSettled t.entries (numbered t.clauses n) → is_fixed f n (numbered t.clauses n) ≡ false → IsBlank p → KeepsPair old new p → WatchesWell t new f new.gone_over
+pair_settled t f old new p n w e l s long blank h = pair_blank t f old new p n w e l (λ W. settled s blank)
+    (λ x. omega (arith, lacks-le (numbered t.clauses n) p x, ap {B = ℕ} (λ (b : Bool). cond b 1 0) (needs_first f (length old.pairs.items) n (numbered t.clauses n) x e long))) h
 
-pub pair_short : (t : TrailState) (old new : Watches) (p : Pair) (n : ℕ) → WatchesWell t old old.gone_over → n ≡ length old.pairs.items + 1 → n ≤ length t.clauses → is_mark p ≡ true → IsBlank p → KeepsPair old new p → WatchesWell t new new.gone_over
-pair_short t old new p n w e l s blank h = pair_blank t old new p n w e l (λ W. in_lists s blank) h
+pub pair_short : (t : TrailState) (f : ℕ) (old new : Watches) (p : Pair) (n : ℕ) → WatchesWell t old f old.gone_over → n ≡ length old.pairs.items + 1 → n ≤ length t.clauses → is_mark p ≡ true → IsBlank p → KeepsPair old new p → WatchesWell t new f new.gone_over
+pair_short t f old new p n w e l s blank h = pair_blank t f old new p n w e l (λ W. in_lists s blank) (λ x. omega (arith, lacks-mark (numbered t.clauses n) p x s)) h
 
 -- a clause that watches two literals takes its place in their lists
-pub pair_watched : (t : TrailState) (old new : Watches) (p : Pair) (n : ℕ) → WatchesWell t old old.gone_over → n ≡ length old.pairs.items + 1 → n ≤ length t.clauses → MayWatch t n p → IsPlaced old new n p → WatchesWell t new new.gone_over
-pair_watched t old new p n w e l s h = record {
+pub pair_watched : (t : TrailState) (f : ℕ) (old new : Watches) (p : Pair) (n : ℕ) → WatchesWell t old f old.gone_over → n ≡ length old.pairs.items + 1 → n ≤ length t.clauses → is_fixed f n (numbered t.clauses n) ≡ false → MayWatch t n p → IsPlaced old new n p → WatchesWell t new f new.gone_over
+pair_watched t f old new p n w e l long s h = record {
   kept = kept_paired t old new p w.kept (omega (arith, e, l)) h.pairs h.gone_over h.listed
       (subst (λ m. IsPaired t.entries (IsWatch t.entries old.gone_over new.lists.items m) (numbered t.clauses m) p) e
       (watches_both s.first s.second s.apart
@@ -154,35 +165,36 @@ pair_watched t old new p n w e l s h = record {
     lists = h.lists ∙ w.room.lists;
     pairs = omega (arith, h.capacity, w.room.pairs);
     numbers = λ x. h.numbers x (length new.pairs.items) (omega (arith, e)) (omega (arith, e, size)) (numbers_more (list_of old.lists.items x) (length old.pairs.items) (length new.pairs.items) (omega (arith, size)) (w.room.numbers x));
-    room = λ x v. omega (arith, h.held x, h.rooms x, w.room.room x v, count x, lacks_or_watches clause p x (mine x));
+    room = λ x v. omega (arith, h.held x, h.rooms x, w.room.room x v, count x, lacks_or_watches (numbered t.clauses n) p x (mine x), ap {B = ℕ} (λ (b : Bool). cond b 1 0) (needs_first f (length old.pairs.items) n (numbered t.clauses n) x e long));
     unpaired = λ m k low. w.room.unpaired m k (omega (arith, low, size));
   };
 }
   where
-    clause : List Lit
-    clause = get_or t.clauses (length old.pairs.items) []
-
-    clause_is : numbered t.clauses n ≡ clause
+    clause_is : get_or t.clauses (length old.pairs.items) [] ≡ numbered t.clauses n
     clause_is = ap (λ i. get_or t.clauses i []) (omega (arith, e))
 
     size : length new.pairs.items ≡ length old.pairs.items + 1
     size = ap length h.pairs ∙ length_push old.pairs.items p
 
-    mine : (x : Lit) → watches p x ≡ true → has clause x ≡ true
+    mine : (x : Lit) → watches p x ≡ true → has (numbered t.clauses n) x ≡ true
     mine x y = elim (watches-is p x y) [
-      | inl z ↦ subst (λ u. has clause u ≡ true) z (subst (λ c. has c p.first ≡ true) clause_is s.first)
-      | inr z ↦ subst (λ u. has clause u ≡ true) z (subst (λ c. has c p.second ≡ true) clause_is s.second)
+      | inl z ↦ subst (λ u. has (numbered t.clauses n) u ≡ true) z s.first
+      | inr z ↦ subst (λ u. has (numbered t.clauses n) u ≡ true) z s.second
     ]
 
-    count : (x : Lit) → unwatched t.clauses new.pairs.items x + cond (has clause x) 1 0 ≡ unwatched t.clauses old.pairs.items x + cond (lacks clause p x) 1 0
-    count x = subst (λ ps. unwatched t.clauses ps x + cond (has clause x) 1 0 ≡ unwatched t.clauses old.pairs.items x + cond (lacks clause p x) 1 0) (sym h.pairs)
-        (unwatched-push t.clauses old.pairs.items p x (omega (arith, e, l)))
+    waiting : ℕ
+    waiting = f - length old.pairs.items
+
+    count : (x : Lit) → unwatched f t.clauses new.pairs.items x + cond (needs waiting (numbered t.clauses n) x) 1 0 ≡ unwatched f t.clauses old.pairs.items x + cond (lacks (numbered t.clauses n) p x) 1 0
+    count x = subst (λ ps. unwatched f t.clauses ps x + cond (needs waiting (numbered t.clauses n) x) 1 0 ≡ unwatched f t.clauses old.pairs.items x + cond (lacks (numbered t.clauses n) p x) 1 0) (sym h.pairs)
+        (subst (λ c. unwatched f t.clauses (old.pairs.items ++ p ∷ []) x + cond (needs waiting c x) 1 0 ≡ unwatched f t.clauses old.pairs.items x + cond (lacks c p x) 1 0) clause_is
+        (unwatched-push f waiting t.clauses old.pairs.items p x refl (omega (arith, e, l))))
 
 -- the two literals have lists with room
-pub may_list : (t : TrailState) (w : Watches) (p : Pair) (n : ℕ) → IsTrail t → WatchesWell t w w.gone_over → n ≡ length w.pairs.items + 1 → IsNumber t.clauses n → MayWatch t n p → MayList w p
-may_list t w p n h well e k s = record {
-  first = code_within t w (held_in w.lists.items) p.first well.room first;
-  second = code_within t w (held_in w.lists.items) p.second well.room second;
+pub may_list : (t : TrailState) (f : ℕ) (w : Watches) (p : Pair) (n : ℕ) → IsTrail t → WatchesWell t w f w.gone_over → n ≡ length w.pairs.items + 1 → IsNumber t.clauses n → is_fixed f n (numbered t.clauses n) ≡ false → MayWatch t n p → MayList w p
+may_list t f w p n h well e k long s = record {
+  first = code_within t w f (held_in w.lists.items) p.first well.room first;
+  second = code_within t w f (held_in w.lists.items) p.second well.room second;
   apart = λ z. s.apart (ap (λ (l : Lit). l.var) z);
   room = λ l y. elim (watches-is p l y) [
     | inl z ↦ subst (λ u. length (list_of w.lists.items u) < room_of w.lists.items u) z (free p.first first s.first)
@@ -197,19 +209,19 @@ may_list t w p n h well e k s = record {
     second = variable_of t.vars (numbered t.clauses n) p.second (h.within n k) s.second
 
     free : (l : Lit) → IsVariable t.vars l.var → has (numbered t.clauses n) l ≡ true → length (list_of w.lists.items l) < room_of w.lists.items l
-    free l v m = omega (arith, well.room.room l v, some_unpaired t.clauses w.pairs.items l (omega (arith, e, k.within)) (subst (λ i. has (get_or t.clauses i []) l ≡ true) (omega (arith, e)) m))
+    free l v m = omega (arith, well.room.room l v, some_unpaired f (f - length w.pairs.items) t.clauses w.pairs.items l refl (omega (arith, e, k.within)) (subst (λ i. needs (f - length w.pairs.items) (get_or t.clauses i []) l ≡ true) (omega (arith, e)) (needs_first f (length w.pairs.items) n (numbered t.clauses n) l e long ∙ m)))
 
 -- the first literal of a pair is of a variable
 pub first_above : (t : TrailState) (p : Pair) (n : ℕ) → IsTrail t → IsNumber t.clauses n → MayWatch t n p → 1 ≤ p.first.var
 first_above t p n h k s = (variable_of t.vars (numbered t.clauses n) p.first (h.within n k) s.first).above
 
 -- there is room for the pair of a clause
-pub pair_room : (t : TrailState) (w : Watches) (n : ℕ) → WatchesWell t w w.gone_over → n ≡ length w.pairs.items + 1 → IsNumber t.clauses n → length w.pairs.items < vec_capacity w.pairs
-pair_room t w n h e k = omega (arith, h.room.pairs, e, k.within)
+pub pair_room : (t : TrailState) (f : ℕ) (w : Watches) (n : ℕ) → WatchesWell t w f w.gone_over → n ≡ length w.pairs.items + 1 → IsNumber t.clauses n → length w.pairs.items < vec_capacity w.pairs
+pair_room t f w n h e k = omega (arith, h.room.pairs, e, k.within)
 
 -- the first clause without a pair is open at each level below
-pub free_first : (t : TrailState) (w : Watches) (n : ℕ) → WatchesWell t w w.gone_over → n ≡ length w.pairs.items + 1 → IsNumber t.clauses n → IsFreeBelow t n
-free_first t w n h e k i l = h.room.unpaired n i (omega (arith, e)) k.within l
+pub free_first : (t : TrailState) (f : ℕ) (w : Watches) (n : ℕ) → WatchesWell t w f w.gone_over → n ≡ length w.pairs.items + 1 → IsNumber t.clauses n → IsFreeBelow t n
+free_first t f w n h e k i l = h.room.unpaired n i (omega (arith, e)) k.within l
 
 -- propagation by one clause keeps the lists
 pub kept_propagates : (t new : TrailState) (w : Watches) → Propagates t new → AreKept t w w.gone_over → AreKept new w w.gone_over
@@ -224,14 +236,14 @@ kept_propagates t new w p k = record {
 }
 
 -- propagation by one clause keeps all that is kept
-pub well_propagates : (t new : TrailState) (w : Watches) → Propagates t new → WatchesWell t w w.gone_over → WatchesWell new w w.gone_over
-well_propagates t new w p k = record {
+pub well_propagates : (t new : TrailState) (f : ℕ) (w : Watches) → Propagates t new → WatchesWell t w f w.gone_over → WatchesWell new w f w.gone_over
+well_propagates t new f w p k = record {
   kept = kept_propagates t new w p k.kept;
   room = record {
     lists = k.room.lists ∙ ap (λ v. 2 * v + 2) (sym p.vars);
     pairs = omega (arith, ap length p.clauses, k.room.pairs);
     numbers = k.room.numbers;
-    room = λ l v. subst (λ cs. length (list_of w.lists.items l) + unwatched cs w.pairs.items l ≤ room_of w.lists.items l) (sym p.clauses) (k.room.room l (subst (λ m. IsVariable m l.var) p.vars v));
+    room = λ l v. subst (λ cs. length (list_of w.lists.items l) + unwatched f cs w.pairs.items l ≤ room_of w.lists.items l) (sym p.clauses) (k.room.room l (subst (λ m. IsVariable m l.var) p.vars v));
     unpaired = λ n i low high. free_propagates t new n p (λ j u. k.room.unpaired n j low (omega (arith, high, ap length p.clauses)) u) i;
   };
 }
@@ -245,13 +257,13 @@ kept_added t c pairs lists g h = record {
   paired = λ i d m. subst (λ x. IsPaired t.entries (IsWatch t.entries g lists (i + 1)) x (get_or pairs i d)) (sym (numbered-push_old t.clauses c (i + 1) record { above = omega arith; within = omega (arith, m, h.few) })) (h.paired i d m);
 }
 
--- room for a clause more
-pub record Widens (old new : Watches) (c : List Lit) (count : ℕ) : Type 0 where
+-- room for a clause more, which may stand in the lists of its literals
+pub record Widens (old new : Watches) (c : List Lit) (listed : Bool) (count : ℕ) : Type 0 where
   pub pairs : new.pairs.items ≡ old.pairs.items
   pub pair : count + 1 ≤ vec_capacity new.pairs
   pub lists : length new.lists.items ≡ length old.lists.items
   pub numbers : (l : Lit) → list_of new.lists.items l ≡ list_of old.lists.items l
-  pub more : (l : Lit) → room_of old.lists.items l + cond (has c l) 1 0 ≤ room_of new.lists.items l
+  pub more : (l : Lit) → room_of old.lists.items l + cond (has c l && not listed) 1 0 ≤ room_of new.lists.items l
   pub gone_over : new.gone_over ≡ old.gone_over
 
 kept_widens : (t : TrailState) (old new : Watches) → new.pairs.items ≡ old.pairs.items → ((l : Lit) → list_of new.lists.items l ≡ list_of old.lists.items l) → new.gone_over ≡ old.gone_over → AreKept t old old.gone_over → AreKept t new new.gone_over
@@ -268,18 +280,25 @@ kept_widens t old new p q g k = record {
 }
 
 -- a clause more, in the wider lists
-pub well_added : (t : TrailState) (c : List Lit) (old new : Watches) → IsTrail t → MayAdd t c → Widens old new c (length t.clauses) → WatchesWell t old old.gone_over → WatchesWell (with_clause t c) new new.gone_over
-well_added t c old new trail may w k = record {
+pub well_added : (t : TrailState) (c : List Lit) (takes : Bool) (f n : ℕ) (old new : Watches) → IsTrail t → MayAdd t c → n ≡ length t.clauses + 1 → f ≤ length t.clauses → Widens old new c (takes && is_short c) (length t.clauses) → WatchesWell t old f old.gone_over → WatchesWell (with_clause t c) new (cond takes n f) new.gone_over
+well_added t c takes f n old new trail may number few w k = record {
   kept = kept_added t c new.pairs.items new.lists.items new.gone_over (kept_widens t old new w.pairs w.numbers w.gone_over k.kept);
   room = record {
     lists = w.lists ∙ k.room.lists;
     pairs = omega (arith, length_push t.clauses c, w.pair);
     numbers = λ l. subst (λ xs. AreNumbers xs (length new.pairs.items)) (sym (w.numbers l)) (subst (AreNumbers (list_of old.lists.items l)) (sym (ap length w.pairs)) (k.room.numbers l));
-    room = λ l v. omega (arith, ap length (w.numbers l), w.more l, k.room.room l v, ap (λ ps. unwatched (t.clauses ++ c ∷ []) ps l) w.pairs, unwatched-clause t.clauses c old.pairs.items l k.kept.few);
+    room = λ l v. omega (arith, ap length (w.numbers l), w.more l, k.room.room l v, ap (λ ps. unwatched h (t.clauses ++ c ∷ []) ps l) w.pairs, unwatched-clause h (h - length t.clauses) t.clauses c old.pairs.items l refl k.kept.few, unwatched-le f h t.clauses old.pairs.items l (grows takes), ap {B = ℕ} (λ (b : Bool). cond b 1 0) (needs_last takes f n (length t.clauses) (h - length t.clauses) c l few number refl));
     unpaired = unpaired;
   };
 }
   where
+    h : ℕ
+    h = cond takes n f
+
+    grows : (b : Bool) → f ≤ cond b n f
+    grows true = omega (arith, few, number)
+    grows false = omega arith
+
     unpaired : (n i : ℕ) → length new.pairs.items < n → n ≤ length (t.clauses ++ c ∷ []) → i < t.level → IsOpen (values_of (up_to i t.entries)) (numbered (t.clauses ++ c ∷ []) n)
     unpaired n i low high l = elim (cases_lt (length t.clauses) n) [
       | inl b ↦ subst (IsOpen (values_of (up_to i t.entries))) (sym (numbered-push_new t.clauses c n (omega (arith, b, high, length_push t.clauses c)))) (new_open t c i trail may l)
@@ -287,14 +306,14 @@ well_added t c old new trail may w k = record {
     ]
 
 -- no clause more, in lists that may be wider
-pub well_wider : (t : TrailState) (old new : Watches) → new.pairs.items ≡ old.pairs.items → vec_capacity old.pairs ≤ vec_capacity new.pairs → length new.lists.items ≡ length old.lists.items → ((l : Lit) → list_of new.lists.items l ≡ list_of old.lists.items l) → ((l : Lit) → room_of old.lists.items l ≤ room_of new.lists.items l) → new.gone_over ≡ old.gone_over → WatchesWell t old old.gone_over → WatchesWell t new new.gone_over
-well_wider t old new p cap lists q more g k = record {
+pub well_wider : (t : TrailState) (f : ℕ) (old new : Watches) → new.pairs.items ≡ old.pairs.items → vec_capacity old.pairs ≤ vec_capacity new.pairs → length new.lists.items ≡ length old.lists.items → ((l : Lit) → list_of new.lists.items l ≡ list_of old.lists.items l) → ((l : Lit) → room_of old.lists.items l ≤ room_of new.lists.items l) → new.gone_over ≡ old.gone_over → WatchesWell t old f old.gone_over → WatchesWell t new f new.gone_over
+well_wider t f old new p cap lists q more g k = record {
   kept = kept_widens t old new p q g k.kept;
   room = record {
     lists = lists ∙ k.room.lists;
     pairs = omega (arith, cap, k.room.pairs);
     numbers = λ l. subst (λ xs. AreNumbers xs (length new.pairs.items)) (sym (q l)) (subst (AreNumbers (list_of old.lists.items l)) (sym (ap length p)) (k.room.numbers l));
-    room = λ l v. omega (arith, ap length (q l), more l, k.room.room l v, ap (λ ps. unwatched t.clauses ps l) p);
+    room = λ l v. omega (arith, ap length (q l), more l, k.room.room l v, ap (λ ps. unwatched f t.clauses ps l) p);
     unpaired = λ n i low. k.room.unpaired n i (omega (arith, low, ap length p));
   };
 }

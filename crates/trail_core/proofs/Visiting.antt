@@ -14,7 +14,7 @@ use Rattle.trail_core.specs.declared.visit.Seen.TheVariants as seen
 use Rattle.trail_core.specs.Values.{IsTrueIn, IsFalseIn}
 use Rattle.trail_core.specs.TrailState.{TrailState, IsTrail, Propagates, entry_of, values_of, level_in, with_forced}
 use Rattle.trail_core.specs.Listing.{Listing}
-use Rattle.trail_core.specs.Watching.{room_of, lacks, unwatched, AreNumbers, IsBlank, IsCovered, IsWatch, IsPaired, settled, in_lists, watched, IsListed, list_of}
+use Rattle.trail_core.specs.Watching.{room_of, is_mark, lacks, unwatched, AreNumbers, IsBlank, IsCovered, IsWatch, IsPaired, settled, in_lists, watched, IsListed, list_of}
 use Rattle.trail_core.specs.Visits.{IsGone, IsOther, IsVisited, IsKnown, IsOriented, IsMoved, IsReplacement, VisitsAs, Holds}
 use Rattle.trail_core.proofs.Lists.{find_found}
 use Rattle.trail_core.proofs.Levels.{level_le_all}
@@ -149,8 +149,8 @@ moved_paired es g old new n c q p next gone above o member apart still grows las
       | inr x ↦ subst (λ y. IsWatch es g old n p.second y) (ap (λ (r : Pair). r.second) x) (subst (λ y. IsWatch es g old n y q.second) (ap (λ (r : Pair). r.first) x) (u (λ e. f (sym (ap (λ (r : Pair). r.first) x) ∙ e))))
     ]
 
-pub visits_moved : (t : TrailState) (w v : Watches) (p q : Pair) (next : Lit) (n : ℕ) → IsKnown t w n p.first → IsOriented q p → ((d : Pair) → get_or w.pairs.items (n - 1) d ≡ q) → IsReplacement t n p.second next → IsMoved w v n record { first = p.second; second = next } → VisitsAs t t w v p.first n seen.Leaves
-visits_moved t w v p q next n k o is r m = record {
+pub visits_moved : (t : TrailState) (w v : Watches) (p q : Pair) (next : Lit) (n : ℕ) → IsKnown t w n p.first → is_mark q ≡ false → IsOriented q p → ((d : Pair) → get_or w.pairs.items (n - 1) d ≡ q) → IsReplacement t n p.second next → IsMoved w v n record { first = p.second; second = next } → VisitsAs t t w v p.first n seen.Leaves
+visits_moved t w v p q next n k mark o is r m = record {
   appends = Propagates-none t;
   trail = k.trail;
   size = ap length m.pairs ∙ length-set w.pairs.items (n - 1) moved;
@@ -163,7 +163,7 @@ visits_moved t w v p q next n k o is r m = record {
     | inl e ↦ with_list-numbers w.lists.items next l (list_of w.lists.items next ++ n ∷ []) (length w.pairs.items) m.within (numbers_push (list_of w.lists.items next) n (length w.pairs.items) k.above k.within (subst (λ z. AreNumbers (list_of w.lists.items z) (length w.pairs.items)) e h)) h
     | inr d ↦ subst (λ ys. AreNumbers ys (length w.pairs.items)) (sym (list_set_other w.lists.items next l (list_of w.lists.items next ++ n ∷ []) d)) h
   ]);
-  spare = λ l d. omega (arith, count l, held l, lacks-moved (numbered t.clauses n) q p next l o r.member not_other not_gone d);
+  spare = λ l d. omega (arith, count l, held l, lacks-moved (numbered t.clauses n) q p next l mark o r.member not_other not_gone d);
   left = omega (arith, count p.first, lacks-le (numbered t.clauses n) moved p.first, one_at_most (has (numbered t.clauses n) p.first));
   paired = λ i d e l.
       let here : i ≡ n - 1 = omega (arith, e) in
@@ -185,10 +185,10 @@ visits_moved t w v p q next n k o is r m = record {
     not_gone : next ≢ p.first
     not_gone e = r.not_false (subst (IsFalseIn (values_of t.entries)) (sym e) k.is_gone.is_false)
 
-    count : (l : Lit) → unwatched t.clauses v.pairs.items l + cond (lacks (numbered t.clauses n) q l) 1 0 ≡ unwatched t.clauses w.pairs.items l + cond (lacks (numbered t.clauses n) moved l) 1 0
-    count l = subst (λ ps. unwatched t.clauses ps l + cond (lacks (numbered t.clauses n) q l) 1 0 ≡ unwatched t.clauses w.pairs.items l + cond (lacks (numbered t.clauses n) moved l) 1 0) (sym m.pairs)
-        (subst (λ x. unwatched t.clauses (set w.pairs.items (n - 1) moved) l + cond (lacks (numbered t.clauses n) x l) 1 0 ≡ unwatched t.clauses w.pairs.items l + cond (lacks (numbered t.clauses n) moved l) 1 0) (is q)
-        (unwatched-set t.clauses w.pairs.items (n - 1) moved q l (omega (arith, k.above, k.within)) (omega (arith, k.above, k.number.within))))
+    count : (l : Lit) → unwatched 0 t.clauses v.pairs.items l + cond (lacks (numbered t.clauses n) q l) 1 0 ≡ unwatched 0 t.clauses w.pairs.items l + cond (lacks (numbered t.clauses n) moved l) 1 0
+    count l = subst (λ ps. unwatched 0 t.clauses ps l + cond (lacks (numbered t.clauses n) q l) 1 0 ≡ unwatched 0 t.clauses w.pairs.items l + cond (lacks (numbered t.clauses n) moved l) 1 0) (sym m.pairs)
+        (subst (λ x. unwatched 0 t.clauses (set w.pairs.items (n - 1) moved) l + cond (lacks (numbered t.clauses n) x l) 1 0 ≡ unwatched 0 t.clauses w.pairs.items l + cond (lacks (numbered t.clauses n) moved l) 1 0) (is q)
+        (unwatched-set 0 t.clauses w.pairs.items (n - 1) moved q l (omega (arith, k.above, k.within)) (omega (arith, k.above, k.number.within))))
 
     held : (l : Lit) → length (list_of v.lists.items l) ≤ length (list_of w.lists.items l) + cond (same_lit next l) 1 0
     held l = subst (λ ls. length (list_of ls l) ≤ length (list_of w.lists.items l) + cond (same_lit next l) 1 0) (sym m.lists)

@@ -1,7 +1,7 @@
 -- Lists with more room.
-use Rattle.std.proofs.Common.{◌≡◌, ℕ, zero, suc, ◌+◌, ◌<◌, ◌≤◌, List, [], ◌∷◌, ◌++◌, length, get_or, set, take, refl, sym, ap, ◌∙◌, subst, arith, inl, inr, ⊎_elim}
+use Rattle.std.proofs.Common.{Bool, true, false, not, ◌&&◌, cond, ◌≡◌, ℕ, zero, suc, ◌+◌, ◌<◌, ◌≤◌, List, [], ◌∷◌, ◌++◌, length, get_or, set, take, refl, sym, ap, ◌∙◌, subst, arith, inl, inr, ⊎_elim}
 use Rattle.std.specs.Vec.{vec_capacity}
-use Rattle.std.proofs.lemmas.Bool.{false≢true, cases_lt, cases_Bool, or_cases}
+use Rattle.std.proofs.lemmas.Bool.{false≢true, cases_lt, or_cases}
 use Rattle.std.proofs.lemmas.List.{get_or-set_same, get_or-set_other, get_or_append_left, get_or_push, length-set, length_push, take_more, take_all}
 use Rattle.clause_base.specs.declared.literal.Lit.{Lit}
 use Rattle.clause_base.specs.Literal.{has, same_lit}
@@ -58,15 +58,21 @@ pub places_all : (a b : Watches) (ls : List Lit) (i : ℕ) → length ls ≤ i �
 places_all a b ls i l h m k = h m (ap (λ xs. has xs m) (take_all i ls l) ∙ k)
 
 -- all that a clause more needs
-pub widens : (old new : Watches) (c : List Lit) (count : ℕ) → IsWider old new → HavePlaces old new c → count + 1 ≤ vec_capacity new.pairs → Widens old new c count
-widens old new c count h p room = record {
+pub widens : (old new : Watches) (c : List Lit) (listed : Bool) (count : ℕ) → IsWider old new → (listed ≡ false → HavePlaces old new c) → count + 1 ≤ vec_capacity new.pairs → Widens old new c listed count
+widens old new c listed count h p room = record {
   pairs = h.pairs;
   pair = room;
   lists = h.size;
   numbers = h.numbers;
-  more = λ l. elim (cases_Bool (has c l)) [ inl t ↦ rw t (p l t) | inr f ↦ rw f (omega (arith, h.rooms l)) ];
+  more = λ l. more l listed refl (has c l) refl;
   gone_over = h.gone_over;
 }
+  where
+    more : (l : Lit) (a : Bool) → listed ≡ a → (b : Bool) → has c l ≡ b → room_of old.lists.items l + cond (b && not a) 1 0 ≤ room_of new.lists.items l
+    more l true e true q = omega (arith, h.rooms l)
+    more l true e false q = omega (arith, h.rooms l)
+    more l false e true q = p e l q
+    more l false e false q = omega (arith, h.rooms l)
 
 -- a list of nothing more
 pub nothing_push : (xs : List Listing) → ((i : ℕ) → get_or xs i nothing ≡ nothing) → (i : ℕ) → get_or (xs ++ nothing ∷ []) i nothing ≡ nothing

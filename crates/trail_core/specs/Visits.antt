@@ -22,13 +22,13 @@ use Rattle.trail_core.specs.Shorts.{HasShorts, AreDue, lists_of}
 use Rattle.trail_core.specs.Watching.{Stands, IsListed, IsCovered, IsWatch, IsPaired, IsKept, IsOpen, AreMarked, AreNumbers, list_of, room_of, code_of, with_list, watches, unwatched}
 
 -- the lists have room: `held` counts the places of a literal's list that are in use, and each clause that has the literal and
--- doesn't watch it has one more; each number is that of a clause with a pair, and a clause without one has two literals that are
+-- doesn't watch it has one more, but for those that stand in the lists of their literals, the short ones of the first `fixed`; each number is that of a clause with a pair, and a clause without one has two literals that are
 -- unassigned at each level below the present one
-pub record HasRoom (t : TrailState) (w : Watches) (held : Lit → ℕ) : Type 0 where
+pub record HasRoom (t : TrailState) (w : Watches) (fixed : ℕ) (held : Lit → ℕ) : Type 0 where
   pub lists : length w.lists.items ≡ 2 * t.vars + 2
   pub pairs : length t.clauses ≤ vec_capacity w.pairs
   pub numbers : (l : Lit) → AreNumbers (list_of w.lists.items l) (length w.pairs.items)
-  pub room : (l : Lit) → IsVariable t.vars l.var → held l + unwatched t.clauses w.pairs.items l ≤ room_of w.lists.items l
+  pub room : (l : Lit) → IsVariable t.vars l.var → held l + unwatched fixed t.clauses w.pairs.items l ≤ room_of w.lists.items l
   pub unpaired : (n k : ℕ) → length w.pairs.items < n → n ≤ length t.clauses → k < t.level → IsOpen (values_of (up_to k t.entries)) (numbered t.clauses n)
 
 -- how many numbers a literal's list has
@@ -75,8 +75,8 @@ pub record Visits (old new : TrailState) (old_pairs new_pairs : List Pair) (old_
   pub lists : length new_lists ≡ length old_lists
   pub rooms : (l : Lit) → room_of new_lists l ≡ room_of old_lists l
   pub numbers : (l : Lit) → AreNumbers (list_of old_lists l) (length old_pairs) → AreNumbers (list_of new_lists l) (length old_pairs)
-  pub spare : (l : Lit) → l ≢ gone → length (list_of new_lists l) + unwatched old.clauses new_pairs l ≤ length (list_of old_lists l) + unwatched old.clauses old_pairs l
-  pub left : unwatched old.clauses new_pairs gone ≤ unwatched old.clauses old_pairs gone + leaving s
+  pub spare : (l : Lit) → l ≢ gone → length (list_of new_lists l) + unwatched 0 old.clauses new_pairs l ≤ length (list_of old_lists l) + unwatched 0 old.clauses old_pairs l
+  pub left : unwatched 0 old.clauses new_pairs gone ≤ unwatched 0 old.clauses old_pairs gone + leaving s
   pub paired : (i : ℕ) (d : Pair) → i + 1 ≡ n → i < length new_pairs → IsPaired new.entries (IsVisited new.entries gone_over new_lists gone s n) (numbered new.clauses n) (get_or new_pairs i d)
 
 -- a clause with a literal of another variable that isn't false
@@ -119,7 +119,7 @@ pub record IsKnown (t : TrailState) (w : Watches) (n : ℕ) (gone : Lit) : Type 
   pub is_gone : IsGone t w.gone_over gone
   pub trail : IsTrail t
   pub lists : length w.lists.items ≡ 2 * t.vars + 2
-  pub room : (l : Lit) → l ≢ gone → IsVariable t.vars l.var → length (list_of w.lists.items l) + unwatched t.clauses w.pairs.items l ≤ room_of w.lists.items l
+  pub room : (l : Lit) → l ≢ gone → IsVariable t.vars l.var → length (list_of w.lists.items l) + unwatched 0 t.clauses w.pairs.items l ≤ room_of w.lists.items l
   pub paired : (d : Pair) → IsPaired t.entries (IsOther t.entries w.gone_over w.lists.items gone n) (numbered t.clauses n) (get_or w.pairs.items (n - 1) d)
 
 -- what a visit gives
@@ -141,7 +141,8 @@ pub record IsWatchNow (entries : List Entry) (gone_over : ℕ) (lists : List Lis
 abbrev pub held_at : List Listing → Sweep → ℕ → Lit → ℕ
 held_at lists s place l = cond (same_lit l s.gone) (s.kept + (length (list_of lists s.gone) - place)) (length (list_of lists l))
 
--- a pass over the list of the literal that is gone has come to a place
+-- a pass over the list of the literal that is gone has come to a place; all clauses have pairs, so none needs to be left out of the
+-- count of those that may come to watch a literal
 pub record IsGoing (t : TrailState) (w : Watches) (s : Sweep) (place : ℕ) : Type 0 where
   pub trail : IsTrail t
   pub few : length w.pairs.items ≤ length t.clauses
@@ -151,27 +152,28 @@ pub record IsGoing (t : TrailState) (w : Watches) (s : Sweep) (place : ℕ) : Ty
   pub list : code_of s.gone < length w.lists.items
   pub kept : s.kept ≤ place
   pub conflict : IfSome s.conflict (λ n. Falsifies t n)
-  pub room : HasRoom t w (held_at w.lists.items s place)
+  pub room : HasRoom t w 0 (held_at w.lists.items s place)
   pub paired : (i : ℕ) (d : Pair) → i < length w.pairs.items → IsPaired t.entries (IsWatchNow t.entries w.gone_over w.lists.items s place (i + 1)) (numbered t.clauses (i + 1)) (get_or w.pairs.items i d)
 
 -- the lists are kept, so many entries being gone over
 abbrev pub AreKept : TrailState → Watches → ℕ → Type 0
 AreKept t w gone_over = IsKept t w.pairs.items w.lists.items gone_over
 
--- what holds of a trail and its watched literals, so many entries being gone over
-pub record WatchesWell (t : TrailState) (w : Watches) (gone_over : ℕ) : Type 0 where
+-- what holds of a trail and its watched literals, so many first clauses standing in the lists of their literals where they are short,
+-- and so many entries being gone over
+pub record WatchesWell (t : TrailState) (w : Watches) (fixed gone_over : ℕ) : Type 0 where
   pub kept : AreKept t w gone_over
-  pub room : HasRoom t w (held_in w.lists.items)
+  pub room : HasRoom t w fixed (held_in w.lists.items)
 
 -- what a pass gives
-abbrev pub SweepGives : TrailState → Watches → Watched → Type 0
-SweepGives t w watched.Rests = WatchesWell t w (w.gone_over + 1)
-SweepGives t w (watched.Falsified n) = WatchesWell t w w.gone_over × Falsifies t n
+abbrev pub SweepGives : TrailState → Watches → ℕ → Watched → Type 0
+SweepGives t w fixed watched.Rests = WatchesWell t w fixed (w.gone_over + 1)
+SweepGives t w fixed (watched.Falsified n) = WatchesWell t w fixed w.gone_over × Falsifies t n
 
 -- what holds of each trail with the lists of its clauses
 pub record IsWatching (t : TrailState) (w : Watches) (s : Shorts) : Type 0 where
   pub trail : IsTrail t
-  pub well : WatchesWell t w w.gone_over
+  pub well : WatchesWell t w s.fixed w.gone_over
   pub shorts : HasShorts t.vars t.clauses s.fixed (lists_of s)
   pub marked : AreMarked t.clauses s.fixed w.pairs.items
   pub due : AreDue t s.fixed (length w.pairs.items) w.gone_over
@@ -186,14 +188,14 @@ SweepsDue t fixed w watched.Rests = AreDue t fixed (length t.clauses) (w.gone_ov
 SweepsDue t fixed w (watched.Falsified n) = AreDue t fixed (length t.clauses) w.gone_over
 
 -- what the first clause without a pair gives: a pair
-abbrev pub LooksGives : TrailState → Watches → Watches → Watched → Type 0
-LooksGives t a b watched.Rests = WatchesWell t b b.gone_over × (length b.pairs.items ≡ length a.pairs.items + 1)
-LooksGives t a b (watched.Falsified n) = WatchesWell t b b.gone_over × Falsifies t n
+abbrev pub LooksGives : TrailState → Watches → Watches → ℕ → Watched → Type 0
+LooksGives t a b fixed watched.Rests = WatchesWell t b fixed b.gone_over × (length b.pairs.items ≡ length a.pairs.items + 1)
+LooksGives t a b fixed (watched.Falsified n) = WatchesWell t b fixed b.gone_over × Falsifies t n
 
 -- what pairing all clauses gives
-abbrev pub PairsGives : TrailState → Watches → Watched → Type 0
-PairsGives t w watched.Rests = WatchesWell t w w.gone_over × (length t.clauses ≤ length w.pairs.items)
-PairsGives t w (watched.Falsified n) = WatchesWell t w w.gone_over × Falsifies t n
+abbrev pub PairsGives : TrailState → Watches → ℕ → Watched → Type 0
+PairsGives t w fixed watched.Rests = WatchesWell t w fixed w.gone_over × (length t.clauses ≤ length w.pairs.items)
+PairsGives t w fixed (watched.Falsified n) = WatchesWell t w fixed w.gone_over × Falsifies t n
 
 -- each clause has a pair, and all true literals were gone over
 pub record IsDone (t : TrailState) (w : Watches) : Type 0 where
@@ -202,9 +204,9 @@ pub record IsDone (t : TrailState) (w : Watches) : Type 0 where
   pub rest : AllRest t.clauses (values_of t.entries)
 
 -- what propagation by watched literals gives
-abbrev pub WatchGives : TrailState → Watches → Watched → Type 0
-WatchGives t w watched.Rests = WatchesWell t w w.gone_over × IsDone t w
-WatchGives t w (watched.Falsified n) = WatchesWell t w w.gone_over × Falsifies t n
+abbrev pub WatchGives : TrailState → Watches → ℕ → Watched → Type 0
+WatchGives t w fixed watched.Rests = WatchesWell t w fixed w.gone_over × IsDone t w
+WatchGives t w fixed (watched.Falsified n) = WatchesWell t w fixed w.gone_over × Falsifies t n
 
 -- the clause whose literals are all false
 abbrev pub number_of : Watched → Option ℕ

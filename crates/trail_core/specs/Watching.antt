@@ -1,5 +1,5 @@
 -- Watched literals (Moskewicz, Madigan, Zhao, Zhang, Malik 2001): of each clause two literals, at which propagation looks for it.
-use Rattle.std.specs.Prelude.{◌≡◌, ◌≢◌, ℕ, ◌+◌, ◌*◌, ◌<◌, ◌≤◌, Bool, true, not, ◌&&◌, ◌||◌, ◌==◌, cond, nat_le, Some, List, [], ◌∷◌, length, take, get_or, set}
+use Rattle.std.specs.Prelude.{◌≡◌, ◌≢◌, ℕ, ◌+◌, ◌-◌, ◌*◌, ◌<◌, ◌≤◌, Bool, true, not, ◌&&◌, ◌||◌, ◌==◌, cond, nat_le, Some, List, [], ◌∷◌, length, take, get_or, set}
 use Rattle.clause_base.specs.declared.literal.Lit.{Lit}
 use Rattle.clause_base.specs.Literal.{has, same_lit}
 use Rattle.clause_base.specs.Acceptance.{numbered}
@@ -88,15 +88,20 @@ pub record IsKept (t : TrailState) (pairs : List Pair) (lists : List Listing) (g
 abbrev pub watches : Pair → Lit → Bool
 watches p l = same_lit p.first l || same_lit p.second l
 
--- the clause has the literal, and its pair hasn't
+-- the clause has the literal, and its pair neither has it nor says that the clause stands in the lists of its literals
 abbrev pub lacks : List Lit → Pair → Lit → Bool
-lacks clause p l = has clause l && not (watches p l)
+lacks clause p l = has clause l && not (is_mark p || watches p l)
 
--- how many clauses have the literal and don't watch it, those without a pair among them
-abbrev pub unwatched : List (List Lit) → List Pair → Lit → ℕ
-unwatched [] pairs l = 0
-unwatched (c ∷ cs) [] l = cond (has c l) 1 0 + unwatched cs [] l
-unwatched (c ∷ cs) (p ∷ ps) l = cond (lacks c p l) 1 0 + unwatched cs ps l
+-- the first clause, which has no pair, has the literal and doesn't stand in the lists of its literals
+abbrev pub needs : ℕ → List Lit → Lit → Bool
+needs fixed clause l = has clause l && not (is_fixed fixed 1 clause)
+
+-- how many clauses have the literal and don't watch it, those without a pair among them, but for those that stand in the lists of
+-- their literals: without a pair these are the short ones of the first `fixed`
+abbrev pub unwatched : ℕ → List (List Lit) → List Pair → Lit → ℕ
+unwatched fixed [] pairs l = 0
+unwatched fixed (c ∷ cs) [] l = cond (needs fixed c l) 1 0 + unwatched (fixed - 1) cs [] l
+unwatched fixed (c ∷ cs) (p ∷ ps) l = cond (lacks c p l) 1 0 + unwatched (fixed - 1) cs ps l
 
 -- each is one of the numbers 1 to `count`
 abbrev pub AreNumbers : List ℕ → ℕ → Type 0

@@ -13,15 +13,16 @@ use crate::watches::Watches;
 /// Goes over the lists of the next literal that became false.
 fn sweep_next(trail: &mut PlainTrail, watches: &mut Watches, shorts: &Shorts) -> Watched
     requires trail { IsTrail trail.old }
-    requires well { WatchesWell trail.old watches.old watches.old.gone_over }
+    requires well { WatchesWell trail.old watches.old shorts.now.fixed watches.old.gone_over }
     requires shorts { HasShorts trail.old.vars trail.old.clauses shorts.now.fixed (lists_of shorts.now) }
     requires due { AreDue trail.old shorts.now.fixed (length trail.old.clauses) watches.old.gone_over }
+    requires all { length trail.old.clauses ≤ length watches.old.pairs.items }
     requires next { watches.old.gone_over < length trail.old.entries }
     requires marked { AreMarked trail.old.clauses shorts.now.fixed watches.old.pairs.items }
     ensures marked { AreMarked trail.new.clauses shorts.now.fixed watches.new.pairs.items }
     ensures appends { Propagates trail.old trail.new }
     ensures trail { IsTrail trail.new }
-    ensures gives { SweepGives trail.new watches.new result }
+    ensures gives { SweepGives trail.new watches.new shorts.now.fixed result }
     ensures due { SweepsDue trail.new shorts.now.fixed watches.new result }
     ensures gone_over { watches.new.gone_over ≡ watches.old.gone_over }
     ensures size { length watches.new.pairs.items ≡ length watches.old.pairs.items }
@@ -38,14 +39,14 @@ fn sweep_next(trail: &mut PlainTrail, watches: &mut Watches, shorts: &Shorts) ->
 /// Goes over the lists of the literals that became false.
 fn sweep_all(trail: &mut PlainTrail, watches: &mut Watches, shorts: &Shorts) -> Watched
     requires trail { IsTrail trail.old }
-    requires well { WatchesWell trail.old watches.old watches.old.gone_over }
+    requires well { WatchesWell trail.old watches.old shorts.now.fixed watches.old.gone_over }
     requires shorts { HasShorts trail.old.vars trail.old.clauses shorts.now.fixed (lists_of shorts.now) }
     requires due { AreDue trail.old shorts.now.fixed (length watches.old.pairs.items) watches.old.gone_over }
     requires marked { AreMarked trail.old.clauses shorts.now.fixed watches.old.pairs.items }
     requires all { length trail.old.clauses ≤ length watches.old.pairs.items }
     ensures appends { Propagates trail.old trail.new }
     ensures trail { IsTrail trail.new }
-    ensures gives { WatchGives trail.new watches.new result }
+    ensures gives { WatchGives trail.new watches.new shorts.now.fixed result }
     ensures due { AreDue trail.new shorts.now.fixed (length watches.new.pairs.items) watches.new.gone_over }
     ensures marked { AreMarked trail.new.clauses shorts.now.fixed watches.new.pairs.items }
 {
@@ -61,13 +62,13 @@ fn sweep_all(trail: &mut PlainTrail, watches: &mut Watches, shorts: &Shorts) -> 
 /// Propagates by the lists of the literals that became false.
 pub(crate) fn watch(trail: &mut PlainTrail, watches: &mut Watches, shorts: &Shorts) -> Watched
     requires trail { IsTrail trail.old }
-    requires well { WatchesWell trail.old watches.old watches.old.gone_over }
+    requires well { WatchesWell trail.old watches.old shorts.now.fixed watches.old.gone_over }
     requires shorts { HasShorts trail.old.vars trail.old.clauses shorts.now.fixed (lists_of shorts.now) }
     requires due { AreDue trail.old shorts.now.fixed (length watches.old.pairs.items) watches.old.gone_over }
     requires marked { AreMarked trail.old.clauses shorts.now.fixed watches.old.pairs.items }
     ensures appends { Propagates trail.old trail.new }
     ensures trail { IsTrail trail.new }
-    ensures gives { WatchGives trail.new watches.new result }
+    ensures gives { WatchGives trail.new watches.new shorts.now.fixed result }
     ensures due { AreDue trail.new shorts.now.fixed (length watches.new.pairs.items) watches.new.gone_over }
     ensures marked { AreMarked trail.new.clauses shorts.now.fixed watches.new.pairs.items }
 {

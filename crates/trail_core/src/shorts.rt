@@ -30,7 +30,7 @@ pub(crate) fn is_short(literals: &[Lit]) -> bool
 }
 
 /// Whether a clause of these literals stands in the lists of all of them, where the lists take more clauses.
-fn is_taken(takes: bool, literals: &[Lit]) -> bool
+pub(crate) fn is_taken(takes: bool, literals: &[Lit]) -> bool
     ensures { result ≡ (takes && is_short literals.now) }
 {
     takes && is_short(literals)

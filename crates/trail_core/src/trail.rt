@@ -82,7 +82,7 @@ impl Trail {
     {
         let count = self.plain.count();
         let takes = takes_more(&self.watches, &self.shorts, count);
-        make_room(&mut self.watches, count, literals)?;
+        make_room(&mut self.watches, count, takes, literals)?;
         make_short_room(&mut self.shorts, takes, literals)?;
         let number = self.plain.add_clause(literals)?;
         enter(&mut self.shorts, takes, number, literals);

@@ -102,12 +102,12 @@ fn visit_next(trail: &mut PlainTrail, watches: &mut Watches, sweep: &mut Sweep, 
 /// Goes over the clauses that watch a literal which became false.
 pub(crate) fn sweep_list(trail: &mut PlainTrail, watches: &mut Watches, gone: Lit) -> Watched
     requires trail { IsTrail trail.old }
-    requires well { WatchesWell trail.old watches.old watches.old.gone_over }
+    requires well { WatchesWell trail.old watches.old 0 watches.old.gone_over }
     requires gone { IsGone trail.old watches.old.gone_over gone }
     requires next { watches.old.gone_over < length trail.old.entries }
     ensures appends { Propagates trail.old trail.new }
     ensures trail { IsTrail trail.new }
-    ensures gives { SweepGives trail.new watches.new result }
+    ensures gives { SweepGives trail.new watches.new 0 result }
     ensures gone_over { watches.new.gone_over ≡ watches.old.gone_over }
     ensures size { length watches.new.pairs.items ≡ length watches.old.pairs.items }
     ensures marks { KeepsMarks watches.old.pairs.items watches.new.pairs.items }
@@ -274,18 +274,22 @@ fn keep_pair(watches: &mut Watches, pair: Pair)
     watches.pairs.push(pair).unwrap();
 }
 
-/// Pairs the clause, the first without a pair, which stands in no list of all of its literals.
-fn pair_long(trail: &PlainTrail, watches: &mut Watches, number: u32)
+/// Pairs the clause, the first without a pair.
+fn pair_up(trail: &PlainTrail, watches: &mut Watches, number: u32, fixed: u32)
     requires trail { IsTrail trail.now }
-    requires well { WatchesWell trail.now watches.old watches.old.gone_over }
+    requires well { WatchesWell trail.now watches.old fixed watches.old.gone_over }
     requires first { number ≡ length watches.old.pairs.items + 1 }
     requires number { IsNumber trail.now.clauses number }
     requires rests { Rests (values_of trail.now.entries) (numbered trail.now.clauses number) }
-    ensures well { WatchesWell trail.now watches.new watches.new.gone_over }
+    ensures well { WatchesWell trail.now watches.new fixed watches.new.gone_over }
     ensures more { length watches.new.pairs.items ≡ length watches.old.pairs.items + 1 }
     ensures same { watches.new.gone_over ≡ watches.old.gone_over }
-    ensures marked { (clauses : List (List Lit)) (fixed : ℕ) → AreMarked clauses fixed watches.old.pairs.items → AreMarked clauses fixed watches.new.pairs.items }
+    ensures marked { AreMarked trail.now.clauses fixed watches.old.pairs.items → AreMarked trail.now.clauses fixed watches.new.pairs.items }
 {
+    if is_fixed(trail, number, fixed) {
+        keep_pair(watches, mark());
+        return;
+    }
     if is_settled(trail, number) {
         keep_pair(watches, no_pair());
         return;
@@ -293,25 +297,6 @@ fn pair_long(trail: &PlainTrail, watches: &mut Watches, number: u32)
     match best_pair(trail, number) {
         Some(pair) => place_pair(watches, number, pair),
         None => keep_pair(watches, no_pair()),
-    }
-}
-
-/// Pairs the clause, the first without a pair.
-fn pair_up(trail: &PlainTrail, watches: &mut Watches, number: u32, fixed: u32)
-    requires trail { IsTrail trail.now }
-    requires well { WatchesWell trail.now watches.old watches.old.gone_over }
-    requires first { number ≡ length watches.old.pairs.items + 1 }
-    requires number { IsNumber trail.now.clauses number }
-    requires rests { Rests (values_of trail.now.entries) (numbered trail.now.clauses number) }
-    ensures well { WatchesWell trail.now watches.new watches.new.gone_over }
-    ensures more { length watches.new.pairs.items ≡ length watches.old.pairs.items + 1 }
-    ensures same { watches.new.gone_over ≡ watches.old.gone_over }
-    ensures marked { AreMarked trail.now.clauses fixed watches.old.pairs.items → AreMarked trail.now.clauses fixed watches.new.pairs.items }
-{
-    if is_fixed(trail, number, fixed) {
-        keep_pair(watches, mark());
-    } else {
-        pair_long(trail, watches, number);
     }
 }
 
@@ -336,13 +321,13 @@ fn force_unit(trail: &mut PlainTrail, number: u32) -> bool
 
 /// Pairs the first clause without a pair, and makes its literal true where it is unit.
 fn pair_next(trail: &mut PlainTrail, watches: &mut Watches, fixed: u32) -> Watched
-    requires well { WatchesWell trail.old watches.old watches.old.gone_over }
+    requires well { WatchesWell trail.old watches.old fixed watches.old.gone_over }
     requires more { length watches.old.pairs.items < length trail.old.clauses }
     requires due { AreDue trail.old fixed (length watches.old.pairs.items) watches.old.gone_over }
     requires marked { AreMarked trail.old.clauses fixed watches.old.pairs.items }
     ensures appends { Propagates trail.old trail.new }
     ensures trail { IsTrail trail.new }
-    ensures gives { LooksGives trail.new watches.old watches.new result }
+    ensures gives { LooksGives trail.new watches.old watches.new fixed result }
     ensures due { AreDue trail.new fixed (length watches.new.pairs.items) watches.new.gone_over }
     ensures marked { AreMarked trail.new.clauses fixed watches.new.pairs.items }
 {
@@ -359,12 +344,12 @@ fn pair_next(trail: &mut PlainTrail, watches: &mut Watches, fixed: u32) -> Watch
 /// Pairs the clauses without a pair.
 pub(crate) fn pair_all(trail: &mut PlainTrail, watches: &mut Watches, fixed: u32) -> Watched
     requires trail { IsTrail trail.old }
-    requires well { WatchesWell trail.old watches.old watches.old.gone_over }
+    requires well { WatchesWell trail.old watches.old fixed watches.old.gone_over }
     requires due { AreDue trail.old fixed (length watches.old.pairs.items) watches.old.gone_over }
     requires marked { AreMarked trail.old.clauses fixed watches.old.pairs.items }
     ensures appends { Propagates trail.old trail.new }
     ensures trail { IsTrail trail.new }
-    ensures gives { PairsGives trail.new watches.new result }
+    ensures gives { PairsGives trail.new watches.new fixed result }
     ensures due { AreDue trail.new fixed (length watches.new.pairs.items) watches.new.gone_over }
     ensures marked { AreMarked trail.new.clauses fixed watches.new.pairs.items }
 {

@@ -1,10 +1,11 @@
-ghost use Rattle.std.specs.Prelude.{◌≡◌, ℕ, ◌+◌, ◌*◌, ◌<◌, ◌^◌, ◌≤◌, ◌++◌, ◌∷◌, [], true, length, take, slice_index, slice_set, get_or, IfOk, OnOk, ◌⊎◌};
+ghost use Rattle.std.specs.Prelude.{◌≡◌, ℕ, ◌+◌, ◌*◌, ◌<◌, ◌^◌, ◌≤◌, ◌++◌, ◌∷◌, [], ◌&&◌, true, false, length, take, slice_index, slice_set, get_or, IfOk, OnOk, ◌⊎◌};
 ghost use Rattle.std.specs.Vec.{vec_capacity};
 ghost use Rattle.clause_base.specs.Literal.{same_lit};
 ghost use Rattle.trail_core.specs.Listing.{nothing};
-ghost use Rattle.trail_core.specs.Watching.{code_of, list_of, room_of};
+ghost use Rattle.trail_core.specs.Watching.{is_short, code_of, list_of, room_of};
 ghost use Rattle.trail_core.specs.Visits.{IsListedMore, HasNone, HaveLists, HavePlaces, IsWider};
 
+use crate::shorts::is_taken;
 use clause_base::Lit;
 use loc_base::NoMemory;
 use std::alloc::Global;
@@ -177,14 +178,32 @@ fn make_places(watches: &mut Watches, literals: &[Lit]) -> Result<(), NoMemory>
     Ok(())
 }
 
-/// Makes room for the pairs of so many clauses and one more, which has these literals, and for its number in their lists.
-pub(crate) fn make_room(watches: &mut Watches, count: u32, literals: &[Lit]) -> Result<(), NoMemory>
+/// Makes room for a clause's number in the lists of its literals, unless it is to stand in the lists of the short clauses.
+fn make_list_room(watches: &mut Watches, takes: bool, literals: &[Lit]) -> Result<(), NoMemory>
     requires { HaveLists watches.old literals.now }
     ensures wider { IsWider watches.old watches.new }
-    ensures more { OnOk result (HavePlaces watches.old watches.new literals.now) }
+    ensures more { OnOk result ((takes && is_short literals.now) ≡ false → HavePlaces watches.old watches.new literals.now) }
+{
+    if is_taken(takes, literals) {
+        return Ok(());
+    }
+    make_places(watches, literals)?;
+    Ok(())
+}
+
+/// Makes room for the pairs of so many clauses and one more, which has these literals, and for its number where it is to be watched.
+pub(crate) fn make_room(
+    watches: &mut Watches,
+    count: u32,
+    takes: bool,
+    literals: &[Lit],
+) -> Result<(), NoMemory>
+    requires { HaveLists watches.old literals.now }
+    ensures wider { IsWider watches.old watches.new }
+    ensures more { OnOk result ((takes && is_short literals.now) ≡ false → HavePlaces watches.old watches.new literals.now) }
     ensures pair { OnOk result (count + 1 ≤ vec_capacity watches.new.pairs) }
 {
-    make_places(watches, literals)?;
+    make_list_room(watches, takes, literals)?;
     make_pairs(&mut watches.pairs, count)
 }
 

@@ -15,7 +15,7 @@ pub loop-watches-preserved : goal.loop-watches-preserved
 loop-watches-preserved c = record {
   trail = c.sweep_next.ensures.trail;
   appends = Propagates-then c.args.trail.now c.loop-watches.trail c.sweep_next.new.trail c.loop-watches.invariant.appends c.sweep_next.ensures.appends;
-  well = well_counted c.sweep_next.new.trail c.sweep_next.new.watches _ _ c.in-Rests.ensures.gives;
+  well = well_counted c.sweep_next.new.trail c.sweep_next.new.watches c.args.shorts.now.fixed _ _ c.in-Rests.ensures.gives;
   shorts = shorts_propagate c.loop-watches.trail c.sweep_next.new.trail c.args.shorts.now c.sweep_next.ensures.appends c.loop-watches.invariant.shorts;
   marked = c.sweep_next.ensures.marked;
   due = due_all c.sweep_next.new.trail c.args.shorts.now.fixed (length c.sweep_next.new.trail.clauses) (length c.sweep_next.new.watches.pairs.items) _ (omega arith) c.in-Rests.ensures.due;

@@ -9,7 +9,7 @@ abbrev pub invariant-loop-watches : goal.invariant-loop-watches
 invariant-loop-watches l = record {
   trail : IsTrail l.trail;
   appends : Propagates l.fn.trail l.trail;
-  well : WatchesWell l.trail l.watches l.watches.gone_over;
+  well : WatchesWell l.trail l.watches l.shorts.fixed l.watches.gone_over;
   shorts : HasShorts l.trail.vars l.trail.clauses l.shorts.fixed (lists_of l.shorts);
   marked : AreMarked l.trail.clauses l.shorts.fixed l.watches.pairs.items;
   due : AreDue l.trail l.shorts.fixed (length l.watches.pairs.items) l.watches.gone_over;

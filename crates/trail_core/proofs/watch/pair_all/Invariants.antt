@@ -9,7 +9,7 @@ abbrev pub invariant-loop-trail : goal.invariant-loop-trail
 invariant-loop-trail l = record {
   trail : IsTrail l.trail;
   appends : Propagates l.fn.trail l.trail;
-  well : WatchesWell l.trail l.watches l.watches.gone_over;
+  well : WatchesWell l.trail l.watches l.fixed l.watches.gone_over;
   marked : AreMarked l.trail.clauses l.fixed l.watches.pairs.items;
   due : AreDue l.trail l.fixed (length l.watches.pairs.items) l.watches.gone_over;
 }

@@ -9,11 +9,11 @@ use Rattle.trail_core.proofs.Placing.{well_propagates}
 use Rattle.trail_core.proofs.watch.pair_next.Goals as goal
 
 pub pair_up-requires-clause-well : goal.pair_up-requires-clause-well
-pair_up-requires-clause-well c = well_propagates c.args.trail.now c.force_unit.new.trail c.args.watches.now c.force_unit.ensures.appends c.requires.well
+pair_up-requires-clause-well c = well_propagates c.args.trail.now c.force_unit.new.trail c.args.fixed c.args.watches.now c.force_unit.ensures.appends c.requires.well
 
 pub returns-then-not-force_unit-clause-gives : goal.returns-then-not-force_unit-clause-gives
 returns-then-not-force_unit-clause-gives c =
-    (well_propagates c.args.trail.now c.force_unit.new.trail c.args.watches.now c.force_unit.ensures.appends c.requires.well, c.force_unit.ensures.falsified c.if-not-force_unit.true)
+    (well_propagates c.args.trail.now c.force_unit.new.trail c.args.fixed c.args.watches.now c.force_unit.ensures.appends c.requires.well, c.force_unit.ensures.falsified c.if-not-force_unit.true)
 
 pub returns-then-not-force_unit-clause-due : goal.returns-then-not-force_unit-clause-due
 returns-then-not-force_unit-clause-due c = due_propagates c.args.trail.now c.force_unit.new.trail c.args.fixed (length c.args.watches.now.pairs.items) c.args.watches.now.gone_over c.force_unit.ensures.appends c.requires.well.kept.entries c.requires.due

@@ -6,7 +6,7 @@ use Rattle.trail_core.proofs.Calls.{have_lists, have_short_lists, watching_wider
 use Rattle.trail_core.proofs.trail.Trail.add_clause.Goals as goal
 
 pub make_room-requires : goal.make_room-requires
-make_room-requires c = have_lists c.self.inside.plain c.args.self.now c.self.inside.watches c.args.literals.now c.self.view_is c.self.invariant.well c.requires.within
+make_room-requires c = have_lists c.self.inside.plain c.args.self.now c.self.inside.watches c.self.inside.shorts.fixed c.args.literals.now c.self.view_is c.self.invariant.well c.requires.within
 
 pub invariant_of-self : goal.invariant_of-self
 invariant_of-self c = watching_wider c.self.inside.plain c.self.inside.watches c.make_room.new.watches c.self.inside.shorts c.self.invariant c.make_room.ensures.wider
