@@ -141,8 +141,8 @@ pub record IsWatchNow (entries : List Entry) (gone_over : ℕ) (lists : List Lis
 abbrev pub held_at : List Listing → Sweep → ℕ → Lit → ℕ
 held_at lists s place l = cond (same_lit l s.gone) (s.kept + (length (list_of lists s.gone) - place)) (length (list_of lists l))
 
--- a pass over the list of the literal that is gone has come to a place; all clauses have pairs, so none needs to be left out of the
--- count of those that may come to watch a literal
+-- a pass over the list of the literal that is gone has come to a place; how many clauses stand in the lists of their literals plays
+-- no part in a pass, since all clauses have pairs: 0 is as good
 pub record IsGoing (t : TrailState) (w : Watches) (s : Sweep) (place : ℕ) : Type 0 where
   pub trail : IsTrail t
   pub few : length w.pairs.items ≤ length t.clauses

@@ -92,7 +92,7 @@ impl Trail {
 
     /// Makes literals true at the present level for as long as a clause is unit, each with that clause as its
     /// reason. Answers the number of a clause whose literals are all false, or none, where no clause is unit or
-    /// false. It takes no memory.
+    /// false. It needs no memory; the first call takes some for speed, where it is there.
     pub fn propagate(&mut self) -> Option<u32>
         ensures appends { Propagates self.old self.new }
         ensures falsified { IfSome result (IsNumber self.new.clauses) }

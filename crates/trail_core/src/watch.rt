@@ -99,7 +99,8 @@ fn visit_next(trail: &mut PlainTrail, watches: &mut Watches, sweep: &mut Sweep, 
     }
 }
 
-/// Goes over the clauses that watch a literal which became false.
+/// Goes over the clauses that watch a literal which became false. All clauses have pairs, so how many stand in the lists of their
+/// literals plays no part: 0 is as good.
 pub(crate) fn sweep_list(trail: &mut PlainTrail, watches: &mut Watches, gone: Lit) -> Watched
     requires trail { IsTrail trail.old }
     requires well { WatchesWell trail.old watches.old 0 watches.old.gone_over }
