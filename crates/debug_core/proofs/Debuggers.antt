@@ -17,7 +17,7 @@ use Rattle.sat_core.specs.SolverState.{blocks_of}
 use Rattle.sat_core.proofs.FreshBound.{few_fresh}
 use Rattle.unroller.specs.Unrolls.{Unrolling}
 use Rattle.set_enum.specs.Bounds.{bound_of}
-use Rattle.set_enum.specs.EnumState.{EnumState, IsEnum, begun, listed_over}
+use Rattle.set_enum.specs.EnumState.{EnumState, IsEnum, begun, listed_over, untold}
 use Rattle.set_enum.specs.Sets.{IsBlock, NoneBelow, block_of}
 use Rattle.debug_core.specs.Listed.{Encodes, EncodesListed, Listed}
 use Rattle.debug_core.specs.Sessions.{listed_of}
@@ -163,3 +163,30 @@ module _ (p : Problem) (made : Form) (u : Unrolling) (n k : ℕ) (is : IsEncodin
 
   pub begun-begins : Begins p (state_of p made (begun made.vars made.clauses n k) [] false 0)
   begun-begins = record { problem = refl; no_step = refl; no_set = refl; goes_on = le-ltb p.k 0 (omega arith); no_certificate = refl; unfinished = refl; by_itself = refl }
+
+-- nothing changes where the enumerator tells nothing any more
+pub stands-untold : (p : Problem) (made : Form) (u : Unrolling) (e new : EnumState) (certificate : List Step) (finished : Bool) (imported : ℕ)
+    → IsStanding p made u e certificate finished imported → IsEnum new → new ≡ untold e → IsStanding p made u new certificate finished imported
+stands-untold p made u e new certificate finished imported is holds same =
+    subst (λ x. IsStanding p made u x certificate finished imported) (sym same) (record {
+      encoding = is.encoding;
+      over = record {
+        vars = is.over.vars;
+        form = is.over.form;
+        suspects = is.over.suspects;
+        size = is.over.size;
+        holds = subst IsEnum same holds;
+      };
+      searched = record {
+        session_within = is.searched.session_within;
+        fresh = is.searched.fresh;
+        few = is.searched.few;
+        ends = is.searched.ends;
+        front = is.searched.front;
+      };
+      certified = is.certified;
+    })
+
+pub same-untold : (p : Problem) (made : Form) (e new : EnumState) (certificate : List Step) (finished : Bool) (imported : ℕ)
+    → new ≡ untold e → state_of p made new certificate finished imported ≡ state_of p made e certificate finished imported
+same-untold p made e new certificate finished imported same = ap (λ x. state_of p made x certificate finished imported) same

@@ -14,3 +14,4 @@ pub mod Finishing
 pub mod Counting
 pub mod Given
 pub mod Sessions
+mod Supposing

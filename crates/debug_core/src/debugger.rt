@@ -84,6 +84,16 @@ impl<'a> Debugger<'a> {
         })
     }
 
+    /// Lets the next search begin near a set with its values: each variable is first given the value that follows from them.
+    pub fn settle(&mut self, set: &SetWithValues) -> Result<(), NoMemory>
+        ensures same { self.new ≡ self.old }
+        ensures holds { IsDebugger self.new }
+    {
+        let literals = self.encoding.supposed(self.alloc, set)?;
+        self.search.enumerator.settle(literals.as_slice());
+        Ok(())
+    }
+
     /// A debugger that has just begun goes on from a session, whose log is given: the log has these steps, and the sets whose blocks they
     /// are are listed. The sizes are searched from 0 again. After `NoMemory` it is gone.
     pub fn resume(self, log: &Log) -> Result<Debugger<'a>, NoMemory>

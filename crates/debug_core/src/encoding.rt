@@ -2,17 +2,19 @@
 //! clauses.
 
 ghost use Rattle.std.specs.Prelude.{◌≡◌, ◌≤◌, ◌<◌, ◌^◌, All, IfErr, IfOk, length};
+ghost use Rattle.clause_base.specs.Literal.{IsWithin};
 ghost use Rattle.debug_core.specs.Problems.{IsFormFor, IsProblem, IsRefused, problem_of, suspect_count};
 ghost use Rattle.debug_core.specs.Standing.{ExplainModels, IsEncoding, IsUnrollingFor, problem_in};
 
 use crate::error::DebugErr;
 use crate::question::Question;
+use crate::supposed::supposed;
 use bit_circuit::{Circuit, blast};
-use clause_base::Form;
+use clause_base::{Form, Lit};
 use clause_form::{FormPlan, form};
-use design_core::Values;
+use design_core::{SetWithValues, Values};
 use form_values::values;
-use loc_base::NoMemory;
+use loc_base::{Items, NoMemory};
 use std::alloc::Global;
 use unroller::{Unrolled, unroll};
 use v_synth::word_net;
@@ -83,6 +85,23 @@ impl<'a> Encoding<'a> {
         ensures { IfOk result (ExplainModels self.now model.now members.now) }
     {
         values(alloc, model, &self.unrolled, self.question.groups, members)
+    }
+
+    /// The literals that are true where a set's suspects are chosen and its places have its values.
+    pub(crate) fn supposed(
+        &self,
+        alloc: Global,
+        set: &SetWithValues,
+    ) -> Result<Items<Lit>, NoMemory>
+        requires encoding { IsEncoding self.now }
+        ensures { IfOk result (IsWithin self.now.form.vars) }
+    {
+        supposed(
+            alloc,
+            &self.unrolled,
+            self.question.groups.len() as u32,
+            set,
+        )
     }
 }
 

@@ -12,6 +12,7 @@ mod fits;
 mod found;
 mod list_laws;
 mod question;
+mod supposed;
 
 pub use clause_form::FormPlan;
 pub use debugger::Debugger;

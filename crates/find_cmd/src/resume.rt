@@ -9,7 +9,9 @@ ghost use Rattle.find_cmd.specs.Parts.{CanBeTaken, HasFew, HasResumed, IsTaken, 
 ghost use Rattle.find_cmd.specs.Sessions.{BeginsWith};
 
 use crate::session::{Taken, take_session};
+use clause_base::Log;
 use debug_core::Debugger;
+use design_core::SetWithValues;
 use io_ports::Shelf;
 use list_writer::{Job, Task};
 use load_problem::problem_line;
@@ -18,6 +20,23 @@ use refusal::{LastLine, Notes};
 use requests::SessionNames;
 use std::alloc::Global;
 use std::thread::Threads;
+
+/// A search that goes on from a session: it begins near the last of its sets.
+fn going_on_near<'a>(
+    search: Debugger<'a>,
+    found: &[SetWithValues],
+    log: &Log,
+) -> Result<Debugger<'a>, NoMemory>
+    requires { MayGoOn search log.now }
+    ensures goes_on { IfOk result (GoesOnFrom search.entry log.now) }
+    ensures holds { IfOk result IsDebugger }
+{
+    let mut search = search;
+    if let Some(set) = found.last() {
+        search.settle(set)?;
+    }
+    search.resume(log)
+}
 
 /// The listing of a job whose search goes on from what is taken up.
 fn going_on<'a>(
@@ -34,7 +53,7 @@ fn going_on<'a>(
     ensures memory { IfErr result IsMemory }
 {
     let Taken { found, log } = taken;
-    match search.resume(&log.log) {
+    match going_on_near(search, found.as_slice(), &log.log) {
         Ok(search) => Ok(Task { job, search, found }),
         Err(NoMemory) => Err(LastLine::Memory),
     }

@@ -16,7 +16,7 @@ use Rattle.sat_core.specs.declared.verdict.Verdict.{Verdict}
 use Rattle.sat_core.specs.declared.verdict.Verdict.TheVariants as verdict
 use Rattle.sat_core.specs.SolverState.{SolverState, IsSolver}
 use Rattle.sat_core.specs.Outcome.{Searches, Grows, LearnedBeforeLast, Says, told_by}
-use Rattle.sat_core.specs.Calls.{with_steps}
+use Rattle.sat_core.specs.Calls.{untold, with_steps}
 use Rattle.sat_core.specs.Analyses.{IsEmpty}
 use Rattle.sat_core.specs.Searching.{form_of, state_of, seen_of, IsReady, Keeps, StandsBy, StandsTold}
 use Rattle.sat_core.proofs.Growing.{IsLogged, logged, solver_from, IsLogged-block, Grows-none}
@@ -81,6 +81,11 @@ none_either false told q = refl
 -- where nothing is told, nothing is seen of it
 pub none_seen : (e : Engine) (log : List Step) → (seen_of e log None).told ≡ None
 none_seen e log = none_either (eqb e.known (length log)) None refl
+
+-- where nothing else changes, the same is seen but for what was told
+pub seen_untold : (old new : Engine) (log : List Step) (told : Option (List Lit)) (s : SolverState) → seen_of old log told ≡ s → state_of new log ≡ state_of old log → seen_of new log None ≡ untold s
+seen_untold old new log told s q e =
+    ap (λ o. record (state_of new log) { told = o }) (none_either (eqb new.known (length log)) None refl) ∙ (ap untold e ∙ ap untold q)
 
 -- a call that fails before its search changes nothing that counts
 pub searches_none : (e : Engine) (log : List Step) (told : Option (List Lit)) (old : SolverState) (left : ℕ) → seen_of e log told ≡ old → Searches old (seen_of e log None) left left 0

@@ -28,6 +28,10 @@ with_block s block = record { vars = s.vars; form = s.form; preferred = s.prefer
 abbrev pub with_steps : SolverState → List Step → SolverState
 with_steps s steps = record { vars = s.vars; form = s.form; preferred = s.preferred; log = s.log ++ steps; model = s.model; told = told_after steps s.told }
 
+-- the same solver, which tells nothing of the last answer
+abbrev pub untold : SolverState → SolverState
+untold s = record s { told = None }
+
 -- the steps may follow those that are there: with them the log is accepted, and their clauses are over the solver's variables
 pub record MayFollow (s : SolverState) (steps : List Step) : Type 0 where
   pub accepted : IsAccepted s.form (blocks_of (s.log ++ steps)) (s.log ++ steps)

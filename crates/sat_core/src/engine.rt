@@ -1,5 +1,7 @@
 ghost use Rattle.std.specs.Prelude.{◌≡◌, length};
-ghost use Rattle.trail_core.specs.TrailState.{IsTrail};
+ghost use Rattle.clause_base.specs.Literal.{IsWithin};
+ghost use Rattle.trail_core.specs.Values.{IsVariable};
+ghost use Rattle.trail_core.specs.TrailState.{AllRest, IsTrail, values_of};
 ghost use Rattle.sat_core.specs.Searching.{IsModelOf};
 
 use crate::analysis::Analysis;
@@ -84,6 +86,22 @@ impl Engine {
         self.ranking.release(&self.trail, 0);
         self.trail.back_to(0);
         self.catch_up(log)
+    }
+
+    /// Lets the last values of variables be those that follow from literals: decides one after another where it has no value, until a
+    /// clause is false, and goes back to level 0.
+    pub(crate) fn settle(&mut self, literals: &[Lit], log: &Log)
+        requires ready { IsReady self.old log.now }
+        requires within { IsWithin self.old.trail.vars literals.now }
+        ensures ready { IsReady self.new log.now }
+        ensures same { state_of self.new log.now ≡ state_of self.old log.now }
+        ensures known { self.new.known ≡ self.old.known }
+    {
+        self.ranking.release(&self.trail, 0);
+        self.trail.back_to(0);
+        suppose(&mut self.trail, literals);
+        self.ranking.release(&self.trail, 0);
+        self.trail.back_to(0);
     }
 
     /// Adds the clauses of the log that the trail lacks, at level 0. After `NoMemory` some of them were added.
@@ -361,5 +379,36 @@ fn keep(model: &mut Vec<bool>, trail: &Trail)
 {
     for place in 0..model.len() {
         model[place] = trail.value(place as u32 + 1).unwrap_or(false);
+    }
+}
+
+/// Decides literals one after another where they have no value, each once no clause forces another, until a clause is false.
+fn suppose(trail: &mut Trail, literals: &[Lit])
+    requires trail { IsTrail trail.old }
+    requires within { IsWithin trail.old.vars literals.now }
+    ensures trail { IsTrail trail.new }
+    ensures vars { trail.new.vars ≡ trail.old.vars }
+    ensures clauses { trail.new.clauses ≡ trail.old.clauses }
+{
+    for place in 0..literals.len() {
+        match trail.propagate() {
+            Some(_) => return,
+            None => decide_unassigned(trail, literals[place]),
+        }
+    }
+    let _ = trail.propagate();
+}
+
+/// Decides a literal where it has no value.
+fn decide_unassigned(trail: &mut Trail, l: Lit)
+    requires trail { IsTrail trail.old }
+    requires variable { IsVariable trail.old.vars l.var }
+    requires rest { AllRest trail.old.clauses (values_of trail.old.entries) }
+    ensures trail { IsTrail trail.new }
+    ensures vars { trail.new.vars ≡ trail.old.vars }
+    ensures clauses { trail.new.clauses ≡ trail.old.clauses }
+{
+    if trail.value(l.var).is_none() {
+        trail.decide(l);
     }
 }

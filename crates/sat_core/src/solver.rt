@@ -46,7 +46,7 @@ impl Solver {
     ghost use Rattle.clause_base.specs.Acceptance.{is_block, IsAcceptedStep};
     ghost use Rattle.sat_core.specs.SolverState.{IsSolver, blocks_of};
     ghost use Rattle.sat_core.specs.Outcome.{Searches, LearnedBeforeLast, Says, closings};
-    ghost use Rattle.sat_core.specs.Calls.{Begins, MayFollow, TookOver, with_block, with_steps};
+    ghost use Rattle.sat_core.specs.Calls.{Begins, MayFollow, TookOver, untold, with_block, with_steps};
     ghost use Rattle.sat_core.specs.Explaining.{MayExplain, Explains};
 
     /// A solver of a form, with an empty log. Of the preferred variables, which are to be true where they can be, the
@@ -113,6 +113,17 @@ impl Solver {
     {
         self.log
             .push(log.kind(place), log.clause(place), log.chain(place))
+    }
+
+    /// Lets a search begin near the values that follow from literals: each variable is first given the value that it has there. Which
+    /// model comes is the same.
+    pub fn settle(&mut self, literals: &[Lit])
+        requires within { IsWithin self.old.vars literals.now }
+        ensures same { self.new ≡ untold self.old }
+        ensures solver { IsSolver self.new }
+    {
+        self.told = None;
+        self.engine.settle(literals, &self.log);
     }
 
     /// Searches for the model of form, log and assumptions that makes the preferred variables true as far as they can

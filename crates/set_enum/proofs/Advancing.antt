@@ -1,5 +1,5 @@
 -- What each call leaves of an enumerator's parts.
-use Rattle.std.proofs.Common.{◌≡◌, ℕ, zero, suc, ◌+◌, ◌-◌, ◌^◌, ◌<◌, ◌≤◌, inr, Bool, true, false, cond, List, [], ◌∷◌, ◌++◌, length, map, take}
+use Rattle.std.proofs.Common.{◌≡◌, ℕ, zero, suc, ◌+◌, ◌-◌, ◌^◌, ◌<◌, ◌≤◌, inr, Bool, true, false, ◌&&◌, cond, List, [], ◌∷◌, ◌++◌, length, map, take}
 use Rattle.std.proofs.Common.{drop, Option, Some, None, Result, Ok, Err, refl, sym, ◌∙◌, ap, subst, arith}
 use Rattle.std.specs.Prelude.{All, filter, is_some, IsSome, OnOk, OnErr}
 use Rattle.std.proofs.lemmas.List.{take_all, take_at, take-append-drop, map-append}
@@ -18,9 +18,9 @@ use Rattle.sat_core.specs.SolverState.{SolverState, IsSolver, IsGreatestModel, b
 use Rattle.sat_core.specs.declared.verdict.Verdict.{Verdict}
 use Rattle.sat_core.specs.declared.verdict.Verdict.TheVariants as verdict
 use Rattle.sat_core.specs.Outcome.{Searches, LearnedBeforeLast, IsRefuted, Says, closings_of, told_by}
-use Rattle.sat_core.specs.Calls.{Begins, TookOver, with_block, with_steps}
+use Rattle.sat_core.specs.Calls.{Begins, TookOver, untold as told_nothing, with_block, with_steps}
 use Rattle.set_enum.specs.Sets.{selected, IsSetOf, IsBlock, block_of, numbers_from}
-use Rattle.set_enum.specs.EnumState.{AreChainless, EnumState, HasNoChain, MayBeImported, MayBeTakenOver}
+use Rattle.set_enum.specs.EnumState.{AreChainless, EnumState, HasNoChain, MayBeImported, MayBeTakenOver, untold}
 use Rattle.set_enum.specs.Outcome.{Adds, GivesSet}
 use Rattle.set_enum.specs.Standing.{IsStanding, IsToldAt, assumed, next_size, state_of, waiting}
 use Rattle.set_enum.proofs.Selecting.{selected-IsSetOf, numbers-within}
@@ -265,3 +265,40 @@ stands_taken n k size before old new step (Ok x) h may solver ok err =
     (All-push (λ (x : Step). HasNoChain x.kind x) [] step (All-nil (λ (x : Step). HasNoChain x.kind x)) may.chainless)
     (told_with n k size before old (step ∷ []) h.told))
 stands_taken n k size before old new step (Err x) h may solver ok err = subst (IsStanding n k size before) (sym err) h
+
+-- once nothing is told any more
+false_either : (b : Bool) → (b && false) ≡ false
+false_either true = refl
+false_either false = refl
+
+pub untold_state : (n k size : ℕ) (found : Bool) (s : SolverState)
+    → state_of n k size found (told_nothing s) ≡ untold (state_of n k size found s)
+untold_state n k size found s = ap (λ told. record (state_of n k size found s) { told = told }) (false_either found)
+
+pub stands_untold : (n k size : ℕ) (found : Bool) (old new : SolverState) → IsStanding n k size found old → IsSolver new
+    → new ≡ told_nothing old → IsStanding n k size found new
+stands_untold n k size found old new h solver e =
+    subst (IsStanding n k size found) (sym e) (record {
+      holds = record {
+        counter = h.holds.counter;
+        small = h.holds.small;
+        few = h.holds.few;
+        accepted = h.holds.accepted;
+        within = h.holds.within;
+        distinct = h.holds.distinct;
+        blocks = h.holds.blocks;
+        chainless = h.holds.chainless;
+        closed = h.holds.closed;
+        sizes = h.holds.sizes;
+        closing = h.holds.closing;
+        shown = h.holds.shown;
+        waits = h.holds.waits;
+      };
+      solver = subst IsSolver e solver;
+      preferred = h.preferred;
+      told = told_none n k size found (told_nothing old) refl;
+    })
+
+pub settled : (n k size : ℕ) (found : Bool) (old new : SolverState) (s : EnumState) → state_of n k size found old ≡ s
+    → new ≡ told_nothing old → state_of n k size found new ≡ untold s
+settled n k size found old new s is e = ap (state_of n k size found) e ∙ (untold_state n k size found old ∙ ap untold is)

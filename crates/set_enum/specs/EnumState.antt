@@ -90,6 +90,10 @@ blocked s = record {
   told = false;
 }
 
+-- the same enumerator, which tells nothing of the last answer
+abbrev pub untold : EnumState → EnumState
+untold s = record s { told = false }
+
 -- what stays told where steps are added
 abbrev pub told_behind : List Step → Bool → Bool
 told_behind [] told = told

@@ -7,7 +7,7 @@ ghost use Rattle.std.specs.Option.{unwrap_or};
 
 use crate::search::{assumption, size_after, solve_under};
 use crate::selections::{block_of, members_of, numbers_to, passed_over};
-use clause_base::{Form, Log};
+use clause_base::{Form, Lit, Log};
 use loc_base::{Items, NoMemory};
 use sat_core::{Budget, Solver, Verdict};
 use std::alloc::Global;
@@ -67,11 +67,11 @@ impl Model for Enumerator {
 }
 
 impl Enumerator {
-    ghost use Rattle.clause_base.specs.Literal.{AreWithin};
+    ghost use Rattle.clause_base.specs.Literal.{AreWithin, IsWithin};
     ghost use Rattle.clause_base.specs.Steps.{step_at};
     ghost use Rattle.card_counter.specs.InForm.{HasCounter};
     ghost use Rattle.set_enum.specs.Certificate.{IsCertificate};
-    ghost use Rattle.set_enum.specs.EnumState.{IsEnum, MayBeImported, MayBeTakenOver, ImportedSome, begun, blocked, with_imported};
+    ghost use Rattle.set_enum.specs.EnumState.{IsEnum, MayBeImported, MayBeTakenOver, ImportedSome, begun, blocked, untold, with_imported};
     ghost use Rattle.set_enum.specs.Outcome.{Adds, Gives, IsOpen, StaysClosed};
     ghost use Rattle.set_enum.specs.Standing.{Advances};
 
@@ -127,6 +127,15 @@ impl Enumerator {
         self.solver.add_block(&block)?;
         self.found = false;
         Ok(())
+    }
+
+    /// Lets the next search begin near the values that follow from literals.
+    pub fn settle(&mut self, literals: &[Lit])
+        requires within { IsWithin self.old.vars literals.now }
+        ensures same { self.new ≡ untold self.old }
+        ensures holds { IsEnum self.new }
+    {
+        self.solver.settle(literals);
     }
 
     /// Appends the steps of a log, whose blocks are blocks of sets. After `NoMemory` it has the first of them, some or none.
