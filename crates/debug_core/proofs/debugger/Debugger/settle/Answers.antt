@@ -11,7 +11,7 @@ returns-in_err-literals-clause-holds c =
     subst IsDebugger c.self.view_is
     (is-debugger (problem_in e) e.form e.unrolled s.enumerator (drop s.appended s.certificate) s.finished s.imported c.self.invariant)
 
-stands : (c : goal.After-settle)
+stands : (c : goal.After-drop-literals)
     → IsStanding (problem_in c.self.inside.encoding) c.self.inside.encoding.form c.self.inside.encoding.unrolled c.settle.new.self
     (drop c.self.inside.search.appended c.self.inside.search.certificate) c.self.inside.search.finished c.self.inside.search.imported
 stands c =
