@@ -1,6 +1,7 @@
 //! A search that goes on from a session.
 ghost use Rattle.std.specs.Prelude.{◌≡◌, ◌<◌, ◌≤◌, IfErr, IfOk, true};
 ghost use Rattle.debug_core.specs.Debugging.{Begins, IsDebugger};
+ghost use Rattle.debug_core.specs.Sessions.{GoesOnFrom, MayGoOn};
 ghost use Rattle.debug_core.specs.Problems.{IsProblem, problem_of};
 ghost use Rattle.list_writer.specs.Jobs.{asked_of, session_of};
 ghost use Rattle.refusal.specs.Ends.{CountsOf, HasCause, HasStatus, IsMemory, IsSpared};

@@ -3,8 +3,8 @@ use Rattle.find_cmd.specs.Parts.{session_in}
 use Rattle.find_cmd.proofs.Resuming.{has-resumed, may-go-on, same-session}
 use Rattle.find_cmd.proofs.resume.going_on.Goals as goal
 
-pub resume-requires : goal.resume-requires
-resume-requires c =
+pub going_on_near-requires : goal.going_on_near-requires
+going_on_near-requires c =
     may-go-on (problem_of c.args.job.question) c.args.search (session_in c.args.taken) c.requires.begins c.requires.holds c.requires.taken
 
 pub returns-in-Ok-clause-resumed : goal.returns-in-Ok-clause-resumed
