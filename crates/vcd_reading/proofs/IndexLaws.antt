@@ -14,8 +14,8 @@ use Rattle.vcd_reading.specs.Commands.{same_bytes}
 use Rattle.vcd_reading.specs.Header.{Header, Variable}
 use Rattle.vcd_reading.specs.HeaderView.{variable_of}
 use Rattle.vcd_reading.specs.NameView.{number_at, with_first}
-use Rattle.vcd_reading.specs.Scopes.{least_below, is_named, variable_in}
-use Rattle.vcd_reading.specs.Found.{place_of, IsIndex}
+use Rattle.vcd_reading.specs.Scopes.{least_below, is_named, place_of, variable_in}
+use Rattle.vcd_reading.specs.Found.{IsIndex}
 
 shifted : (test : Bool) (o : Option ℕ) (n : ℕ)
     → option_map suc (option_or o (if test then Some n else None)) ≡ option_or (option_map suc o) (if test then Some (suc n) else None)

@@ -10,3 +10,4 @@ pub mod IndexLaws
 pub mod BitSteps
 pub mod PlaceLaws
 pub mod OneReading
+pub mod PathLaws

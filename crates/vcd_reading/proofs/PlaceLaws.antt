@@ -13,8 +13,7 @@ use Rattle.vcd_reading.specs.Header.{Header, Variable}
 use Rattle.vcd_reading.specs.HeaderView.{variable_of}
 use Rattle.vcd_reading.specs.NameView.{number_at}
 use Rattle.vcd_reading.specs.PlaceView.{place_of, IsScope}
-use Rattle.vcd_reading.specs.Scopes.{Port, Place, bit_of, bit_place, is_named, place_in, variable_in, whole}
-use Rattle.vcd_reading.specs.Found.{place_of as first_place}
+use Rattle.vcd_reading.specs.Scopes.{Port, Place, bit_of, bit_place, is_named, place_in, variable_in, whole, place_of as first_place}
 use Rattle.vcd_reading.proofs.IndexLaws.{place_finds}
 
 -- an element that is lent, or none

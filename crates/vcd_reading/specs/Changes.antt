@@ -4,7 +4,7 @@ use Rattle.std.specs.Option.{option_to_list}
 use Rattle.vcd_words.specs.declared.level.Level.{Level}
 use Rattle.vcd_words.specs.Words.{Placed}
 use Rattle.vcd_reading.specs.Header.{Header}
-use Rattle.vcd_reading.specs.Scopes.{Port, is_declared, is_of_port, is_too_long}
+use Rattle.vcd_reading.specs.Scopes.{Sought, is_declared, is_of_port, is_too_long}
 use Rattle.vcd_reading.specs.Events.{Event}
 
 -- what stands before a word: what the header has declared, the last time, the times of the stamps that have ended, and
@@ -39,26 +39,26 @@ with_event past code level =
     record past { events = past.events ++ (record { time = past.time; code = code; level = level }) ∷ [] }
 
 -- a value of some digits for a variable of bits: its code is declared, and no port of that code has fewer bits
-abbrev pub changed : List Port → Past → Level → ℕ → ℕ → Placed → Result Past ℕ
-changed ports past level digits at code =
+abbrev pub changed : Sought → Past → Level → ℕ → ℕ → Placed → Result Past ℕ
+changed sought past level digits at code =
     if not (is_declared past.header code.word) then Err code.at else
-    (if is_too_long past.header ports code.word digits then Err at else Ok (with_event past code.word level))
+    (if is_too_long past.header sought code.word digits then Err at else Ok (with_event past code.word level))
 
 -- a real or a text: its code is declared, and is no port's
-abbrev pub passed_over : List Port → Past → ℕ → Placed → Result Past ℕ
-passed_over ports past at code =
+abbrev pub passed_over : Sought → Past → ℕ → Placed → Result Past ℕ
+passed_over sought past at code =
     if not (is_declared past.header code.word) then Err code.at else
-    (if is_of_port past.header ports code.word then Err at else Ok past)
+    (if is_of_port past.header sought code.word then Err at else Ok past)
 
 -- the code of a scalar change stands behind the digit in the same word
-abbrev pub scalar : List Port → Past → Level → Placed → Result Past ℕ
-scalar ports past level first = changed ports past level 1 first.at (record { at = first.at; word = drop 1 first.word })
+abbrev pub scalar : Sought → Past → Level → Placed → Result Past ℕ
+scalar sought past level first = changed sought past level 1 first.at (record { at = first.at; word = drop 1 first.word })
 
 -- the code of a vector, a real or a text is the next word
-abbrev pub vector : List Port → Past → Level → Placed → List Placed → Result Past ℕ
-vector ports past level first [] = Ok past
-vector ports past level first (code ∷ words) = changed ports past level (length first.word - 1) first.at code
+abbrev pub vector : Sought → Past → Level → Placed → List Placed → Result Past ℕ
+vector sought past level first [] = Ok past
+vector sought past level first (code ∷ words) = changed sought past level (length first.word - 1) first.at code
 
-abbrev pub other_value : List Port → Past → Placed → List Placed → Result Past ℕ
-other_value ports past first [] = Ok past
-other_value ports past first (code ∷ words) = passed_over ports past first.at code
+abbrev pub other_value : Sought → Past → Placed → List Placed → Result Past ℕ
+other_value sought past first [] = Ok past
+other_value sought past first (code ∷ words) = passed_over sought past first.at code

@@ -1,5 +1,5 @@
 -- The header of a dump (IEEE 1364-2005, 18.2.3): the scopes and the variables that it declares.
-use Rattle.std.specs.Prelude.{ℕ, Bool, true, false, not, ◌&&◌, ◌||◌, ◌==◌, nat_le, if◌then◌else◌, List, [], ◌∷◌, ◌++◌, length, Option, Some, None, codes, slice_get, unwrap_or}
+use Rattle.std.specs.Prelude.{ℕ, Bool, true, false, not, ◌&&◌, ◌||◌, ◌==◌, nat_le, if◌then◌else◌, List, [], ◌∷◌, ◌++◌, length, Option, Some, None, codes, slice_get}
 use Rattle.std.specs.List.{list_all}
 use Rattle.std.specs.Option.{option_and_then, option_or}
 use Rattle.vcd_words.specs.Words.{Placed}
@@ -16,10 +16,15 @@ pub record Variable : Type 0 where
   pub code : List ℕ
   pub name : List ℕ
 
--- what a header has declared: for each scope, in the order of the `$scope` commands, the scope around it, if any; the
--- scope that is open, if any; the variables in their order; and whether the definitions have ended
+-- a scope: the scope around it, if any, and its name
+pub record Opened : Type 0 where
+  pub around : Option ℕ
+  pub name : List ℕ
+
+-- what a header has declared: the scopes, in the order of the `$scope` commands; the scope that is open, if any; the
+-- variables in their order; and whether the definitions have ended
 pub record Header : Type 0 where
-  pub scopes : List (Option ℕ)
+  pub scopes : List Opened
   pub current : Option ℕ
   pub variables : List Variable
   pub ended : Bool
@@ -82,13 +87,20 @@ with_variable h (type_word ∷ size ∷ code ∷ reference ∷ words) =
     }
 with_variable h _ = h
 
--- `$scope`: one more scope opens, in the open one
-abbrev pub with_scope : Header → Header
-with_scope h = record h { scopes = h.scopes ++ h.current ∷ []; current = Some (length h.scopes) }
+-- the name of a scope, by the words behind its `$scope`: as the second stands there, whatever its bytes, and none where a
+-- `$end` stands before it
+unfoldable pub scope_name : List Placed → List ℕ
+scope_name (kind ∷ name ∷ words) = if is_end kind.word || is_end name.word then [] else name.word
+scope_name _ = []
+
+-- `$scope`: one more scope of a name opens, in the open one
+abbrev pub with_scope : Header → List ℕ → Header
+with_scope h name =
+    record h { scopes = h.scopes ++ (record { around = h.current; name = name }) ∷ []; current = Some (length h.scopes) }
 
 -- the scope around a scope
-abbrev pub around : List (Option ℕ) → ℕ → Option ℕ
-around scopes scope = unwrap_or (slice_get scopes scope) None
+abbrev pub around : List Opened → ℕ → Option ℕ
+around scopes scope = option_and_then (λ (opened : Opened). opened.around) (slice_get scopes scope)
 
 -- `$upscope`: the open scope is closed
 abbrev pub without_scope : Header → Header
@@ -96,7 +108,7 @@ without_scope h = record h { current = option_and_then (around h.scopes) h.curre
 
 -- what a section of the header does, by its command and the words behind that
 abbrev pub declared : Header → Command → List Placed → Header
-declared h Scope words = with_scope h
+declared h Scope words = with_scope h (scope_name words)
 declared h Upscope words = without_scope h
 declared h Var words = with_variable h words
 declared h EndDefinitions words = record h { ended = true }

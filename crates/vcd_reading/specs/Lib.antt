@@ -13,3 +13,4 @@ pub mod Reading
 pub mod Outcomes
 pub mod Found
 pub mod PlaceView
+pub mod Paths

@@ -4,7 +4,7 @@ use Rattle.vcd_words.specs.Words.{words_left}
 use Rattle.vcd_reading.specs.declared.error.VcdErr.{VcdErr}
 use Rattle.vcd_reading.specs.declared.error.VcdErr.TheVariants.{Syntax, MissingPort, PortWidth, NoCycle, UnknownInput, Cycles, NoMemory}
 use Rattle.vcd_reading.specs.Header.{Header}
-use Rattle.vcd_reading.specs.Scopes.{Port}
+use Rattle.vcd_reading.specs.Scopes.{Sought}
 use Rattle.vcd_reading.specs.Changes.{Past}
 use Rattle.vcd_reading.specs.Reading.{Step, goes, stops, Reads, ReadsText}
 
@@ -28,6 +28,6 @@ abbrev pub begun : Header → Past
 begun h = record { header = h; time = None; ended = []; events = [] }
 
 -- whatever comes of the words from a place on comes of the text
-abbrev pub ReadsOn : List Port → List ℕ → Past → ℕ → Type 0
-ReadsOn ports text past at =
-    (outcome : Result Past ℕ) → Reads ports (length text) past (words_left text at) outcome → ReadsText ports text outcome
+abbrev pub ReadsOn : Sought → List ℕ → Past → ℕ → Type 0
+ReadsOn sought text past at =
+    (outcome : Result Past ℕ) → Reads sought (length text) past (words_left text at) outcome → ReadsText sought text outcome

@@ -3,7 +3,7 @@ ghost use Rattle.std.specs.Prelude.{◌≡◌, ◌≤◌, ◌<◌, ℕ, List, So
 ghost use Rattle.std.specs.List.{list_all};
 ghost use Rattle.loc_base.specs.Ascii.{is_decimal};
 ghost use Rattle.vcd_words.specs.Words.{words_left, placed};
-ghost use Rattle.vcd_reading.specs.Header.{declared, up_to_bracket, no_header, with_variable, with_scope, without_scope, is_size as says_size, is_real_type as says_real_type, name_of as spec_name_of, wrong_in_var};
+ghost use Rattle.vcd_reading.specs.Header.{declared, up_to_bracket, no_header, with_variable, with_scope, without_scope, is_size as says_size, is_real_type as says_real_type, name_of as spec_name_of, wrong_in_var, scope_name as says_scope_name};
 ghost use Rattle.vcd_reading.specs.Commands.{is_end as says_end};
 ghost use Rattle.vcd_reading.specs.Pieces.{behind_end};
 ghost use Rattle.vcd_reading.specs.HeaderView.{header_of};
@@ -24,11 +24,19 @@ pub struct Variable<'a> {
     pub name: &'a [u8],
 }
 
+/// A scope that a header opens, by the words of its `$scope`.
+#[derive(Clone, Copy)]
+pub struct Opened<'a> {
+    /// The number of the scope around it, if any.
+    pub around: Option<usize>,
+    pub name: &'a [u8],
+}
+
 /// What a header has declared.
 #[derive(Drop)]
 pub struct Header<'a> {
-    /// For each scope, in the order of the `$scope` commands, the number of the scope around it, if any.
-    pub scopes: Vec<Option<usize>>,
+    /// In the order of the `$scope` commands.
+    pub scopes: Vec<Opened<'a>>,
     /// The scope that is open, if any.
     pub current: Option<usize>,
     pub variables: Vec<Variable<'a>>,
@@ -120,6 +128,24 @@ pub fn wrong_in_var(text: &[u8], from: usize) -> Option<usize>
     ends(text, reference).then_some(reference.start)
 }
 
+/// The name of a scope, by the words from an offset on: the second, where no `$end` stands before its end.
+#[tactic(auto, unfolding(crate::specs::Header::scope_name))]
+fn scope_name(text: &[u8], from: usize) -> &[u8]
+    ensures { result.now ≡ says_scope_name (words_left text.now from) }
+{
+    let Some(kind) = word_at(text, from) else {
+        return &[];
+    };
+    let Some(name) = word_at(text, kind.stop) else {
+        return &[];
+    };
+    if ends(text, kind) || ends(text, name) {
+        &[]
+    } else {
+        bytes_at(text, name)
+    }
+}
+
 /// The offset behind the first `$end` from an offset on, where there is one.
 #[tactic(auto, using(crate::proofs::HeaderSteps::end_steps))]
 pub fn section_end(text: &[u8], from: usize) -> Option<usize>
@@ -177,12 +203,13 @@ impl<'a> Header<'a> {
         Ok(())
     }
 
-    /// Opens one more scope in the open one.
-    fn open_scope(&mut self) -> Result<(), NoMemory>
-        ensures { OnOk result (header_of self.new ≡ with_scope (header_of self.old)) }
+    /// Opens one more scope of a name in the open one.
+    fn open_scope(&mut self, name: &'a [u8]) -> Result<(), NoMemory>
+        ensures { OnOk result (header_of self.new ≡ with_scope (header_of self.old) name.now) }
     {
         let number = self.scopes.len();
-        self.scopes.push(self.current)?;
+        let around = self.current;
+        self.scopes.push(Opened { around, name })?;
         self.current = Some(number);
         Ok(())
     }
@@ -192,7 +219,10 @@ impl<'a> Header<'a> {
         ensures { header_of self.new ≡ without_scope (header_of self.old) }
     {
         if let Some(scope) = self.current {
-            self.current = self.scopes.get(scope).copied().unwrap_or(None);
+            self.current = match self.scopes.get(scope) {
+                None => None,
+                Some(opened) => opened.around,
+            };
         }
     }
 
@@ -201,7 +231,7 @@ impl<'a> Header<'a> {
         ensures { OnOk result (header_of self.new ≡ declared (header_of self.old) command (words_left text.now from)) }
     {
         match command {
-            Command::Scope => self.open_scope(),
+            Command::Scope => self.open_scope(scope_name(text, from)),
             Command::Upscope => {
                 self.close_scope();
                 Ok(())

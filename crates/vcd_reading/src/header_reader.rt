@@ -4,7 +4,7 @@ ghost use Rattle.vcd_words.specs.Words.{words_left, placed};
 ghost use Rattle.vcd_reading.specs.Header.{declared, wrong_in};
 ghost use Rattle.vcd_reading.specs.HeaderView.{header_of};
 ghost use Rattle.vcd_reading.specs.Pieces.{behind_end};
-ghost use Rattle.vcd_reading.specs.Scopes.{Port};
+ghost use Rattle.vcd_reading.specs.Scopes.{Sought};
 ghost use Rattle.vcd_reading.specs.Reading.{step, step_inside, step_behind, ReadsText};
 ghost use Rattle.vcd_reading.specs.Outcomes.{Turns, IsAt, ReadsOn, begun};
 
@@ -53,7 +53,7 @@ fn piece<'a>(header: &mut Header<'a>, text: &'a [u8], word: Extent) -> Result<us
     requires open { header.old.ended ≡ false }
     requires some { word.start ≤ word.stop }
     requires inside { word.stop ≤ length text.now }
-    ensures turns { (ports : List Port) → Turns text.now (step ports (length text.now) (begun (header_of header.old)) (placed text.now word.start word.stop) (words_left text.now word.stop)) result (begun (header_of header.new)) }
+    ensures turns { (sought : Sought) → Turns text.now (step sought (length text.now) (begun (header_of header.old)) (placed text.now word.start word.stop) (words_left text.now word.stop)) result (begun (header_of header.new)) }
     ensures later { IfOk result (λ next. word.stop < next) }
     ensures within { IfOk result (λ next. next ≤ length text.now) }
 {
@@ -72,9 +72,9 @@ pub struct Front<'a> {
 
 /// Reads a header up to the end of its definitions, or of the text.
 pub fn read_header<'a>(alloc: Global, text: &'a [u8]) -> Result<Front<'a>, VcdErr>
-    ensures reads { IfOk result (λ front. (ports : List Port) → ReadsOn ports text.now (begun (header_of front.header)) front.stop) }
+    ensures reads { IfOk result (λ front. (sought : Sought) → ReadsOn sought text.now (begun (header_of front.header)) front.stop) }
     ensures open { IfOk result (λ front. front.header.ended ≡ false → words_left text.now front.stop ≡ []) }
-    ensures fault { IfErr result (IsAt (λ at. (ports : List Port) → ReadsText ports text.now (Err at))) }
+    ensures fault { IfErr result (IsAt (λ at. (sought : Sought) → ReadsText sought text.now (Err at))) }
 {
     let mut header = Header::new(alloc);
     let mut stop = 0usize;

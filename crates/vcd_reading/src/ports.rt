@@ -22,6 +22,13 @@ pub struct Port<'a> {
     pub bit: Option<BitName<'a>>,
 }
 
+/// What is looked for in a dump: the ports, and the path of the scope in which they are to stand, where one is named.
+#[derive(Clone, Copy)]
+pub struct Sought<'b, 'a> {
+    pub scope: Option<&'b [u8]>,
+    pub ports: &'b [Port<'a>],
+}
+
 /// The bit of a variable that a port of one bit may be, by its name.
 fn port_bit(width: u8, name: &[u8]) -> Option<BitName<'_>>
     ensures { option_map bit_of result ≡ port_bit width name.now }

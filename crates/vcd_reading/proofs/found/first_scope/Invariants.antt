@@ -4,7 +4,7 @@ use Rattle.vcd_reading.specs.HeaderView.{variable_of}
 use Rattle.vcd_reading.specs.PortView.{ports_in}
 use Rattle.vcd_reading.specs.Scopes.{declares, least_below}
 use Rattle.vcd_reading.specs.Found.{IsIndex}
-use Rattle.vcd_reading.proofs.found.scope_of.Given as goal
+use Rattle.vcd_reading.proofs.found.first_scope.Given as goal
 
 abbrev pub invariant-loop-number : goal.invariant-loop-number
 invariant-loop-number l =
