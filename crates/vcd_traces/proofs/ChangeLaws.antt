@@ -19,7 +19,7 @@ use Rattle.vcd_traces.specs.declared.codes.Role.{Role}
 use Rattle.vcd_traces.specs.declared.codes.Role.TheVariants.{Other, Port as OfPort}
 use Rattle.vcd_reading.proofs.ByteLaws.{differ}
 use Rattle.vcd_reading.specs.Header.{Header}
-use Rattle.vcd_reading.specs.Scopes.{Port, has_code, is_declared, most_digits, part_of}
+use Rattle.vcd_reading.specs.Scopes.{Port, Sought, has_code, is_declared, most_digits, part_of}
 use Rattle.vcd_reading.specs.Changes.{Past, changed, passed_over, with_event}
 use Rattle.vcd_reading.specs.Events.{Event}
 use Rattle.vcd_traces.specs.Running.{Follows, changed_to}
@@ -33,13 +33,13 @@ pub does_by : {R : Type 0} (one other : Result Past ℕ) (keeps : Past → R →
 does_by one other keeps r new same fact = let P : Result Past ℕ → Type 0 = λ d. Does d keeps r new in subst P (sym same) fact
 
 -- a code with a role is declared, and one without is not
-declared_with : (h : Header) (ports : List Port) (table : Table) (code : List ℕ) (role : Role) → IsTable h ports table
+declared_with : (h : Header) (sought : Sought) (table : Table) (code : List ℕ) (role : Role) → IsTable h sought table
     → role_of table.codes code ≡ Some role → not (is_declared h code) ≡ false
-declared_with h ports table code role t has = ap not (sym (t.declared code) ∙ ap is_some has)
+declared_with h sought table code role t has = ap not (sym (t.declared code) ∙ ap is_some has)
 
-declared_without : (h : Header) (ports : List Port) (table : Table) (code : List ℕ) → IsTable h ports table
+declared_without : (h : Header) (sought : Sought) (table : Table) (code : List ℕ) → IsTable h sought table
     → role_of table.codes code ≡ None → not (is_declared h code) ≡ true
-declared_without h ports table code t has = ap not (sym (t.declared code) ∙ ap is_some has)
+declared_without h sought table code t has = ap not (sym (t.declared code) ∙ ap is_some has)
 
 pub any_less : (one other : Port → Bool) (ports : List Port) → list_any one ports ≡ false → list_any (λ port. one port && other port) ports ≡ false
 any_less one other [] none = refl
@@ -52,49 +52,49 @@ any_less one other (port ∷ ports) none =
     ]
 
 -- what a value that is no bits does
-pub passes_undeclared : (ports : List Port) (past : Past) (table : Table) (at : ℕ) (code : Placed) → IsTable past.header ports table
-    → role_of table.codes code.word ≡ None → passed_over ports past at code ≡ Err code.at
-passes_undeclared ports past table at code t has = cond-true _ _ _ (declared_without past.header ports table code.word t has)
+pub passes_undeclared : (sought : Sought) (past : Past) (table : Table) (at : ℕ) (code : Placed) → IsTable past.header sought table
+    → role_of table.codes code.word ≡ None → passed_over sought past at code ≡ Err code.at
+passes_undeclared sought past table at code t has = cond-true _ _ _ (declared_without past.header sought table code.word t has)
 
-pub passes_other : (ports : List Port) (past : Past) (table : Table) (at : ℕ) (code : Placed) → IsTable past.header ports table
-    → role_of table.codes code.word ≡ Some Other → passed_over ports past at code ≡ Ok past
-passes_other ports past table at code t has =
-    cond-false _ _ _ (declared_with past.header ports table code.word Other t has) ∙ cond-false _ _ _ (t.role code.word Other has)
+pub passes_other : (sought : Sought) (past : Past) (table : Table) (at : ℕ) (code : Placed) → IsTable past.header sought table
+    → role_of table.codes code.word ≡ Some Other → passed_over sought past at code ≡ Ok past
+passes_other sought past table at code t has =
+    cond-false _ _ _ (declared_with past.header sought table code.word Other t has) ∙ cond-false _ _ _ (t.role code.word Other has)
 
-pub passes_port : (ports : List Port) (past : Past) (table : Table) (at : ℕ) (code : Placed) (cell limit : ℕ) → IsTable past.header ports table
-    → role_of table.codes code.word ≡ Some (OfPort cell limit) → passed_over ports past at code ≡ Err at
-passes_port ports past table at code cell limit t has =
-    cond-false _ _ _ (declared_with past.header ports table code.word (OfPort cell limit) t has)
+pub passes_port : (sought : Sought) (past : Past) (table : Table) (at : ℕ) (code : Placed) (cell limit : ℕ) → IsTable past.header sought table
+    → role_of table.codes code.word ≡ Some (OfPort cell limit) → passed_over sought past at code ≡ Err at
+passes_port sought past table at code cell limit t has =
+    cond-false _ _ _ (declared_with past.header sought table code.word (OfPort cell limit) t has)
     ∙ cond-true _ _ _ (t.role code.word (OfPort cell limit) has).0
 
 -- what a value of bits does
-pub changes_undeclared : (ports : List Port) (past : Past) (table : Table) (level : Level) (digits at : ℕ) (code : Placed) → IsTable past.header ports table
-    → role_of table.codes code.word ≡ None → changed ports past level digits at code ≡ Err code.at
-changes_undeclared ports past table level digits at code t has = cond-true _ _ _ (declared_without past.header ports table code.word t has)
+pub changes_undeclared : (sought : Sought) (past : Past) (table : Table) (level : Level) (digits at : ℕ) (code : Placed) → IsTable past.header sought table
+    → role_of table.codes code.word ≡ None → changed sought past level digits at code ≡ Err code.at
+changes_undeclared sought past table level digits at code t has = cond-true _ _ _ (declared_without past.header sought table code.word t has)
 
-pub changes_other : (ports : List Port) (past : Past) (table : Table) (level : Level) (digits at : ℕ) (code : Placed) → IsTable past.header ports table
-    → role_of table.codes code.word ≡ Some Other → changed ports past level digits at code ≡ Ok (with_event past code.word level)
-changes_other ports past table level digits at code t has =
-    cond-false _ _ _ (declared_with past.header ports table code.word Other t has)
-    ∙ cond-false _ _ _ (any_less (has_code past.header ports code.word) (λ port. nat_lt (most_digits port.width (part_of past.header ports port)) digits) ports (t.role code.word Other has))
+pub changes_other : (sought : Sought) (past : Past) (table : Table) (level : Level) (digits at : ℕ) (code : Placed) → IsTable past.header sought table
+    → role_of table.codes code.word ≡ Some Other → changed sought past level digits at code ≡ Ok (with_event past code.word level)
+changes_other sought past table level digits at code t has =
+    cond-false _ _ _ (declared_with past.header sought table code.word Other t has)
+    ∙ cond-false _ _ _ (any_less (has_code past.header sought code.word) (λ port. nat_lt (most_digits port.width (part_of past.header sought port)) digits) sought.ports (t.role code.word Other has))
 
-pub changes_long : (ports : List Port) (past : Past) (table : Table) (level : Level) (digits at : ℕ) (code : Placed) (cell limit : ℕ) → IsTable past.header ports table
-    → role_of table.codes code.word ≡ Some (OfPort cell limit) → nat_lt limit digits ≡ true → changed ports past level digits at code ≡ Err at
-changes_long ports past table level digits at code cell limit t has long =
-    cond-false _ _ _ (declared_with past.header ports table code.word (OfPort cell limit) t has)
+pub changes_long : (sought : Sought) (past : Past) (table : Table) (level : Level) (digits at : ℕ) (code : Placed) (cell limit : ℕ) → IsTable past.header sought table
+    → role_of table.codes code.word ≡ Some (OfPort cell limit) → nat_lt limit digits ≡ true → changed sought past level digits at code ≡ Err at
+changes_long sought past table level digits at code cell limit t has long =
+    cond-false _ _ _ (declared_with past.header sought table code.word (OfPort cell limit) t has)
     ∙ cond-true _ _ _ ((t.role code.word (OfPort cell limit) has).1 digits ∙ long)
 
-pub changes_fit : (ports : List Port) (past : Past) (table : Table) (level : Level) (digits at : ℕ) (code : Placed) (cell limit : ℕ) → IsTable past.header ports table
+pub changes_fit : (sought : Sought) (past : Past) (table : Table) (level : Level) (digits at : ℕ) (code : Placed) (cell limit : ℕ) → IsTable past.header sought table
     → role_of table.codes code.word ≡ Some (OfPort cell limit) → nat_lt limit digits ≡ false
-    → changed ports past level digits at code ≡ Ok (with_event past code.word level)
-changes_fit ports past table level digits at code cell limit t has fits =
-    cond-false _ _ _ (declared_with past.header ports table code.word (OfPort cell limit) t has)
+    → changed sought past level digits at code ≡ Ok (with_event past code.word level)
+changes_fit sought past table level digits at code cell limit t has fits =
+    cond-false _ _ _ (declared_with past.header sought table code.word (OfPort cell limit) t has)
     ∙ cond-false _ _ _ ((t.role code.word (OfPort cell limit) has).1 digits ∙ fits)
 
 -- a code of no port is that of no cell
-apart_other : (h : Header) (ports : List Port) (table : Table) (code : List ℕ) (k : ℕ) (other : List ℕ) → IsTable h ports table
+apart_other : (h : Header) (sought : Sought) (table : Table) (code : List ℕ) (k : ℕ) (other : List ℕ) → IsTable h sought table
     → role_of table.codes code ≡ Some Other → slice_get (cell_codes table) k ≡ Some other → code ≢ other
-apart_other h ports table code k other t has at same =
+apart_other h sought table code k other t has at same =
     let cell = t.cell other k at in
     let P : List ℕ → Type 0 = λ q. option_and_then cell_of (role_of table.codes q) ≡ Some k in
     let found : option_and_then cell_of (role_of table.codes code) ≡ Some k = subst P (sym same) cell in
@@ -102,9 +102,9 @@ apart_other h ports table code k other t has at same =
     cc
 
 -- a code of a port is that of one cell
-apart_port : (h : Header) (ports : List Port) (table : Table) (code : List ℕ) (cell limit k : ℕ) (other : List ℕ) → IsTable h ports table
+apart_port : (h : Header) (sought : Sought) (table : Table) (code : List ℕ) (cell limit k : ℕ) (other : List ℕ) → IsTable h sought table
     → role_of table.codes code ≡ Some (OfPort cell limit) → slice_get (cell_codes table) k ≡ Some other → k ≢ cell → code ≢ other
-apart_port h ports table code cell limit k other t has at away same =
+apart_port h sought table code cell limit k other t has at away same =
     let here = t.cell other k at in
     let P : List ℕ → Type 0 = λ q. option_and_then cell_of (role_of table.codes q) ≡ Some k in
     let found : option_and_then cell_of (role_of table.codes code) ≡ Some k = subst P (sym same) here in
@@ -113,15 +113,15 @@ apart_port h ports table code cell limit k other t has at away same =
     away one
 
 -- a change of no port's variable is kept by leaving all
-pub keeps_other : (ports : List Port) (past : Past) (table : Table) (levels : Levels) (code : List ℕ) (level : Level) → IsTable past.header ports table
+pub keeps_other : (sought : Sought) (past : Past) (table : Table) (levels : Levels) (code : List ℕ) (level : Level) → IsTable past.header sought table
     → role_of table.codes code ≡ Some Other → Keeps (cell_codes table) past levels → Keeps (cell_codes table) (with_event past code level) levels
-keeps_other ports past table levels code level t has keeps = record {
+keeps_other sought past table levels code level t has keeps = record {
   time = keeps.time;
   count = keeps.count;
   events = past_more past.time past.events code level keeps.events;
   each = λ k other r at is.
       follows_other other past.time past.events r (record { time = past.time; code = code; level = level })
-      (differ code other (apart_other past.header ports table code k other t has at)) (keeps.each k other r at is);
+      (differ code other (apart_other past.header sought table code k other t has at)) (keeps.each k other r at is);
 }
 
 change_within : (running : List Running) (cell : ℕ) (time : Option ℕ) (level : Level) (r : Running) → slice_get running cell ≡ Some r
@@ -154,11 +154,11 @@ keeps_cells cells last events running cell code level r at is apart each k other
           follows_other other last events s event (differ code other (apart k other at_k away.1)) (each k other s at_k old)
     ]
 
-pub keeps_port : (ports : List Port) (past : Past) (table : Table) (levels new : Levels) (code : List ℕ) (cell limit : ℕ) (level : Level)
-    → IsTable past.header ports table → role_of table.codes code ≡ Some (OfPort cell limit) → new.time ≡ levels.time
+pub keeps_port : (sought : Sought) (past : Past) (table : Table) (levels new : Levels) (code : List ℕ) (cell limit : ℕ) (level : Level)
+    → IsTable past.header sought table → role_of table.codes code ≡ Some (OfPort cell limit) → new.time ≡ levels.time
     → new.running.items ≡ with_change levels.running.items cell levels.time level
     → Keeps (cell_codes table) past levels → Keeps (cell_codes table) (with_event past code level) new
-keeps_port ports past table levels new code cell limit level t has same_time running keeps =
+keeps_port sought past table levels new code cell limit level t has same_time running keeps =
     let at : slice_get (cell_codes table) cell ≡ Some code = (t.role code (OfPort cell limit) has).2 in
     let within : cell < length levels.running.items = omega (arith, keeps.count, slice_get_within (cell_codes table) cell code at) in
     let old = slice_get-some levels.running.items cell within in
@@ -173,5 +173,5 @@ keeps_port ports past table levels new code cell limit level t has same_time run
       events = past_more past.time past.events code level keeps.events;
       each = subst K (sym set)
           (keeps_cells (cell_codes table) past.time past.events levels.running.items cell code level old.0 at old.1
-          (λ k other at_k away. apart_port past.header ports table code cell limit k other t has at_k away) keeps.each);
+          (λ k other at_k away. apart_port past.header sought table code cell limit k other t has at_k away) keeps.each);
     }

@@ -1,5 +1,5 @@
 -- A dump whose header is read is read to its end.
-use Rattle.std.proofs.Common.{◌≡◌, ℕ, ◌+◌, ◌≤◌, IsTrue, List, [], length, map, refl, sym, ◌∙◌, ap, subst, Option, Some, None, Ok, Err, Result}
+use Rattle.std.proofs.Common.{false, ◌≡◌, ℕ, ◌+◌, ◌≤◌, IsTrue, List, [], length, map, refl, sym, ◌∙◌, ap, subst, Option, Some, None, Ok, Err, Result}
 use Rattle.std.specs.Prelude.{All}
 use Rattle.std.specs.Result.{IsErrAnd}
 use Rattle.std.specs.Borrow.{Bor}
@@ -16,7 +16,7 @@ use Rattle.vcd_reading.specs.declared.ports as port_code
 use Rattle.vcd_reading.specs.Header.{Header}
 use Rattle.vcd_reading.specs.HeaderView.{variable_of}
 use Rattle.vcd_reading.specs.PortView.{port_of, ports_in}
-use Rattle.vcd_reading.specs.Scopes.{Port, ports_of, scope_of}
+use Rattle.vcd_reading.specs.Scopes.{Port, Sought, ports_of, scope_of}
 use Rattle.vcd_reading.specs.Outcomes.{IsAt, begun}
 use Rattle.vcd_reading.specs.Found.{IsIndex}
 use Rattle.vcd_reading.specs.Changes.{Past}
@@ -29,7 +29,7 @@ use Rattle.vcd_traces.specs.declared.table.Table.{Table}
 use Rattle.vcd_traces.specs.declared.reader.Reading.{Reading}
 use Rattle.vcd_traces.specs.declared.reader.Plan.{Plan}
 use Rattle.vcd_traces.specs.declared.sites.Site.{Site}
-use Rattle.vcd_traces.specs.Samples.{Watches, watches_of}
+use Rattle.vcd_traces.specs.Samples.{Manner, Watches, sought_of, watches_of}
 use Rattle.vcd_traces.specs.Table.{cell_codes, IsTable, IsTableOf}
 use Rattle.vcd_traces.specs.Plan.{cell_code, watch_in, has_cell, Holds, IsPlan, IsWatched}
 use Rattle.vcd_traces.specs.Going.{Going, Gone, Ends}
@@ -41,19 +41,19 @@ use Rattle.vcd_traces.proofs.PortLaws.{ports_count, ports_fit, watched_from}
 use Rattle.vcd_reading.proofs.ReadSteps.{at_map}
 use Rattle.vcd_traces.proofs.AnswerLaws.{refused_word, no_watches, table_none}
 
-pub front_going : (ports : List Port) (w : Watches) (plan : Plan) (dump : Dump) (reading : Reading) → IsFront ports dump
+pub front_going : (sought : Sought) (w : Watches) (plan : Plan) (dump : Dump) (reading : Reading) → IsFront sought dump
     → Holds w (cell_codes plan.table) (begun (dump_header dump)) reading
-    → Going ports w plan dump.text.now (begun (dump_header dump)) dump.front.stop reading
-front_going ports w plan dump reading front holds = record {
+    → Going sought w plan dump.text.now (begun (dump_header dump)) dump.front.stop reading
+front_going sought w plan dump reading front holds = record {
   past = begun (dump_header dump);
   holding = (refl, holds);
   unended = front.unended;
   reads = front.reads;
 }
 
-pub gone_ends : (ports : List Port) (w : Watches) (text : List ℕ) (h : Header) (reading : Reading) → Gone ports w text (begun h) reading
-    → EndsWith ports w text h reading.rows
-gone_ends ports w text h reading gone = record { past = gone.past; same = gone.same; reads = gone.reads; kept = gone.rows }
+pub gone_ends : (sought : Sought) (w : Watches) (text : List ℕ) (h : Header) (reading : Reading) → Gone sought w text (begun h) reading
+    → EndsWith sought w text h reading.rows
+gone_ends sought w text h reading gone = record { past = gone.past; same = gone.same; reads = gone.reads; kept = gone.rows }
 
 -- as many cells as codes
 pub counted : (table : Table) (cells : List (Bor (List ℕ))) → cells ≡ table.cells.items → length (cell_codes table) ≡ length cells
@@ -67,25 +67,25 @@ pub sites_fit : (sites : List Site) (ports : List Port) → map site_port sites 
 sites_fit sites ports same fit = sym (list_all-map fits site_port sites) ∙ ap (list_all fits) same ∙ fit
 
 -- what is refused on the way
-pub comes_err : (ports : List Port) (w : Watches) (text : List ℕ) (h : Header) (start : Past) (reading : Reading) (fault : VcdErr) (r : Result Rows VcdErr)
-    → Ends ports w text start (Err fault) reading → IsErrAnd r (λ y. y ≡ fault) → Comes ports w text h r
-comes_err ports w text h start reading fault (Ok rows) ends passed = absurd passed
-comes_err ports w text h start reading fault (Err y) ends passed =
-    let P : VcdErr → Type 0 = IsAt (λ at. ReadsText ports text (Err at)) in
+pub comes_err : (sought : Sought) (w : Watches) (text : List ℕ) (h : Header) (start : Past) (reading : Reading) (fault : VcdErr) (r : Result Rows VcdErr)
+    → Ends sought w text start (Err fault) reading → IsErrAnd r (λ y. y ≡ fault) → Comes sought w text h r
+comes_err sought w text h start reading fault (Ok rows) ends passed = absurd passed
+comes_err sought w text h start reading fault (Err y) ends passed =
+    let P : VcdErr → Type 0 = IsAt (λ at. ReadsText sought text (Err at)) in
     subst P (sym passed) ends
 
-pub answers_err : (text : List ℕ) (d : Design) (clock : Option (List ℕ)) (fault : VcdErr) (r : Result Trace VcdErr)
-    → IsAt (λ at. ReadsText (ports_of d clock) text (Err at)) fault → IsErrAnd r (λ y. y ≡ fault) → Answers text d clock r
-answers_err text d clock fault (Ok trace) reads passed = absurd passed
-answers_err text d clock fault (Err y) reads passed =
-    let P : VcdErr → Type 0 = IsAt (λ at. ReadsText (ports_of d clock) text (Err at)) in
-    refused_word text d clock y (subst P (sym passed) reads)
+pub answers_err : (text : List ℕ) (d : Design) (by : Manner) (fault : VcdErr) (r : Result Trace VcdErr)
+    → IsAt (λ at. ReadsText (sought_of d by) text (Err at)) fault → IsErrAnd r (λ y. y ≡ fault) → Answers text d by r
+answers_err text d by fault (Ok trace) reads passed = absurd passed
+answers_err text d by fault (Err y) reads passed =
+    let P : VcdErr → Type 0 = IsAt (λ at. ReadsText (sought_of d by) text (Err at)) in
+    refused_word text d by y (subst P (sym passed) reads)
 
 -- the plan of a text of which no scope declares every port
-pub plan_none : (h : Header) (ports : List Port) (table : Table) (watched : Watched) → scope_of h ports ≡ None → IsTableOf h ports [] table
-    → watched.clock ≡ None → watched.inputs.items ≡ [] → watched.outputs.items ≡ [] → IsPlan h ports no_watches (record { table = table; watched = watched })
-plan_none h ports table watched none is clock inputs outputs = record {
-  table = table_none h ports table none is;
+pub plan_none : (h : Header) (sought : Sought) (table : Table) (watched : Watched) → scope_of h sought ≡ None → IsTableOf h sought [] table
+    → watched.clock ≡ None → watched.inputs.items ≡ [] → watched.outputs.items ≡ [] → watched.zero_inputs ≡ false → IsPlan h sought no_watches (record { table = table; watched = watched })
+plan_none h sought table watched none is clock inputs outputs zero = record {
+  table = table_none h sought table none is;
   watched = record {
     clock = ap (option_map (cell_code (cell_codes table))) (sym clock);
     clock_cell = λ cell some. absurd (none_some cell (sym clock ∙ some));
@@ -93,61 +93,45 @@ plan_none h ports table watched none is clock inputs outputs = record {
     outputs = ap (map (watch_in (cell_codes table))) (sym outputs);
     input_cells = ap (list_all (has_cell (cell_codes table))) inputs;
     output_cells = ap (list_all (has_cell (cell_codes table))) outputs;
+    zero_inputs = sym zero;
   };
 }
   where
     none_some : (cell : ℕ) → None ≡ Some cell → ⊥
     none_some cell e = cc
 
--- and of one whose ports have their variables
-pub plan_found : (d : Design) (clock : Option (List ℕ)) (dump : Dump) (sites : List Site) (variables : List code.Variable.Variable) (table : Table) (watched : Watched)
-    → AreFound d clock dump sites → variables ≡ dump.front.header.variables.items
-    → ((h : Header) (ports : List Port) → h.variables ≡ map variable_of variables → All (IsSite h ports) sites → IsTableOf h ports (map site_port sites) table)
-    → ((h : Header) (ports : List Port) → IsTable h ports table → All (IsSite h ports) sites
-    → IsWatched (watches_from h ports (length d.inputs.items) (length d.outputs.items) (map site_port sites)) (cell_codes table) watched)
-    → IsPlan (dump_header dump) (ports_of d clock) (watches_of d clock (dump_header dump)) (record { table = table; watched = watched })
-plan_found d clock dump sites variables table watched found are tabled each =
+-- and of one whose sought have their variables
+pub plan_found : (d : Design) (by : Manner) (dump : Dump) (sites : List Site) (variables : List code.Variable.Variable) (table : Table) (watched : Watched)
+    → AreFound d by dump sites → variables ≡ dump.front.header.variables.items
+    → ((h : Header) (sought : Sought) → h.variables ≡ map variable_of variables → All (IsSite h sought) sites → IsTableOf h sought (map site_port sites) table)
+    → ((h : Header) (sought : Sought) → IsTable h sought table → All (IsSite h sought) sites
+    → IsWatched (watches_from h sought by.zero_inputs (length d.inputs.items) (length d.outputs.items) (map site_port sites)) (cell_codes table) watched)
+    → IsPlan (dump_header dump) (sought_of d by) (watches_of d by (dump_header dump)) (record { table = table; watched = watched })
+plan_found d by dump sites variables table watched found are tabled each =
     let h = dump_header dump in
-    let ports = ports_of d clock in
-    let P : List Port → Type 0 = λ l. IsTableOf h ports l table in
-    let whole : IsTable h ports table = subst P found.same (tabled h ports (ap (map variable_of) (sym are)) found.each) in
-    let Q : List Port → Type 0 = λ l. IsWatched (watches_from h ports (length d.inputs.items) (length d.outputs.items) l) (cell_codes table) watched in
+    let sought = sought_of d by in
+    let P : List Port → Type 0 = λ l. IsTableOf h sought l table in
+    let whole : IsTable h sought table = subst P found.same (tabled h sought (ap (map variable_of) (sym are)) found.each) in
+    let Q : List Port → Type 0 = λ l. IsWatched (watches_from h sought by.zero_inputs (length d.inputs.items) (length d.outputs.items) l) (cell_codes table) watched in
     let R : Watches → Type 0 = λ w. IsWatched w (cell_codes table) watched in
-    record { table = whole; watched = subst R (watched_from d clock h) (subst Q found.same (each h ports whole found.each)) }
+    record { table = whole; watched = subst R (watched_from d by h) (subst Q found.same (each h sought whole found.each)) }
 
 -- the scope that is found
-pub scope_is : (dump : Dump) (ports : List port_code.Port.Port) (names : Names) (variables : List code.Variable.Variable) (scopes : List (Option ℕ)) (found : Option ℕ)
-    → variables ≡ dump.front.header.variables.items → scopes ≡ dump.front.header.scopes.items → IsIndex (map variable_of variables) names
-    → ((h : Header) → h.variables ≡ map variable_of variables → IsIndex h.variables names → length h.scopes ≡ length scopes → found ≡ scope_of h (ports_in ports))
-    → found ≡ scope_of (dump_header dump) (ports_in ports)
-scope_is dump ports names variables scopes found are all index each =
-    let P : List code.Variable.Variable → Type 0 = λ l. IsIndex (map variable_of l) names in
-    each (dump_header dump) (ap (map variable_of) (sym are)) (subst P are index) (ap length (sym all))
-
-pub scope_found : (dump : Dump) (ports : List port_code.Port.Port) (scope : Scope) → scope.variables.now ≡ dump.front.header.variables.items
-    → IsIndex (map variable_of scope.variables.now) scope.names.now → scope_of (dump_header dump) (ports_in ports) ≡ Some scope.number
-    → IsFirst (dump_header dump) (ports_in ports) scope
-scope_found dump ports scope are index first =
+pub is_scope : (dump : Dump) (sought : Sought) (scope : Scope) (found : Option ℕ) → scope.variables.now ≡ dump.front.header.variables.items
+    → IsIndex (map variable_of scope.variables.now) scope.names.now → found ≡ scope_of (dump_header dump) sought
+    → found ≡ Some scope.number → IsFirst (dump_header dump) sought scope
+is_scope dump sought scope found are index each is =
     let P : List code.Variable.Variable → Type 0 = λ l. IsIndex (map variable_of l) scope.names.now in
-    record { of_header = record { variables = ap (map variable_of) (sym are); index = subst P are index }; first = first }
+    record { of_header = record { variables = ap (map variable_of) (sym are); index = subst P are index }; first = sym each ∙ is }
 
-pub is_scope : (dump : Dump) (ports : List port_code.Port.Port) (scope : Scope) (scopes : List (Option ℕ)) (found : Option ℕ)
-    → scope.variables.now ≡ dump.front.header.variables.items → scopes ≡ dump.front.header.scopes.items
-    → IsIndex (map variable_of scope.variables.now) scope.names.now
-    → ((h : Header) → h.variables ≡ map variable_of scope.variables.now → IsIndex h.variables scope.names.now → length h.scopes ≡ length scopes → found ≡ scope_of h (ports_in ports)) → found ≡ Some scope.number
-    → IsFirst (dump_header dump) (ports_in ports) scope
-is_scope dump ports scope scopes found are all index each is =
-    scope_found dump ports scope are index
-    (sym (scope_is dump ports scope.names.now scope.variables.now scopes found are all index each) ∙ is)
-
-pub found_are : (d : Design) (clock : Option (List ℕ)) (dump : Dump) (ports : List port_code.Port.Port) (number : ℕ) (sites given : List Site)
-    → ports_in ports ≡ ports_of d clock → IsFront (ports_of d clock) dump → scope_of (dump_header dump) (ports_in ports) ≡ Some number
-    → AreSites (dump_header dump) (ports_in ports) (ports_in ports) sites → given ≡ sites → AreFound d clock dump given
-found_are d clock dump ports number sites given same front first are is =
+pub found_are : (d : Design) (by : Manner) (dump : Dump) (sought : Sought) (number : ℕ) (sites given : List Site)
+    → sought ≡ sought_of d by → IsFront (sought_of d by) dump → scope_of (dump_header dump) sought ≡ Some number
+    → AreSites (dump_header dump) sought sought.ports sites → given ≡ sites → AreFound d by dump given
+found_are d by dump sought number sites given same front first are is =
     let h = dump_header dump in
-    let P : List Port → Type 0 = λ l. (scope_of h l ≡ Some number) × AreSites h l l sites in
+    let P : Sought → Type 0 = λ s. (scope_of h s ≡ Some number) × AreSites h s s.ports sites in
     let facts = subst P same (first, are) in
-    let Q : List Site → Type 0 = λ l. All (IsSite h (ports_of d clock)) l in
+    let Q : List Site → Type 0 = λ l. All (IsSite h (sought_of d by)) l in
     record {
       front = front;
       scope = number;
@@ -156,14 +140,22 @@ found_are d clock dump ports number sites given same front first are is =
       each = subst Q (sym is) facts.1.each;
     }
 
--- the ports with their variables are as many as the ports, and as wide
-pub given_count : (dump : Dump) (ports : List port_code.Port.Port) (sites given : List Site) → AreSites (dump_header dump) (ports_in ports) (ports_in ports) sites
-    → given ≡ sites → length given ≡ length ports
-given_count dump ports sites given are is = ap length is ∙ sites_count sites ports are.same
+-- what is looked for, by its parts
+abbrev sought : Option (List ℕ) → List Port → Sought
+sought path ports = record { scope = path; ports = ports }
 
-pub given_fit : (dump : Dump) (ports : List port_code.Port.Port) (sites given : List Site) → AreSites (dump_header dump) (ports_in ports) (ports_in ports) sites
+pub given_is : (d : Design) (by : Manner) (path : Option (List ℕ)) (ports : List Port) → path ≡ by.scope → ports ≡ ports_of d by.clock
+    → sought path ports ≡ sought_of d by
+given_is d by path ports same are = ap (λ p. sought p ports) same ∙ ap (sought by.scope) are
+
+-- the ports with their variables are as many as the ports, and as wide
+pub given_count : (dump : Dump) (sought : Sought) (ports : List port_code.Port.Port) (sites given : List Site) → AreSites (dump_header dump) sought (ports_in ports) sites
+    → given ≡ sites → length given ≡ length ports
+given_count dump sought ports sites given are is = ap length is ∙ sites_count sites ports are.same
+
+pub given_fit : (dump : Dump) (sought : Sought) (ports : List port_code.Port.Port) (sites given : List Site) → AreSites (dump_header dump) sought (ports_in ports) sites
     → given ≡ sites → IsTrue (list_all fits (ports_in ports)) → IsTrue (list_all site_fits given)
-given_fit dump ports sites given are is fit = ap (list_all site_fits) is ∙ sites_fit sites (ports_in ports) are.same fit
+given_fit dump sought ports sites given are is fit = ap (list_all site_fits) is ∙ sites_fit sites (ports_in ports) are.same fit
 
 -- the ports of a well formed design
 pub top_same : (d : Design) (clock : Option (List ℕ)) (ports given : List port_code.Port.Port) → ports_in ports ≡ ports_of d clock → given ≡ ports
@@ -182,10 +174,10 @@ pub top_fit : (d : Design) (clock : Option (List ℕ)) (ports given : List port_
 top_fit d clock ports given same is has = ap (list_all fits) (top_same d clock ports given same is) ∙ ports_fit d clock has
 
 -- a refused header
-pub answers_header : (text : List ℕ) (d : Design) (clock : Option (List ℕ)) (fault : VcdErr) (r : Result Trace VcdErr)
-    → IsAt (λ at. (ports : List Port) → ReadsText ports text (Err at)) fault → IsErrAnd r (λ y. y ≡ fault) → Answers text d clock r
-answers_header text d clock fault r reads passed =
-    answers_err text d clock fault r
-    (at_map (λ at. (ports : List Port) → ReadsText ports text (Err at)) (λ at. ReadsText (ports_of d clock) text (Err at)) fault
-    (λ at each. each (ports_of d clock)) reads)
+pub answers_header : (text : List ℕ) (d : Design) (by : Manner) (fault : VcdErr) (r : Result Trace VcdErr)
+    → IsAt (λ at. (sought : Sought) → ReadsText sought text (Err at)) fault → IsErrAnd r (λ y. y ≡ fault) → Answers text d by r
+answers_header text d by fault r reads passed =
+    answers_err text d by fault r
+    (at_map (λ at. (sought : Sought) → ReadsText sought text (Err at)) (λ at. ReadsText (sought_of d by) text (Err at)) fault
+    (λ at each. each (sought_of d by)) reads)
     passed

@@ -4,8 +4,8 @@ use Rattle.std.specs.Prelude.{codes}
 use Rattle.vcd_reading.specs.Commands.{named_command, is_dump, is_end}
 use Rattle.vcd_reading.specs.declared.part.Part.TheVariants.{Whole, Bit}
 use Rattle.vcd_reading.specs.Bits.{bit_in}
-use Rattle.vcd_reading.specs.Header.{Header, Variable, is_real_type}
-use Rattle.vcd_reading.specs.Scopes.{Port, code_of, is_too_long, place_in, port_bit, scope_of}
+use Rattle.vcd_reading.specs.Header.{Header, Opened, Variable, is_real_type}
+use Rattle.vcd_reading.specs.Scopes.{Port, anywhere, code_of, is_too_long, place_in, port_bit, scope_of}
 use Rattle.vcd_reading.specs.Pieces.{behind_end}
 use Rattle.vcd_reading.specs.Events.{Event, rises}
 use Rattle.vcd_reading.specs.Changes.{Past}
@@ -24,7 +24,7 @@ abbrev count_port : Watch
 count_port = record { signal = 1; width = 2; code = codes "q"; part = Whole }
 
 abbrev counter : Watches
-counter = record { clock = Some (codes "!"); inputs = []; outputs = count_port ∷ [] }
+counter = record { clock = Some (codes "!"); inputs = []; outputs = count_port ∷ []; zero_inputs = false }
 
 abbrev counter_events : List Event
 counter_events =
@@ -62,15 +62,15 @@ no_edge_from_unknown = refl
 abbrev past_header : Past
 past_header = record { header = record { scopes = []; current = None; variables = []; ended = true }; time = Some 5; ended = []; events = [] }
 
-pub ends_inside_a_change : step [] 42 past_header (record { at = 36; word = codes "b01x1" }) [] ≡ stops 42
+pub ends_inside_a_change : step (anywhere []) 42 past_header (record { at = 36; word = codes "b01x1" }) [] ≡ stops 42
 ends_inside_a_change = refl
 
 -- a time that is less than the last is wrong itself
-pub time_falls : step [] 42 past_header (record { at = 36; word = codes "#3" }) [] ≡ stops 36
+pub time_falls : step (anywhere []) 42 past_header (record { at = 36; word = codes "#3" }) [] ≡ stops 36
 time_falls = refl
 
 -- so is one that ends inside a section
-pub ends_in_a_section : ReadsText [] (codes "$comment none") (Err 13)
+pub ends_in_a_section : ReadsText (anywhere []) (codes "$comment none") (Err 13)
 unfolding named_command is_dump is_end behind_end
 ends_in_a_section = at_fault refl
 
@@ -99,9 +99,12 @@ no_last_underscore = refl
 abbrev declared_bits : ℕ → List ℕ → List ℕ → List ℕ → Variable
 declared_bits scope size code name = record { scope = Some scope; type_word = codes "wire"; size = size; code = code; name = name }
 
+abbrev outermost : List ℕ → Opened
+outermost name = record { around = None; name = name }
+
 abbrev two_scopes : Header
 two_scopes = record {
-  scopes = None ∷ None ∷ [];
+  scopes = outermost (codes "first") ∷ outermost (codes "second") ∷ [];
   current = None;
   variables = declared_bits 0 (codes "8") (codes "#") (codes "data") ∷ declared_bits 1 (codes "8") (codes "#") (codes "data")
       ∷ declared_bits 1 (codes "1") (codes "$") (codes "data_3_") ∷ [];
@@ -131,15 +134,15 @@ pub no_such_bit : place_in two_scopes 0 (named_port (codes "data_8_")) ≡ None
 no_such_bit = refl
 
 -- the first scope declares every bit, and a value may have as many digits as `data` has bits
-pub the_first_scope : scope_of two_scopes (named_port (codes "data_3_") ∷ named_port (codes "data_0_") ∷ []) ≡ Some 0
+pub the_first_scope : scope_of two_scopes (anywhere (named_port (codes "data_3_") ∷ named_port (codes "data_0_") ∷ [])) ≡ Some 0
 unfolding is_real_type
 the_first_scope = refl
 
-pub eight_digits : is_too_long two_scopes (named_port (codes "data_3_") ∷ []) (codes "#") 8 ≡ false
+pub eight_digits : is_too_long two_scopes (anywhere (named_port (codes "data_3_") ∷ [])) (codes "#") 8 ≡ false
 unfolding is_real_type
 eight_digits = refl
 
-pub nine_digits : is_too_long two_scopes (named_port (codes "data_3_") ∷ []) (codes "#") 9 ≡ true
+pub nine_digits : is_too_long two_scopes (anywhere (named_port (codes "data_3_") ∷ [])) (codes "#") 9 ≡ true
 unfolding is_real_type
 nine_digits = refl
 

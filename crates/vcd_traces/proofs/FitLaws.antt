@@ -18,11 +18,11 @@ use Rattle.design_core.specs.Valuation.{width_at}
 use Rattle.design_core.specs.Run.{samples_at, expected_at}
 use Rattle.design_core.specs.TraceFits.{samples_fit, expected_fit, IsTraceOf}
 use Rattle.vcd_reading.specs.Header.{Header}
-use Rattle.vcd_reading.specs.Scopes.{Port, port_at}
+use Rattle.vcd_reading.specs.Scopes.{Sought, port_at}
 use Rattle.vcd_reading.specs.Events.{Event}
 use Rattle.vcd_reading.specs.declared.error.VcdErr.{VcdErr}
 use Rattle.vcd_traces.specs.Answers.{Answers}
-use Rattle.vcd_traces.specs.Samples.{Watch, Watches, watch_of, watches_of, cycles_of, sample, known_bits, AreSamples, HasSamples}
+use Rattle.vcd_traces.specs.Samples.{Manner, Watch, Watches, watch_of, watches_of, cycles_of, sample, known_bits, AreSamples, HasSamples}
 
 -- ---- blocks of one length, a block a stamp
 blocks : {X : Type 0} (F : ℕ → List X) (n : ℕ) (times : List ℕ) → ((time : ℕ) → length (F time) ≡ n) → length (flat_map F times) ≡ length times * n
@@ -108,10 +108,10 @@ fit_expected signals (s ∷ numbers) (c ∷ expected) (w ∷ watches) value mask
     (fit_expected signals numbers expected watches value mask within rest_a rest_b rest_v rest_m)
 
 -- ---- the trace
-widths_of : (d : Design) (h : Header) (ports : List Port) (numbers : List ℕ)
-    → map (λ (w : Watch). w.width) (map (watch_of h ports) (map (port_at d) numbers)) ≡ map (width_at d.signals.items) numbers
-widths_of d h ports [] = refl
-widths_of d h ports (s ∷ numbers) = ap (λ l. width_at d.signals.items s ∷ l) (widths_of d h ports numbers)
+widths_of : (d : Design) (h : Header) (sought : Sought) (numbers : List ℕ)
+    → map (λ (w : Watch). w.width) (map (watch_of h sought) (map (port_at d) numbers)) ≡ map (width_at d.signals.items) numbers
+widths_of d h sought [] = refl
+widths_of d h sought (s ∷ numbers) = ap (λ l. width_at d.signals.items s ∷ l) (widths_of d h sought numbers)
 
 kept_within : (one known : ℕ) → bit_and (bit_and one known) known ≡ bit_and one known
 kept_within one known = and_assoc known one known ∙ ap (bit_and one) (and_self known)
@@ -126,21 +126,21 @@ known_at w events time x = known_bits x.width (sample w.clock events time x)
 abbrev value_at : Watches → List Event → ℕ → Watch → ℕ
 value_at w events time x = bit_and (sample w.clock events time x).ones (known_at w events time x)
 
-inputs_fit : (d : Design) (clock : Option (List ℕ)) (h : Header) (events : List Event) (times : List ℕ) (trace : Trace)
-    → AreSamples (watches_of d clock h) events times trace → (t : ℕ) → t < length times → length (watches_of d clock h).inputs ≡ length d.inputs.items
+inputs_fit : (d : Design) (by : Manner) (h : Header) (events : List Event) (times : List ℕ) (trace : Trace)
+    → AreSamples (watches_of d by h) events times trace → (t : ℕ) → t < length times → length (watches_of d by h).inputs ≡ length d.inputs.items
     → samples_fit d.signals.items d.inputs.items (samples_at d trace t) ≡ true
-inputs_fit d clock h events times trace are t below many =
-    let w = watches_of d clock h in
+inputs_fit d by h events times trace are t below many =
+    let w = watches_of d by h in
     fit_samples d.signals.items d.inputs.items (samples_at d trace t)
     (cycle_field width_of trace.inputs.items (λ time. widths w.inputs) (length d.inputs.items) t times (λ time. length-map w.inputs _ ∙ many) below
     are.input_widths
     ∙ widths_of d h _ d.inputs.items)
 
-outputs_fit : (d : Design) (clock : Option (List ℕ)) (h : Header) (events : List Event) (times : List ℕ) (trace : Trace)
-    → AreSamples (watches_of d clock h) events times trace → (t : ℕ) → t < length times → length (watches_of d clock h).outputs ≡ length d.outputs.items
+outputs_fit : (d : Design) (by : Manner) (h : Header) (events : List Event) (times : List ℕ) (trace : Trace)
+    → AreSamples (watches_of d by h) events times trace → (t : ℕ) → t < length times → length (watches_of d by h).outputs ≡ length d.outputs.items
     → expected_fit d.signals.items d.outputs.items (expected_at d trace t) ≡ true
-outputs_fit d clock h events times trace are t below many =
-    let w = watches_of d clock h in
+outputs_fit d by h events times trace are t below many =
+    let w = watches_of d by h in
     let m = length d.outputs.items in
     let time = get_or times t 0 in
     let each : (f : Watch → ℕ) → length (map f w.outputs) ≡ m = λ f. length-map w.outputs f ∙ many in
@@ -153,10 +153,10 @@ outputs_fit d clock h events times trace are t below many =
     (cycle_field value_is trace.expected.items (λ u. map (value_at w events u) w.outputs) m t times (λ u. each (value_at w events u)) below are.values)
     (cycle_field mask_is trace.expected.items (λ u. map (known_at w events u) w.outputs) m t times (λ u. each (known_at w events u)) below are.masks)
 
-pub trace_fits : (d : Design) (clock : Option (List ℕ)) (h : Header) (events : List Event) (times : List ℕ) (trace : Trace)
-    → AreSamples (watches_of d clock h) events times trace → IsTraceOf d trace
-trace_fits d clock h events times trace are =
-    let w = watches_of d clock h in
+pub trace_fits : (d : Design) (by : Manner) (h : Header) (events : List Event) (times : List ℕ) (trace : Trace)
+    → AreSamples (watches_of d by h) events times trace → IsTraceOf d trace
+trace_fits d by h events times trace are =
+    let w = watches_of d by h in
     let n = length d.inputs.items in
     let m = length d.outputs.items in
     let inputs : length w.inputs ≡ n = length-map (map (port_at d) d.inputs.items) _ ∙ length-map d.inputs.items (port_at d) in
@@ -166,16 +166,16 @@ trace_fits d clock h events times trace are =
           ∙ blocks (λ time. widths w.inputs) n times (λ time. length-map w.inputs _ ∙ inputs) ∙ ap (λ k. k * n) (sym are.cycles);
       expected_count = sym (length-map trace.expected.items value_width) ∙ ap length are.value_widths
           ∙ blocks (λ time. widths w.outputs) m times (λ time. length-map w.outputs _ ∙ outputs) ∙ ap (λ k. k * m) (sym are.cycles);
-      samples = λ t within. inputs_fit d clock h events times trace are t (omega (arith, within, are.cycles)) inputs;
-      expected = λ t within. outputs_fit d clock h events times trace are t (omega (arith, within, are.cycles)) outputs;
+      samples = λ t within. inputs_fit d by h events times trace are t (omega (arith, within, are.cycles)) inputs;
+      expected = λ t within. outputs_fit d by h events times trace are t (omega (arith, within, are.cycles)) outputs;
     }
 
 -- a text's trace is one of the design
-pub held_fits : (text : List ℕ) (d : Design) (clock : Option (List ℕ)) (trace : Trace) → HasSamples text d clock trace → IsTraceOf d trace
-held_fits text d clock trace held = trace_fits d clock held.past.header held.past.events (cycles_of d clock held.past) trace held.samples
+pub held_fits : (text : List ℕ) (d : Design) (by : Manner) (trace : Trace) → HasSamples text d by trace → IsTraceOf d trace
+held_fits text d by trace held = trace_fits d by held.past.header held.past.events (cycles_of d by held.past) trace held.samples
 
 -- so what is answered of it is one
-pub ok_fits : (text : List ℕ) (d : Design) (clock : Option (List ℕ)) (result : Result Trace VcdErr) → Answers text d clock result
+pub ok_fits : (text : List ℕ) (d : Design) (by : Manner) (result : Result Trace VcdErr) → Answers text d by result
     → IfOk result (λ trace. IsTraceOf d trace)
-ok_fits text d clock (Ok trace) held = held_fits text d clock trace held
-ok_fits text d clock (Err fault) answers = tt
+ok_fits text d by (Ok trace) held = held_fits text d by trace held
+ok_fits text d by (Err fault) answers = tt

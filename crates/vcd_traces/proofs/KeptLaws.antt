@@ -11,7 +11,7 @@ use Rattle.vcd_reading.specs.declared.error.VcdErr.{VcdErr}
 use Rattle.vcd_reading.specs.declared.error.VcdErr.TheVariants.{UnknownInput}
 use Rattle.vcd_traces.specs.declared.rows.Unknown.{Unknown}
 use Rattle.vcd_reading.specs.Events.{Event}
-use Rattle.vcd_traces.specs.Samples.{Watch, Watches, is_unknown, unknown_in, unknown_from}
+use Rattle.vcd_traces.specs.Samples.{Watch, Watches, is_unknown, needed, unknown_in, unknown_from}
 use Rattle.vcd_traces.specs.Rows.{Row, Kept, no_row, no_rows, joined, with_cycle, pushed}
 use Rattle.vcd_traces.specs.Kept.{row_at, cycle_at, rows_at, refusal_by, AreKept}
 use Rattle.vcd_traces.proofs.RowLaws.{row_with}
@@ -48,15 +48,15 @@ or_none (Some a) = refl
 
 unknown_more : (w : Watches) (events : List Event) (cycle : ℕ) (times : List ℕ) (time : ℕ)
     → unknown_from w events cycle (times ++ time ∷ [])
-    ≡ option_or (unknown_from w events cycle times) (unknown_in (cycle + length times) (find (is_unknown w.clock events time) w.inputs))
+    ≡ option_or (unknown_from w events cycle times) (unknown_in (cycle + length times) (find (is_unknown w.clock events time) (needed w.zero_inputs w.inputs)))
 unknown_more w events cycle [] time =
     let same : cycle ≡ cycle + 0 = omega arith in
-    or_none (unknown_in cycle (find (is_unknown w.clock events time) w.inputs))
-    ∙ ap (λ n. unknown_in n (find (is_unknown w.clock events time) w.inputs)) same
+    or_none (unknown_in cycle (find (is_unknown w.clock events time) (needed w.zero_inputs w.inputs)))
+    ∙ ap (λ n. unknown_in n (find (is_unknown w.clock events time) (needed w.zero_inputs w.inputs))) same
 unknown_more w events cycle (first ∷ times) time =
     let same : cycle + 1 + length times ≡ cycle + suc (length times) = omega arith in
-    let here = unknown_in cycle (find (is_unknown w.clock events first) w.inputs) in
-    let last = find (is_unknown w.clock events time) w.inputs in
+    let here = unknown_in cycle (find (is_unknown w.clock events first) (needed w.zero_inputs w.inputs)) in
+    let last = find (is_unknown w.clock events time) (needed w.zero_inputs w.inputs) in
     ap (option_or here) (unknown_more w events (cycle + 1) times time ∙ ap (λ n. option_or (unknown_from w events (cycle + 1) times) (unknown_in n last)) same)
     ∙ or_assoc here (unknown_from w events (cycle + 1) times) (unknown_in (cycle + suc (length times)) last)
 
@@ -88,7 +88,7 @@ kept_counted w events times time kept are within stays = record {
       let before : unknown_from w events 0 times ≡ Some (UnknownInput some.0.cycle some.0.signal) =
       sym (are.unknown (omega (arith, are.cycles, length_more times time))) ∙ ap refusal_by some.1 in
       ap refusal_by some.1
-      ∙ sym (unknown_more w events 0 times time ∙ ap (λ o. option_or o (unknown_in (0 + length times) (find (is_unknown w.clock events time) w.inputs))) before);
+      ∙ sym (unknown_more w events 0 times time ∙ ap (λ o. option_or o (unknown_in (0 + length times) (find (is_unknown w.clock events time) (needed w.zero_inputs w.inputs)))) before);
   rows = λ few none.
       let less : kept.cycles < 100000 = omega (arith, are.cycles, length_more times time) in
       let some = some_of (is_some kept.unknown) kept.cycles less stays in
@@ -104,7 +104,7 @@ kept_counted w events times time kept are within stays = record {
 
 -- a cycle is taken
 kept_taken : (w : Watches) (events : List Event) (times : List ℕ) (time : ℕ) (kept : Kept) (found : Option Watch) → AreKept w events times kept
-    → kept.cycles < 100000 → kept.unknown ≡ None → found ≡ find (is_unknown w.clock events time) w.inputs
+    → kept.cycles < 100000 → kept.unknown ≡ None → found ≡ find (is_unknown w.clock events time) (needed w.zero_inputs w.inputs)
     → AreKept w events (times ++ time ∷ [])
     (with_cycle (record kept { cycles = kept.cycles + 1 }) kept.cycles (cycle_at w events time) (option_map (λ (watch : Watch). watch.signal) found))
 kept_taken w events times time kept None are less none is = record {
@@ -122,7 +122,7 @@ kept_taken w events times time kept (Some watch) are less none is = record {
       let count : kept.cycles ≡ 0 + length times = omega (arith, are.cycles) in
       ap (λ n. Some (UnknownInput n watch.signal)) count
       ∙ sym
-      (unknown_more w events 0 times time ∙ ap (λ o. option_or o (unknown_in (0 + length times) (find (is_unknown w.clock events time) w.inputs))) before
+      (unknown_more w events 0 times time ∙ ap (λ o. option_or o (unknown_in (0 + length times) (find (is_unknown w.clock events time) (needed w.zero_inputs w.inputs)))) before
       ∙ ap (unknown_in (0 + length times)) (sym is));
   rows = λ few still. cc;
 }
@@ -145,7 +145,7 @@ kept_more w events times time kept are =
             | inr takes ↦
                 let parts = neither (is_some kept.unknown) (kept.cycles == 100000) takes in
                 subst K (sym (cond-false _ _ _ room ∙ cond-false _ _ _ takes))
-                (kept_taken w events times time kept (find (is_unknown w.clock events time) w.inputs) are (below kept.cycles within parts.1)
+                (kept_taken w events times time kept (find (is_unknown w.clock events time) (needed w.zero_inputs w.inputs)) are (below kept.cycles within parts.1)
                 (is_some-false kept.unknown parts.0) refl)
           ]
     ]

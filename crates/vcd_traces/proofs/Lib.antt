@@ -25,3 +25,4 @@ pub mod FitLaws
 pub mod NearLaws
 pub mod DeclaredLaws
 mod Examples
+mod ScopeExamples

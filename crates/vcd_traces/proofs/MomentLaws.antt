@@ -1,5 +1,5 @@
 -- What is kept at the end of a stamp is what counts there.
-use Rattle.std.proofs.Common.{◌≡◌, ℕ, ◌<◌, ◌==◌, Bool, true, false, not, ◌&&◌, if◌then◌else◌, List, [], ◌∷◌, ◌++◌, length, map, refl, sym, ◌∙◌, ap, subst, inl, inr, arith, Option, Some, None, is_some, unwrap_or, bit_and}
+use Rattle.std.proofs.Common.{◌≡◌, ℕ, ◌<◌, ◌==◌, IsTrue, Bool, true, false, not, ◌&&◌, if◌then◌else◌, List, [], ◌∷◌, ◌++◌, length, map, refl, sym, ◌∙◌, ap, subst, inl, inr, arith, Option, Some, None, is_some, unwrap_or, bit_and}
 use Rattle.std.specs.Prelude.{slice_get}
 use Rattle.std.specs.List.{list_all, find}
 use Rattle.std.specs.Option.{option_map, option_map_or}
@@ -13,7 +13,7 @@ use Rattle.vcd_traces.specs.declared.moment as code
 use Rattle.vcd_traces.specs.declared.running.Running.{Running}
 use Rattle.vcd_traces.specs.declared.rows.Watched.{Watched}
 use Rattle.vcd_reading.specs.Events.{Event, level_after, is_low, is_high, rises}
-use Rattle.vcd_traces.specs.Samples.{Watch, Watches, sample, is_unknown, known_bits, level_at, moments, part_level}
+use Rattle.vcd_traces.specs.Samples.{Watch, Watches, sample, is_unknown, known_bits, level_at, moments, needed, part_level}
 use Rattle.vcd_traces.specs.Running.{Follows, are_past, before_of}
 use Rattle.vcd_traces.specs.Levels.{KeepsAll}
 use Rattle.vcd_traces.specs.Moment.{kept_of, kept_level, kept_sample, has_unknown, kept_rises, kept_is_cycle}
@@ -95,6 +95,15 @@ sample_is w cells time events running watched end watch within =
     (sym (ap is_some end.watches.clock ∙ same_some (cell_code cells) watched.clock)) refl end.past end.count end.each
     (ltb-true watch.cell (length cells) within))
 
+-- of the inputs whose bits must be known
+needed_all : {X : Type 0} (test : X → Bool) (zero : Bool) (xs : List X) → IsTrue (list_all test xs) → IsTrue (list_all test (needed zero xs))
+needed_all test true xs all = refl
+needed_all test false xs all = all
+
+needed_map : {X Y : Type 0} (f : X → Y) (zero : Bool) (xs : List X) → map f (needed zero xs) ≡ needed zero (map f xs)
+needed_map f true xs = refl
+needed_map f false xs = refl
+
 -- the cycle that is kept
 pub cycle_is : (w : Watches) (cells : List (List ℕ)) (time : ℕ) (events : List Event) (running : List Running) (watched : Watched) → AtEnd w cells time events running watched
     → kept_row (moment_of watched running time) watched ≡ cycle_at w events time
@@ -103,10 +112,13 @@ cycle_is w cells time events running watched end =
     let ins = watched.inputs.items in
     let outs = watched.outputs.items in
     let is = sample_is w cells time events running watched end in
-    let unknown_is : option_map (λ (watch : code.Watch.Watch). watch.signal) (find (has_unknown m) ins) ≡ option_map (λ (watch : Watch). watch.signal) (find (is_unknown w.clock events time) w.inputs) =
-    find_through (has_cell cells) (has_unknown m) (watch_in cells) (is_unknown w.clock events time) (λ (watch : code.Watch.Watch). watch.signal) (λ (watch : Watch). watch.signal) ins end.watches.input_cells
+    let unknown_is : option_map (λ (watch : code.Watch.Watch). watch.signal) (find (has_unknown m) (needed watched.zero_inputs ins)) ≡ option_map (λ (watch : Watch). watch.signal) (find (is_unknown w.clock events time) (needed w.zero_inputs w.inputs)) =
+    find_through (has_cell cells) (has_unknown m) (watch_in cells) (is_unknown w.clock events time) (λ (watch : code.Watch.Watch). watch.signal) (λ (watch : Watch). watch.signal) (needed watched.zero_inputs ins)
+    (needed_all (has_cell cells) watched.zero_inputs ins end.watches.input_cells)
     (λ watch within. ap (λ (l : Level). not (l.unknowns == 0)) (is watch within)) (λ watch. refl)
-    ∙ ap (λ l. option_map (λ (watch : Watch). watch.signal) (find (is_unknown w.clock events time) l)) (sym end.watches.inputs) in
+    ∙ ap (λ l. option_map (λ (watch : Watch). watch.signal) (find (is_unknown w.clock events time) l))
+    (needed_map (watch_in cells) watched.zero_inputs ins ∙ ap (λ z. needed z (map (watch_in cells) ins)) (sym end.watches.zero_inputs)
+    ∙ ap (needed w.zero_inputs) (sym end.watches.inputs)) in
     let row_is : kept_rows m ins outs ≡ row_at w events time =
     row_same _ _ _ _ _ _ _ _ _ _ _ _
     (map_through (has_cell cells) (λ watch. (kept_sample m watch).ones) (watch_in cells) (λ watch. (sample w.clock events time watch).ones) ins end.watches.input_cells

@@ -17,7 +17,7 @@ use Rattle.vcd_traces.specs.declared.reader.Plan.{Plan}
 use Rattle.vcd_reading.specs.Commands.{named_command}
 use Rattle.vcd_reading.specs.Reals.{is_real}
 use Rattle.vcd_reading.specs.Pieces.{mark_of, letter_kind, kind_of, behind_code, behind_end}
-use Rattle.vcd_reading.specs.Scopes.{Port, is_declared, is_of_port, is_too_long}
+use Rattle.vcd_reading.specs.Scopes.{Sought, is_declared, is_of_port, is_too_long}
 use Rattle.vcd_reading.specs.Changes.{Past, is_later, is_earlier, at_time, timed, stamps_of, changed, passed_over, with_event}
 use Rattle.vcd_traces.specs.Samples.{Watches}
 use Rattle.vcd_traces.specs.Levels.{Does}
@@ -48,16 +48,16 @@ stays_timed past time at =
     let later : Past = record past { time = Some time; ended = stamps_of past } in
     stays_if past (is_earlier past.time time) (Err at) (Ok (at_time past time)) tt (same_if past (is_later past.time time) later past refl refl)
 
-pub stays_changed : (ports : List Port) (past : Past) (level : Level) (digits at : ℕ) (code : Placed) → Stays past (changed ports past level digits at code)
-stays_changed ports past level digits at code =
-    let deed : Result Past ℕ = if is_too_long past.header ports code.word digits then Err at else Ok (with_event past code.word level) in
+pub stays_changed : (sought : Sought) (past : Past) (level : Level) (digits at : ℕ) (code : Placed) → Stays past (changed sought past level digits at code)
+stays_changed sought past level digits at code =
+    let deed : Result Past ℕ = if is_too_long past.header sought code.word digits then Err at else Ok (with_event past code.word level) in
     stays_if past (not (is_declared past.header code.word)) (Err code.at) deed tt
-    (stays_if past (is_too_long past.header ports code.word digits) (Err at) (Ok (with_event past code.word level)) tt refl)
+    (stays_if past (is_too_long past.header sought code.word digits) (Err at) (Ok (with_event past code.word level)) tt refl)
 
-pub stays_passed : (ports : List Port) (past : Past) (at : ℕ) (code : Placed) → Stays past (passed_over ports past at code)
-stays_passed ports past at code =
-    let deed : Result Past ℕ = if is_of_port past.header ports code.word then Err at else Ok past in
-    stays_if past (not (is_declared past.header code.word)) (Err code.at) deed tt (stays_if past (is_of_port past.header ports code.word) (Err at) (Ok past) tt refl)
+pub stays_passed : (sought : Sought) (past : Past) (at : ℕ) (code : Placed) → Stays past (passed_over sought past at code)
+stays_passed sought past at code =
+    let deed : Result Past ℕ = if is_of_port past.header sought code.word then Err at else Ok past in
+    stays_if past (not (is_declared past.header code.word)) (Err code.at) deed tt (stays_if past (is_of_port past.header sought code.word) (Err at) (Ok past) tt refl)
 
 -- a deed is done
 pub goes_done : (text : List ℕ) (w : Watches) (plan : Plan) (start : Past) (one other : Result Past ℕ) (reading : Reading) (at : ℕ) → one ≡ other → Stays start one
@@ -96,16 +96,16 @@ pub open_code : (end : ℕ) (words : List Placed) (deed : Result Past ℕ) → w
 open_code end words deed none = ap (λ l. step_behind end (behind_code l) deed) none
 
 -- the code and the digits of a change
-pub changed_by : (ports : List Port) (past : Past) (level : Level) (at code_at : ℕ) (digits other_digits : ℕ) (word other_word : List ℕ) → digits ≡ other_digits
+pub changed_by : (sought : Sought) (past : Past) (level : Level) (at code_at : ℕ) (digits other_digits : ℕ) (word other_word : List ℕ) → digits ≡ other_digits
     → word ≡ other_word
-    → changed ports past level digits at (record { at = code_at; word = word }) ≡ changed ports past level other_digits at (record { at = code_at; word = other_word })
-changed_by ports past level at code_at digits other_digits word other_word same_digits same_word =
-    ap (λ d. changed ports past level d at (record { at = code_at; word = word })) same_digits
-    ∙ ap (λ q. changed ports past level other_digits at (record { at = code_at; word = q })) same_word
+    → changed sought past level digits at (record { at = code_at; word = word }) ≡ changed sought past level other_digits at (record { at = code_at; word = other_word })
+changed_by sought past level at code_at digits other_digits word other_word same_digits same_word =
+    ap (λ d. changed sought past level d at (record { at = code_at; word = word })) same_digits
+    ∙ ap (λ q. changed sought past level other_digits at (record { at = code_at; word = q })) same_word
 
-pub passed_by : (ports : List Port) (past : Past) (at code_at : ℕ) (word other_word : List ℕ) → word ≡ other_word
-    → passed_over ports past at (record { at = code_at; word = word }) ≡ passed_over ports past at (record { at = code_at; word = other_word })
-passed_by ports past at code_at word other_word same_word = ap (λ q. passed_over ports past at (record { at = code_at; word = q })) same_word
+pub passed_by : (sought : Sought) (past : Past) (at code_at : ℕ) (word other_word : List ℕ) → word ≡ other_word
+    → passed_over sought past at (record { at = code_at; word = word }) ≡ passed_over sought past at (record { at = code_at; word = other_word })
+passed_by sought past at code_at word other_word same_word = ap (λ q. passed_over sought past at (record { at = code_at; word = q })) same_word
 
 pub digits_of : (text : List ℕ) (start stop : ℕ) → start < stop → stop ≤ length text → length (placed text start stop).word - 1 ≡ stop - start - 1
 digits_of text start stop some inside =
@@ -172,22 +172,22 @@ pub is_comment : (word : List ℕ) (name : Command) → kind_of false word ≡ S
 is_comment word name is = subst IsLight is (light_change word)
 
 -- the step of a piece, by its kind
-pub goes_kind : (ports : List Port) (text word : List ℕ) (past : Past) (first : Placed) (words : List Placed) (kind : Option Kind) (holds : Past → Type 0)
+pub goes_kind : (sought : Sought) (text word : List ℕ) (past : Past) (first : Placed) (words : List Placed) (kind : Option Kind) (holds : Past → Type 0)
     (r : Result ℕ VcdErr) → past.header.ended ≡ true → word ≡ first.word → kind ≡ kind_of false word
-    → Goes text (step_of ports (length text) past kind first words) holds r → Goes text (step ports (length text) past first words) holds r
-goes_kind ports text word past first words kind holds r ended same is fact =
-    let P : Option Kind → Type 0 = λ k. Goes text (step_of ports (length text) past k first words) holds r in
+    → Goes text (step_of sought (length text) past kind first words) holds r → Goes text (step sought (length text) past first words) holds r
+goes_kind sought text word past first words kind holds r ended same is fact =
+    let P : Option Kind → Type 0 = λ k. Goes text (step_of sought (length text) past k first words) holds r in
     let kinds : kind ≡ kind_of (not past.header.ended) first.word =
     is ∙ ap (kind_of false) same ∙ ap (λ b. kind_of (not b) first.word) (sym ended) in
     subst P kinds fact
 
 -- a comment
-pub goes_comment : (ports : List Port) (text : List ℕ) (past : Past) (first : Placed) (words : List Placed) (name : Command) (w : Watches) (plan : Plan)
+pub goes_comment : (sought : Sought) (text : List ℕ) (past : Past) (first : Placed) (words : List Placed) (name : Command) (w : Watches) (plan : Plan)
     (reading : Reading) (r : Result ℕ VcdErr) → name ≡ command.Comment → Holding w plan past reading past
     → Goes text (step_behind (length text) (behind_end words) (Ok past)) (λ next. next ≡ past) r
-    → Goes text (step_of ports (length text) past (Some (Section name)) first words) (Holding w plan past reading) r
-goes_comment ports text past first words name w plan reading r is holding fact =
-    let P : Command → Type 0 = λ c. Goes text (step_of ports (length text) past (Some (Section c)) first words) (Holding w plan past reading) r in
+    → Goes text (step_of sought (length text) past (Some (Section name)) first words) (Holding w plan past reading) r
+goes_comment sought text past first words name w plan reading r is holding fact =
+    let P : Command → Type 0 = λ c. Goes text (step_of sought (length text) past (Some (Section c)) first words) (Holding w plan past reading) r in
     subst P (sym is) (still (step_behind (length text) (behind_end words) (Ok past)) r fact)
   where
     still : (step : Step) (r : Result ℕ VcdErr) → Goes text step (λ next. next ≡ past) r → Goes text step (Holding w plan past reading) r

@@ -14,8 +14,8 @@ use Rattle.design_core.specs.declared.signal.Signal.{Signal}
 use Rattle.design_core.specs.Valuation.{width_at}
 use Rattle.design_core.specs.WellFormed.{signal_fits, input_fits, is_signal, is_input}
 use Rattle.vcd_reading.specs.Header.{Header}
-use Rattle.vcd_reading.specs.Scopes.{Port, port_at, clock_port, input_ports, output_ports, clock_ports, ports_of, code_of}
-use Rattle.vcd_traces.specs.Samples.{Watches, watch_of, watches_of}
+use Rattle.vcd_reading.specs.Scopes.{Port, Sought, port_at, clock_port, input_ports, output_ports, clock_ports, ports_of, code_of}
+use Rattle.vcd_traces.specs.Samples.{Manner, Watches, sought_of, watch_of, watches_of}
 use Rattle.vcd_traces.specs.Ports.{fits, is_port, HasPorts, FormedHasPorts}
 use Rattle.vcd_traces.specs.Sites.{watches_from}
 
@@ -105,17 +105,21 @@ front_of n xs ys is = ap (λ k. take k (xs ++ ys)) (sym is) ∙ take-append_seam
 back_of : {X : Type 0} (n : ℕ) (xs ys : List X) → length xs ≡ n → drop n (xs ++ ys) ≡ ys
 back_of n xs ys is = ap (λ k. drop k (xs ++ ys)) (sym is) ∙ drop-append_seam xs ys
 
-abbrev made : Option (List ℕ) → List Port → List Port → Header → List Port → Watches
-made clock inputs outputs h ports = record { clock = clock; inputs = map (watch_of h ports) inputs; outputs = map (watch_of h ports) outputs }
+abbrev made : Option (List ℕ) → List Port → List Port → Header → Sought → Bool → Watches
+made clock inputs outputs h sought zeros =
+    record { clock = clock; inputs = map (watch_of h sought) inputs; outputs = map (watch_of h sought) outputs; zero_inputs = zeros }
 
-clock_of : (d : Design) (clock : Option (List ℕ)) (h : Header) (ports : List Port)
-    → option_map (code_of h ports) (slice_get (clock_ports d clock) 0) ≡ option_map (λ name. code_of h ports (clock_port d name)) clock
-clock_of d None h ports = refl
-clock_of d (Some name) h ports = refl
+clock_of : (d : Design) (clock : Option (List ℕ)) (h : Header) (sought : Sought)
+    → option_map (code_of h sought) (slice_get (clock_ports d clock) 0) ≡ option_map (λ name. code_of h sought (clock_port d name)) clock
+clock_of d None h sought = refl
+clock_of d (Some name) h sought = refl
 
-pub watched_from : (d : Design) (clock : Option (List ℕ)) (h : Header)
-    → watches_from h (ports_of d clock) (length d.inputs.items) (length d.outputs.items) (ports_of d clock) ≡ watches_of d clock h
-watched_from d clock h =
+pub watched_from : (d : Design) (by : Manner) (h : Header)
+    → watches_from h (sought_of d by) by.zero_inputs (length d.inputs.items) (length d.outputs.items) (ports_of d by.clock) ≡ watches_of d by h
+watched_from d by h =
+    let sought = sought_of d by in
+    let zeros = by.zero_inputs in
+    let clock = by.clock in
     let ports = ports_of d clock in
     let n = length d.inputs.items in
     let m = length d.outputs.items in
@@ -127,9 +131,9 @@ watched_from d clock h =
     ap (take m) rest ∙ front_of m (output_ports d) (clock_ports d clock) (length-map d.outputs.items (port_at d)) in
     let last : drop m (drop n ports) ≡ clock_ports d clock =
     ap (drop m) rest ∙ back_of m (output_ports d) (clock_ports d clock) (length-map d.outputs.items (port_at d)) in
-    ap (λ l. made (option_map (code_of h ports) (slice_get l 0)) (take n ports) (take m (drop n ports)) h ports) last
-    ∙ ap (λ l. made (option_map (code_of h ports) (slice_get (clock_ports d clock) 0)) l (take m (drop n ports)) h ports) inputs
-    ∙ ap (λ l. made (option_map (code_of h ports) (slice_get (clock_ports d clock) 0)) (input_ports d) l h ports) outputs
-    ∙ ap (λ c. made c (input_ports d) (output_ports d) h ports) (clock_of d clock h ports)
+    ap (λ l. made (option_map (code_of h sought) (slice_get l 0)) (take n ports) (take m (drop n ports)) h sought zeros) last
+    ∙ ap (λ l. made (option_map (code_of h sought) (slice_get (clock_ports d clock) 0)) l (take m (drop n ports)) h sought zeros) inputs
+    ∙ ap (λ l. made (option_map (code_of h sought) (slice_get (clock_ports d clock) 0)) (input_ports d) l h sought zeros) outputs
+    ∙ ap (λ c. made c (input_ports d) (output_ports d) h sought zeros) (clock_of d clock h sought)
 
 pub ruleset port_laws = (formed_has_ports)

@@ -7,7 +7,7 @@ use Rattle.std.proofs.lemmas.Bool.Decides.{nat_tests}
 use Rattle.vcd_words.specs.declared.level.Level.{Level}
 use Rattle.vcd_words.specs.Levels.{cut_level}
 use Rattle.vcd_reading.specs.Events.{Event, level_before, level_after, is_before, is_up_to, is_low, is_high, rises}
-use Rattle.vcd_traces.specs.Samples.{Watch, Watches, sample, is_unknown, known_bits, level_at, moments, part_level, unknown_in, unknown_from}
+use Rattle.vcd_traces.specs.Samples.{Watch, Watches, sample, is_unknown, known_bits, level_at, moments, needed, part_level, unknown_in, unknown_from}
 use Rattle.vcd_traces.specs.Rows.{Kept, joined}
 use Rattle.vcd_traces.specs.Kept.{row_at, rows_at, AreKept}
 use Rattle.vcd_traces.specs.Plan.{have_ended}
@@ -126,9 +126,9 @@ unknown_stable w events event cycle [] all = refl
 unknown_stable w events event cycle (time ∷ times) all =
     let parts = and_parts (is_after event.time time) (list_all (is_after event.time) times) all in
     ap (λ o. option_or (unknown_in cycle o) (unknown_from w (events ++ event ∷ []) (cycle + 1) times))
-    (find_agrees (is_unknown w.clock (events ++ event ∷ []) time) (is_unknown w.clock events time) w.inputs
+    (find_agrees (is_unknown w.clock (events ++ event ∷ []) time) (is_unknown w.clock events time) (needed w.zero_inputs w.inputs)
     (λ watch. ap (λ (l : Level). not (l.unknowns == 0)) (sample_stable w events event time parts.0 watch)))
-    ∙ ap (option_or (unknown_in cycle (find (is_unknown w.clock events time) w.inputs))) (unknown_stable w events event (cycle + 1) times parts.1)
+    ∙ ap (option_or (unknown_in cycle (find (is_unknown w.clock events time) (needed w.zero_inputs w.inputs)))) (unknown_stable w events event (cycle + 1) times parts.1)
 
 -- what is kept of the cycles stays what it is
 pub kept_stable : (w : Watches) (events : List Event) (event : Event) (ended : List ℕ) (kept : Kept) → have_ended event.time ended

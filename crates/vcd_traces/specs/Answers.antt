@@ -1,12 +1,12 @@
 -- What is answered of a text: its trace, or why it holds none, and nothing else but want of memory.
-use Rattle.std.specs.Prelude.{ℕ, ◌≡◌, ◌≢◌, List, map, Option, Result, Ok, Err}
+use Rattle.std.specs.Prelude.{ℕ, ◌≡◌, ◌≢◌, List, map, Result, Ok, Err}
 use Rattle.loc_base.specs.Bits.{width_of, value_of}
 use Rattle.design_core.specs.declared.design.Design.{Design}
 use Rattle.design_core.specs.declared.trace.Trace.{Trace}
 use Rattle.design_core.specs.declared.trace.Checked.{Checked}
 use Rattle.vcd_reading.specs.declared.error.VcdErr.{VcdErr}
 use Rattle.vcd_reading.specs.declared.error.VcdErr.TheVariants.{NoMemory}
-use Rattle.vcd_traces.specs.Samples.{HasSamples, IsRefused}
+use Rattle.vcd_traces.specs.Samples.{Manner, HasSamples, IsRefused}
 
 -- as many cycles, the same samples, and the same values expected in the same bits
 pub record IsSameTrace (one other : Trace) : Type 0 where
@@ -19,9 +19,9 @@ pub record IsSameTrace (one other : Trace) : Type 0 where
   pub value_widths : map (λ (c : Checked). width_of c.value) one.expected.items ≡ map (λ (c : Checked). width_of c.value) other.expected.items
 
 -- an answer is right
-abbrev pub Answers : List ℕ → Design → Option (List ℕ) → Result Trace VcdErr → Type 0
-Answers text d clock (Ok trace) = HasSamples text d clock trace
-Answers text d clock (Err fault) = fault ≢ NoMemory → IsRefused text d clock fault
+abbrev pub Answers : List ℕ → Design → Manner → Result Trace VcdErr → Type 0
+Answers text d by (Ok trace) = HasSamples text d by trace
+Answers text d by (Err fault) = fault ≢ NoMemory → IsRefused text d by fault
 
 -- where there is a trace it is answered, but for want of memory
 abbrev pub IsOnly : Trace → Result Trace VcdErr → Type 0

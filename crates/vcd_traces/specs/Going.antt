@@ -4,7 +4,7 @@ use Rattle.vcd_words.specs.Words.{words_left}
 use Rattle.vcd_reading.specs.declared.error.VcdErr.{VcdErr}
 use Rattle.vcd_traces.specs.declared.reader.Reading.{Reading}
 use Rattle.vcd_traces.specs.declared.reader.Plan.{Plan}
-use Rattle.vcd_reading.specs.Scopes.{Port}
+use Rattle.vcd_reading.specs.Scopes.{Sought}
 use Rattle.vcd_reading.specs.Changes.{Past, stamps_of}
 use Rattle.vcd_traces.specs.Samples.{Watches, moments}
 use Rattle.vcd_traces.specs.Table.{cell_codes}
@@ -24,20 +24,20 @@ abbrev pub Holding : Watches → Plan → Past → Reading → Past → Type 0
 Holding w plan start reading past = (past.header ≡ start.header) × Holds w (cell_codes plan.table) past reading
 
 -- what is kept where the reading has come to a place: that of what stands before it
-pub record Going (ports : List Port) (w : Watches) (plan : Plan) (text : List ℕ) (start : Past) (at : ℕ) (reading : Reading) : Type 0 where
+pub record Going (sought : Sought) (w : Watches) (plan : Plan) (text : List ℕ) (start : Past) (at : ℕ) (reading : Reading) : Type 0 where
   pub past : Past
   pub holding : Holding w plan start reading past
   pub unended : start.header.ended ≡ false → words_left text at ≡ []
-  pub reads : ReadsOn ports text past at
+  pub reads : ReadsOn sought text past at
 
 -- what is kept at the text's end: the cycles of all stamps
-pub record Gone (ports : List Port) (w : Watches) (text : List ℕ) (start : Past) (reading : Reading) : Type 0 where
+pub record Gone (sought : Sought) (w : Watches) (text : List ℕ) (start : Past) (reading : Reading) : Type 0 where
   pub past : Past
   pub same : past.header ≡ start.header
-  pub reads : ReadsText ports text (Ok past)
+  pub reads : ReadsText sought text (Ok past)
   pub rows : AreKept w past.events (moments w.clock past.events (stamps_of past)) (rows_of reading.rows)
 
 -- what comes of reading to the text's end
-abbrev pub Ends : List Port → Watches → List ℕ → Past → Result (Unit {0}) VcdErr → Reading → Type 0
-Ends ports w text start (Ok done) reading = Gone ports w text start reading
-Ends ports w text start (Err fault) reading = IsAt (λ at. ReadsText ports text (Err at)) fault
+abbrev pub Ends : Sought → Watches → List ℕ → Past → Result (Unit {0}) VcdErr → Reading → Type 0
+Ends sought w text start (Ok done) reading = Gone sought w text start reading
+Ends sought w text start (Err fault) reading = IsAt (λ at. ReadsText sought text (Err at)) fault

@@ -6,7 +6,7 @@ use Rattle.vcd_reading.specs.declared.error.VcdErr.{VcdErr}
 use Rattle.vcd_reading.specs.declared.error.VcdErr.TheVariants.{UnknownInput}
 use Rattle.vcd_traces.specs.declared.rows.Unknown.{Unknown}
 use Rattle.vcd_reading.specs.Events.{Event}
-use Rattle.vcd_traces.specs.Samples.{Watch, Watches, sample, is_unknown, known_bits, unknown_from}
+use Rattle.vcd_traces.specs.Samples.{Watch, Watches, sample, is_unknown, known_bits, needed, unknown_from}
 use Rattle.vcd_traces.specs.Rows.{Row, Cycle, Kept, no_row, joined}
 
 -- the samples at a stamp
@@ -20,10 +20,10 @@ row_at w events time = record {
   value_widths = map (λ (watch : Watch). watch.width) w.outputs;
 }
 
--- the signal of the first input with an unknown bit at a stamp, and the samples there
+-- the signal of the first input that has an unknown bit at a stamp and may have none, and the samples there
 abbrev pub cycle_at : Watches → List Event → ℕ → Cycle
 cycle_at w events time = record {
-  unknown = option_map (λ (watch : Watch). watch.signal) (find (is_unknown w.clock events time) w.inputs);
+  unknown = option_map (λ (watch : Watch). watch.signal) (find (is_unknown w.clock events time) (needed w.zero_inputs w.inputs));
   row = row_at w events time;
 }
 

@@ -13,3 +13,4 @@ pub mod Going
 pub mod Finish
 pub mod Dump
 pub mod Answers
+pub mod Manner

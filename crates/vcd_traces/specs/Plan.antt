@@ -7,7 +7,7 @@ use Rattle.vcd_traces.specs.declared.rows.Watched.{Watched}
 use Rattle.vcd_traces.specs.declared.reader.Reading.{Reading}
 use Rattle.vcd_traces.specs.declared.reader.Plan.{Plan}
 use Rattle.vcd_reading.specs.Header.{Header}
-use Rattle.vcd_reading.specs.Scopes.{Port}
+use Rattle.vcd_reading.specs.Scopes.{Sought}
 use Rattle.vcd_reading.specs.Changes.{Past}
 use Rattle.vcd_traces.specs.Samples.{Watch, Watches, moments}
 use Rattle.vcd_traces.specs.Table.{IsTable, cell_codes}
@@ -34,10 +34,11 @@ pub record IsWatched (w : Watches) (cells : List (List ℕ)) (watched : Watched)
   pub outputs : w.outputs ≡ map (watch_in cells) watched.outputs.items
   pub input_cells : IsTrue (list_all (has_cell cells) watched.inputs.items)
   pub output_cells : IsTrue (list_all (has_cell cells) watched.outputs.items)
+  pub zero_inputs : w.zero_inputs ≡ watched.zero_inputs
 
 -- what is planned for a header: its codes, and the ports that are sampled
-pub record IsPlan (h : Header) (ports : List Port) (w : Watches) (plan : Plan) : Type 0 where
-  pub table : IsTable h ports plan.table
+pub record IsPlan (h : Header) (sought : Sought) (w : Watches) (plan : Plan) : Type 0 where
+  pub table : IsTable h sought plan.table
   pub watched : IsWatched w (cell_codes plan.table) plan.watched
 
 -- the stamps that have ended stand before the last time

@@ -11,7 +11,7 @@ use Rattle.vcd_traces.specs.declared.rows.Rows.{Rows}
 use Rattle.vcd_traces.specs.declared.rows.Unknown.{Unknown}
 use Rattle.vcd_traces.specs.declared.rows.Watched.{Watched}
 use Rattle.vcd_traces.specs.Moment.{kept_sample, has_unknown}
-use Rattle.vcd_traces.specs.Samples.{known_bits}
+use Rattle.vcd_traces.specs.Samples.{known_bits, needed}
 
 -- the samples of one cycle or of several, field by field
 pub record Row : Type 0 where
@@ -78,7 +78,7 @@ abbrev pub kept_unknown : Moment → List Watch → Option ℕ
 kept_unknown m inputs = option_map (λ (watch : Watch). watch.signal) (find (has_unknown m) inputs)
 
 abbrev pub kept_row : Moment → Watched → Cycle
-kept_row m w = record { unknown = kept_unknown m w.inputs.items; row = kept_rows m w.inputs.items w.outputs.items }
+kept_row m w = record { unknown = kept_unknown m (needed w.zero_inputs w.inputs.items); row = kept_rows m w.inputs.items w.outputs.items }
 
 abbrev pub with_samples : Kept → Cycle → Kept
 with_samples kept cycle = record kept { rows = joined kept.rows cycle.row }

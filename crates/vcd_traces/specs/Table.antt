@@ -11,7 +11,7 @@ use Rattle.vcd_traces.specs.declared.codes.Role.{Role}
 use Rattle.vcd_traces.specs.declared.codes.Role.TheVariants.{Other, Port as OfPort}
 use Rattle.vcd_traces.specs.declared.table.Table.{Table}
 use Rattle.vcd_reading.specs.Header.{Header}
-use Rattle.vcd_reading.specs.Scopes.{Port, has_code, is_declared, is_shorter}
+use Rattle.vcd_reading.specs.Scopes.{Port, Sought, has_code, is_declared, is_shorter}
 
 -- the place of a code in a list of so many, where it has one there
 abbrev pub near_place : ℕ → List ℕ → Option ℕ
@@ -39,22 +39,22 @@ abbrev pub cell_codes : Table → List (List ℕ)
 cell_codes table = map (λ (code : Bor (List ℕ)). code.now) table.cells.items
 
 -- a code that none of some ports has, or one whose values may have so many digits for each of them that has it, and for one no more
-abbrev pub IsRole : Header → List Port → List Port → List (List ℕ) → List ℕ → Role → Type 0
-IsRole h ports seen cells code Other = list_any (has_code h ports code) seen ≡ false
-IsRole h ports seen cells code (OfPort cell limit) =
-    (list_any (has_code h ports code) seen ≡ true)
-    × ((digits : ℕ) → list_any (is_shorter h ports code digits) seen ≡ nat_lt limit digits)
+abbrev pub IsRole : Header → Sought → List Port → List (List ℕ) → List ℕ → Role → Type 0
+IsRole h sought seen cells code Other = list_any (has_code h sought code) seen ≡ false
+IsRole h sought seen cells code (OfPort cell limit) =
+    (list_any (has_code h sought code) seen ≡ true)
+    × ((digits : ℕ) → list_any (is_shorter h sought code digits) seen ≡ nat_lt limit digits)
     × (slice_get cells cell ≡ Some code)
 
 -- a table has the declared codes and their roles, and a cell for each code of some of the ports
-pub record IsTableOf (h : Header) (ports seen : List Port) (table : Table) : Type 0 where
+pub record IsTableOf (h : Header) (sought : Sought) (seen : List Port) (table : Table) : Type 0 where
   pub declared : (code : List ℕ) → is_some (role_of table.codes code) ≡ is_declared h code
-  pub role : (code : List ℕ) (role : Role) → role_of table.codes code ≡ Some role → IsRole h ports seen (cell_codes table) code role
+  pub role : (code : List ℕ) (role : Role) → role_of table.codes code ≡ Some role → IsRole h sought seen (cell_codes table) code role
   pub cell : (code : List ℕ) (k : ℕ) → slice_get (cell_codes table) k ≡ Some code → option_and_then cell_of (role_of table.codes code) ≡ Some k
 
 -- or of all of them
-abbrev pub IsTable : Header → List Port → Table → Type 0
-IsTable h ports table = IsTableOf h ports ports table
+abbrev pub IsTable : Header → Sought → Table → Type 0
+IsTable h sought table = IsTableOf h sought sought.ports table
 
 -- the role of a code of one more port, whose values may have so many digits: it keeps its cell, or gets the next one
 abbrev pub given_role : Option Role → ℕ → ℕ → Role

@@ -1,7 +1,7 @@
 //! Times and value changes (IEEE 1364-2005, 18.2.1), by the levels that are kept of each variable of a port.
 ghost use Rattle.std.specs.Prelude.{◌≡◌, ◌≤◌, ◌<◌, ℕ, List, Ok, Err, OnOk, length};
 ghost use Rattle.vcd_reading.specs.Changes.{Past, changed, passed_over};
-ghost use Rattle.vcd_reading.specs.Scopes.{Port};
+ghost use Rattle.vcd_reading.specs.Scopes.{Sought};
 ghost use Rattle.vcd_traces.specs.Table.{IsTable, cell_codes};
 ghost use Rattle.vcd_traces.specs.Levels.{Keeps, Does, with_change};
 
@@ -45,8 +45,8 @@ impl Levels {
         level: Level,
         digits: usize,
     ) -> Result<(), VcdErr>
-        ensures { (ports : List Port) (past : Past) → IsTable past.header ports table.now → Keeps (cell_codes table.now) past self.old
-            → Does (changed ports past level digits change.now.value_at (record { at = change.now.code_at; word = change.now.code.now })) (Keeps (cell_codes table.now)) result self.new }
+        ensures { (sought : Sought) (past : Past) → IsTable past.header sought table.now → Keeps (cell_codes table.now) past self.old
+            → Does (changed sought past level digits change.now.value_at (record { at = change.now.code_at; word = change.now.code.now })) (Keeps (cell_codes table.now)) result self.new }
     {
         match table.codes.find(change.code) {
             None => Err(VcdErr::Syntax {
@@ -67,8 +67,8 @@ impl Levels {
 
     /// A variable has a value that is no bits.
     pub fn pass(&self, table: &Table<'_>, change: &Change<'_>) -> Result<(), VcdErr>
-        ensures { (ports : List Port) (past : Past) → IsTable past.header ports table.now → Keeps (cell_codes table.now) past self.now
-            → Does (passed_over ports past change.now.value_at (record { at = change.now.code_at; word = change.now.code.now })) (Keeps (cell_codes table.now)) result self.now }
+        ensures { (sought : Sought) (past : Past) → IsTable past.header sought table.now → Keeps (cell_codes table.now) past self.now
+            → Does (passed_over sought past change.now.value_at (record { at = change.now.code_at; word = change.now.code.now })) (Keeps (cell_codes table.now)) result self.now }
     {
         match table.codes.find(change.code) {
             None => Err(VcdErr::Syntax {

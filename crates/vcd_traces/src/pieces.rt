@@ -3,7 +3,7 @@ ghost use Rattle.std.specs.Prelude.{◌≡◌, ◌≤◌, ◌<◌, ℕ, List, tr
 ghost use Rattle.std.specs.List.{list_all};
 ghost use Rattle.vcd_words.specs.Words.{words_left, placed};
 ghost use Rattle.vcd_traces.specs.Moment.{has_width};
-ghost use Rattle.vcd_reading.specs.Scopes.{Port};
+ghost use Rattle.vcd_reading.specs.Scopes.{Sought};
 ghost use Rattle.vcd_traces.specs.Samples.{Watches};
 ghost use Rattle.vcd_reading.specs.Changes.{Past, timed, scalar, vector, other_value};
 ghost use Rattle.vcd_reading.specs.Pieces.{behind_code, behind_end};
@@ -43,7 +43,7 @@ impl Reading {
     fn take_stamp(&mut self, plan: &Plan<'_>, word: Extent, time: u64) -> Result<usize, VcdErr>
         requires inputs { IsTrue (list_all has_width plan.now.watched.inputs.items) }
         requires outputs { IsTrue (list_all has_width plan.now.watched.outputs.items) }
-        ensures goes { (text : List ℕ) (ports : List Port) (w : Watches) (past : Past) → IsPlan past.header ports w plan.now → Holding w plan.now past self.old past
+        ensures goes { (text : List ℕ) (sought : Sought) (w : Watches) (past : Past) → IsPlan past.header sought w plan.now → Holding w plan.now past self.old past
             → Goes text (step_done (timed past time word.start) (words_left text word.stop)) (Holding w plan.now past self.new) result }
         ensures stop { IfOk result (λ next. next ≡ word.stop) }
     {
@@ -61,8 +61,8 @@ impl Reading {
     ) -> Result<usize, VcdErr>
         requires some { word.start < word.stop }
         requires inside { word.stop ≤ length text.now }
-        ensures goes { (ports : List Port) (w : Watches) (past : Past) → IsPlan past.header ports w plan.now → Holding w plan.now past self.old past
-            → Goes text.now (step_done (scalar ports past level (placed text.now word.start word.stop)) (words_left text.now word.stop)) (Holding w plan.now past self.new) result }
+        ensures goes { (sought : Sought) (w : Watches) (past : Past) → IsPlan past.header sought w plan.now → Holding w plan.now past self.old past
+            → Goes text.now (step_done (scalar sought past level (placed text.now word.start word.stop)) (words_left text.now word.stop)) (Holding w plan.now past self.new) result }
         ensures stop { IfOk result (λ next. next ≡ word.stop) }
     {
         let change = Change {
@@ -84,9 +84,9 @@ impl Reading {
     ) -> Result<usize, VcdErr>
         requires some { word.start < word.stop }
         requires inside { word.stop ≤ length text.now }
-        ensures goes { (ports : List Port) (w : Watches) (past : Past) → IsPlan past.header ports w plan.now → Holding w plan.now past self.old past
+        ensures goes { (sought : Sought) (w : Watches) (past : Past) → IsPlan past.header sought w plan.now → Holding w plan.now past self.old past
             → let words = words_left text.now word.stop in
-            Goes text.now (step_behind (length text.now) (behind_code words) (vector ports past level (placed text.now word.start word.stop) words)) (Holding w plan.now past self.new) result }
+            Goes text.now (step_behind (length text.now) (behind_code words) (vector sought past level (placed text.now word.start word.stop) words)) (Holding w plan.now past self.new) result }
         ensures later { IfOk result (λ next. word.stop < next) }
         ensures within { IfOk result (λ next. next ≤ length text.now) }
     {
@@ -107,9 +107,9 @@ impl Reading {
     fn take_other(&mut self, plan: &Plan<'_>, text: &[u8], word: Extent) -> Result<usize, VcdErr>
         requires some { word.start < word.stop }
         requires inside { word.stop ≤ length text.now }
-        ensures goes { (ports : List Port) (w : Watches) (past : Past) → IsPlan past.header ports w plan.now → Holding w plan.now past self.old past
+        ensures goes { (sought : Sought) (w : Watches) (past : Past) → IsPlan past.header sought w plan.now → Holding w plan.now past self.old past
             → let words = words_left text.now word.stop in
-            Goes text.now (step_behind (length text.now) (behind_code words) (other_value ports past (placed text.now word.start word.stop) words)) (Holding w plan.now past self.new) result }
+            Goes text.now (step_behind (length text.now) (behind_code words) (other_value sought past (placed text.now word.start word.stop) words)) (Holding w plan.now past self.new) result }
         ensures later { IfOk result (λ next. word.stop < next) }
         ensures within { IfOk result (λ next. next ≤ length text.now) }
     {
@@ -131,8 +131,8 @@ impl Reading {
         requires outputs { IsTrue (list_all has_width plan.now.watched.outputs.items) }
         requires some { word.start < word.stop }
         requires inside { word.stop ≤ length text.now }
-        ensures goes { (ports : List Port) (w : Watches) (past : Past) → IsPlan past.header ports w plan.now → past.header.ended ≡ true → Holding w plan.now past self.old past
-            → Goes text.now (step ports (length text.now) past (placed text.now word.start word.stop) (words_left text.now word.stop)) (Holding w plan.now past self.new) result }
+        ensures goes { (sought : Sought) (w : Watches) (past : Past) → IsPlan past.header sought w plan.now → past.header.ended ≡ true → Holding w plan.now past self.old past
+            → Goes text.now (step sought (length text.now) past (placed text.now word.start word.stop) (words_left text.now word.stop)) (Holding w plan.now past self.new) result }
         ensures later { IfOk result (λ next. word.stop ≤ next) }
         ensures within { IfOk result (λ next. next ≤ length text.now) }
     {
@@ -152,8 +152,8 @@ impl Reading {
     pub fn read(&mut self, plan: &Plan<'_>, text: &[u8], from: usize) -> Result<(), VcdErr>
         requires inputs { IsTrue (list_all has_width plan.now.watched.inputs.items) }
         requires outputs { IsTrue (list_all has_width plan.now.watched.outputs.items) }
-        ensures { (ports : List Port) (w : Watches) (start : Past) → IsPlan start.header ports w plan.now → Going ports w plan.now text.now start from self.old
-            → Ends ports w text.now start result self.new }
+        ensures { (sought : Sought) (w : Watches) (start : Past) → IsPlan start.header sought w plan.now → Going sought w plan.now text.now start from self.old
+            → Ends sought w text.now start result self.new }
     {
         let mut at = from;
         while let Some(word) = word_at(text, at) {

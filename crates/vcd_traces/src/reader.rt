@@ -9,7 +9,7 @@ ghost use Rattle.vcd_traces.specs.Closing.{closed};
 ghost use Rattle.vcd_reading.specs.Changes.{Past, timed, changed, passed_over};
 ghost use Rattle.vcd_traces.specs.Samples.{Watches};
 ghost use Rattle.vcd_traces.specs.Levels.{Does};
-ghost use Rattle.vcd_reading.specs.Scopes.{Port};
+ghost use Rattle.vcd_reading.specs.Scopes.{Sought};
 ghost use Rattle.vcd_traces.specs.Table.{IsTable, cell_codes};
 ghost use Rattle.vcd_traces.specs.Plan.{IsWatched, Holds};
 
@@ -105,8 +105,8 @@ impl Reading {
         level: Level,
         digits: usize,
     ) -> Result<(), VcdErr>
-        ensures { (ports : List Port) (w : Watches) (past : Past) → IsTable past.header ports table.now → Holds w (cell_codes table.now) past self.old
-            → Does (changed ports past level digits change.now.value_at (record { at = change.now.code_at; word = change.now.code.now })) (Holds w (cell_codes table.now)) result self.new }
+        ensures { (sought : Sought) (w : Watches) (past : Past) → IsTable past.header sought table.now → Holds w (cell_codes table.now) past self.old
+            → Does (changed sought past level digits change.now.value_at (record { at = change.now.code_at; word = change.now.code.now })) (Holds w (cell_codes table.now)) result self.new }
     {
         self.levels.change(table, change, level, digits)?;
         Ok(())
@@ -114,8 +114,8 @@ impl Reading {
 
     /// A variable has a value that is no bits.
     pub fn take_pass(&self, table: &Table<'_>, change: &Change<'_>) -> Result<(), VcdErr>
-        ensures { (ports : List Port) (w : Watches) (past : Past) → IsTable past.header ports table.now → Holds w (cell_codes table.now) past self.now
-            → Does (passed_over ports past change.now.value_at (record { at = change.now.code_at; word = change.now.code.now })) (Holds w (cell_codes table.now)) result self.now }
+        ensures { (sought : Sought) (w : Watches) (past : Past) → IsTable past.header sought table.now → Holds w (cell_codes table.now) past self.now
+            → Does (passed_over sought past change.now.value_at (record { at = change.now.code_at; word = change.now.code.now })) (Holds w (cell_codes table.now)) result self.now }
     {
         self.levels.pass(table, change)?;
         Ok(())

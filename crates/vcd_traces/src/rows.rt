@@ -1,7 +1,7 @@
 //! The cycles of a trace, taken stamp by stamp.
 ghost use Rattle.std.specs.Prelude.{◌≡◌, ℕ, List, IsTrue, OnOk};
 ghost use Rattle.vcd_reading.specs.Events.{Event};
-ghost use Rattle.vcd_traces.specs.Samples.{Watches};
+ghost use Rattle.vcd_traces.specs.Samples.{Watches, needed};
 ghost use Rattle.vcd_traces.specs.Kept.{AreKept};
 ghost use Rattle.vcd_traces.specs.Finish.{Finishes};
 ghost use Rattle.std.specs.List.{list_all};
@@ -32,12 +32,29 @@ pub struct Rows {
     pub unknown: Option<Unknown>,
 }
 
-/// The ports that are sampled: the cell of the clock, if there is one, and the inputs and outputs.
+/// The ports that are sampled: the cell of the clock, if there is one, the inputs and outputs, and whether unknown bits of
+/// inputs are read as 0.
 #[derive(Drop)]
 pub struct Watched {
     pub clock: Option<usize>,
     pub inputs: Vec<Watch>,
     pub outputs: Vec<Watch>,
+    pub zero_inputs: bool,
+}
+
+impl Watched {
+    /// The inputs whose bits must be known.
+    fn needed(&self) -> &[Watch]
+        requires { IsTrue (list_all has_width self.now.inputs.items) }
+        ensures needed { result.now ≡ needed self.now.zero_inputs self.now.inputs.items }
+        ensures widths { IsTrue (list_all has_width result.now) }
+    {
+        if self.zero_inputs {
+            &[]
+        } else {
+            self.inputs.as_slice()
+        }
+    }
 }
 
 impl Rows {
@@ -80,7 +97,7 @@ impl Rows {
         if self.unknown.is_some() || cycle == MOST_CYCLES {
             return Ok(());
         }
-        match moment.unknown_in(watched.inputs.as_slice()) {
+        match moment.unknown_in(watched.needed()) {
             None => self.push_row(moment, watched),
             Some(signal) => {
                 self.unknown = Some(Unknown { cycle, signal });

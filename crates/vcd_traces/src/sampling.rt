@@ -1,11 +1,12 @@
 //! The public call (IEEE 1364-2005, clause 18).
-ghost use Rattle.std.specs.Prelude.{◌≢◌, IfOk, IfErr};
+ghost use Rattle.std.specs.Prelude.{◌≡◌, ◌≢◌, IfOk, IfErr};
 ghost use Rattle.std.specs.Option.{option_copied};
 ghost use Rattle.design_core.specs.declared.trace.Trace.{Trace as TheTrace};
 ghost use Rattle.vcd_reading.specs.declared.error.VcdErr.{VcdErr as TheFault};
 ghost use Rattle.vcd_reading.specs.declared.error.VcdErr.TheVariants.{NoMemory as OutOfMemory};
 ghost use Rattle.vcd_traces.specs.Ports.{HasPorts};
 ghost use Rattle.vcd_traces.specs.Samples.{HasSamples, IsRefused};
+ghost use Rattle.vcd_traces.specs.Manner.{manner_of, path_bytes};
 ghost use Rattle.vcd_traces.specs.Answers.{Answers, IsOnly, IsOnlyFault};
 ghost use Rattle.design_core.specs.TraceFits.{IsTraceOf};
 
@@ -15,24 +16,6 @@ use loc_base::Name;
 use std::alloc::Global;
 use vcd_reading::{VcdErr, read_header, top_ports};
 
-/// Reads the header of a dump, and then the rest.
-fn answer(
-    alloc: Global,
-    text: &[u8],
-    design: &Design,
-    clock: Option<&Name>,
-) -> Result<Trace, VcdErr>
-    requires { HasPorts design.now }
-    ensures { Answers text.now design.now (option_copied clock.entry) result }
-{
-    let dump = Dump {
-        text,
-        front: read_header(alloc, text)?,
-    };
-    let ports = top_ports(alloc, design, clock)?;
-    dump.trace(alloc, design, ports.as_slice())
-}
-
 /// What a dump is read by.
 #[derive(Clone, Copy, Drop)]
 pub struct SampleBy<'a> {
@@ -40,6 +23,36 @@ pub struct SampleBy<'a> {
     pub design: &'a Design,
     /// The input that is the clock.
     pub clock: Option<&'a Name>,
+    /// The path of the scope in which the ports stand: the names of scopes from the outermost on, joined by dots. Without
+    /// it that is the first scope that declares every port.
+    pub scope: Option<&'a Name>,
+    /// Whether unknown bits of inputs are read as 0; else they are refused.
+    pub zero_inputs: bool,
+}
+
+impl SampleBy<'_> {
+    /// The path of the scope.
+    pub fn path(&self) -> Option<&[u8]>
+        ensures { path_bytes result ≡ option_copied self.now.scope }
+    {
+        match self.scope {
+            None => None,
+            Some(path) => Some(path.as_bytes()),
+        }
+    }
+}
+
+/// Reads the header of a dump, and then the rest.
+fn answer(alloc: Global, text: &[u8], by: &SampleBy<'_>) -> Result<Trace, VcdErr>
+    requires { HasPorts by.now.design.now }
+    ensures { Answers text.now by.now.design.now (manner_of by.now) result }
+{
+    let dump = Dump {
+        text,
+        front: read_header(alloc, text)?,
+    };
+    let ports = top_ports(alloc, by.design, by.clock)?;
+    dump.trace(alloc, by, ports.as_slice())
 }
 
 /// The trace that the text of a dump holds of a design's ports: with a clock their values before each of its rising
@@ -49,11 +62,11 @@ pub struct SampleBy<'a> {
 /// `UnknownInput`.
 pub fn samples(alloc: Global, text: &[u8], by: &SampleBy<'_>) -> Result<Trace, VcdErr>
     requires { HasPorts by.now.design.now }
-    ensures samples { IfOk result (λ trace. HasSamples text.now by.now.design.now (option_copied by.now.clock) trace) }
+    ensures samples { IfOk result (λ trace. HasSamples text.now by.now.design.now (manner_of by.now) trace) }
     ensures fits { IfOk result (λ trace. IsTraceOf by.now.design.now trace) }
-    ensures refused { IfErr result (λ fault. fault ≢ OutOfMemory → IsRefused text.now by.now.design.now (option_copied by.now.clock) fault) }
-    ensures only { (trace : TheTrace) → HasSamples text.now by.now.design.now (option_copied by.now.clock) trace → IsOnly trace result }
-    ensures only_refused { (fault : TheFault) → IsRefused text.now by.now.design.now (option_copied by.now.clock) fault → IsOnlyFault fault result }
+    ensures refused { IfErr result (λ fault. fault ≢ OutOfMemory → IsRefused text.now by.now.design.now (manner_of by.now) fault) }
+    ensures only { (trace : TheTrace) → HasSamples text.now by.now.design.now (manner_of by.now) trace → IsOnly trace result }
+    ensures only_refused { (fault : TheFault) → IsRefused text.now by.now.design.now (manner_of by.now) fault → IsOnlyFault fault result }
 {
-    answer(alloc, text, by.design, by.clock)
+    answer(alloc, text, by)
 }

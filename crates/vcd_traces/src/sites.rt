@@ -1,16 +1,16 @@
-//! Where a design's ports stand (IEEE 1364-2005, 18.2.3): in the first scope that declares every port.
+//! Where a design's ports stand (IEEE 1364-2005, 18.2.3): in the scope of the ports.
 ghost use Rattle.std.specs.Prelude.{◌≡◌, ◌==◌, List, All, IfOk, map};
 ghost use Rattle.vcd_words.specs.Times.{time_of};
 ghost use Rattle.vcd_reading.specs.Header.{Header as TheHeader};
 ghost use Rattle.vcd_reading.specs.HeaderView.{variable_of};
-ghost use Rattle.vcd_reading.specs.PortView.{ports_in};
-ghost use Rattle.vcd_reading.specs.Scopes.{Port as ThePort, is_unfit as says_unfit, misfits, most_digits};
+ghost use Rattle.vcd_reading.specs.PortView.{ports_in, sought_of};
+ghost use Rattle.vcd_reading.specs.Scopes.{Sought, is_unfit as says_unfit, misfits, most_digits};
 ghost use Rattle.vcd_traces.specs.Samples.{lesser as spec_lesser, least_port};
 ghost use Rattle.vcd_traces.specs.Sites.{site_port, IsFirst, IsSite, AreSites};
 
 use loc_base::NoMemory;
 use std::alloc::Global;
-use vcd_reading::{Part, Place, Port, Scope, is_real_type};
+use vcd_reading::{Part, Place, Port, Scope, Sought as WithPath, is_real_type};
 
 /// A port and where it stands.
 #[derive(Clone, Copy)]
@@ -31,16 +31,16 @@ impl Site<'_> {
     }
 }
 
-/// Some ports with their places in a scope, which declares every one.
+/// The ports that are looked for with their places in a scope, which declares every one.
 pub fn port_sites<'a>(
     alloc: Global,
     scope: &Scope<'_, 'a>,
-    ports: &[Port<'a>],
+    sought: &WithPath<'_, 'a>,
 ) -> Result<Vec<Site<'a>>, NoMemory>
-    ensures { IfOk result (λ sites. (h : TheHeader) → IsFirst h (ports_in ports.now) scope.now → AreSites h (ports_in ports.now) (ports_in ports.now) sites.items) }
+    ensures { IfOk result (λ sites. (h : TheHeader) → IsFirst h (sought_of sought.now) scope.now → AreSites h (sought_of sought.now) (ports_in sought.now.ports.now) sites.items) }
 {
     let mut sites = Vec::new(alloc);
-    for port in ports {
+    for port in sought.ports {
         if let Some(place) = scope.place(port) {
             let site = Site { port: *port, place };
             sites.push(site)?;
@@ -78,7 +78,7 @@ fn misfits(width: u8, place: &Place<'_>) -> bool
 
 /// Whether a port's variable is real or of another width.
 fn is_unfit(site: &Site<'_>) -> bool
-    ensures { (h : TheHeader) (ports : List ThePort) → IsSite h ports site.now → result ≡ says_unfit h ports (site_port site.now) }
+    ensures { (h : TheHeader) (sought : Sought) → IsSite h sought site.now → result ≡ says_unfit h sought (site_port site.now) }
 {
     misfits(site.port.width, &site.place)
 }
@@ -95,7 +95,7 @@ fn lesser(number: u32, other: Option<u32>) -> u32
 
 /// The least number of a port's signal whose variable is real or of another width.
 pub fn least_unfit(sites: &[Site<'_>]) -> Option<u32>
-    ensures { (h : TheHeader) (ports : List ThePort) → All (IsSite h ports) sites.now → result ≡ least_port (says_unfit h ports) (map site_port sites.now) }
+    ensures { (h : TheHeader) (sought : Sought) → All (IsSite h sought) sites.now → result ≡ least_port (says_unfit h sought) (map site_port sites.now) }
 {
     let mut least = None;
     for site in sites {

@@ -3,7 +3,7 @@ ghost use Rattle.std.specs.Prelude.{◌≡◌, ℕ, true, List, All, Some, None,
 ghost use Rattle.std.specs.List.{list_any};
 ghost use Rattle.vcd_reading.specs.Commands.{same_bytes};
 ghost use Rattle.vcd_reading.specs.Header.{Header as TheHeader, Variable as TheVariable};
-ghost use Rattle.vcd_reading.specs.Scopes.{Port as ThePort, is_declared, is_of_port};
+ghost use Rattle.vcd_reading.specs.Scopes.{Sought, is_declared, is_of_port};
 ghost use Rattle.vcd_reading.specs.HeaderView.{variable_of};
 ghost use Rattle.vcd_traces.specs.declared.codes.Role.TheVariants.{Other as OfNone};
 ghost use Rattle.vcd_traces.specs.Table.{role_of, with_role, cell_codes, given_role, with_cell, IsTable, IsTableOf};
@@ -44,7 +44,7 @@ impl<'a> Table<'a> {
 
     /// The cell of the code of a port.
     pub fn cell(&self, code: &[u8]) -> usize
-        ensures { (h : TheHeader) (ports : List ThePort) → IsTable h ports self.now → is_declared h code.now ≡ true → is_of_port h ports code.now ≡ true
+        ensures { (h : TheHeader) (sought : Sought) → IsTable h sought self.now → is_declared h code.now ≡ true → is_of_port h sought code.now ≡ true
             → slice_get (cell_codes self.now) result ≡ Some code.now }
     {
         match self.codes.find(code) {
@@ -72,8 +72,8 @@ pub fn port_table<'a>(
     variables: &[Variable<'a>],
     sites: &[Site<'a>],
 ) -> Result<Table<'a>, NoMemory>
-    ensures { IfOk result (λ table. (h : TheHeader) (ports : List ThePort) → h.variables ≡ map variable_of variables.now → All (IsSite h ports) sites.now
-        → IsTableOf h ports (map site_port sites.now) table) }
+    ensures { IfOk result (λ table. (h : TheHeader) (sought : Sought) → h.variables ≡ map variable_of variables.now → All (IsSite h sought) sites.now
+        → IsTableOf h sought (map site_port sites.now) table) }
 {
     let mut table = Table {
         codes: declared_codes(alloc, variables)?,

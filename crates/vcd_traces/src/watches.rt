@@ -3,7 +3,7 @@ ghost use Rattle.std.specs.Prelude.{◌≡◌, ◌+◌, ◌≤◌, ◌<◌, List
 ghost use Rattle.std.specs.List.{list_all};
 ghost use Rattle.std.specs.Option.{option_map};
 ghost use Rattle.vcd_reading.specs.Header.{Header as TheHeader};
-ghost use Rattle.vcd_reading.specs.Scopes.{Port as ThePort, code_of};
+ghost use Rattle.vcd_reading.specs.Scopes.{Sought, code_of};
 ghost use Rattle.vcd_traces.specs.Samples.{watch_of};
 ghost use Rattle.vcd_traces.specs.Moment.{has_width};
 ghost use Rattle.vcd_traces.specs.Table.{IsTable, cell_codes};
@@ -12,17 +12,17 @@ ghost use Rattle.vcd_traces.specs.Sites.{site_port, site_fits, watches_from, IsS
 
 use crate::moment::Watch;
 use crate::rows::Watched;
+use crate::sampling::SampleBy;
 use crate::sites::Site;
 use crate::table::Table;
-use design_core::Design;
 use loc_base::NoMemory;
 use std::alloc::Global;
 
 /// What is sampled of a port.
 fn watch(table: &Table<'_>, site: &Site<'_>) -> Watch
-    ensures watch { (h : TheHeader) (ports : List ThePort) → IsTable h ports table.now → IsSite h ports site.now
-        → watch_in (cell_codes table.now) result ≡ watch_of h ports (site_port site.now) }
-    ensures cell { (h : TheHeader) (ports : List ThePort) → IsTable h ports table.now → IsSite h ports site.now → IsTrue (has_cell (cell_codes table.now) result) }
+    ensures watch { (h : TheHeader) (sought : Sought) → IsTable h sought table.now → IsSite h sought site.now
+        → watch_in (cell_codes table.now) result ≡ watch_of h sought (site_port site.now) }
+    ensures cell { (h : TheHeader) (sought : Sought) → IsTable h sought table.now → IsSite h sought site.now → IsTrue (has_cell (cell_codes table.now) result) }
     ensures width { result.width ≡ site.now.port.width }
 {
     Watch {
@@ -36,9 +36,9 @@ fn watch(table: &Table<'_>, site: &Site<'_>) -> Watch
 /// What is sampled of some ports.
 fn watches(alloc: Global, table: &Table<'_>, sites: &[Site<'_>]) -> Result<Vec<Watch>, NoMemory>
     requires { IsTrue (list_all site_fits sites.now) }
-    ensures watches { IfOk result (λ watches. (h : TheHeader) (ports : List ThePort) → IsTable h ports table.now → All (IsSite h ports) sites.now
-        → map (watch_in (cell_codes table.now)) watches.items ≡ map (watch_of h ports) (map site_port sites.now)) }
-    ensures cells { IfOk result (λ watches. (h : TheHeader) (ports : List ThePort) → IsTable h ports table.now → All (IsSite h ports) sites.now
+    ensures watches { IfOk result (λ watches. (h : TheHeader) (sought : Sought) → IsTable h sought table.now → All (IsSite h sought) sites.now
+        → map (watch_in (cell_codes table.now)) watches.items ≡ map (watch_of h sought) (map site_port sites.now)) }
+    ensures cells { IfOk result (λ watches. (h : TheHeader) (sought : Sought) → IsTable h sought table.now → All (IsSite h sought) sites.now
         → IsTrue (list_all (has_cell (cell_codes table.now)) watches.items)) }
     ensures widths { IfOk result (λ watches. IsTrue (list_all has_width watches.items)) }
 {
@@ -51,9 +51,9 @@ fn watches(alloc: Global, table: &Table<'_>, sites: &[Site<'_>]) -> Result<Vec<W
 
 /// The cell of the first of some ports, if there is one.
 fn first_cell(table: &Table<'_>, sites: &[Site<'_>]) -> Option<usize>
-    ensures code { (h : TheHeader) (ports : List ThePort) → IsTable h ports table.now → All (IsSite h ports) sites.now
-        → option_map (code_of h ports) (slice_get (map site_port sites.now) 0) ≡ option_map (cell_code (cell_codes table.now)) result }
-    ensures within { (h : TheHeader) (ports : List ThePort) → IsTable h ports table.now → All (IsSite h ports) sites.now
+    ensures code { (h : TheHeader) (sought : Sought) → IsTable h sought table.now → All (IsSite h sought) sites.now
+        → option_map (code_of h sought) (slice_get (map site_port sites.now) 0) ≡ option_map (cell_code (cell_codes table.now)) result }
+    ensures within { (h : TheHeader) (sought : Sought) → IsTable h sought table.now → All (IsSite h sought) sites.now
         → IfSome result (λ cell. cell < length (cell_codes table.now)) }
 {
     match sites.first() {
@@ -67,21 +67,22 @@ fn first_cell(table: &Table<'_>, sites: &[Site<'_>]) -> Option<usize>
 pub fn watched(
     alloc: Global,
     table: &Table<'_>,
-    design: &Design,
+    by: &SampleBy<'_>,
     sites: &[Site<'_>],
 ) -> Result<Watched, NoMemory>
-    requires count { length design.now.inputs.items + length design.now.outputs.items ≤ length sites.now }
+    requires count { length by.now.design.now.inputs.items + length by.now.design.now.outputs.items ≤ length sites.now }
     requires widths { IsTrue (list_all site_fits sites.now) }
-    ensures watched { IfOk result (λ watched. (h : TheHeader) (ports : List ThePort) → IsTable h ports table.now → All (IsSite h ports) sites.now
-        → IsWatched (watches_from h ports (length design.now.inputs.items) (length design.now.outputs.items) (map site_port sites.now)) (cell_codes table.now) watched) }
+    ensures watched { IfOk result (λ watched. (h : TheHeader) (sought : Sought) → IsTable h sought table.now → All (IsSite h sought) sites.now
+        → IsWatched (watches_from h sought by.now.zero_inputs (length by.now.design.now.inputs.items) (length by.now.design.now.outputs.items) (map site_port sites.now)) (cell_codes table.now) watched) }
     ensures inputs { IfOk result (λ watched. IsTrue (list_all has_width watched.inputs.items)) }
     ensures outputs { IfOk result (λ watched. IsTrue (list_all has_width watched.outputs.items)) }
 {
-    let (inputs, rest) = sites.split_at(design.inputs.as_slice().len());
-    let (outputs, last) = rest.split_at(design.outputs.as_slice().len());
+    let (inputs, rest) = sites.split_at(by.design.inputs.as_slice().len());
+    let (outputs, last) = rest.split_at(by.design.outputs.as_slice().len());
     Ok(Watched {
         clock: first_cell(table, last),
         inputs: watches(alloc, table, inputs)?,
         outputs: watches(alloc, table, outputs)?,
+        zero_inputs: by.zero_inputs,
     })
 }

@@ -1,5 +1,5 @@
 use Rattle.std.proofs.Common.{sym, ◌∙◌, ◌+◌, ap, subst, List, take, Vec, Global}
-use Rattle.vcd_reading.specs.PortView.{ports_in}
+use Rattle.vcd_reading.specs.PortView.{ports_in, sought_of}
 use Rattle.vcd_traces.specs.declared.sites.Site.{Site}
 use Rattle.vcd_traces.specs.Sites.{AreSites}
 use Rattle.vcd_traces.proofs.SiteLaws.{sites_more, sites_lack}
@@ -8,15 +8,16 @@ use Rattle.vcd_traces.proofs.sites.port_sites.Goals.{in-Some+in_ok-push, in_defa
 
 pub loop-port-preserved : goal.loop-port-preserved
 loop-port-preserved c h is =
-    let ports = c.args.ports.now in
+    let sought = sought_of c.args.sought.now in
+    let ports = c.args.sought.now.ports.now in
     let i = c.loop-port.port-index in
     elim c.match-place.branch [
       | in-Some+in_ok-push w ↦
-          let P : List Site → Type 0 = λ l. AreSites h (ports_in ports) (ports_in (take (i + 1) ports)) l in
+          let P : List Site → Type 0 = λ l. AreSites h sought (ports_in (take (i + 1) ports)) l in
           subst P (sym (ap (λ (v : Vec Site Global). v.items) w.sites-is ∙ w.in_ok-push.ensures.items))
-          (sites_more h ports c.args.scope.now i _ c.loop-port.sites.items w.in-Some.place c.place.result is c.loop-port-test.true w.in-Some.is
+          (sites_more h sought.scope ports c.args.scope.now i _ c.loop-port.sites.items w.in-Some.place c.place.result is c.loop-port-test.true w.in-Some.is
           (c.place.ensures h is.of_header) (c.loop-port.invariant h is))
       | in_default w ↦
           absurd
-          (sites_lack h ports c.args.scope.now i _ c.place.result is c.loop-port-test.true w.in_default.is (c.place.ensures h is.of_header))
+          (sites_lack h sought.scope ports c.args.scope.now i _ c.place.result is c.loop-port-test.true w.in_default.is (c.place.ensures h is.of_header))
     ]
