@@ -15,7 +15,7 @@ use Rattle.vcd_words.specs.Lines.AreBlack.{no_word, one_more}
 use Rattle.vcd_words.proofs.CodeLaws.{laws}
 use Rattle.vcd_reading.specs.Events.{Event}
 use Rattle.vcd_reading.specs.Header.{Header}
-use Rattle.vcd_reading.specs.Scopes.{Port}
+use Rattle.vcd_reading.specs.Scopes.{Sought}
 use Rattle.vcd_reading.specs.Changes.{Past, with_event}
 use Rattle.vcd_waves.specs.declared.variable.Variable.{Variable}
 use Rattle.vcd_waves.specs.declared.variable.Kind.{Kind}
@@ -46,13 +46,13 @@ abbrev pub with_events : Past → List Event → Past
 with_events past events = record past { events = past.events ++ events }
 
 -- ---- changes that can be written
-pub record CanShow (ports : List Port) (h : Header) (n : ℕ) (s : Shown) : Type 0 where
+pub record CanShow (sought : Sought) (h : Header) (n : ℕ) (s : Shown) : Type 0 where
   pub some : 1 ≤ s.width
-  pub takes : Takes ports h (code_of n) s.width
+  pub takes : Takes sought h (code_of n) s.width
 
-abbrev pub MayShow : List Port → Header → ℕ → Option Shown → Type 0
-MayShow ports h n None = Unit {0}
-MayShow ports h n (Some s) = CanShow ports h n s
+abbrev pub MayShow : Sought → Header → ℕ → Option Shown → Type 0
+MayShow sought h n None = Unit {0}
+MayShow sought h n (Some s) = CanShow sought h n s
 
 -- ---- the line of a change
 black_digit : (byte : ℕ) → is_level_digit byte ≡ true → is_black byte ≡ true
@@ -70,77 +70,77 @@ behind_some [] word some = some
 behind_some (byte ∷ front) word some = λ none. cc
 
 -- a change of one bit, and a wider one
-one_bit : (ports : List Port) (end : ℕ) (past : Past) (n : ℕ) (s : Shown) → past.header.ended ≡ true
-    → CanShow ports past.header n s
-    → s.width ≡ 1 → Runs ports end past (((digits_of s.width s.value s.mask ++ code_of n) ∷ []) ∷ [])
+one_bit : (sought : Sought) (end : ℕ) (past : Past) (n : ℕ) (s : Shown) → past.header.ended ≡ true
+    → CanShow sought past.header n s
+    → s.width ≡ 1 → Runs sought end past (((digits_of s.width s.value s.mask ++ code_of n) ∷ []) ∷ [])
     (with_event past (code_of n) (shown_level s))
-one_bit ports end past n s ended can is =
+one_bit sought end past n s ended can is =
     let digits : List ℕ = digits_of s.width s.value s.mask in
-    let P : ℕ → Type 0 = λ w. IsDeed ports end past (digits_of w s.value s.mask ++ code_of n) []
+    let P : ℕ → Type 0 = λ w. IsDeed sought end past (digits_of w s.value s.mask ++ code_of n) []
     (with_event past (code_of n) (level_of (digits_of w s.value s.mask))) in
-    let Q : ℕ → Type 0 = Takes ports past.header (code_of n) in
+    let Q : ℕ → Type 0 = Takes sought past.header (code_of n) in
     one_line
     (one_more (behind_some digits (code_of n) (code_some n))
     (list_all-append is_black digits (code_of n) ∙ and_from _ _ (digits_black s) (code_black n)) no_word)
-    (subst P (sym is) (bit_deed ports end past s.value s.mask (code_of n) ended (subst Q is can.takes))) no_line
+    (subst P (sym is) (bit_deed sought end past s.value s.mask (code_of n) ended (subst Q is can.takes))) no_line
 
-many_bits : (ports : List Port) (end : ℕ) (past : Past) (n : ℕ) (s : Shown) → past.header.ended ≡ true
-    → CanShow ports past.header n s
-    → Runs ports end past (((98 ∷ digits_of s.width s.value s.mask) ∷ code_of n ∷ []) ∷ [])
+many_bits : (sought : Sought) (end : ℕ) (past : Past) (n : ℕ) (s : Shown) → past.header.ended ≡ true
+    → CanShow sought past.header n s
+    → Runs sought end past (((98 ∷ digits_of s.width s.value s.mask) ∷ code_of n ∷ []) ∷ [])
     (with_event past (code_of n) (shown_level s))
-many_bits ports end past n s ended can =
+many_bits sought end past n s ended can =
     one_line
     (one_more (λ none. cc) (and_from _ _ refl (digits_black s)) (one_more (code_some n) (code_black n) no_word))
-    (word_deed ports end past s.width s.value s.mask (code_of n) ended can.some can.takes) no_line
+    (word_deed sought end past s.width s.value s.mask (code_of n) ended can.some can.takes) no_line
 
-change_run : (ports : List Port) (end : ℕ) (past : Past) (n : ℕ) (s : Shown) → past.header.ended ≡ true
-    → CanShow ports past.header n s
-    → Runs ports end past (change_line n s ∷ []) (with_event past (code_of n) (shown_level s))
-change_run ports end past n s ended can =
+change_run : (sought : Sought) (end : ℕ) (past : Past) (n : ℕ) (s : Shown) → past.header.ended ≡ true
+    → CanShow sought past.header n s
+    → Runs sought end past (change_line n s ∷ []) (with_event past (code_of n) (shown_level s))
+change_run sought end past n s ended can =
     let one : List (List ℕ) = (digits_of s.width s.value s.mask ++ code_of n) ∷ [] in
     let many : List (List ℕ) = (98 ∷ digits_of s.width s.value s.mask) ∷ code_of n ∷ [] in
     let P : List (List ℕ)
-    → Type 0 = λ line. Runs ports end past (line ∷ []) (with_event past (code_of n) (shown_level s)) in
+    → Type 0 = λ line. Runs sought end past (line ∷ []) (with_event past (code_of n) (shown_level s)) in
     elim (cases_Bool (s.width == 1)) [
       | inl is ↦ subst P (sym (cond-true (s.width == 1) one many is))
-          (one_bit ports end past n s ended can (equal-true s.width 1 is))
-      | inr wide ↦ subst P (sym (cond-false (s.width == 1) one many wide)) (many_bits ports end past n s ended can)
+          (one_bit sought end past n s ended can (equal-true s.width 1 is))
+      | inr wide ↦ subst P (sym (cond-false (s.width == 1) one many wide)) (many_bits sought end past n s ended can)
     ]
 
-shown_run : (ports : List Port) (end : ℕ) (past : Past) (n : ℕ) (shown : Option Shown) → past.header.ended ≡ true
-    → MayShow ports past.header n shown
-    → Runs ports end past (shown_lines n shown) (with_events past (shown_events past.time n shown))
-shown_run ports end past n None ended can =
-    let P : List Event → Type 0 = λ l. Runs ports end past [] (record past { events = l }) in
+shown_run : (sought : Sought) (end : ℕ) (past : Past) (n : ℕ) (shown : Option Shown) → past.header.ended ≡ true
+    → MayShow sought past.header n shown
+    → Runs sought end past (shown_lines n shown) (with_events past (shown_events past.time n shown))
+shown_run sought end past n None ended can =
+    let P : List Event → Type 0 = λ l. Runs sought end past [] (record past { events = l }) in
     subst P (sym (append-nil past.events)) no_line
-shown_run ports end past n (Some s) ended can = change_run ports end past n s ended can
+shown_run sought end past n (Some s) ended can = change_run sought end past n s ended can
 
 -- all changes of a moment
-pub changes_run : (ports : List Port) (end : ℕ) (past : Past) (shown : Kind → ℕ → Option Shown) (n : ℕ)
+pub changes_run : (sought : Sought) (end : ℕ) (past : Past) (shown : Kind → ℕ → Option Shown) (n : ℕ)
     (vs : List Variable)
     → past.header.ended ≡ true
-    → ((k : ℕ) (v : Variable) → slice_get vs k ≡ Some v → MayShow ports past.header (n + k) (shown v.kind v.place))
-    → Runs ports end past (change_lines shown n vs) (with_events past (change_events past.time shown n vs))
-changes_run ports end past shown n [] ended can =
-    let P : List Event → Type 0 = λ l. Runs ports end past [] (record past { events = l }) in
+    → ((k : ℕ) (v : Variable) → slice_get vs k ≡ Some v → MayShow sought past.header (n + k) (shown v.kind v.place))
+    → Runs sought end past (change_lines shown n vs) (with_events past (change_events past.time shown n vs))
+changes_run sought end past shown n [] ended can =
+    let P : List Event → Type 0 = λ l. Runs sought end past [] (record past { events = l }) in
     subst P (sym (append-nil past.events)) no_line
-changes_run ports end past shown n (v ∷ vs) ended can =
+changes_run sought end past shown n (v ∷ vs) ended can =
     let first : List Event = shown_events past.time n (shown v.kind v.place) in
     let others : List Event = change_events past.time shown (n + 1) vs in
     let mid : Past = with_events past first in
-    let P : List Event → Type 0 = λ l. Runs ports end past (change_lines shown n (v ∷ vs))
+    let P : List Event → Type 0 = λ l. Runs sought end past (change_lines shown n (v ∷ vs))
     (record past { events = l }) in
-    let M : ℕ → Type 0 = λ m. MayShow ports past.header m (shown v.kind v.place) in
+    let M : ℕ → Type 0 = λ m. MayShow sought past.header m (shown v.kind v.place) in
     let none : n + 0 ≡ n = omega arith in
     subst P (append_assoc past.events first others)
-    (runs_join ports end past (shown_lines n (shown v.kind v.place)) (change_lines shown (n + 1) vs) mid
+    (runs_join sought end past (shown_lines n (shown v.kind v.place)) (change_lines shown (n + 1) vs) mid
     (with_events mid others)
-    (shown_run ports end past n (shown v.kind v.place) ended (subst M none (can 0 v refl)))
-    (changes_run ports end mid shown (n + 1) vs ended (λ k x at. next k x (can (suc k) x at))))
+    (shown_run sought end past n (shown v.kind v.place) ended (subst M none (can 0 v refl)))
+    (changes_run sought end mid shown (n + 1) vs ended (λ k x at. next k x (can (suc k) x at))))
   where
-    next : (k : ℕ) (x : Variable) → MayShow ports past.header (n + suc k) (shown x.kind x.place)
-        → MayShow ports past.header (n + 1 + k) (shown x.kind x.place)
+    next : (k : ℕ) (x : Variable) → MayShow sought past.header (n + suc k) (shown x.kind x.place)
+        → MayShow sought past.header (n + 1 + k) (shown x.kind x.place)
     next k x may =
-        let N : ℕ → Type 0 = λ m. MayShow ports past.header m (shown x.kind x.place) in
+        let N : ℕ → Type 0 = λ m. MayShow sought past.header m (shown x.kind x.place) in
         let more : n + suc k ≡ n + 1 + k = omega arith in
         subst N more may

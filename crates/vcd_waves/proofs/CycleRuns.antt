@@ -7,7 +7,7 @@ use Rattle.vcd_words.specs.Lines.{AreBlack}
 use Rattle.vcd_words.specs.Lines.AreBlack.{no_word, one_more}
 use Rattle.vcd_reading.specs.Events.{Event}
 use Rattle.vcd_reading.specs.Header.{Header}
-use Rattle.vcd_reading.specs.Scopes.{Port}
+use Rattle.vcd_reading.specs.Scopes.{Sought}
 use Rattle.vcd_reading.specs.Changes.{Past, stamps_of, is_later, is_earlier}
 use Rattle.vcd_reading.specs.Reading.{no_past}
 use Rattle.vcd_waves.specs.declared.variable.Variable.{Variable}
@@ -69,20 +69,20 @@ all_stamps h false vs rows (suc t) = refl
 all_stamps h true vs rows (suc t) = refl
 
 -- what a moment shows, all variables can
-abbrev pub AllMay : List Port → Header → (Kind → ℕ → Option Shown) → List Variable → Type 0
-AllMay ports h shown vs = (k : ℕ) (v : Variable) → slice_get vs k ≡ Some v → MayShow ports h k (shown v.kind v.place)
+abbrev pub AllMay : Sought → Header → (Kind → ℕ → Option Shown) → List Variable → Type 0
+AllMay sought h shown vs = (k : ℕ) (v : Variable) → slice_get vs k ≡ Some v → MayShow sought h k (shown v.kind v.place)
 
-all_run : (ports : List Port) (end : ℕ) (past : Past) (shown : Kind → ℕ → Option Shown) (vs : List Variable)
+all_run : (sought : Sought) (end : ℕ) (past : Past) (shown : Kind → ℕ → Option Shown) (vs : List Variable)
     → past.header.ended ≡ true
-    → AllMay ports past.header shown vs
-    → Runs ports end past (change_lines shown 0 vs) (with_events past (change_events past.time shown 0 vs))
-all_run ports end past shown vs ended may =
-    changes_run ports end past shown 0 vs ended (λ k v at. from_none k v (may k v at))
+    → AllMay sought past.header shown vs
+    → Runs sought end past (change_lines shown 0 vs) (with_events past (change_events past.time shown 0 vs))
+all_run sought end past shown vs ended may =
+    changes_run sought end past shown 0 vs ended (λ k v at. from_none k v (may k v at))
   where
-    from_none : (k : ℕ) (v : Variable) → MayShow ports past.header k (shown v.kind v.place)
-        → MayShow ports past.header (0 + k) (shown v.kind v.place)
+    from_none : (k : ℕ) (v : Variable) → MayShow sought past.header k (shown v.kind v.place)
+        → MayShow sought past.header (0 + k) (shown v.kind v.place)
     from_none k v may =
-        let M : ℕ → Type 0 = λ m. MayShow ports past.header m (shown v.kind v.place) in
+        let M : ℕ → Type 0 = λ m. MayShow sought past.header m (shown v.kind v.place) in
         let none : k ≡ 0 + k = omega arith in
         subst M none may
 
@@ -95,38 +95,38 @@ time_black time =
 abbrev pub stamped : Past → ℕ → Past
 stamped past time = record past { time = Some time; ended = stamps_of past }
 
-time_run : (ports : List Port) (end : ℕ) (past : Past) (time : ℕ) → past.header.ended ≡ true → time < 10 ^ 18
+time_run : (sought : Sought) (end : ℕ) (past : Past) (time : ℕ) → past.header.ended ≡ true → time < 10 ^ 18
     → is_earlier past.time time ≡ false → is_later past.time time ≡ true
-    → Runs ports end past (time_line time ∷ []) (stamped past time)
-time_run ports end past time ended few not_before after =
-    let P : Past → Type 0 = λ next. Runs ports end past (time_line time ∷ []) next in
+    → Runs sought end past (time_line time ∷ []) (stamped past time)
+time_run sought end past time ended few not_before after =
+    let P : Past → Type 0 = λ next. Runs sought end past (time_line time ∷ []) next in
     subst P (cond-true (is_later past.time time) (stamped past time) past after)
-    (one_line (time_black time) (time_deed ports end past time ended few not_before) no_line)
+    (one_line (time_black time) (time_deed sought end past time ended few not_before) no_line)
 
 -- a time and changes
-moment_run : (ports : List Port) (end : ℕ) (past : Past) (time : ℕ) (shown : Kind → ℕ → Option Shown)
+moment_run : (sought : Sought) (end : ℕ) (past : Past) (time : ℕ) (shown : Kind → ℕ → Option Shown)
     (vs : List Variable)
     → past.header.ended ≡ true → time < 10 ^ 18 → is_earlier past.time time ≡ false → is_later past.time time ≡ true
-    → AllMay ports past.header shown vs
-    → Runs ports end past (time_line time ∷ change_lines shown 0 vs)
+    → AllMay sought past.header shown vs
+    → Runs sought end past (time_line time ∷ change_lines shown 0 vs)
     (with_events (stamped past time) (change_events (Some time) shown 0 vs))
-moment_run ports end past time shown vs ended few not_before after may =
-    runs_join ports end past (time_line time ∷ []) (change_lines shown 0 vs) (stamped past time)
+moment_run sought end past time shown vs ended few not_before after may =
+    runs_join sought end past (time_line time ∷ []) (change_lines shown 0 vs) (stamped past time)
     (with_events (stamped past time) (change_events (Some time) shown 0 vs))
-    (time_run ports end past time ended few not_before after) (all_run ports end (stamped past time) shown vs ended may)
+    (time_run sought end past time ended few not_before after) (all_run sought end (stamped past time) shown vs ended may)
 
 -- ---- a cycle
-stamp_run : (ports : List Port) (end : ℕ) (h : Header) (vs : List Variable) (rows : ℕ → Row) (t : ℕ) → h.ended ≡ true
+stamp_run : (sought : Sought) (end : ℕ) (h : Header) (vs : List Variable) (rows : ℕ → Row) (t : ℕ) → h.ended ≡ true
     → t < 10 ^ 17
-    → AllMay ports h (shown_in (rows t)) vs
-    → Runs ports end (past_at h false vs rows t) (cycle_lines false vs (rows t) t) (past_at h false vs rows (suc t))
-stamp_run ports end h vs rows t ended few may =
+    → AllMay sought h (shown_in (rows t)) vs
+    → Runs sought end (past_at h false vs rows t) (cycle_lines false vs (rows t) t) (past_at h false vs rows (suc t))
+stamp_run sought end h vs rows t ended few may =
     let past : Past = past_at h false vs rows t in
     let P : List ℕ → Type 0 =
-    λ l. Runs ports end past (cycle_lines false vs (rows t) t)
+    λ l. Runs sought end past (cycle_lines false vs (rows t) t)
     (record { header = h; time = Some t; ended = l; events = events_before false vs rows (suc t) }) in
     subst P (all_stamps h false vs rows t)
-    (moment_run ports end past t (shown_in (rows t)) vs ended (omega (arith, few)) (on_time t) (is_next t) may)
+    (moment_run sought end past t (shown_in (rows t)) vs ended (omega (arith, few)) (on_time t) (is_next t) may)
   where
     on_time : (t : ℕ) → is_earlier (last_stamp false t) t ≡ false
     on_time zero = refl
@@ -140,11 +140,11 @@ stamp_run ports end h vs rows t ended few may =
       step : (t : ℕ) → nat_lt t (suc t) ≡ true
       step t = grind (arith, nat_tests)
 
-stamps_run : (ports : List Port) (end : ℕ) (h : Header) (vs : List Variable) (rows : ℕ → Row) (t : ℕ)
+stamps_run : (sought : Sought) (end : ℕ) (h : Header) (vs : List Variable) (rows : ℕ → Row) (t : ℕ)
     → h.ended ≡ true → t < 10 ^ 16
-    → AllMay ports h (shown_in (rows t)) vs → ((bit : ℕ) → AllMay ports h (clock_shown bit) vs)
-    → Runs ports end (past_at h true vs rows t) (cycle_lines true vs (rows t) t) (past_at h true vs rows (suc t))
-stamps_run ports end h vs rows t ended few may clock_may =
+    → AllMay sought h (shown_in (rows t)) vs → ((bit : ℕ) → AllMay sought h (clock_shown bit) vs)
+    → Runs sought end (past_at h true vs rows t) (cycle_lines true vs (rows t) t) (past_at h true vs rows (suc t))
+stamps_run sought end h vs rows t ended few may clock_may =
     let past : Past = past_at h true vs rows t in
     let low : List Event = change_events (Some (10 * t)) (clock_shown 0) 0 vs in
     let row : List Event = change_events (Some (10 * t)) (shown_in (rows t)) 0 vs in
@@ -156,7 +156,7 @@ stamps_run ports end h vs rows t ended few may clock_may =
     let events : ((before ++ low) ++ row) ++ high ≡ before ++ ((low ++ row) ++ high) =
     ap (λ l. l ++ high) (append_assoc before low row) ∙ append_assoc before (low ++ row) high in
     let P : List ℕ → Type 0 =
-    λ l. Runs ports end past (cycle_lines true vs (rows t) t)
+    λ l. Runs sought end past (cycle_lines true vs (rows t) t)
     (record {
       header = h;
       time = Some
@@ -165,18 +165,18 @@ stamps_run ports end h vs rows t ended few may clock_may =
       events = ((before ++ low) ++ row) ++ high;
     }) in
     let Q : List Event → Type 0 =
-    λ l. Runs ports end past (cycle_lines true vs (rows t) t)
+    λ l. Runs sought end past (cycle_lines true vs (rows t) t)
     (record { header = h; time = Some (10 * t + 5); ended = stamps true t ++ (10 * t) ∷ []; events = l }) in
     subst Q events (subst P (all_stamps h true vs rows t)
-    (runs_join ports end past
+    (runs_join sought end past
     ((time_line (10 * t) ∷ change_lines (clock_shown 0) 0 vs) ++ change_lines (shown_in (rows t)) 0 vs)
     (time_line (10 * t + 5) ∷ change_lines (clock_shown 1) 0 vs) two three
-    (runs_join ports end past (time_line (10 * t) ∷ change_lines (clock_shown 0) 0 vs)
+    (runs_join sought end past (time_line (10 * t) ∷ change_lines (clock_shown 0) 0 vs)
     (change_lines (shown_in (rows t)) 0 vs) one two
-    (moment_run ports end past (10 * t) (clock_shown 0) vs ended (omega (arith, few)) (on_time t) (is_next t)
+    (moment_run sought end past (10 * t) (clock_shown 0) vs ended (omega (arith, few)) (on_time t) (is_next t)
     (clock_may 0))
-    (all_run ports end one (shown_in (rows t)) vs ended may))
-    (moment_run ports end two (10 * t + 5) (clock_shown 1) vs ended (omega (arith, few)) (half_on (10 * t))
+    (all_run sought end one (shown_in (rows t)) vs ended may))
+    (moment_run sought end two (10 * t + 5) (clock_shown 1) vs ended (omega (arith, few)) (half_on (10 * t))
     (half_next (10 * t)) (clock_may 1))))
   where
     half_on : (m : ℕ) → nat_lt (m + 5) m ≡ false
@@ -198,30 +198,30 @@ stamps_run ports end h vs rows t ended few may clock_may =
       step t = grind (arith, nat_tests)
 
 -- ---- all cycles
-pub record CanRun (ports : List Port) (h : Header) (vs : List Variable) (rows : ℕ → Row) (cycles : ℕ) : Type 0 where
+pub record CanRun (sought : Sought) (h : Header) (vs : List Variable) (rows : ℕ → Row) (cycles : ℕ) : Type 0 where
   pub ended : h.ended ≡ true
   pub few : cycles ≤ 100000
-  pub rows_may : (t : ℕ) → t < cycles → AllMay ports h (shown_in (rows t)) vs
-  pub clock_may : (bit : ℕ) → AllMay ports h (clock_shown bit) vs
+  pub rows_may : (t : ℕ) → t < cycles → AllMay sought h (shown_in (rows t)) vs
+  pub clock_may : (bit : ℕ) → AllMay sought h (clock_shown bit) vs
 
-one_cycle : (ports : List Port) (end : ℕ) (h : Header) (clocked : Bool) (vs : List Variable) (rows : ℕ → Row)
+one_cycle : (sought : Sought) (end : ℕ) (h : Header) (clocked : Bool) (vs : List Variable) (rows : ℕ → Row)
     (cycles t : ℕ)
-    → CanRun ports h vs rows cycles → t < cycles
-    → Runs ports end (past_at h clocked vs rows t) (cycle_lines clocked vs (rows t) t)
+    → CanRun sought h vs rows cycles → t < cycles
+    → Runs sought end (past_at h clocked vs rows t) (cycle_lines clocked vs (rows t) t)
     (past_at h clocked vs rows (suc t))
-one_cycle ports end h false vs rows cycles t can within =
-    let few = can.few in stamp_run ports end h vs rows t can.ended (omega (arith, few, within)) (can.rows_may t within)
-one_cycle ports end h true vs rows cycles t can within =
-    let few = can.few in stamps_run ports end h vs rows t can.ended (omega (arith, few, within))
+one_cycle sought end h false vs rows cycles t can within =
+    let few = can.few in stamp_run sought end h vs rows t can.ended (omega (arith, few, within)) (can.rows_may t within)
+one_cycle sought end h true vs rows cycles t can within =
+    let few = can.few in stamps_run sought end h vs rows t can.ended (omega (arith, few, within))
     (can.rows_may t within) can.clock_may
 
-pub cycles_run : (ports : List Port) (end : ℕ) (h : Header) (clocked : Bool) (vs : List Variable) (rows : ℕ → Row)
+pub cycles_run : (sought : Sought) (end : ℕ) (h : Header) (clocked : Bool) (vs : List Variable) (rows : ℕ → Row)
     (cycles t : ℕ)
-    → CanRun ports h vs rows cycles → t ≤ cycles
-    → Runs ports end (headed no_past h) (lines_of clocked vs rows t) (past_at h clocked vs rows t)
-cycles_run ports end h clocked vs rows cycles zero can within = no_line
-cycles_run ports end h clocked vs rows cycles (suc t) can within =
-    runs_join ports end (headed no_past h) (lines_of clocked vs rows t) (cycle_lines clocked vs (rows t) t)
+    → CanRun sought h vs rows cycles → t ≤ cycles
+    → Runs sought end (headed no_past h) (lines_of clocked vs rows t) (past_at h clocked vs rows t)
+cycles_run sought end h clocked vs rows cycles zero can within = no_line
+cycles_run sought end h clocked vs rows cycles (suc t) can within =
+    runs_join sought end (headed no_past h) (lines_of clocked vs rows t) (cycle_lines clocked vs (rows t) t)
     (past_at h clocked vs rows t)
-    (past_at h clocked vs rows (suc t)) (cycles_run ports end h clocked vs rows cycles t can (omega (arith, within)))
-    (one_cycle ports end h clocked vs rows cycles t can (omega (arith, within)))
+    (past_at h clocked vs rows (suc t)) (cycles_run sought end h clocked vs rows cycles t can (omega (arith, within)))
+    (one_cycle sought end h clocked vs rows cycles t can (omega (arith, within)))

@@ -1,5 +1,5 @@
 -- The lines of a wave's header are read.
-use Rattle.std.proofs.Common.{◌≡◌, ℕ, ◌+◌, Bool, true, false, not, Option, Some, None, List, [], ◌∷◌, ◌++◌, length, refl, ◌∙◌, ap}
+use Rattle.std.proofs.Common.{◌≡◌, if◌then◌else◌, ◌||◌, ℕ, ◌+◌, Bool, true, false, not, Option, Some, None, List, [], ◌∷◌, ◌++◌, length, refl, ◌∙◌, ap}
 use Rattle.std.specs.Prelude.{codes, decimal, if◌then◌else◌}
 use Rattle.std.specs.List.{list_all}
 use Rattle.std.specs.Option.{option_or}
@@ -12,8 +12,8 @@ use Rattle.vcd_reading.specs.declared.commands.Command.TheVariants.{Scope, Upsco
 use Rattle.vcd_reading.specs.declared.kinds.Kind.TheVariants.{Section}
 use Rattle.vcd_reading.specs.Commands.{is_dump, named_command, is_end}
 use Rattle.vcd_reading.specs.Pieces.{kind_of, behind_end}
-use Rattle.vcd_reading.specs.Header.{Header, Variable, is_size, wrong_in, wrong_in_var, name_of, with_scope, without_scope, declared}
-use Rattle.vcd_reading.specs.Scopes.{Port}
+use Rattle.vcd_reading.specs.Header.{Header, Variable, is_size, wrong_in, wrong_in_var, name_of, scope_name, with_scope, without_scope, declared}
+use Rattle.vcd_reading.specs.Scopes.{Sought}
 use Rattle.vcd_reading.specs.Changes.{Past}
 use Rattle.vcd_reading.specs.Reading.{step_of, step_inside, step_behind, does}
 use Rattle.vcd_reading.specs.Reading.Step.{goes}
@@ -85,54 +85,62 @@ section_ends at (word ∷ inner) behind others =
     ∙ section_ends (at + length word + 1) inner behind tests.1
 
 -- a section of a command but `$var`
-pub section_deed : (ports : List Port) (end : ℕ) (past : Past) (command : Command) (keyword : List ℕ) (inner : Line)
+pub section_deed : (sought : Sought) (end : ℕ) (past : Past) (command : Command) (keyword : List ℕ) (inner : Line)
     (header : Header)
     → past.header.ended ≡ false → kind_of true keyword ≡ Some (Section command)
     → list_all (λ word. not (is_end word)) inner ≡ true
     → ((at : ℕ) (behind : List Placed)
     → (wrong_in command (line_words at (inner ++ codes "$end" ∷ []) ++ behind) ≡ None)
     × (declared past.header command (line_words at (inner ++ codes "$end" ∷ []) ++ behind) ≡ header))
-    → IsDeed ports end past keyword (inner ++ codes "$end" ∷ []) (headed past header)
-section_deed ports end past command keyword inner header begun kind others deeds at behind =
+    → IsDeed sought end past keyword (inner ++ codes "$end" ∷ []) (headed past header)
+section_deed sought end past command keyword inner header begun kind others deeds at behind =
     let from : ℕ = at + length keyword + 1 in
     let words : List Placed = line_words (at + length keyword + 1) (inner ++ codes "$end" ∷ []) ++ behind in
     let first : Placed = record { at = at; word = keyword } in
-    ap (λ header. step_of ports end past (kind_of (not header) keyword) first words) begun
-    ∙ ap (λ k. step_of ports end past k first words) kind
+    ap (λ header. step_of sought end past (kind_of (not header) keyword) first words) begun
+    ∙ ap (λ k. step_of sought end past k first words) kind
     ∙ ap (λ wrong. step_inside wrong
-    (step_behind end (behind_end words) (does ports past (Section command) first words))) (deeds from behind).0
-    ∙ ap (λ rest. step_behind end rest (does ports past (Section command) first words))
+    (step_behind end (behind_end words) (does sought past (Section command) first words))) (deeds from behind).0
+    ∙ ap (λ rest. step_behind end rest (does sought past (Section command) first words))
     (section_ends from inner behind others)
     ∙ ap (λ h. goes (headed past h) behind) (deeds from behind).1
 
 -- the lines that declare no variable
-pub timescale_deed : (ports : List Port) (end : ℕ) (past : Past) → past.header.ended ≡ false
-    → IsDeed ports end past (codes "$timescale") (codes "1ns" ∷ codes "$end" ∷ []) (headed past past.header)
-timescale_deed ports end past begun =
-    section_deed ports end past Other (codes "$timescale") (codes "1ns" ∷ []) past.header begun timescale_kind
+pub timescale_deed : (sought : Sought) (end : ℕ) (past : Past) → past.header.ended ≡ false
+    → IsDeed sought end past (codes "$timescale") (codes "1ns" ∷ codes "$end" ∷ []) (headed past past.header)
+timescale_deed sought end past begun =
+    section_deed sought end past Other (codes "$timescale") (codes "1ns" ∷ []) past.header begun timescale_kind
     (and_from _ _ (ap not nanosecond_no_end) refl)
     (λ at behind. (refl, refl))
 
-pub scope_deed : (ports : List Port) (end : ℕ) (past : Past) (name : List ℕ) → past.header.ended ≡ false
-    → is_end name ≡ false
-    → IsDeed ports end past (codes "$scope") (codes "module" ∷ name ∷ codes "$end" ∷ [])
-    (headed past (with_scope past.header))
-scope_deed ports end past name begun other =
-    section_deed ports end past Scope (codes "$scope") (codes "module" ∷ name ∷ [])
-    (with_scope past.header) begun scope_kind
-    (and_from _ _ (ap not module_no_end) (and_from _ _ (ap not other) refl)) (λ at behind. (refl, refl))
+-- the name of the scope that a line opens
+scope_named : (at : ℕ) (name : List ℕ) (behind : List Placed) → is_end name ≡ false
+    → scope_name (line_words at (codes "module" ∷ name ∷ codes "$end" ∷ []) ++ behind) ≡ name
+unfolding scope_name
+scope_named at name behind other =
+    ap (λ b. if b || is_end name then [] else name) module_no_end ∙ cond-false (is_end name) [] name other
 
-pub upscope_deed : (ports : List Port) (end : ℕ) (past : Past) → past.header.ended ≡ false
-    → IsDeed ports end past (codes "$upscope") (codes "$end" ∷ []) (headed past (without_scope past.header))
-upscope_deed ports end past begun =
-    section_deed ports end past Upscope (codes "$upscope") [] (without_scope past.header) begun upscope_kind refl
+pub scope_deed : (sought : Sought) (end : ℕ) (past : Past) (name : List ℕ) → past.header.ended ≡ false
+    → is_end name ≡ false
+    → IsDeed sought end past (codes "$scope") (codes "module" ∷ name ∷ codes "$end" ∷ [])
+    (headed past (with_scope past.header name))
+scope_deed sought end past name begun other =
+    section_deed sought end past Scope (codes "$scope") (codes "module" ∷ name ∷ [])
+    (with_scope past.header name) begun scope_kind
+    (and_from _ _ (ap not module_no_end) (and_from _ _ (ap not other) refl))
+    (λ at behind. (refl, ap (with_scope past.header) (scope_named at name behind other)))
+
+pub upscope_deed : (sought : Sought) (end : ℕ) (past : Past) → past.header.ended ≡ false
+    → IsDeed sought end past (codes "$upscope") (codes "$end" ∷ []) (headed past (without_scope past.header))
+upscope_deed sought end past begun =
+    section_deed sought end past Upscope (codes "$upscope") [] (without_scope past.header) begun upscope_kind refl
     (λ at behind. (refl, refl))
 
-pub end_deed : (ports : List Port) (end : ℕ) (past : Past) → past.header.ended ≡ false
-    → IsDeed ports end past (codes "$enddefinitions") (codes "$end" ∷ [])
+pub end_deed : (sought : Sought) (end : ℕ) (past : Past) → past.header.ended ≡ false
+    → IsDeed sought end past (codes "$enddefinitions") (codes "$end" ∷ [])
     (headed past (record past.header { ended = true }))
-end_deed ports end past begun =
-    section_deed ports end past EndDefinitions (codes "$enddefinitions") []
+end_deed sought end past begun =
+    section_deed sought end past EndDefinitions (codes "$enddefinitions") []
     (record past.header { ended = true }) begun end_kind refl (λ at behind. (refl, refl))
 
 -- the variable that a line declares
@@ -164,12 +172,12 @@ var_right at size code name behind sized coded named =
     ∙ none_wrong (is_end code) third (if is_end name then Some fourth else None) coded
     ∙ cond-false (is_end name) (Some fourth) None named
 
-pub var_deed : (ports : List Port) (end : ℕ) (past : Past) (width : ℕ) (code name : List ℕ) → past.header.ended ≡ false
+pub var_deed : (sought : Sought) (end : ℕ) (past : Past) (width : ℕ) (code name : List ℕ) → past.header.ended ≡ false
     → is_size (decimal width) ≡ true → is_end code ≡ false → is_end name ≡ false → is_end (decimal width) ≡ false
-    → IsDeed ports end past (codes "$var") (codes "wire" ∷ decimal width ∷ code ∷ name ∷ codes "$end" ∷ [])
+    → IsDeed sought end past (codes "$var") (codes "wire" ∷ decimal width ∷ code ∷ name ∷ codes "$end" ∷ [])
     (headed past (with_one past.header (declared_by past.header.current width code name)))
-var_deed ports end past width code name begun sized coded named number =
-    section_deed ports end past Var (codes "$var") (codes "wire" ∷ decimal width ∷ code ∷ name ∷ [])
+var_deed sought end past width code name begun sized coded named number =
+    section_deed sought end past Var (codes "$var") (codes "wire" ∷ decimal width ∷ code ∷ name ∷ [])
     (with_one past.header (declared_by past.header.current width code name)) begun var_kind
     (and_from _ _ (ap not wire_no_end)
     (and_from _ _ (ap not number) (and_from _ _ (ap not coded) (and_from _ _ (ap not named) refl))))

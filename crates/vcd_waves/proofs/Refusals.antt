@@ -13,10 +13,10 @@ use Rattle.vcd_reading.specs.declared.error.VcdErr.{VcdErr}
 use Rattle.vcd_reading.specs.declared.error.VcdErr.TheVariants.{PortWidth}
 use Rattle.vcd_reading.specs.Scopes.{Port, port_at, is_unfit}
 use Rattle.vcd_reading.specs.Events.{Event}
-use Rattle.vcd_traces.specs.Samples.{Watches, is_unknown, unknown_in, unknown_from, cycle_refusal, cycles_of, with_lesser, scope_refusal, width_refusal, refusal_of, watch_of}
+use Rattle.vcd_traces.specs.Samples.{by_clock, needed, Watches, is_unknown, unknown_in, unknown_from, cycle_refusal, cycles_of, with_lesser, scope_refusal, width_refusal, refusal_of, watch_of}
 use Rattle.vcd_waves.proofs.Sites.{first_scope, port_fits}
 use Rattle.vcd_waves.proofs.MomentLevels.{moment_at, sampled}
-use Rattle.vcd_waves.proofs.Scenes.{Scene, variables, freed, ports, header, past, IsScene, samples_many}
+use Rattle.vcd_waves.proofs.Scenes.{Scene, variables, freed, ports, sought, header, past, IsScene, samples_many}
 use Rattle.vcd_waves.proofs.Sampled.{watches, watch, events, cycles_are, input_sample}
 use Rattle.vcd_waves.proofs.TraceBack.{sampled_many}
 
@@ -28,10 +28,10 @@ least_none test (p ∷ ps) each =
     ap (λ o. fold (with_lesser test) o ps) (cond-false _ _ _ (each p (Contains-first p ps)))
     ∙ least_none test ps (λ q member. each q (Contains-later p ps q member))
 
-widths_fit : (s : Scene) → IsScene s → width_refusal (header s) (ports s) ≡ None
+widths_fit : (s : Scene) → IsScene s → width_refusal (header s) (sought s) ≡ None
 widths_fit s is =
     ap (λ (o : Option ℕ). option_map (λ (port : ℕ). PortWidth port) o)
-    (least_none (is_unfit (header s) (ports s)) (ports s)
+    (least_none (is_unfit (header s) (sought s)) (ports s)
     (λ port member. port_fits s.design s.clock (variables s) (freed s) (ports s) (header s) is.known port
     (is.known.site port member)))
 
@@ -57,7 +57,7 @@ cycle_known : (s : Scene) → IsScene s → (t : ℕ) → t < s.cycles
     → find (is_unknown (watches s).clock (events s) (moment_at (is_some s.clock) t)) (watches s).inputs ≡ None
 cycle_known s is t within =
     find_none (is_unknown (watches s).clock (events s) (moment_at (is_some s.clock) t))
-    (watch_of (header s) (ports s)) (port_at s.design)
+    (watch_of (header s) (sought s)) (port_at s.design)
     s.design.inputs.items
     (λ i n number. known_at i n number)
   where
@@ -88,7 +88,7 @@ sampled_at clocked (suc t) time member =
     ]
 
 unknown_none : (w : Watches) (events : List Event) (cycle : ℕ) (times : List ℕ)
-    → ((time : ℕ) → Contains times time → find (is_unknown w.clock events time) w.inputs ≡ None)
+    → ((time : ℕ) → Contains times time → find (is_unknown w.clock events time) (needed w.zero_inputs w.inputs) ≡ None)
     → unknown_from w events cycle times ≡ None
 unknown_none w events cycle [] each = refl
 unknown_none w events cycle (time ∷ times) each =
@@ -108,13 +108,13 @@ all_known s is =
         (cycle_known s is at.cycle at.below)
 
 -- ---- none of them
-pub never_refused : (s : Scene) → IsScene s → refusal_of s.design s.clock (past s) ≡ None
+pub never_refused : (s : Scene) → IsScene s → refusal_of s.design (by_clock s.clock) (past s) ≡ None
 never_refused s is =
-    let times = cycles_are s.design s.clock s.places s.rows s.cycles is in
-    let cycles : List ℕ = cycles_of s.design s.clock (past s) in
-    let unknown : Option VcdErr = unknown_from (watches s) (events s) 0 (cycles_of s.design s.clock (past s)) in
+    let times = cycles_are s.top s.design s.clock s.places s.rows s.cycles is in
+    let cycles : List ℕ = cycles_of s.design (by_clock s.clock) (past s) in
+    let unknown : Option VcdErr = unknown_from (watches s) (events s) 0 (cycles_of s.design (by_clock s.clock) (past s)) in
     ap (λ scope. option_or (scope_refusal scope)
-    (option_or (width_refusal (header s) (ports s)) (option_or (cycle_refusal (length cycles)) unknown)))
+    (option_or (width_refusal (header s) (sought s)) (option_or (cycle_refusal (length cycles)) unknown)))
     (first_scope s.design s.clock (variables s) (freed s) (ports s) (header s) is.known)
     ∙ ap (λ o. option_or o (option_or (cycle_refusal (length cycles)) unknown)) (widths_fit s is)
     ∙ ap (λ l. option_or (cycle_refusal (length l)) (unknown_from (watches s) (events s) 0 l)) times

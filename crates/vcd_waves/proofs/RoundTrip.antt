@@ -17,13 +17,13 @@ use Rattle.vcd_waves.proofs.WholeHeader.{whole_declares, header_run, CanDeclare}
 use Rattle.vcd_waves.proofs.Sites.{Known}
 use Rattle.vcd_waves.proofs.PortOrder.{names_distinct, names_plain, plain_named, freed_named, as_many, listed_many, any_site}
 use Rattle.vcd_waves.proofs.CycleRuns.{lines_of, cycles_run}
-use Rattle.vcd_waves.proofs.Scenes.{Scene, variables, freed, all_variables, ports, header, past, IsScene, can_run}
+use Rattle.vcd_waves.proofs.Scenes.{Scene, variables, freed, all_variables, ports, sought, header, past, IsScene, can_run}
 use Rattle.vcd_waves.proofs.Sampled.{scene, watches, events, cycles_are}
 use Rattle.vcd_waves.proofs.TraceBack.{IsOf, sampled_trace}
 use Rattle.vcd_waves.proofs.Refusals.{never_refused}
 
 abbrev scene_of : Wave → Scene
-scene_of w = scene w.design.now (clock_of w) w.places.now (row_at w) w.trace.now.cycles
+scene_of w = scene w.top.now w.design.now (clock_of w) w.places.now (row_at w) w.trace.now.cycles
 
 few_variables : (w : Wave) → IsReadable w → length (variables (scene_of w)) + length (freed (scene_of w)) ≤ 56335895
 few_variables w is =
@@ -36,7 +36,7 @@ known_of : (w : Wave) → IsReadable w
     → Known w.design.now (clock_of w) (variables (scene_of w)) (freed (scene_of w)) (ports (scene_of w))
     (header (scene_of w))
 known_of w is = record {
-  declares = whole_declares w.design.now (clock_of w) (variables (scene_of w)) (freed (scene_of w));
+  declares = whole_declares w.top.now w.design.now (clock_of w) (variables (scene_of w)) (freed (scene_of w));
   distinct = names_distinct w.design.now (clock_of w) is.distinct;
   plain = names_plain w.design.now (clock_of w) is.names;
   site = any_site w.design.now (clock_of w) is.ports;
@@ -73,12 +73,12 @@ same_lines w vs zero = refl
 same_lines w vs (suc t) = ap (λ l. l ++ cycle_lines (is_some w.clock) vs (row_at w t) t) (same_lines w vs t)
 
 lines_run : (w : Wave) (is : IsReadable w) (end : ℕ)
-    → Runs (ports (scene_of w)) end no_past (wave_lines w) (past (scene_of w))
+    → Runs (sought (scene_of w)) end no_past (wave_lines w) (past (scene_of w))
 lines_run w is end =
     let s : Scene = scene_of w in
     let vs : List Variable = all_variables (scene_of w) in
     let first : List Line = header_lines w.top.now w.design.now (clock_of w) (variables s) (freed s) in
-    let P : List Line → Type 0 = λ lines. Runs (ports (scene_of w)) end no_past
+    let P : List Line → Type 0 = λ lines. Runs (sought (scene_of w)) end no_past
     (header_lines w.top.now w.design.now (clock_of w) (variables (scene_of w)) (freed (scene_of w)) ++ lines)
     (past (scene_of w)) in
     let same : lines_of (is_some (clock_of w)) vs (row_at w) s.cycles ≡ lines_before w vs s.cycles =
@@ -91,20 +91,20 @@ lines_run w is end =
       few = few_variables w is;
     } in
     subst P same
-    (runs_join (ports s) end no_past first (lines_of (is_some (clock_of w)) vs (row_at w) s.cycles)
+    (runs_join (sought s) end no_past first (lines_of (is_some (clock_of w)) vs (row_at w) s.cycles)
     (headed no_past (header s)) (past s)
-    (header_run (ports s) end w.top.now w.design.now (clock_of w) (variables s) (freed s) can)
-    (cycles_run (ports s) end (header s) (is_some (clock_of w)) vs (row_at w) s.cycles s.cycles
+    (header_run (sought s) end w.top.now w.design.now (clock_of w) (variables s) (freed s) can)
+    (cycles_run (sought s) end (header s) (is_some (clock_of w)) vs (row_at w) s.cycles s.cycles
     (can_run s (is_scene w is)) (omega arith)))
 
 pub round_trip : (w : Wave) → IsReadable w → HoldsTrace w (text_of (wave_lines w))
 round_trip w is =
     let s : Scene = scene_of w in
     let text : List ℕ = text_of (wave_lines w) in
-    let times = cycles_are w.design.now (clock_of w) w.places.now (row_at w) w.trace.now.cycles (is_scene w is) in
+    let times = cycles_are w.top.now w.design.now (clock_of w) w.places.now (row_at w) w.trace.now.cycles (is_scene w is) in
     record {
       past = past (scene_of w);
-      reads = text_reads (ports s) (length text) no_past (wave_lines w) (past s) (lines_run w is (length text)) 0;
+      reads = text_reads (sought s) (length text) no_past (wave_lines w) (past s) (lines_run w is (length text)) 0;
       not_refused = never_refused s (is_scene w is);
       samples = subst (λ l. AreSamples (watches (scene_of w)) (events (scene_of w)) l w.trace.now) (sym times)
           (sampled_trace s (is_scene w is) w.trace.now (is_of w is));

@@ -20,7 +20,7 @@ use Rattle.vcd_reading.specs.Scopes.{Port, port_at, clock_port}
 use Rattle.vcd_reading.specs.Scopes as scopes
 use Rattle.vcd_reading.specs.Events.{Event, rises}
 use Rattle.vcd_reading.specs.Changes.{stamps_of}
-use Rattle.vcd_traces.specs.Samples.{Watch, Watches, level_at, part_level, sample, watch_of, watches_of, cycles_of}
+use Rattle.vcd_traces.specs.Samples.{Watch, Watches, by_clock, level_at, part_level, sample, watch_of, watches_of, cycles_of}
 use Rattle.vcd_waves.specs.declared.variable.Variable.{Variable}
 use Rattle.vcd_waves.specs.Lines.{Row, Shown, known, expected, shown_in}
 use Rattle.vcd_waves.proofs.Sites.{port_code, port_part}
@@ -28,18 +28,18 @@ use Rattle.vcd_waves.proofs.PortOrder.{input_site, output_site, clock_site, inpu
 use Rattle.vcd_waves.proofs.ChangeEvents.{shown_level}
 use Rattle.vcd_waves.proofs.CycleRuns.{events_before, all_stamps}
 use Rattle.vcd_waves.proofs.MomentLevels.{IsClock, moment_at, sampled, all_sampled, only_edges, stamp_level, edge_level}
-use Rattle.vcd_waves.proofs.Scenes.{Scene, variables, freed, all_variables, ports, header, past, IsScene, Fits, sample_width, expected_width}
+use Rattle.vcd_waves.proofs.Scenes.{Scene, variables, freed, all_variables, ports, sought, header, past, IsScene, Fits, sample_width, expected_width}
 
 -- a scene by its parts
-abbrev pub scene : Design → Option (List ℕ) → List ℕ → (ℕ → Row) → ℕ → Scene
-scene d clock places rows cycles = record { design = d; clock = clock; places = places; rows = rows; cycles = cycles }
+abbrev pub scene : List ℕ → Design → Option (List ℕ) → List ℕ → (ℕ → Row) → ℕ → Scene
+scene top d clock places rows cycles = record { top = top; design = d; clock = clock; places = places; rows = rows; cycles = cycles }
 
 -- what is watched
 abbrev pub watches : Scene → Watches
-watches s = watches_of s.design s.clock (header s)
+watches s = watches_of s.design (by_clock s.clock) (header s)
 
 abbrev pub watch : Scene → ℕ → Watch
-watch s n = watch_of (header s) (ports s) (port_at s.design n)
+watch s n = watch_of (header s) (sought s) (port_at s.design n)
 
 abbrev pub events : Scene → List Event
 events s = events_before (is_some s.clock) (all_variables s) s.rows s.cycles
@@ -58,47 +58,47 @@ first_at (x ∷ vs) fs zero v at = at
 first_at (x ∷ vs) fs (suc k) v at = first_at vs fs k v at
 
 -- ---- when it is sampled
-clock_code : (d : Design) (name places : List ℕ) (rows : ℕ → Row) (cycles : ℕ)
-    → IsScene (scene d (Some name) places rows cycles)
-    → scopes.code_of (header (scene d (Some name) places rows cycles))
-    (ports (scene d (Some name) places rows cycles)) (clock_port d name)
+clock_code : (top : List ℕ) (d : Design) (name places : List ℕ) (rows : ℕ → Row) (cycles : ℕ)
+    → IsScene (scene top d (Some name) places rows cycles)
+    → scopes.code_of (header (scene top d (Some name) places rows cycles))
+    (sought (scene top d (Some name) places rows cycles)) (clock_port d name)
     ≡ code_of (clock_place d name).number
-clock_code d name places rows cycles is =
-    let s : Scene = scene d (Some name) places rows cycles in
+clock_code top d name places rows cycles is =
+    let s : Scene = scene top d (Some name) places rows cycles in
     port_code d (Some name) (variables s) (freed s) (ports s) (header s) is.known (clock_port d name)
     (clock_site d name)
 
-pub cycles_are : (d : Design) (clock : Option (List ℕ)) (places : List ℕ) (rows : ℕ → Row) (cycles : ℕ)
-    → IsScene (scene d clock places rows cycles)
-    → cycles_of d clock (past (scene d clock places rows cycles)) ≡ sampled (is_some clock) cycles
-cycles_are d None places rows cycles is =
-    let s : Scene = scene d None places rows cycles in
+pub cycles_are : (top : List ℕ) (d : Design) (clock : Option (List ℕ)) (places : List ℕ) (rows : ℕ → Row) (cycles : ℕ)
+    → IsScene (scene top d clock places rows cycles)
+    → cycles_of d (by_clock clock) (past (scene top d clock places rows cycles)) ≡ sampled (is_some clock) cycles
+cycles_are top d None places rows cycles is =
+    let s : Scene = scene top d None places rows cycles in
     all_stamps (header s) false (all_variables s) rows cycles ∙ all_sampled cycles
-cycles_are d (Some name) places rows cycles is =
-    let s : Scene = scene d (Some name) places rows cycles in
+cycles_are top d (Some name) places rows cycles is =
+    let s : Scene = scene top d (Some name) places rows cycles in
     let place = clock_place d name in
     let v : Variable = clock_variable d name in
     let clock : IsClock (all_variables s) place.number =
     record { place = 0; number = v.number; at = first_at (variables s) (freed s) place.number v place.at } in
-    ap (λ code. filter (rises code (events s)) (stamps_of (past s))) (clock_code d name places rows cycles is)
+    ap (λ code. filter (rises code (events s)) (stamps_of (past s))) (clock_code top d name places rows cycles is)
     ∙ ap (filter (rises (code_of place.number) (events s))) (all_stamps (header s) true (all_variables s) rows cycles)
     ∙ only_edges (all_variables s) rows cycles cycles place.number (omega arith) (count s is) clock
 
 -- what is found there
-found : (d : Design) (clock : Option (List ℕ)) (places : List ℕ) (rows : ℕ → Row) (cycles : ℕ)
-    → IsScene (scene d clock places rows cycles)
+found : (top : List ℕ) (d : Design) (clock : Option (List ℕ)) (places : List ℕ) (rows : ℕ → Row) (cycles : ℕ)
+    → IsScene (scene top d clock places rows cycles)
     → (t k : ℕ) (v : Variable) (shown : Shown) → t < cycles
-    → slice_get (variables (scene d clock places rows cycles)) k ≡ Some v
+    → slice_get (variables (scene top d clock places rows cycles)) k ≡ Some v
     → shown_in (rows t) v.kind v.place ≡ Some shown
-    → level_at (watches (scene d clock places rows cycles)).clock (code_of k)
-    (events (scene d clock places rows cycles)) (moment_at (is_some clock) t)
+    → level_at (watches (scene top d clock places rows cycles)).clock (code_of k)
+    (events (scene top d clock places rows cycles)) (moment_at (is_some clock) t)
     ≡ shown_level shown
-found d None places rows cycles is t k v shown within at shows =
-    let s : Scene = scene d None places rows cycles in
+found top d None places rows cycles is t k v shown within at shows =
+    let s : Scene = scene top d None places rows cycles in
     stamp_level (all_variables s) rows t cycles k v shown within (count s is)
     (first_at (variables s) (freed s) k v at) shows
-found d (Some name) places rows cycles is t k v shown within at shows =
-    let s : Scene = scene d (Some name) places rows cycles in
+found top d (Some name) places rows cycles is t k v shown within at shows =
+    let s : Scene = scene top d (Some name) places rows cycles in
     edge_level (all_variables s) rows t cycles k v shown within (count s is)
     (first_at (variables s) (freed s) k v at) shows
 
@@ -106,7 +106,7 @@ pub found_level : (s : Scene) → IsScene s → (t k : ℕ) (v : Variable) (show
     → slice_get (variables s) k ≡ Some v
     → shown_in (s.rows t) v.kind v.place ≡ Some shown
     → level_at (watches s).clock (code_of k) (events s) (moment_at (is_some s.clock) t) ≡ shown_level shown
-found_level s is = found s.design s.clock s.places s.rows s.cycles is
+found_level s is = found s.top s.design s.clock s.places s.rows s.cycles is
 
 -- ---- the level that a value shows
 all_ones : (w : ℕ) → w ≤ 128 → (2 ^ 128 - 1) % 2 ^ w ≡ 2 ^ w - 1
@@ -167,7 +167,7 @@ input_sample s is t i n bits within number shown =
     sample_width s.design.signals.items s.design.inputs.items (s.rows t).samples i n bits
     (is.samples t within) number shown in
     ap (λ (part : Part). cut_level (width_at s.design.signals.items n) (part_level part
-    (level_at (watches s).clock (scopes.code_of (header s) (ports s) (port_at s.design n)) (events s) (moment_at (is_some s.clock) t))))
+    (level_at (watches s).clock (scopes.code_of (header s) (sought s) (port_at s.design n)) (events s) (moment_at (is_some s.clock) t))))
     (port_part s.design s.clock (variables s) (freed s) (ports s) (header s) is.known (port_at s.design n) site)
     ∙ ap (λ code. cut_level (width_at s.design.signals.items n)
     (level_at (watches s).clock code (events s) (moment_at (is_some s.clock) t)))
@@ -188,7 +188,7 @@ output_sample s is t i n c within number shown =
     expected_width s.design.signals.items s.design.outputs.items (s.rows t).expected i n c
     (is.expected t within) number shown in
     ap (λ (part : Part). cut_level (width_at s.design.signals.items n) (part_level part
-    (level_at (watches s).clock (scopes.code_of (header s) (ports s) (port_at s.design n)) (events s) (moment_at (is_some s.clock) t))))
+    (level_at (watches s).clock (scopes.code_of (header s) (sought s) (port_at s.design n)) (events s) (moment_at (is_some s.clock) t))))
     (port_part s.design s.clock (variables s) (freed s) (ports s) (header s) is.known (port_at s.design n) site)
     ∙ ap (λ code. cut_level (width_at s.design.signals.items n)
     (level_at (watches s).clock code (events s) (moment_at (is_some s.clock) t)))

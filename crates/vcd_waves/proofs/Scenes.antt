@@ -18,7 +18,7 @@ use Rattle.design_core.specs.Valuation.{width_at}
 use Rattle.design_core.specs.TraceFits.{samples_fit, expected_fit}
 use Rattle.vcd_words.specs.Codes.{code_of}
 use Rattle.vcd_reading.specs.Header.{Header}
-use Rattle.vcd_reading.specs.Scopes.{Port, ports_of}
+use Rattle.vcd_reading.specs.Scopes.{Port, Sought, anywhere, ports_of}
 use Rattle.vcd_reading.specs.Changes.{Past}
 use Rattle.vcd_traces.specs.Ports.{HasPorts}
 use Rattle.vcd_waves.specs.declared.variable.Variable.{Variable}
@@ -35,6 +35,7 @@ use Rattle.vcd_waves.proofs.CycleRuns.{CanRun, past_at}
 
 -- what is told of a wave
 pub record Scene : Type 0 where
+  pub top : List ℕ
   pub design : Design
   pub clock : Option (List ℕ)
   pub places : List ℕ
@@ -53,8 +54,11 @@ all_variables s = variables s ++ freed s
 abbrev pub ports : Scene → List Port
 ports s = ports_of s.design s.clock
 
+abbrev pub sought : Scene → Sought
+sought s = anywhere (ports s)
+
 abbrev pub header : Scene → Header
-header s = whole_header s.design s.clock (variables s) (freed s)
+header s = whole_header s.top s.design s.clock (variables s) (freed s)
 
 abbrev pub past : Scene → Past
 past s = past_at (header s) (is_some s.clock) (all_variables s) s.rows s.cycles
@@ -205,19 +209,19 @@ known_of o = option_map known o
 abbrev expected_of : Option Checked → Option Shown
 expected_of o = option_map expected o
 
-may_known : (ps : List Port) (h : Header) (k : ℕ) (o : Option Bits)
+may_known : (ps : Sought) (h : Header) (k : ℕ) (o : Option Bits)
     → ((bits : Bits) → o ≡ Some bits → Takes ps h (code_of k) (width_of bits)) → MayShow ps h k (known_of o)
 may_known ps h k None takes = tt
 may_known ps h k (Some bits) takes = record { some = width_of-low bits; takes = takes bits refl }
 
-may_expected : (ps : List Port) (h : Header) (k : ℕ) (o : Option Checked)
+may_expected : (ps : Sought) (h : Header) (k : ℕ) (o : Option Checked)
     → ((c : Checked) → o ≡ Some c → Takes ps h (code_of k) (width_of c.value)) → MayShow ps h k (expected_of o)
 may_expected ps h k None takes = tt
 may_expected ps h k (Some c) takes = record { some = width_of-low c.value; takes = takes c refl }
 
 takes : (s : Scene) (is : IsScene s) (k digits : ℕ) (v : Variable) → slice_get (variables s) k ≡ Some v
     → digits ≤ v.width
-    → Takes (ports s) (header s) (code_of k) digits
+    → Takes (sought s) (header s) (code_of k) digits
 takes s is k digits v at within =
     takes_port s.design s.clock (variables s) (freed s) (ports s) (header s) is.known k digits v at within
 
@@ -225,20 +229,20 @@ at_most : (a b : ℕ) → a ≡ b → a ≤ b
 at_most a b same = omega (arith, same)
 
 row_may : (s : Scene) (is : IsScene s) (t k : ℕ) (v : Variable) → t < s.cycles → slice_get (variables s) k ≡ Some v
-    → Shape s.design s.clock v → MayShow (ports s) (header s) k (shown_in (s.rows t) v.kind v.place)
+    → Shape s.design s.clock v → MayShow (sought s) (header s) k (shown_in (s.rows t) v.kind v.place)
 row_may s is t k v within at (clock_shape name same) =
-    subst (λ (x : Variable). MayShow (ports s) (header s) k (shown_in (s.rows t) x.kind x.place)) (sym same) tt
+    subst (λ (x : Variable). MayShow (sought s) (header s) k (shown_in (s.rows t) x.kind x.place)) (sym same) tt
 row_may s is t k v within at (input_shape i n number same) =
-    subst (λ (x : Variable). MayShow (ports s) (header s) k (shown_in (s.rows t) x.kind x.place)) (sym same)
-    (may_known (ports s) (header s) k (slice_get (s.rows t).samples i)
+    subst (λ (x : Variable). MayShow (sought s) (header s) k (shown_in (s.rows t) x.kind x.place)) (sym same)
+    (may_known (sought s) (header s) k (slice_get (s.rows t).samples i)
     (λ bits shown. takes s is k (width_of bits) v at
     (at_most (width_of bits) v.width
     (sample_width s.design.signals.items s.design.inputs.items (s.rows t).samples i n bits
     (is.samples t within) number shown
     ∙ ap (λ (x : Variable). x.width) (sym same)))))
 row_may s is t k v within at (output_shape i n number same) =
-    subst (λ (x : Variable). MayShow (ports s) (header s) k (shown_in (s.rows t) x.kind x.place)) (sym same)
-    (may_expected (ports s) (header s) k (slice_get (s.rows t).expected i)
+    subst (λ (x : Variable). MayShow (sought s) (header s) k (shown_in (s.rows t) x.kind x.place)) (sym same)
+    (may_expected (sought s) (header s) k (slice_get (s.rows t).expected i)
     (λ c shown. takes s is k (width_of c.value) v at
     (at_most (width_of c.value) v.width
     ((expected_width s.design.signals.items s.design.outputs.items (s.rows t).expected i n c
@@ -246,35 +250,35 @@ row_may s is t k v within at (output_shape i n number same) =
     ∙ ap (λ (x : Variable). x.width) (sym same)))))
 
 bit_may : (s : Scene) (is : IsScene s) (bit k : ℕ) (v : Variable) → slice_get (variables s) k ≡ Some v
-    → Shape s.design s.clock v → MayShow (ports s) (header s) k (clock_shown bit v.kind v.place)
+    → Shape s.design s.clock v → MayShow (sought s) (header s) k (clock_shown bit v.kind v.place)
 bit_may s is bit k v at (clock_shape name same) =
-    subst (λ (x : Variable). MayShow (ports s) (header s) k (clock_shown bit x.kind x.place)) (sym same)
+    subst (λ (x : Variable). MayShow (sought s) (header s) k (clock_shown bit x.kind x.place)) (sym same)
     (record {
       some = omega arith;
       takes = takes s is k 1 v at
           (at_most 1 v.width (sym (ap (λ (x : Variable). x.width) same)));
     })
 bit_may s is bit k v at (input_shape i n number same) =
-    subst (λ (x : Variable). MayShow (ports s) (header s) k (clock_shown bit x.kind x.place)) (sym same) tt
+    subst (λ (x : Variable). MayShow (sought s) (header s) k (clock_shown bit x.kind x.place)) (sym same) tt
 bit_may s is bit k v at (output_shape i n number same) =
-    subst (λ (x : Variable). MayShow (ports s) (header s) k (clock_shown bit x.kind x.place)) (sym same) tt
+    subst (λ (x : Variable). MayShow (sought s) (header s) k (clock_shown bit x.kind x.place)) (sym same) tt
 
 -- the freed places
 freed_row_may : (s : Scene) (is : IsScene s) (t m : ℕ) (v : Variable) → slice_get (freed s) m ≡ Some v
-    → MayShow (ports s) (header s) (length (variables s) + m) (shown_in (s.rows t) v.kind v.place)
+    → MayShow (sought s) (header s) (length (variables s) + m) (shown_in (s.rows t) v.kind v.place)
 freed_row_may s is t m v at =
     let e = element_at s.design Freed s.places m v at in
-    subst (λ (x : Variable). MayShow (ports s) (header s) (length (variables s) + m)
+    subst (λ (x : Variable). MayShow (sought s) (header s) (length (variables s) + m)
     (shown_in (s.rows t) x.kind x.place)) (sym e.is)
-    (may_known (ports s) (header s) (length (variables s) + m) (slice_get (s.rows t).chosen e.place)
+    (may_known (sought s) (header s) (length (variables s) + m) (slice_get (s.rows t).chosen e.place)
     (λ bits shown. takes_freed s.design s.clock (variables s) (freed s) (ports s) (header s) is.known m
     (width_of bits) v at))
 
 freed_bit_may : (s : Scene) (is : IsScene s) (bit m : ℕ) (v : Variable) → slice_get (freed s) m ≡ Some v
-    → MayShow (ports s) (header s) (length (variables s) + m) (clock_shown bit v.kind v.place)
+    → MayShow (sought s) (header s) (length (variables s) + m) (clock_shown bit v.kind v.place)
 freed_bit_may s is bit m v at =
     let e = element_at s.design Freed s.places m v at in
-    subst (λ (x : Variable). MayShow (ports s) (header s) (length (variables s) + m)
+    subst (λ (x : Variable). MayShow (sought s) (header s) (length (variables s) + m)
     (clock_shown bit x.kind x.place)) (sym e.is) tt
 
 -- an element of two lists joined is one of either
@@ -289,16 +293,16 @@ joined_at (x ∷ vs) fs (suc k) v P at first second =
     more : (m : ℕ) → P (length (x ∷ vs) + m) → P (suc (length vs + m))
     more m holds = let same : length (x ∷ vs) + m ≡ suc (length vs + m) = omega arith in subst P same holds
 
-pub can_run : (s : Scene) → IsScene s → CanRun (ports s) (header s) (all_variables s) s.rows s.cycles
+pub can_run : (s : Scene) → IsScene s → CanRun (sought s) (header s) (all_variables s) s.rows s.cycles
 can_run s is = record {
   ended = is.known.declares.ended;
   few = is.most;
   rows_may = λ t within k v at. joined_at (variables s) (freed s) k v
-      (λ n. MayShow (ports s) (header s) n (shown_in (s.rows t) v.kind v.place)) at
+      (λ n. MayShow (sought s) (header s) n (shown_in (s.rows t) v.kind v.place)) at
       (λ here. row_may s is t k v within here (shape_at s.design s.clock k v here))
       (λ m here. freed_row_may s is t m v here);
   clock_may = λ bit k v at. joined_at (variables s) (freed s) k v
-      (λ n. MayShow (ports s) (header s) n (clock_shown bit v.kind v.place)) at
+      (λ n. MayShow (sought s) (header s) n (clock_shown bit v.kind v.place)) at
       (λ here. bit_may s is bit k v here (shape_at s.design s.clock k v here))
       (λ m here. freed_bit_may s is bit m v here);
 }

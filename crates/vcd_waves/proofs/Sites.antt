@@ -16,11 +16,11 @@ use Rattle.vcd_words.specs.Codes.{code_of}
 use Rattle.vcd_words.specs.Times.{time_of}
 use Rattle.vcd_words.proofs.TimeLaws.{written}
 use Rattle.vcd_reading.specs.Commands.{same_bytes}
-use Rattle.vcd_reading.specs.Header.{Header, is_real_type}
+use Rattle.vcd_reading.specs.Header.{Header, Opened, is_real_type}
 use Rattle.vcd_reading.specs.Header as read
 use Rattle.vcd_reading.specs.declared.part.Part.{Part}
 use Rattle.vcd_reading.specs.declared.part.Part.TheVariants.{Whole}
-use Rattle.vcd_reading.specs.Scopes.{Port, is_named, variable_in, bit_place, place_in, whole, declares, least_below, scope_of, port_place, part_of, has_code, is_declared, is_shorter, is_too_long, is_unfit, misfits, most_digits}
+use Rattle.vcd_reading.specs.Scopes.{Port, anywhere, is_named, variable_in, bit_place, place_in, whole, declares, least_below, scope_of, port_place, part_of, has_code, is_declared, is_shorter, is_too_long, is_unfit, misfits, most_digits}
 use Rattle.vcd_reading.specs.Scopes as scopes
 use Rattle.vcd_reading.proofs.ByteLaws.{same_self}
 use Rattle.vcd_waves.specs.declared.variable.Variable.{Variable}
@@ -152,38 +152,38 @@ found_place d clock vs freed ports h known port site =
     (found_port d clock vs freed ports h known port site)
 
 pub first_scope : (d : Design) (clock : Option (List ℕ)) (vs freed : List Variable) (ports : List Port) (h : Header)
-    → Known d clock vs freed ports h → scope_of h ports ≡ Some 0
+    → Known d clock vs freed ports h → scope_of h (anywhere ports) ≡ Some 0
 first_scope d clock vs freed ports h known =
     let all : declares h ports 0 ≡ true =
     all_members (λ (port : Port). is_some (place_in h 0 port)) ports
     (λ port member. ap (λ o. is_some o)
     (found_place d clock vs freed ports h known port (known.site port member))) in
-    ap (λ (l : List (Option ℕ)). least_below (declares h ports) (length l)) known.declares.scopes
+    ap (λ (l : List Opened). least_below (declares h ports) (length l)) known.declares.scopes
     ∙ least_zero (declares h ports) (length known.declares.more) all
 
 pub port_found : (d : Design) (clock : Option (List ℕ)) (vs freed : List Variable) (ports : List Port) (h : Header)
     (known : Known d clock vs freed ports h) (port : Port) (site : Site d clock vs port)
-    → port_place h (scope_of h ports) port ≡ Some (whole (declared_by (Some 0) port.width (code_of site.number) port.name))
+    → port_place h (scope_of h (anywhere ports)) port ≡ Some (whole (declared_by (Some 0) port.width (code_of site.number) port.name))
 port_found d clock vs freed ports h known port site =
     ap (λ scope. port_place h scope port) (first_scope d clock vs freed ports h known)
     ∙ found_place d clock vs freed ports h known port site
 
 pub port_code : (d : Design) (clock : Option (List ℕ)) (vs freed : List Variable) (ports : List Port) (h : Header)
     (known : Known d clock vs freed ports h) (port : Port) (site : Site d clock vs port)
-    → scopes.code_of h ports port ≡ code_of site.number
+    → scopes.code_of h (anywhere ports) port ≡ code_of site.number
 port_code d clock vs freed ports h known port site =
     ap (λ (o : Option scopes.Place). option_map_or (λ (p : scopes.Place). p.variable.code) o [])
     (port_found d clock vs freed ports h known port site)
 
 pub port_part : (d : Design) (clock : Option (List ℕ)) (vs freed : List Variable) (ports : List Port) (h : Header)
-    (known : Known d clock vs freed ports h) (port : Port) (site : Site d clock vs port) → part_of h ports port ≡ Whole
+    (known : Known d clock vs freed ports h) (port : Port) (site : Site d clock vs port) → part_of h (anywhere ports) port ≡ Whole
 port_part d clock vs freed ports h known port site =
     ap (λ (o : Option scopes.Place). option_map_or (λ (p : scopes.Place). p.part) o Whole)
     (port_found d clock vs freed ports h known port site)
 
 port_has : (d : Design) (clock : Option (List ℕ)) (vs freed : List Variable) (ports : List Port) (h : Header)
     (known : Known d clock vs freed ports h) (port : Port) (site : Site d clock vs port) (code : List ℕ)
-    → has_code h ports code port ≡ same_bytes (code_of site.number) code
+    → has_code h (anywhere ports) code port ≡ same_bytes (code_of site.number) code
 port_has d clock vs freed ports h known port site code =
     ap (λ (o : Option scopes.Place). option_map_or (λ (p : scopes.Place). same_bytes p.variable.code code) o false)
     (port_found d clock vs freed ports h known port site)
@@ -201,7 +201,7 @@ same_width width small =
     itself n = grind (arith, nat_tests)
 
 pub port_fits : (d : Design) (clock : Option (List ℕ)) (vs freed : List Variable) (ports : List Port) (h : Header)
-    (known : Known d clock vs freed ports h) (port : Port) (site : Site d clock vs port) → is_unfit h ports port ≡ false
+    (known : Known d clock vs freed ports h) (port : Port) (site : Site d clock vs port) → is_unfit h (anywhere ports) port ≡ false
 port_fits d clock vs freed ports h known port site =
     ap (λ (o : Option scopes.Place). option_map_or (λ (p : scopes.Place). misfits port.width p.variable p.part) o false)
     (port_found d clock vs freed ports h known port site)
@@ -211,31 +211,31 @@ port_fits d clock vs freed ports h known port site =
 short : (d : Design) (clock : Option (List ℕ)) (vs freed : List Variable) (ports : List Port) (h : Header)
     (known : Known d clock vs freed ports h) (n digits : ℕ) → n < 2 ^ 64
     → ((port : Port) (site : Site d clock vs port) → site.number ≡ n → digits ≤ port.width)
-    → is_too_long h ports (code_of n) digits ≡ false
+    → is_too_long h (anywhere ports) (code_of n) digits ≡ false
 short d clock vs freed ports h known n digits small wide =
-    no_members (is_shorter h ports (code_of n) digits) ports
+    no_members (is_shorter h (anywhere ports) (code_of n) digits) ports
     (λ port member. one port (known.site port member))
   where
     not_less : (a b : ℕ) → a ≤ b → nat_lt b a ≡ false
     not_less a b within = grind (arith, nat_tests)
 
-    one : (port : Port) → Site d clock vs port → is_shorter h ports (code_of n) digits port ≡ false
+    one : (port : Port) → Site d clock vs port → is_shorter h (anywhere ports) (code_of n) digits port ≡ false
     one port site =
         elim (cases_eq site.number n) [
-          | inl same ↦ ap (λ (part : Part). has_code h ports (code_of n) port && nat_lt (most_digits port.width part) digits)
+          | inl same ↦ ap (λ (part : Part). has_code h (anywhere ports) (code_of n) port && nat_lt (most_digits port.width part) digits)
               (port_part d clock vs freed ports h known port site)
-              ∙ ap (λ b. has_code h ports (code_of n) port && b) (not_less digits port.width (wide port site same)) ∙ and-false _
+              ∙ ap (λ b. has_code h (anywhere ports) (code_of n) port && b) (not_less digits port.width (wide port site same)) ∙ and-false _
           | inr apart ↦
               let few = known.few in
               let within : site.number < length vs = slice_get_within vs site.number site.variable site.at in
-              ap (λ b. b && nat_lt (most_digits port.width (part_of h ports port)) digits)
+              ap (λ b. b && nat_lt (most_digits port.width (part_of h (anywhere ports) port)) digits)
               (port_has d clock vs freed ports h known port site (code_of n)
               ∙ codes_differ site.number n (omega (arith, few, within)) small apart)
         ]
 
 pub takes_port : (d : Design) (clock : Option (List ℕ)) (vs freed : List Variable) (ports : List Port) (h : Header)
     (known : Known d clock vs freed ports h) (n digits : ℕ) (v : Variable) → slice_get vs n ≡ Some v → digits ≤ v.width
-    → Takes ports h (code_of n) digits
+    → Takes (anywhere ports) h (code_of n) digits
 takes_port d clock vs freed ports h known n digits v at within =
     let first : List read.Variable = declared_in d clock (Some 0) 0 vs in
     let second : List read.Variable = declared_in d clock (Some 1) (length vs) freed in
@@ -259,7 +259,7 @@ takes_port d clock vs freed ports h known n digits v at within =
 
 pub takes_freed : (d : Design) (clock : Option (List ℕ)) (vs freed : List Variable) (ports : List Port) (h : Header)
     (known : Known d clock vs freed ports h) (n digits : ℕ) (v : Variable) → slice_get freed n ≡ Some v
-    → Takes ports h (code_of (length vs + n)) digits
+    → Takes (anywhere ports) h (code_of (length vs + n)) digits
 takes_freed d clock vs freed ports h known n digits v at =
     let first : List read.Variable = declared_in d clock (Some 0) 0 vs in
     let second : List read.Variable = declared_in d clock (Some 1) (length vs) freed in

@@ -14,7 +14,7 @@ use Rattle.vcd_words.specs.declared.level.Level.{Level}
 use Rattle.vcd_reading.specs.Scopes.{port_at}
 use Rattle.vcd_traces.specs.Samples.{Watch, sample, known_bits, AreSamples, watch_of}
 use Rattle.vcd_waves.proofs.MomentLevels.{moment_at, sampled}
-use Rattle.vcd_waves.proofs.Scenes.{Scene, ports, header, IsScene, Fits, sample_width, expected_width, samples_many, expected_many}
+use Rattle.vcd_waves.proofs.Scenes.{Scene, sought, header, IsScene, Fits, sample_width, expected_width, samples_many, expected_many}
 use Rattle.vcd_waves.proofs.Sampled.{watches, watch, events, sample_at, input_sample, output_sample}
 
 -- the rows of a scene are those of a trace
@@ -91,7 +91,7 @@ input_field s is trace of f G each =
     whole_field f trace.inputs.items (length s.design.inputs.items) (λ time. map (G time) (watches s).inputs)
     (is_some s.clock) s.cycles of.sample_count
     (λ t within. ap (map f) (sym (of.samples t))
-    ∙ row_field f (G (moment_at (is_some s.clock) t)) (watch_of (header s) (ports s))
+    ∙ row_field f (G (moment_at (is_some s.clock) t)) (watch_of (header s) (sought s))
     (port_at s.design) s.design.inputs.items (s.rows t).samples
     (samples_many s.design.signals.items s.design.inputs.items (s.rows t).samples (is.samples t within))
     (λ i n bits number shown. each t i n bits within number shown))
@@ -107,7 +107,7 @@ output_field s is trace of f G each =
     whole_field f trace.expected.items (length s.design.outputs.items) (λ time. map (G time) (watches s).outputs)
     (is_some s.clock) s.cycles of.expected_count
     (λ t within. ap (map f) (sym (of.expected t))
-    ∙ row_field f (G (moment_at (is_some s.clock) t)) (watch_of (header s) (ports s))
+    ∙ row_field f (G (moment_at (is_some s.clock) t)) (watch_of (header s) (sought s))
     (port_at s.design) s.design.outputs.items (s.rows t).expected
     (expected_many s.design.signals.items s.design.outputs.items (s.rows t).expected (is.expected t within))
     (λ i n c number shown. each t i n c within number shown))

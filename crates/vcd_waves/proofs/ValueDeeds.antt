@@ -14,54 +14,54 @@ use Rattle.vcd_words.proofs.TimeLaws.{back}
 use Rattle.vcd_reading.specs.declared.kinds.Kind.TheVariants.{Time, Scalar, Vector}
 use Rattle.vcd_reading.specs.Pieces.{change_kind, kind_of}
 use Rattle.vcd_reading.specs.Header.{Header}
-use Rattle.vcd_reading.specs.Scopes.{Port, is_declared, is_too_long}
+use Rattle.vcd_reading.specs.Scopes.{Sought, is_declared, is_too_long}
 use Rattle.vcd_reading.specs.Changes.{Past, changed, with_event, at_time, is_earlier}
 use Rattle.vcd_reading.specs.Reading.{step_of, step_done}
 use Rattle.vcd_waves.specs.Runs.{IsDeed}
 
 -- a code takes a number of digits: it is declared, and no port of the code has fewer bits
-pub record Takes (ports : List Port) (h : Header) (code : List ℕ) (digits : ℕ) : Type 0 where
+pub record Takes (sought : Sought) (h : Header) (code : List ℕ) (digits : ℕ) : Type 0 where
   pub declared : is_declared h code ≡ true
-  pub fits : is_too_long h ports code digits ≡ false
+  pub fits : is_too_long h sought code digits ≡ false
 
-pub takes_value : (ports : List Port) (past : Past) (level : Level) (digits at : ℕ) (code : Placed)
-    → Takes ports past.header code.word digits
-    → changed ports past level digits at code ≡ Ok (with_event past code.word level)
-takes_value ports past level digits at code takes = cond-false _ _ _ (ap not takes.declared)
+pub takes_value : (sought : Sought) (past : Past) (level : Level) (digits at : ℕ) (code : Placed)
+    → Takes sought past.header code.word digits
+    → changed sought past level digits at code ≡ Ok (with_event past code.word level)
+takes_value sought past level digits at code takes = cond-false _ _ _ (ap not takes.declared)
     ∙ cond-false _ _ _ takes.fits
 
 -- a digit and a code
-pub scalar_deed : (ports : List Port) (end : ℕ) (past : Past) (digit : ℕ) (code : List ℕ) → past.header.ended ≡ true
-    → change_kind digit code ≡ Some (Scalar (level_of (digit ∷ []))) → Takes ports past.header code 1
-    → IsDeed ports end past (digit ∷ code) [] (with_event past code (level_of (digit ∷ [])))
-scalar_deed ports end past digit code ended kind takes at behind =
+pub scalar_deed : (sought : Sought) (end : ℕ) (past : Past) (digit : ℕ) (code : List ℕ) → past.header.ended ≡ true
+    → change_kind digit code ≡ Some (Scalar (level_of (digit ∷ []))) → Takes sought past.header code 1
+    → IsDeed sought end past (digit ∷ code) [] (with_event past code (level_of (digit ∷ [])))
+scalar_deed sought end past digit code ended kind takes at behind =
     let first : Placed = record { at = at; word = digit ∷ code } in
-    ap (λ h. step_of ports end past (kind_of (not h) (digit ∷ code)) first behind) ended
-    ∙ ap (λ k. step_of ports end past k first behind) kind
+    ap (λ h. step_of sought end past (kind_of (not h) (digit ∷ code)) first behind) ended
+    ∙ ap (λ k. step_of sought end past k first behind) kind
     ∙ ap (λ done. step_done done behind)
-    (takes_value ports past (level_of (digit ∷ [])) 1 at (record { at = at; word = code }) takes)
+    (takes_value sought past (level_of (digit ∷ [])) 1 at (record { at = at; word = code }) takes)
 
 -- `b`, digits, and a code as a word of its own
-pub vector_deed : (ports : List Port) (end : ℕ) (past : Past) (digits code : List ℕ) → past.header.ended ≡ true
-    → level_in digits ≡ Some (level_of digits) → Takes ports past.header code (length digits)
-    → IsDeed ports end past (98 ∷ digits) (code ∷ []) (with_event past code (level_of digits))
-vector_deed ports end past digits code ended level takes at behind =
+pub vector_deed : (sought : Sought) (end : ℕ) (past : Past) (digits code : List ℕ) → past.header.ended ≡ true
+    → level_in digits ≡ Some (level_of digits) → Takes sought past.header code (length digits)
+    → IsDeed sought end past (98 ∷ digits) (code ∷ []) (with_event past code (level_of digits))
+vector_deed sought end past digits code ended level takes at behind =
     let first : Placed = record { at = at; word = 98 ∷ digits } in
     let second : Placed = record { at = at + length (98 ∷ digits) + 1; word = code } in
     let count : length (98 ∷ digits) - 1 ≡ length digits = omega arith in
-    ap (λ h. step_of ports end past (kind_of (not h) (98 ∷ digits)) first (second ∷ behind)) ended
-    ∙ ap (λ l. step_of ports end past (option_map Vector l) first (second ∷ behind)) level
-    ∙ ap (λ n. step_done (changed ports past (level_of digits) n at second) behind) count
-    ∙ ap (λ done. step_done done behind) (takes_value ports past (level_of digits) (length digits) at second takes)
+    ap (λ h. step_of sought end past (kind_of (not h) (98 ∷ digits)) first (second ∷ behind)) ended
+    ∙ ap (λ l. step_of sought end past (option_map Vector l) first (second ∷ behind)) level
+    ∙ ap (λ n. step_done (changed sought past (level_of digits) n at second) behind) count
+    ∙ ap (λ done. step_done done behind) (takes_value sought past (level_of digits) (length digits) at second takes)
 
 -- `#` and a time that is not before the last
-pub time_deed : (ports : List Port) (end : ℕ) (past : Past) (time : ℕ) → past.header.ended ≡ true
+pub time_deed : (sought : Sought) (end : ℕ) (past : Past) (time : ℕ) → past.header.ended ≡ true
     → time < 10 ^ 18 → is_earlier past.time time ≡ false
-    → IsDeed ports end past (35 ∷ decimal time) [] (at_time past time)
-time_deed ports end past time ended few later at behind =
+    → IsDeed sought end past (35 ∷ decimal time) [] (at_time past time)
+time_deed sought end past time ended few later at behind =
     let first : Placed = record { at = at; word = 35 ∷ decimal time } in
-    ap (λ h. step_of ports end past (kind_of (not h) (35 ∷ decimal time)) first behind) ended
-    ∙ ap (λ t. step_of ports end past (option_map Time t) first behind) (back time few)
+    ap (λ h. step_of sought end past (kind_of (not h) (35 ∷ decimal time)) first behind) ended
+    ∙ ap (λ t. step_of sought end past (option_map Time t) first behind) (back time few)
     ∙ ap (λ done. step_done done behind) (cond-false _ _ _ later)
 
 -- the digits of a value are digits, as many as it is wide
@@ -113,25 +113,25 @@ one_digit value mask = digits_step 0 value mask
     ∙ ap (λ l. l ++ digit_of (value % 2) (mask % 2) ∷ []) (digits_none (value / 2) (mask / 2))
 
 -- a value of one bit
-pub bit_deed : (ports : List Port) (end : ℕ) (past : Past) (value mask : ℕ) (code : List ℕ)
-    → past.header.ended ≡ true → Takes ports past.header code 1
-    → IsDeed ports end past (digits_of 1 value mask ++ code) []
+pub bit_deed : (sought : Sought) (end : ℕ) (past : Past) (value mask : ℕ) (code : List ℕ)
+    → past.header.ended ≡ true → Takes sought past.header code 1
+    → IsDeed sought end past (digits_of 1 value mask ++ code) []
     (with_event past code (level_of (digits_of 1 value mask)))
-bit_deed ports end past value mask code ended takes =
+bit_deed sought end past value mask code ended takes =
     let digit : ℕ = digit_of (value % 2) (mask % 2) in
-    let P : List ℕ → Type 0 = λ digits. IsDeed ports end past (digits ++ code) []
+    let P : List ℕ → Type 0 = λ digits. IsDeed sought end past (digits ++ code) []
     (with_event past code (level_of digits)) in
     subst P (sym (one_digit value mask))
-    (scalar_deed ports end past digit code ended
+    (scalar_deed sought end past digit code ended
     (digit_kind (value % 2) (mask % 2) code (omega arith) (omega arith)) takes)
 
 -- a wider one
-pub word_deed : (ports : List Port) (end : ℕ) (past : Past) (width value mask : ℕ) (code : List ℕ)
+pub word_deed : (sought : Sought) (end : ℕ) (past : Past) (width value mask : ℕ) (code : List ℕ)
     → past.header.ended ≡ true → 1 ≤ width
-    → Takes ports past.header code width
-    → IsDeed ports end past (98 ∷ digits_of width value mask) (code ∷ [])
+    → Takes sought past.header code width
+    → IsDeed sought end past (98 ∷ digits_of width value mask) (code ∷ [])
     (with_event past code (level_of (digits_of width value mask)))
-word_deed ports end past width value mask code ended some takes =
-    let P : ℕ → Type 0 = Takes ports past.header code in
-    vector_deed ports end past (digits_of width value mask) code ended (digits_level width value mask some)
+word_deed sought end past width value mask code ended some takes =
+    let P : ℕ → Type 0 = Takes sought past.header code in
+    vector_deed sought end past (digits_of width value mask) code ended (digits_level width value mask some)
     (subst P (sym (digits_count width value mask)) takes)

@@ -7,7 +7,7 @@ use Rattle.design_core.specs.TraceFits.{IsTraceOf}
 use Rattle.vcd_reading.specs.Commands.{same_bytes, is_end}
 use Rattle.vcd_reading.specs.Scopes.{Port, ports_of}
 use Rattle.vcd_traces.specs.Ports.{HasPorts}
-use Rattle.vcd_traces.specs.Samples.{HasSamples}
+use Rattle.vcd_traces.specs.Samples.{HasSamples, by_clock}
 use Rattle.vcd_waves.specs.declared.wave.Wave.{Wave}
 use Rattle.vcd_waves.specs.Variables.{clock_of}
 
@@ -37,6 +37,6 @@ pub record IsReadable (w : Wave) : Type 0 where
   -- the code of the variable of the next number is the word `$end`
   pub few : length (ports_of w.design.now (clock_of w)) + length w.places.now ≤ 56335895
 
--- a text holds the trace of a wave
+-- a text holds the trace of a wave, where its scope is not named and each bit of an input is to be known
 abbrev pub HoldsTrace : Wave → List ℕ → Type 0
-HoldsTrace w text = HasSamples text w.design.now (clock_of w) w.trace.now
+HoldsTrace w text = HasSamples text w.design.now (by_clock (clock_of w)) w.trace.now
