@@ -13,8 +13,8 @@ use Rattle.design_core.specs.declared.trace.Trace.{Trace}
 use Rattle.vcd_reading.specs.declared.error.VcdErr.{VcdErr}
 use Rattle.vcd_reading.specs.declared.error.VcdErr.TheVariants as vcd
 use Rattle.design_core.specs.TraceFits.{IsTraceOf}
-use Rattle.vcd_reading.specs.Scopes.{ports_of, scope_of}
-use Rattle.vcd_traces.specs.Samples.{HasSamples, IsRefused, cycle_refusal, cycles_of, scope_refusal, width_refusal}
+use Rattle.vcd_reading.specs.Scopes.{scope_of}
+use Rattle.vcd_traces.specs.Samples.{HasSamples, IsRefused, by_clock, cycle_refusal, cycles_of, sought_of, scope_refusal, width_refusal}
 use Rattle.front_end.specs.Means.{Refuses, Refusing}
 use Rattle.load_texts.specs.declared.faults.LoadFault.TheVariants as load
 use Rattle.load_texts.specs.declared.faults.DesignFault.{DesignFault}
@@ -98,17 +98,17 @@ first-none None b e = refl
 few-unrefused : (n : ℕ) → cycle_refusal n ≡ None → n ≤ most_cycles
 few-unrefused n e = grind (arith, nat_tests)
 
-pub few-cycles : (text : List ℕ) (d : Design) (clock : Option (List ℕ)) (found : Trace) → HasSamples text d clock found
+pub few-cycles : (text : List ℕ) (d : Design) (clock : Option (List ℕ)) (found : Trace) → HasSamples text d (by_clock clock) found
     → found.cycles ≤ most_cycles
 few-cycles text d clock found has =
     let past = has.past in
-    let behind = second-none (scope_refusal (scope_of past.header (ports_of d clock))) _ has.not_refused in
-    let counted = second-none (width_refusal past.header (ports_of d clock)) _ behind in
-    let few : length (cycles_of d clock past) ≤ most_cycles =
-    few-unrefused (length (cycles_of d clock past)) (first-none (cycle_refusal (length (cycles_of d clock past))) _ counted) in
+    let behind = second-none (scope_refusal (scope_of past.header (sought_of d (by_clock clock)))) _ has.not_refused in
+    let counted = second-none (width_refusal past.header (sought_of d (by_clock clock))) _ behind in
+    let few : length (cycles_of d (by_clock clock) past) ≤ most_cycles =
+    few-unrefused (length (cycles_of d (by_clock clock) past)) (first-none (cycle_refusal (length (cycles_of d (by_clock clock) past))) _ counted) in
     omega (arith, has.samples.cycles, few)
 
-pub is-read : (text : List ℕ) (d : Design) (clock : Option (List ℕ)) (found : Trace) → HasSamples text d clock found
+pub is-read : (text : List ℕ) (d : Design) (clock : Option (List ℕ)) (found : Trace) → HasSamples text d (by_clock clock) found
     → IsTraceOf d found → IsReadOf d found
 is-read text d clock found has fits = record { fits = fits; few = few-cycles text d clock found has }
 
@@ -134,7 +134,7 @@ pub dump-cause : (texts : Texts) (name : List ℕ) (d : Design) (clock : Option 
     → (why : TraceFault) → RefusesDump text d clock why → TraceCause (texts name) d clock why
 dump-cause texts name d clock text is (trace.Load _) cause = absurd cause
 dump-cause texts name d clock text is (trace.Text fault) cause =
-    of-text (texts name) text (λ t. fault ≢ vcd.NoMemory → IsRefused t d clock fault) is cause
+    of-text (texts name) text (λ t. fault ≢ vcd.NoMemory → IsRefused t d (by_clock clock) fault) is cause
 
 pub trace-spared : (texts : Texts) (name : List ℕ) (P : List ℕ → Type 0) (why : TraceFault)
     → LoadsTrace (texts name) (Err why)

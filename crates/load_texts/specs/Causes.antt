@@ -4,7 +4,7 @@ use Rattle.command_contract.specs.Contract.{Texts}
 use Rattle.design_core.specs.declared.design.Design.{Design}
 use Rattle.design_core.specs.declared.trace.Trace.{Trace}
 use Rattle.vcd_reading.specs.declared.error.VcdErr.TheVariants as vcd
-use Rattle.vcd_traces.specs.Samples.{IsRefused}
+use Rattle.vcd_traces.specs.Samples.{IsRefused, by_clock}
 use Rattle.front_end.specs.Means.{Meaning, Refuses, Refusing}
 use Rattle.load_texts.specs.declared.faults.LoadFault.{LoadFault}
 use Rattle.load_texts.specs.declared.faults.LoadFault.TheVariants as load
@@ -32,7 +32,7 @@ DesignCause R asked texts (design.Text refusal) =
 abbrev pub TraceCause : Option (List ℕ) → Design → Option (List ℕ) → TraceFault → Type 0
 TraceCause text d clock (trace.Load fault) = LoadCause text fault
 TraceCause text d clock (trace.Text fault) =
-    IsReadAnd text (λ bytes. fault ≢ vcd.NoMemory → IsRefused bytes d clock fault)
+    IsReadAnd text (λ bytes. fault ≢ vcd.NoMemory → IsRefused bytes d (by_clock clock) fault)
 
 -- the design's text means a design, those of the traces before one mean traces of it, and that one's is refused
 pub record TraceRefused (M : Meaning) (asked : SourcesAsked) (texts : Texts)

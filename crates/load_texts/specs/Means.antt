@@ -8,7 +8,7 @@ use Rattle.design_core.specs.TraceFits.{IsTraceOf}
 use Rattle.front_end.specs.Means.{Meaning}
 use Rattle.load_texts.specs.By.{by_of}
 use Rattle.requests.specs.Asked.{SourcesAsked}
-use Rattle.vcd_traces.specs.Samples.{HasSamples}
+use Rattle.vcd_traces.specs.Samples.{HasSamples, by_clock}
 
 -- the most bytes that a text may have
 abbrev pub most_bytes : ℕ
@@ -21,7 +21,7 @@ IsReadAnd text P = IsSomeAnd text (λ bytes. (length bytes ≤ most_bytes) × P 
 -- ---- traces
 -- the text under a name means a trace
 abbrev pub MeansTrace : Texts → Option (List ℕ) → Design → List ℕ → Trace → Type 0
-MeansTrace texts clock d name trace = IsReadAnd (texts name) (λ text. HasSamples text d clock trace)
+MeansTrace texts clock d name trace = IsReadAnd (texts name) (λ text. HasSamples text d (by_clock clock) trace)
 
 -- the texts under names mean traces, one each
 abbrev pub MeanTraces : Texts → Option (List ℕ) → Design → List (List ℕ) → List Trace → Type 0

@@ -5,7 +5,7 @@ use Rattle.command_contract.specs.Contract.{Texts}
 use Rattle.design_core.specs.declared.design.Design.{Design}
 use Rattle.design_core.specs.declared.trace.Trace.{Trace}
 use Rattle.vcd_reading.specs.declared.error.VcdErr.TheVariants as vcd
-use Rattle.vcd_traces.specs.Samples.{IsRefused}
+use Rattle.vcd_traces.specs.Samples.{IsRefused, by_clock}
 use Rattle.refusal.specs.declared.code.Code.{Code}
 use Rattle.front_end.specs.Means.{Refuses}
 use Rattle.load_texts.specs.declared.faults.LoadFault.{LoadFault}
@@ -46,7 +46,7 @@ RefusesText R (design.Text refusal) = Refuses R refusal
 
 abbrev pub RefusesDump : List ℕ → Design → Option (List ℕ) → TraceFault → Type 0
 RefusesDump text d clock (trace.Load _) = ⊥
-RefusesDump text d clock (trace.Text fault) = fault ≢ vcd.NoMemory → IsRefused text d clock fault
+RefusesDump text d clock (trace.Text fault) = fault ≢ vcd.NoMemory → IsRefused text d (by_clock clock) fault
 
 -- the shelf's faults, after the text under a name was loaded
 abbrev pub LoadCounts : {X : Type 0} → List ℕ → FaultCounts → FaultCounts → Result X LoadFault → Type 0

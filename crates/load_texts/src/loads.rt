@@ -5,7 +5,7 @@ ghost use Rattle.std.specs.Option.{option_copied};
 ghost use Rattle.design_core.specs.declared.design.Design.{Design as SomeDesign};
 ghost use Rattle.design_core.specs.declared.trace.Trace.{Trace as SomeTrace};
 ghost use Rattle.vcd_traces.specs.Ports.{HasPorts};
-ghost use Rattle.vcd_traces.specs.Samples.{HasSamples};
+ghost use Rattle.vcd_traces.specs.Samples.{HasSamples, by_clock};
 ghost use Rattle.front_end.specs.Means.{IsReady};
 ghost use Rattle.load_texts.specs.declared.faults.LoadFault.TheVariants as load;
 ghost use Rattle.load_texts.specs.declared.faults.TraceFault.TheVariants as why;
@@ -183,15 +183,17 @@ fn read_dump<N: Notes>(
     notes: &mut N,
 ) -> Result<Trace, TraceFault>
     requires { HasPorts source.now.design.now }
-    ensures means { IfOk result (HasSamples text.now source.now.design.now (option_copied source.now.clock)) }
+    ensures means { IfOk result (HasSamples text.now source.now.design.now (by_clock (option_copied source.now.clock))) }
     ensures fits { IfOk result (IsReadOf source.now.design.now) }
     ensures refused { IfErr result (RefusesDump text.now source.now.design.now (option_copied source.now.clock)) }
-    ensures only { (t : SomeTrace) → HasSamples text.now source.now.design.now (option_copied source.now.clock) t
+    ensures only { (t : SomeTrace) → HasSamples text.now source.now.design.now (by_clock (option_copied source.now.clock)) t
         → IfErr result TraceSpared }
 {
     let by = SampleBy {
         design: source.design,
         clock: source.clock,
+        scope: None,
+        zero_inputs: false,
     };
     let bytes = text.as_slice();
     match samples(alloc, bytes, &by) {
