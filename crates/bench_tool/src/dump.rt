@@ -114,6 +114,8 @@ pub(crate) fn run(rt: &HostRuntime, words: &[String]) -> Result<u8, Failure> {
     let by = SampleBy {
         design: &design,
         clock,
+        scope: None,
+        zero_inputs: false,
     };
     let answer = samples(rt.alloc(), text.as_slice(), &by);
     let end = Instant::now(rt)?;

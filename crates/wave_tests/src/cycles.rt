@@ -26,6 +26,8 @@ fn cycles(alloc: Global, design: &Design, text: &[u8]) -> Result<u32, VcdErr> {
     let by = SampleBy {
         design,
         clock: None,
+        scope: None,
+        zero_inputs: false,
     };
     let trace = samples(alloc, text, &by)?;
     Ok(trace.cycles)

@@ -70,6 +70,8 @@ fn traces_of(rt: &HostRuntime, request: &Request, design: &Design) -> Result<Vec
     let by = SampleBy {
         design,
         clock: request.clock.as_ref(),
+        scope: None,
+        zero_inputs: false,
     };
     for name in &request.traces {
         let text = shelf.load(alloc, name.as_str(), MOST_BYTES)?;
