@@ -31,7 +31,7 @@ reads_end sought text past at before none =
     let P : List Placed → Type 0 = λ l. Reads sought (length text) past l (Ok past) in
     before (Ok past) (subst P (sym none) at_end)
 
--- a fact of a wrong word that holds for all sought, each by itself
+-- a fact of a wrong word that holds for all that may be looked for, each by itself
 pub at_for_all : (P : Sought → ℕ → Type 0) (fault : VcdErr) → ((sought : Sought) → IsAt (P sought) fault) → IsAt (λ at. (sought : Sought) → P sought at) fault
 at_for_all P (Syntax at) each = each
 at_for_all P NoMemory each = tt

@@ -1,4 +1,4 @@
--- The variables of a header found by scope and name, and the first scope that declares every port.
+-- The variables of a header found by scope and name.
 use Rattle.std.specs.Prelude.{ℕ, ◌≡◌, List}
 use Rattle.vcd_reading.specs.declared.names.Names.{Names}
 use Rattle.vcd_reading.specs.Header.{Variable}

@@ -100,7 +100,7 @@ plan_none h sought table watched none is clock inputs outputs zero = record {
     none_some : (cell : ℕ) → None ≡ Some cell → ⊥
     none_some cell e = cc
 
--- and of one whose sought have their variables
+-- and of one whose ports have their variables
 pub plan_found : (d : Design) (by : Manner) (dump : Dump) (sites : List Site) (variables : List code.Variable.Variable) (table : Table) (watched : Watched)
     → AreFound d by dump sites → variables ≡ dump.front.header.variables.items
     → ((h : Header) (sought : Sought) → h.variables ≡ map variable_of variables → All (IsSite h sought) sites → IsTableOf h sought (map site_port sites) table)
@@ -148,11 +148,7 @@ pub given_is : (d : Design) (by : Manner) (path : Option (List ℕ)) (ports : Li
     → sought path ports ≡ sought_of d by
 given_is d by path ports same are = ap (λ p. sought p ports) same ∙ ap (sought by.scope) are
 
--- the ports with their variables are as many as the ports, and as wide
-pub given_count : (dump : Dump) (sought : Sought) (ports : List port_code.Port.Port) (sites given : List Site) → AreSites (dump_header dump) sought (ports_in ports) sites
-    → given ≡ sites → length given ≡ length ports
-given_count dump sought ports sites given are is = ap length is ∙ sites_count sites ports are.same
-
+-- the ports with their variables are as wide as the ports
 pub given_fit : (dump : Dump) (sought : Sought) (ports : List port_code.Port.Port) (sites given : List Site) → AreSites (dump_header dump) sought (ports_in ports) sites
     → given ≡ sites → IsTrue (list_all fits (ports_in ports)) → IsTrue (list_all site_fits given)
 given_fit dump sought ports sites given are is fit = ap (list_all site_fits) is ∙ sites_fit sites (ports_in ports) are.same fit

@@ -10,7 +10,7 @@ use Rattle.vcd_traces.specs.declared.sites.Site.{Site}
 use Rattle.vcd_traces.specs.Ports.{fits}
 use Rattle.vcd_traces.specs.Samples.{Watches, watch_of}
 
--- the first scope that declares every port
+-- the scope of the ports
 pub record IsFirst (h : Header) (sought : Sought) (scope : Scope) : Type 0 where
   pub of_header : IsScope h scope
   pub first : scope_of h sought ≡ Some scope.number
