@@ -12,14 +12,9 @@ use loc_base::{Items, NoMemory};
 use std::alloc::Global;
 use unroller::{Unrolled, UnrolledLit};
 
-/// Where a number stands among some.
+/// Where a number stands among some that ascend.
 fn index_of(numbers: &[u32], number: u32) -> Option<usize> {
-    for i in 0..numbers.len() {
-        if numbers[i] == number {
-            return Some(i);
-        }
-    }
-    None
+    numbers.binary_search(&number).ok()
 }
 
 /// A bit of one of the values' words; false where there is none.
