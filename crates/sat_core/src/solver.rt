@@ -115,8 +115,8 @@ impl Solver {
             .push(log.kind(place), log.clause(place), log.chain(place))
     }
 
-    /// Lets a search begin near the values that follow from literals: each variable is first given the value that it has there. Which
-    /// model comes is the same.
+    /// Lets a search begin near the values that follow from literals: each variable is first given the value that it has there. What is
+    /// said of a model is the same; which of several comes may differ.
     pub fn settle(&mut self, literals: &[Lit])
         requires within { IsWithin self.old.vars literals.now }
         ensures same { self.new ≡ untold self.old }
