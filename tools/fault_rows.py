@@ -32,9 +32,13 @@ def going_on(*more, report="s.json", log="s.log"):
     return find("--resume", report, "--resume-log", log, *more)
 
 
+def checkpointed(*more):
+    return find("--checkpoint", "c", *more)
+
+
 def kind_of(words):
     """By what a run is known among those without a fault."""
-    return "find --resume" if "--resume" in words else words[0]
+    return next((f"find {option}" for option in ("--resume", "--checkpoint") if option in words), words[0])
 
 
 # ---- what is in a folder
@@ -150,6 +154,26 @@ def session_name_rows():
     yield Row("resumed: a wave is a link to the old report", going_on("--waves", "w"), 6, prepare=link("s.json", "w-1-1.vcd"), asked=True)
 
 
+def checkpoint_rows():
+    """Rows of a run with checkpoints: their files are asked for with the log and the report, and written between the sets."""
+    saved = {name: name for name in ("c-1.log", "c-1.json", "c-2.log", "c-2.json")}
+    yield Row("no folder for the checkpoints", find("--checkpoint", "absent/c"), 6, asked=True)
+    yield Row("a checkpoint's log is a folder", checkpointed(), 6, prepare=folder("c-1.log"), asked=True)
+    yield Row("a checkpoint's report is a folder", checkpointed(), 6, prepare=folder("c-1.json"), asked=True)
+    yield Row("the checkpoints' folder may not be written", find("--checkpoint", "d/c"), 6, prepare=folder("d", 0o555), as_nobody=True, asked=True)
+    yield Row("a checkpoint's log is a link to the design", checkpointed(), 6, prepare=link("m.v", "c-1.log"), asked=True)
+    yield Row("a checkpoint's report is a second name of the dump", checkpointed(), 6, prepare=second_name("t.vcd", "c-1.json"), asked=True)
+    yield Row("the disk is full at a checkpoint's log", checkpointed(), 6, prepare=link("/dev/full", "c-1.log"), may=BOTH)
+    yield Row("the disk is full at a checkpoint's report", checkpointed(), 6, prepare=link("/dev/full", "c-1.json"), may={**BOTH, "c-1.log": "c-1.log"})
+    yield Row("the second checkpoint's log is a folder", checkpointed(), 6, prepare=folder("c-2.log"), may={**BOTH, **saved})
+    yield Row("the second checkpoint's report is a link to the log", checkpointed(), 6, prepare=link("localise.log", "c-2.json"), may={**BOTH, **saved})
+    yield Row("a checkpoint's log is the log's name", find("--checkpoint", "c", "--log", "c-1.log"), 2, "usage name")
+    for limit in (0, 1, 40, 200):
+        yield Row("with checkpoints: no file gets more than %d bytes" % limit, checkpointed(), 6, may={**BOTH, **saved}, limit=limit)
+    for stream in ("full", "closed", "unread"):
+        yield Row("with checkpoints: the output is %s" % stream, checkpointed(), 6, may={**BOTH, **saved}, stream=stream)
+
+
 def rows():
-    for some in (unread_rows, unwritten_rows, full_rows, name_rows, link_rows, session_rows, session_name_rows):
+    for some in (unread_rows, unwritten_rows, full_rows, name_rows, link_rows, session_rows, session_name_rows, checkpoint_rows):
         yield from some()

@@ -29,7 +29,7 @@ import sys
 import tempfile
 import time
 
-from fault_rows import MAKE, Row, SIM, find, going_on, kind_of, rows
+from fault_rows import MAKE, Row, SIM, checkpointed, find, going_on, kind_of, rows
 
 TOP = os.path.dirname(os.path.dirname(os.path.abspath(__file__)))
 BUILT = os.path.join(TOP, "crates", "localise", "out", "localise")
@@ -163,7 +163,7 @@ class Trial:
         self.files = example()
         self.run_well(find("--sets", "1", "--log", "s.log", "--report", "s.json"), "the first set")
         self.files.update({name: self.good["the first set"][name] for name in ("s.log", "s.json")})
-        for words in (find("--waves", "w"), going_on("--waves", "w"), SIM, MAKE):
+        for words in (find("--waves", "w"), going_on("--waves", "w"), checkpointed(), SIM, MAKE):
             self.run_well(words, kind_of(words))
 
     def run_well(self, words, kind):

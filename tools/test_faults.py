@@ -85,8 +85,9 @@ made = [given.get("--design", "made.v"), given.get("--trace", "made.vcd")] if co
 read = [names[0], *names[2:]] if command in ("find", "sim") else []
 read += [given[it] for it in ("--resume", "--resume-log") if it in given]
 paths = [path_of(name) for name in [*read, *made, log, report]]
-prefix = given.get("--waves", "/") + "-"
-if any(paths.count(path) > 1 for path in paths) or any("/".join(path).startswith(prefix) for path in paths):
+prefix, saving = given.get("--waves", "/") + "-", given.get("--checkpoint", "/") + "-"
+saved = [saving + name for name in ("1.log", "1.json", "2.log", "2.json")] if "--checkpoint" in given else []
+if any(paths.count(path) > 1 for path in paths) or any("/".join(path).startswith((prefix, saving)) for path in paths):
     end(2, "usage name")
 if command == "check":
     read = [names[2]]
@@ -94,16 +95,14 @@ for name in read:
     load(name)
 if command == "sim":
     end(0, "trace 1 miss 0 y")
-for name in [log, report] + [prefix + "1-1.vcd"] * ("--waves" in given):
+for name in [log, report] + saved[:2] + [prefix + "1-1.vcd"] * ("--waves" in given):
     ask(name)
 for name in made:
     write(name, (name * 40 if name != "y" else "made.v" * 40).encode())
 write(log, b"log " * 30)
 say("set {1}\\n")
-if "--checkpoint" in given:
-    write("c-1.log", b"log\\n")
-    write("c-1.json", b"{}\\n")
-    time.sleep(0.5)
+for name in saved:
+    write(name, b"log\\n" if name.endswith("log") else b"{}\\n")
 write(report, b"report " * 60)
 if "--waves" in given:
     write(prefix + "1-1.vcd", b"wave\\n")
@@ -154,8 +153,9 @@ class Faults(unittest.TestCase):
                 self.assertNotEqual(trial.wrong(rows[fault]), [])
 
     def test_a_killed_run_leaves_a_checkpoint_that_goes_on(self):
-        text = STAND_IN.replace("no word more", "--checkpoint")
-        # (over these the checkpoints are whole, and it sleeps)
+        # (it sleeps once they are whole)
+        asleep = "if saved:\n    time.sleep(0.5)\nwrite(report"
+        text = STAND_IN.replace("no word more", "--checkpoint").replace("write(report", asleep)
         kills = faults.Kills(self.program_of(text))
         self.assertEqual(kills.checkpoint(0.7), [])
         self.program_of(text.replace('say("set {1}\\n")', 'say("set {2}\\n" if given.get("--resume") == "c-1.json" else "set {1}\\n")'))
