@@ -4,12 +4,15 @@ use Rattle.front_end.specs.declared.format.Format.{Format}
 use Rattle.requests.specs.declared.help.HelpPage.{HelpPage}
 
 -- ---- what is read
--- the name of the design's text and its format, the names of the module that is the top and of the traces' texts
+-- the name of the design's text and its format, the names of the module that is the top and of the traces' texts, the path of the scope
+-- in which the ports stand in each of these, where it is named, and whether unknown bits of inputs are read as 0
 pub record TextsAsked : Type 0 where
   pub design : List ℕ
   pub format : Format
   pub top : List ℕ
   pub traces : List (List ℕ)
+  pub scope : Option (List ℕ)
+  pub zero_inputs : Bool
 
 -- and the clock by which they are read
 pub record SourcesAsked : Type 0 where

@@ -23,6 +23,8 @@ texts_asked texts = record {
   format = texts.format;
   top = texts.top;
   traces = map string_bytes texts.traces.items;
+  scope = texts.scope;
+  zero_inputs = texts.zero_inputs;
 }
 
 abbrev pub reading_asked : Reading → SourcesAsked

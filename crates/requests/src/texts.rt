@@ -12,4 +12,8 @@ pub struct Texts {
     pub top: Name,
     /// The names of the traces' texts.
     pub traces: Vec<String>,
+    /// The path of the scope in which the ports stand in each trace's text, as `tb.golden`, where it is named.
+    pub scope: Option<Name>,
+    /// Whether unknown bits of inputs are read as 0.
+    pub zero_inputs: bool,
 }
