@@ -5,6 +5,10 @@ use Rattle.sha2.specs.Hashers.{Holds256}
 use Rattle.sha2.specs.declared.Sha256.{Sha256}
 use Rattle.run_digest.specs.Feeding.{Took}
 
+-- nothing was taken
+pub Took_nothing : (hasher : Sha256) → Took hasher hasher []
+Took_nothing hasher message holds = subst (Holds256 hasher) (sym (append-nil message)) holds
+
 pub Took-append : (old mid new : Sha256) (one two : List ℕ) → Took old mid one → Took mid new two → Took old new (one ++ two)
 Took-append old mid new one two h k message holds = subst (Holds256 new) (append_assoc message one two) (k (message ++ one) (h message holds))
 

@@ -1,9 +1,10 @@
 ghost use Rattle.std.specs.Prelude.{◌≡◌, ◌∷◌, [], ◌++◌, codes, decimal};
 ghost use Rattle.std.specs.List.{flat_map};
+ghost use Rattle.std.specs.Option.{option_copied};
 ghost use Rattle.sha2.specs.Sha256.{sha256};
 ghost use Rattle.run_digest.specs.Feeding.{Took};
 ghost use Rattle.hex.specs.Hex.{encode_lower};
-ghost use Rattle.run_digest.specs.Inputs.{line, joined, name_or_nothing, trace_line, inputs_text};
+ghost use Rattle.run_digest.specs.Inputs.{line, joined, name_or_nothing, trace_line, scope_lines, zero_lines, inputs_text};
 
 use crate::inputs::Inputs;
 use hex::encode_to_slice;
@@ -79,6 +80,26 @@ fn feed_traces(hasher: &mut Sha256, traces: &[Digest])
     }
 }
 
+/// Feeds the line of the scope, where one is named.
+#[tactic(auto, using(crate::proofs::Taking::Took_nothing))]
+fn feed_scope(hasher: &mut Sha256, scope: Option<&Name>)
+    ensures { Took hasher.old hasher.new (scope_lines (option_copied scope.entry)) }
+{
+    if let Some(path) = scope {
+        feed_line(hasher, b"scope", path.as_bytes());
+    }
+}
+
+/// Feeds the line of how unknown bits of inputs are read, where they are read as 0.
+#[tactic(auto, using(crate::proofs::Taking::Took_nothing))]
+fn feed_zero(hasher: &mut Sha256, zero_inputs: bool)
+    ensures { Took hasher.old hasher.new (zero_lines zero_inputs) }
+{
+    if zero_inputs {
+        feed_line(hasher, b"x-inputs", b"0");
+    }
+}
+
 /// The digest of a text. It takes no memory.
 pub fn text_digest(text: &[u8]) -> Digest
     ensures { result.bytes ≡ sha256 text.now }
@@ -100,6 +121,8 @@ pub fn inputs_digest(of: &Inputs<'_>) -> Digest
     feed_size(&mut hasher, of.size);
     feed_hash(&mut hasher, b"design", &of.design);
     feed_traces(&mut hasher, of.traces);
+    feed_scope(&mut hasher, of.scope);
+    feed_zero(&mut hasher, of.zero_inputs);
     Digest {
         bytes: hasher.finalize(),
     }

@@ -15,4 +15,8 @@ pub struct Inputs<'a> {
     pub design: Digest,
     /// The digest of each trace's text, in order.
     pub traces: &'a [Digest],
+    /// The path of the scope that is read of each trace's text, where it is named.
+    pub scope: Option<&'a Name>,
+    /// Whether unknown bits of inputs are read as 0.
+    pub zero_inputs: bool,
 }
