@@ -13,7 +13,7 @@ use Rattle.loc_base.proofs.ShelfBools.{not-true}
 use Rattle.loc_base.proofs.ShelfLists.{list_any-found, list_any-member}
 use Rattle.requests.specs.Asked.{TextsAsked}
 use Rattle.word_values.specs.Sources.{AreSources, are_source_names}
-use Rattle.word_values.specs.Values.{are_kinds, is_file_name, is_kind_name, is_name, is_once, is_one_of, kinds_in}
+use Rattle.word_values.specs.Values.{are_kinds, is_file_name, is_kind_name, is_name, is_once, is_one_of, kinds_in, option_all}
 
 -- ---- names among names
 one_of-Contains : (names : List (List ℕ)) (name : List ℕ) → is_one_of names name ≡ true → Contains names name
@@ -72,7 +72,8 @@ sources-hold sources names =
     let traces = list_all is_file_name sources.traces in
     let count = length sources.traces in
     let design = is_file_name sources.design in
-    let most = and_parts (design && is_name sources.top && traces && nat_le 1 count) (nat_le count 256) names in
+    let scope = and_parts (design && is_name sources.top && traces && nat_le 1 count && nat_le count 256) (option_all is_name sources.scope) names in
+    let most = and_parts (design && is_name sources.top && traces && nat_le 1 count) (nat_le count 256) scope.0 in
     let some = and_parts (design && is_name sources.top && traces) (nat_le 1 count) most.0 in
     let read = and_parts (design && is_name sources.top) traces some.0 in
     let first = and_parts design (is_name sources.top) read.0 in
@@ -82,4 +83,5 @@ sources-hold sources names =
       traces = read.1;
       some = leb-true 1 count some.1;
       most = leb-true count 256 most.1;
+      scope = scope.1;
     }

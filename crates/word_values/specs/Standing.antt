@@ -4,7 +4,7 @@ use Rattle.std.specs.Prelude.{ℕ, Bool, if◌then◌else◌, List, Option, Some
 use Rattle.word_values.specs.declared.usage.Usage.{Usage}
 use Rattle.word_values.specs.declared.usage.Usage.TheVariants.{Words, Name, Kind}
 use Rattle.word_values.specs.Arguments.{Row}
-use Rattle.word_values.specs.Formats.{format_word, is_format}
+use Rattle.word_values.specs.Formats.{is_reading_known}
 use Rattle.word_values.specs.Values.{are_kinds}
 
 -- what the values of its arguments ask for, where its words stand right
@@ -12,13 +12,13 @@ abbrev pub standing : {A : Type 0} → (List Row → Result A Usage) → Option 
 standing asked None = Err Words
 standing asked (Some rows) = asked rows
 
--- what is asked for, where the format that is named is one
+-- what is asked for, where the format that is named is one, and what is named for unknown inputs is 0
 abbrev pub formatted : {A : Type 0} → Bool → Result A Usage → Result A Usage
 formatted known (Ok asked) = if known then Ok asked else Err Name
 formatted known (Err usage) = Err usage
 
 abbrev pub with_format : {A : Type 0} → (List Row → Result A Usage) → List Row → Result A Usage
-with_format asked rows = formatted (is_format (format_word rows)) (asked rows)
+with_format asked rows = formatted (is_reading_known rows) (asked rows)
 
 -- what is asked for, where its names pass
 abbrev pub named : {A : Type 0} → (A → Bool) → Result A Usage → Result A Usage

@@ -1,5 +1,5 @@
 -- What values that aren't copied yet say: for contracts of the crates that read words.
-use Rattle.std.specs.Prelude.{map}
+use Rattle.std.specs.Prelude.{map, option_map}
 use Rattle.word_values.specs.declared.numbers.Numbers.{Numbers}
 use Rattle.word_values.specs.declared.sources.Sources.{Sources}
 use Rattle.word_values.specs.Numbers.{Numbers as ListNumbers}
@@ -19,4 +19,6 @@ sources_view sources = record {
   format = sources.format;
   top = sources.top.now;
   traces = map (λ word. word.now) sources.traces.now;
+  scope = option_map (λ word. word.now) sources.scope;
+  zero_inputs = sources.zero_inputs;
 }

@@ -11,7 +11,7 @@ mod table;
 mod usage;
 mod values;
 
-pub use formats::is_format_known;
+pub use formats::is_reading_known;
 pub use given::{Given, given_by};
 pub use kinds::{are_kinds, kinds_in};
 pub use numbers::{Numbers, numbers_in, workers_in};
