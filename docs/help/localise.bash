@@ -7,9 +7,9 @@ _localise() {
         return
     fi
     case ${COMP_WORDS[1]} in
-        sim) words="--clock --format --exit-code" ;;
-        find) words="--format --clock --size --suspects --budget --sets --workers --log --report --waves --checkpoint --resume --resume-log" ;;
-        check) words="--workers --format" ;;
+        sim) words="--clock --scope --x-inputs --format --exit-code" ;;
+        find) words="--format --clock --scope --x-inputs --size --suspects --budget --sets --workers --log --report --waves --checkpoint --resume --resume-log" ;;
+        check) words="--workers --format --scope --x-inputs" ;;
         make) words="--design --trace --size --suspects --budget --sets --workers --log --report" ;;
         help) mapfile -t COMPREPLY < <(compgen -W "sim find check make" -- "$word") && return ;;
     esac

@@ -43,7 +43,7 @@ a_name_of_a_command_that_is_not_known = refl
 what_stands_where_no_option_is_given
     : asked (find_words [])
     ≡ Ok (find (record {
-      sources = record { texts = record { design = codes "m.v"; format = Verilog; top = codes "m"; traces = codes "t" ∷ [] }; clock = None };
+      sources = record { texts = record { design = codes "m.v"; format = Verilog; top = codes "m"; traces = codes "t" ∷ []; scope = None; zero_inputs = false }; clock = None };
       listing = plain_list (codes "stmt" ∷ []);
       resume = None;
       waves = None;
@@ -66,7 +66,7 @@ what_is_made_where_no_option_is_given = refl
 the_report_stands_before_the_log
     : asked (codes "check" ∷ codes "m.v" ∷ codes "m" ∷ codes "r" ∷ codes "l" ∷ codes "t" ∷ codes "u" ∷ [])
     ≡ Ok (check (record {
-      texts = record { design = codes "m.v"; format = Verilog; top = codes "m"; traces = codes "t" ∷ codes "u" ∷ [] };
+      texts = record { design = codes "m.v"; format = Verilog; top = codes "m"; traces = codes "t" ∷ codes "u" ∷ []; scope = None; zero_inputs = false };
       report = codes "r";
       log = codes "l";
       workers = 1;
@@ -78,7 +78,7 @@ two_kinds_of_suspects_and_waves
     : asked (find_words (codes "--suspects" ∷ codes "block,stmt" ∷ codes "u" ∷ codes "--clock=c" ∷ codes "--waves=w" ∷ []))
     ≡ Ok (find (record {
       sources = record {
-        texts = record { design = codes "m.v"; format = Verilog; top = codes "m"; traces = codes "t" ∷ codes "u" ∷ [] };
+        texts = record { design = codes "m.v"; format = Verilog; top = codes "m"; traces = codes "t" ∷ codes "u" ∷ []; scope = None; zero_inputs = false };
         clock = Some (codes "c");
       };
       listing = plain_list (codes "block" ∷ codes "stmt" ∷ []);
@@ -96,7 +96,7 @@ waves_among_which_a_trace_would_be = refl
 checkpoints_that_a_killed_run_leaves
     : asked (find_words (codes "--checkpoint=run" ∷ []))
     ≡ Ok (find (record {
-      sources = record { texts = record { design = codes "m.v"; format = Verilog; top = codes "m"; traces = codes "t" ∷ [] }; clock = None };
+      sources = record { texts = record { design = codes "m.v"; format = Verilog; top = codes "m"; traces = codes "t" ∷ []; scope = None; zero_inputs = false }; clock = None };
       listing = plain_list (codes "stmt" ∷ []);
       resume = None;
       waves = None;
@@ -116,7 +116,7 @@ checkpoints_among_which_waves_would_be = refl
 a_session_that_is_gone_on_from
     : asked (find_words (codes "--resume=a.json" ∷ codes "--resume-log" ∷ codes "a.log" ∷ []))
     ≡ Ok (find (record {
-      sources = record { texts = record { design = codes "m.v"; format = Verilog; top = codes "m"; traces = codes "t" ∷ [] }; clock = None };
+      sources = record { texts = record { design = codes "m.v"; format = Verilog; top = codes "m"; traces = codes "t" ∷ []; scope = None; zero_inputs = false }; clock = None };
       listing = plain_list (codes "stmt" ∷ []);
       resume = Some (record { report = codes "a.json"; log = codes "a.log" });
       waves = None;
@@ -187,7 +187,7 @@ behind_two_dashes_all_words_are_positional
     : asked (sim_words (codes "--" ∷ codes "--clock" ∷ codes "-" ∷ []))
     ≡ Ok (sim (record {
       sources = record {
-        texts = record { design = codes "m.v"; format = Verilog; top = codes "m"; traces = codes "--clock" ∷ codes "-" ∷ [] };
+        texts = record { design = codes "m.v"; format = Verilog; top = codes "m"; traces = codes "--clock" ∷ codes "-" ∷ []; scope = None; zero_inputs = false };
         clock = None;
       };
       exit_code = false;
@@ -225,7 +225,7 @@ a_design_in_aiger
     : asked (sim_words (codes "t" ∷ codes "--format" ∷ codes "aiger" ∷ []))
     ≡ Ok (sim (record {
       sources = record {
-        texts = record { design = codes "m.v"; format = Aiger; top = codes "m"; traces = codes "t" ∷ [] };
+        texts = record { design = codes "m.v"; format = Aiger; top = codes "m"; traces = codes "t" ∷ []; scope = None; zero_inputs = false };
         clock = None;
       };
       exit_code = false;
@@ -237,7 +237,7 @@ a_status_that_tells
     : asked (sim_words (codes "--exit-code" ∷ codes "t" ∷ []))
     ≡ Ok (sim (record {
       sources = record {
-        texts = record { design = codes "m.v"; format = Verilog; top = codes "m"; traces = codes "t" ∷ [] };
+        texts = record { design = codes "m.v"; format = Verilog; top = codes "m"; traces = codes "t" ∷ []; scope = None; zero_inputs = false };
         clock = None;
       };
       exit_code = true;
@@ -252,6 +252,34 @@ a_flag_with_a_value = refl
 a_flag_that_is_given_twice : asked (sim_words (codes "--exit-code" ∷ codes "t" ∷ codes "--exit-code" ∷ [])) ≡ Err Words
 unfolding clap_on_literals read_by sim_arguments
 a_flag_that_is_given_twice = refl
+
+-- ---- how dumps are read
+the_scope_of_a_golden_model_and_no_unknown_inputs
+    : asked (sim_words (codes "t" ∷ codes "--scope=tb.golden" ∷ codes "--x-inputs" ∷ codes "0" ∷ []))
+    ≡ Ok (sim (record {
+      sources = record {
+        texts = record {
+          design = codes "m.v";
+          format = Verilog;
+          top = codes "m";
+          traces = codes "t" ∷ [];
+          scope = Some (codes "tb.golden");
+          zero_inputs = true;
+        };
+        clock = None;
+      };
+      exit_code = false;
+    }))
+unfolding clap_on_literals read_by sim_arguments
+the_scope_of_a_golden_model_and_no_unknown_inputs = refl
+
+unknown_inputs_read_as_1 : asked (sim_words (codes "t" ∷ codes "--x-inputs=1" ∷ [])) ≡ Err Name
+unfolding clap_on_literals read_by sim_arguments
+unknown_inputs_read_as_1 = refl
+
+a_scope_of_no_name : asked (sim_words (codes "t" ∷ codes "--scope=" ∷ [])) ≡ Err Name
+unfolding clap_on_literals read_by sim_arguments
+a_scope_of_no_name = refl
 
 a_format_that_is_none : asked (sim_words (codes "t" ∷ codes "--format=aig" ∷ [])) ≡ Err Name
 unfolding clap_on_literals read_by sim_arguments

@@ -10,13 +10,13 @@ use Rattle.word_values.specs.Sources.{AreSources, are_source_names, sources_in}
 use Rattle.word_values.specs.Standing.{named, standing, with_format}
 use Rattle.word_values.specs.Values.{is_file_name}
 
--- `check DESIGN TOP REPORT LOG TRACE.. [--workers N] [--format F]`
+-- `check DESIGN TOP REPORT LOG TRACE.. [--workers N] [--format F] [--scope S] [--x-inputs 0]`
 unfoldable pub check_arguments : Arguments
 check_arguments = record {
   command = codes "check";
   words = codes "design" ∷ codes "top" ∷ codes "report" ∷ codes "log" ∷ [];
   rest = Some (codes "trace");
-  options = codes "workers" ∷ codes "format" ∷ [];
+  options = codes "workers" ∷ codes "format" ∷ codes "scope" ∷ codes "x-inputs" ∷ [];
   flags = [];
 }
 

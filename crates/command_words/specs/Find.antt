@@ -20,7 +20,8 @@ find_arguments = record {
   words = codes "design" ∷ codes "top" ∷ [];
   rest = Some (codes "trace");
   options = codes "clock" ∷ codes "size" ∷ codes "budget" ∷ codes "sets" ∷ codes "suspects" ∷ codes "workers" ∷ codes "log"
-      ∷ codes "report" ∷ codes "resume" ∷ codes "resume-log" ∷ codes "waves" ∷ codes "checkpoint" ∷ codes "format" ∷ [];
+      ∷ codes "report" ∷ codes "resume" ∷ codes "resume-log" ∷ codes "waves" ∷ codes "checkpoint" ∷ codes "format"
+      ∷ codes "scope" ∷ codes "x-inputs" ∷ [];
   flags = [];
 }
 

@@ -9,13 +9,13 @@ use Rattle.word_values.specs.Sources.{AreSources, are_source_names, sources_in}
 use Rattle.word_values.specs.Standing.{named, standing, with_format}
 use Rattle.word_values.specs.Values.{is_name, option_all}
 
--- `sim DESIGN TOP TRACE.. [--clock NAME] [--format F] [--exit-code]`
+-- `sim DESIGN TOP TRACE.. [--clock NAME] [--format F] [--scope S] [--x-inputs 0] [--exit-code]`
 unfoldable pub sim_arguments : Arguments
 sim_arguments = record {
   command = codes "sim";
   words = codes "design" ∷ codes "top" ∷ [];
   rest = Some (codes "trace");
-  options = codes "clock" ∷ codes "format" ∷ [];
+  options = codes "clock" ∷ codes "format" ∷ codes "scope" ∷ codes "x-inputs" ∷ [];
   flags = codes "exit-code" ∷ [];
 }
 

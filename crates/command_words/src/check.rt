@@ -14,7 +14,7 @@ use requests::CheckRequest;
 use std::alloc::Global;
 use word_values::{
     Given, Sources, Table, Usage, WordsErr, are_source_names, given_by, is_file_name,
-    is_format_known, sources_in, workers_in,
+    is_reading_known, sources_in, workers_in,
 };
 
 /// The values of the command's arguments.
@@ -35,7 +35,7 @@ fn check_table() -> Table<'static>
         command: "check",
         words: &["design", "top", "report", "log"],
         rest: Some("trace"),
-        options: &["workers", "format"],
+        options: &["workers", "format", "scope", "x-inputs"],
         flags: &[],
     }
 }
@@ -85,8 +85,8 @@ fn copied(alloc: Global, values: &CheckValues) -> Result<CheckRequest, NoMemory>
 }
 
 /// What the words of the command ask for, itself the first: `check DESIGN TOP REPORT LOG TRACE.. [--workers N]
-/// [--format F]`, with 1 to 256 traces, 1 to 64 workers (without the option 1), and a design in `verilog` (so too without the option) or
-/// in `aiger`.
+/// [--format F] [--scope S] [--x-inputs 0]`, with 1 to 256 traces, 1 to 64 workers (without the option 1), and a design in `verilog` (so
+/// too without the option) or in `aiger`.
 pub fn check_words(alloc: Global, words: &[String]) -> Result<CheckRequest, WordsErr>
     ensures gives { Gives check_asked_of (check_asked (map string_bytes words.now)) result }
     ensures holds { IfOk result (λ words. IsCheckAsked (check_asked_of words)) }
@@ -95,7 +95,7 @@ pub fn check_words(alloc: Global, words: &[String]) -> Result<CheckRequest, Word
         return Err(WordsErr::Usage(Usage::Words));
     };
     let values = values_in(&given)?;
-    if !is_format_known(&given) || !are_names(&values) {
+    if !is_reading_known(&given) || !are_names(&values) {
         return Err(WordsErr::Usage(Usage::Name));
     }
     Ok(copied(alloc, &values)?)

@@ -21,8 +21,8 @@ use loc_base::NoMemory;
 use requests::FindRequest;
 use std::alloc::Global;
 use word_values::{
-    Given, Table, Usage, WordsErr, are_kinds, given_by, is_file_name, is_format_known,
-    is_path_of_one, is_same_path, kinds_in, one_path_begins_with, path_begins_with, text_if,
+    Given, Table, Usage, WordsErr, are_kinds, given_by, is_file_name, is_path_of_one,
+    is_reading_known, is_same_path, kinds_in, one_path_begins_with, path_begins_with, text_if,
 };
 
 /// The values of the command's arguments.
@@ -59,6 +59,8 @@ fn find_table() -> Table<'static>
             "waves",
             "checkpoint",
             "format",
+            "scope",
+            "x-inputs",
         ],
         flags: &[],
     }
@@ -205,7 +207,7 @@ pub fn find_words(alloc: Global, words: &[String], known: &[&str]) -> Result<Fin
         return Err(WordsErr::Usage(Usage::Words));
     };
     let values = values_in(&given)?;
-    if !is_format_known(&given) || !are_names(alloc, &values)? {
+    if !is_reading_known(&given) || !are_names(alloc, &values)? {
         return Err(WordsErr::Usage(Usage::Name));
     }
     let suspects = kinds_in(alloc, values.listing.suspects)?;

@@ -43,6 +43,8 @@ their own, free in each cycle, they make each dump's outputs the wanted ones.
   DUMP             a VCD file of the top's ports, outputs as wanted; 1 to 256
   --format F       the format of the design: verilog or aiger (verilog)
   --clock NAME     the input of the top that is the clock (none)
+  --scope PATH     the dumps' scope with the ports, as tb.golden (the first)
+  --x-inputs 0     x and z of inputs are read as 0 (the dump is refused)
   --size K         the most suspects in a set, 0 to 8 (2)
   --suspects A,B   their kinds: and, block, gate, instance, module, stmt (stmt)
   --budget B       the most steps that may be learned, 1 to 10000000 (200000)
@@ -65,7 +67,7 @@ example: localise find uart_tx.v uart_tx uart_tx.vcd --clock clk --size 1
 
 /// `sim`.
 pub const SIM: &[u8] = b"usage: localise sim DESIGN TOP DUMP.. [--clock NAME] [--format F]
-                    [--exit-code]
+                    [--scope PATH] [--x-inputs 0] [--exit-code]
 
 Runs the design on the inputs of each dump, prints its outputs, and says where
 they first differ from those that the dump wants.
@@ -74,6 +76,8 @@ they first differ from those that the dump wants.
   DUMP           a VCD file with the ports of the top: the inputs that were
                  applied, the outputs that are wanted; 1 to 256 of them
   --clock NAME   the input of the top that is the clock (none)
+  --scope PATH   the dumps' scope with the ports, as tb.golden (the first)
+  --x-inputs 0   x and z of inputs are read as 0 (the dump is refused)
   --format F     the format of the design: verilog or aiger (verilog)
   --exit-code    end with status 9 where some output differs
 
@@ -94,6 +98,7 @@ example: localise sim uart_tx.v uart_tx uart_tx.vcd --clock clk
 /// `check`.
 pub const CHECK: &[u8] =
     b"usage: localise check DESIGN TOP REPORT LOG DUMP.. [--workers N] [--format F]
+                      [--scope PATH] [--x-inputs 0]
 
 Judges a list that find wrote: are the sets of its report all that there are? It
 searches nothing. The clock, the size and the kinds are those of the report.
@@ -103,6 +108,10 @@ searches nothing. The clock, the size and the kinds are those of the report.
   DUMP           the dumps that find was given, in the same order; 1 to 256
   --workers N    the most threads, 1 to 64 (1)
   --format F     the format of the design: verilog or aiger (verilog)
+  --scope PATH   the dumps' scope with the ports, as find was given (the
+                 first)
+  --x-inputs 0   x and z of inputs are read as 0, as find was told (the dump is
+                 refused)
 In parentheses: the default.
 
 status 0: yes N: the N sets are the whole list. 1: front N: they are a front of

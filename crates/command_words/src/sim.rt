@@ -12,8 +12,8 @@ use loc_base::NoMemory;
 use requests::{Reading, SimRequest};
 use std::alloc::Global;
 use word_values::{
-    Given, Sources, Table, Usage, WordsErr, are_source_names, given_by, is_format_known,
-    is_name_if, name_if, sources_in,
+    Given, Sources, Table, Usage, WordsErr, are_source_names, given_by, is_name_if,
+    is_reading_known, name_if, sources_in,
 };
 
 /// The values of the command's arguments.
@@ -32,7 +32,7 @@ fn sim_table() -> Table<'static>
         command: "sim",
         words: &["design", "top"],
         rest: Some("trace"),
-        options: &["clock", "format"],
+        options: &["clock", "format", "scope", "x-inputs"],
         flags: &["exit-code"],
     }
 }
@@ -77,7 +77,7 @@ pub fn sim_words(alloc: Global, words: &[String]) -> Result<SimRequest, WordsErr
         return Err(WordsErr::Usage(Usage::Words));
     };
     let values = values_in(&given)?;
-    if !is_format_known(&given) || !are_names(&values) {
+    if !is_reading_known(&given) || !are_names(&values) {
         return Err(WordsErr::Usage(Usage::Name));
     }
     Ok(SimRequest {

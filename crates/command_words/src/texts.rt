@@ -7,7 +7,7 @@ ghost use Rattle.word_values.specs.Views.{sources_view};
 use loc_base::NoMemory;
 use requests::Texts;
 use std::alloc::Global;
-use word_values::{Sources, copies_of, name_of};
+use word_values::{Sources, copies_of, name_if, name_of};
 
 /// A copy of what is given of them.
 pub(crate) fn copied(alloc: Global, texts: &Sources) -> Result<Texts, NoMemory>
@@ -19,5 +19,7 @@ pub(crate) fn copied(alloc: Global, texts: &Sources) -> Result<Texts, NoMemory>
         format: texts.format,
         top: name_of(alloc, texts.top)?,
         traces: copies_of(alloc, texts.traces)?,
+        scope: name_if(alloc, texts.scope)?,
+        zero_inputs: texts.zero_inputs,
     })
 }

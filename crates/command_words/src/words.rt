@@ -17,16 +17,17 @@ use word_values::{Usage, WordsErr};
 /// What the words behind the program's name ask for, where kinds of suspects of these names are known:
 ///
 /// - `find DESIGN TOP TRACE.. [--clock NAME] [--size K] [--budget B] [--sets M] [--suspects A,B] [--workers N] [--log NAME]
-///   [--report NAME] [--waves PREFIX] [--checkpoint PREFIX] [--resume NAME --resume-log NAME] [--format F]`
-/// - `sim DESIGN TOP TRACE.. [--clock NAME] [--format F] [--exit-code]`
-/// - `check DESIGN TOP REPORT LOG TRACE.. [--workers N] [--format F]`
+///   [--report NAME] [--waves PREFIX] [--checkpoint PREFIX] [--resume NAME --resume-log NAME] [--format F] [--scope S] [--x-inputs 0]`
+/// - `sim DESIGN TOP TRACE.. [--clock NAME] [--format F] [--scope S] [--x-inputs 0] [--exit-code]`
+/// - `check DESIGN TOP REPORT LOG TRACE.. [--workers N] [--format F] [--scope S] [--x-inputs 0]`
 /// - `make NUMBER [--size K] [--budget B] [--sets M] [--suspects A,B] [--workers N] [--log NAME] [--report NAME] [--design NAME]
 ///   [--trace NAME]`
 /// - `help [COMMAND]`, `--help`, `-h`, `--version`
 ///
 /// There are 1 to 256 traces. The size is 0 to 8 (without the option 2), the budget 1 to 10,000,000 (200,000), the number of sets
 /// 1 to 100,000 (1,000), that of workers 1 to 64 (1), that of an input that is made 0 to 9999. The suspects (`stmt`) are known,
-/// each once. The format of the design is `verilog` (so too without the option) or `aiger`. Of a session that is gone on from, the report
+/// each once. The format of the design is `verilog` (so too without the option) or `aiger`. The scope is a path of names in the traces,
+/// joined by dots, and unknown inputs are read as `0`, no other value, where they are. Of a session that is gone on from, the report
 /// and the log are named both, or neither. What is written, the log (`localise.log`), the report (`localise.json`), and for `make` the
 /// design (`made.v`) and the trace (`made.vcd`), have names that are other paths than each other's and than those of what is read; with
 /// `--waves`, and with `--checkpoint`, no other name begins, as a path, with its value and `-`. An option is `--x v` or `--x=v`, stands anywhere behind the command and
