@@ -7,7 +7,7 @@ use Rattle.refusal.specs.Codes.{code_span}
 use Rattle.refusal.specs.declared.notes.Note.{Note}
 use Rattle.refusal.specs.declared.notes.Note.TheVariants.{Usage, Refused, Limited, Unread, Unwritten, Scope, Missed, Progress, Printing, Written}
 use Rattle.note_text.specs.Places.{IsLineStart, is_newline}
-use Rattle.note_text.specs.Texts.{Begins, code_word, error_text, moment_text, output_text, spot_text, synopsis_text, values_text, wrong_text}
+use Rattle.note_text.specs.Texts.{Begins, code_word, error_text, moment_text, output_text, scope_text, spot_text, synopsis_text, values_text, wrong_text}
 
 -- a text is refused at a span: `NAME:LINE:COLUMN: error CODE`, where the span begins, or at the text's end where it begins behind that
 pub record TellsPlace (name source code : List ℕ) (span : Span) (old new : List ℕ) : Type 0 where
@@ -39,7 +39,7 @@ Tells (Unwritten name cause) old new = Begins (codes "cannot write ") old new
 Tells (Missed trace cycle output wanted given) old new =
     new ≡ old ++ moment_text trace cycle ++ output_text output.now
     ++ values_text (width_of given) (value_of given) (width_of wanted) (value_of wanted)
-Tells (Scope trace path) old new = new ≡ old
+Tells (Scope trace path) old new = new ≡ old ++ scope_text trace path.now
 Tells (Progress size sets steps budget) old new = new ≡ old
 Tells Printing old new = new ≡ old
 Tells (Written name) old new = new ≡ old

@@ -42,6 +42,10 @@ literal_text width value = decimal width ++ codes "'h" ++ value_text width value
 abbrev pub moment_text : ℕ → ℕ → List ℕ
 moment_text trace cycle = codes "trace " ++ decimal trace ++ codes " misses in cycle " ++ decimal cycle
 
+-- `trace T: scope PATH`
+abbrev pub scope_text : ℕ → List ℕ → List ℕ
+scope_text trace path = codes "trace " ++ decimal trace ++ codes ": scope " ++ path ++ newline
+
 -- `: OUTPUT`
 abbrev pub output_text : List ℕ → List ℕ
 output_text output = codes ": " ++ output

@@ -2,7 +2,7 @@
 ghost use Rattle.std.specs.Prelude.{◌≡◌, ◌++◌, OnOk, codes, decimal};
 ghost use Rattle.loc_base.specs.Bits.{value_of, width_of};
 ghost use Rattle.note_text.specs.Tells.{Tells};
-ghost use Rattle.note_text.specs.Texts.{Begins, moment_text, output_text, synopsis_text, values_text, wrong_text};
+ghost use Rattle.note_text.specs.Texts.{Begins, moment_text, output_text, scope_text, synopsis_text, values_text, wrong_text};
 
 use crate::literal::push_literal;
 use crate::refused::{Refused, push_code, push_refused, push_words};
@@ -90,6 +90,16 @@ fn push_moment(text: &mut Vec<u8>, trace: u32, cycle: u32) -> Result<(), NoMemor
     push_counted(text, b" misses in cycle ", cycle)
 }
 
+/// Appends the scope of a trace.
+fn push_scope(text: &mut Vec<u8>, trace: u32, path: &str) -> Result<(), NoMemory>
+    ensures { OnOk result (text.new.items ≡ text.old.items ++ scope_text trace path.now) }
+{
+    push_counted(text, b"trace ", trace)?;
+    push_bytes(text, b": scope ")?;
+    push_bytes(text, path.as_bytes())?;
+    push_bytes(text, b"\n")
+}
+
 /// Appends the output that misses.
 fn push_output(text: &mut Vec<u8>, output: &Name) -> Result<(), NoMemory>
     ensures { OnOk result (text.new.items ≡ text.old.items ++ output_text output.now) }
@@ -150,8 +160,8 @@ pub fn push_note(alloc: Global, text: &mut Vec<u8>, note: &Note<'_>) -> Result<(
             push_output(text, output)?;
             push_values(text, given, wanted)
         }
+        Note::Scope { trace, path } => push_scope(text, trace, path),
         // Of these nothing is printed.
-        Note::Scope { .. } | Note::Progress { .. } => Ok(()),
-        Note::Printing | Note::Written { .. } => Ok(()),
+        Note::Progress { .. } | Note::Printing | Note::Written { .. } => Ok(()),
     }
 }
