@@ -1,6 +1,6 @@
 -- Texts that are loaded, and what they mean.
 use Rattle.std.proofs.Common.{ℕ, zero, suc, ◌+◌, ◌≡◌, ◌≢◌, ◌<◌, ◌≤◌, List, [], ◌∷◌, ◌++◌, length, take, sym, refl}
-use Rattle.std.proofs.Common.{subst, arith, inl, inr, Option, Some, None, Result, Ok, Err}
+use Rattle.std.proofs.Common.{ap, subst, arith, inl, inr, Option, Some, None, Result, Ok, Err}
 use Rattle.std.specs.Prelude.{All, IfErr, IsErrAnd, IsSomeAnd, OnOk, slice_get}
 use Rattle.std.specs.Option.{option_or}
 use Rattle.std.proofs.lemmas.Bool.Decides.{nat_tests}
@@ -14,14 +14,14 @@ use Rattle.vcd_reading.specs.declared.error.VcdErr.{VcdErr}
 use Rattle.vcd_reading.specs.declared.error.VcdErr.TheVariants as vcd
 use Rattle.design_core.specs.TraceFits.{IsTraceOf}
 use Rattle.vcd_reading.specs.Scopes.{scope_of}
-use Rattle.vcd_traces.specs.Samples.{HasSamples, IsRefused, by_clock, cycle_refusal, cycles_of, sought_of, scope_refusal, width_refusal}
+use Rattle.vcd_traces.specs.Samples.{HasSamples, IsRefused, Manner, cycle_refusal, cycles_of, sought_of, scope_refusal, width_refusal}
 use Rattle.front_end.specs.Means.{Refuses, Refusing}
 use Rattle.load_texts.specs.declared.faults.LoadFault.TheVariants as load
 use Rattle.load_texts.specs.declared.faults.DesignFault.{DesignFault}
 use Rattle.load_texts.specs.declared.faults.DesignFault.TheVariants as design
 use Rattle.load_texts.specs.declared.faults.TraceFault.{TraceFault}
 use Rattle.load_texts.specs.declared.faults.TraceFault.TheVariants as trace
-use Rattle.load_texts.specs.By.{by_of}
+use Rattle.load_texts.specs.By.{by_of, manner_asked}
 use Rattle.requests.specs.Asked.{SourcesAsked}
 use Rattle.load_texts.specs.Means.{AreKeptOf, IsKeptOf, IsReadAnd, IsReadOf, MeansTrace, MeanTraces, most_bytes, most_cycles}
 use Rattle.load_texts.specs.Causes.{DesignCause, TraceCause}
@@ -49,18 +49,18 @@ take-next xs i x at = take-at xs i x (slice_get_within xs i x at) (sym (get_or_f
 -- one trace more
 pub one-more : (texts : Texts) (asked : SourcesAsked) (d : Design) (place : ℕ) (name : List ℕ) (traces : List Trace)
     (trace : Trace)
-    → slice_get asked.texts.traces place ≡ Some name → MeansTrace texts asked.clock d name trace
-    → MeanTraces texts asked.clock d (take place asked.texts.traces) traces
-    → MeanTraces texts asked.clock d (take (place + 1) asked.texts.traces) (traces ++ trace ∷ [])
+    → slice_get asked.texts.traces place ≡ Some name → MeansTrace texts (manner_asked asked) d name trace
+    → MeanTraces texts (manner_asked asked) d (take place asked.texts.traces) traces
+    → MeanTraces texts (manner_asked asked) d (take (place + 1) asked.texts.traces) (traces ++ trace ∷ [])
 one-more texts asked d place name traces trace at means before =
-    subst (λ names. MeanTraces texts asked.clock d names (traces ++ trace ∷ []))
+    subst (λ names. MeanTraces texts (manner_asked asked) d names (traces ++ trace ∷ []))
     (sym (take-next asked.texts.traces place name at))
-    (AllZip-push (MeansTrace texts asked.clock d) (take place asked.texts.traces) traces name trace before means)
+    (AllZip-push (MeansTrace texts (manner_asked asked) d) (take place asked.texts.traces) traces name trace before means)
 
-pub no-trace : (texts : Texts) (asked : SourcesAsked) (d : Design) → MeanTraces texts asked.clock d (take 0 asked.texts.traces) []
+pub no-trace : (texts : Texts) (asked : SourcesAsked) (d : Design) → MeanTraces texts (manner_asked asked) d (take 0 asked.texts.traces) []
 no-trace texts asked d = at asked.texts.traces
   where
-    at : (names : List (List ℕ)) → MeanTraces texts asked.clock d (take 0 names) []
+    at : (names : List (List ℕ)) → MeanTraces texts (manner_asked asked) d (take 0 names) []
     at [] = tt
     at (name ∷ names) = tt
 
@@ -98,19 +98,19 @@ first-none None b e = refl
 few-unrefused : (n : ℕ) → cycle_refusal n ≡ None → n ≤ most_cycles
 few-unrefused n e = grind (arith, nat_tests)
 
-pub few-cycles : (text : List ℕ) (d : Design) (clock : Option (List ℕ)) (found : Trace) → HasSamples text d (by_clock clock) found
+pub few-cycles : (text : List ℕ) (d : Design) (manner : Manner) (found : Trace) → HasSamples text d manner found
     → found.cycles ≤ most_cycles
-few-cycles text d clock found has =
+few-cycles text d manner found has =
     let past = has.past in
-    let behind = second-none (scope_refusal (scope_of past.header (sought_of d (by_clock clock)))) _ has.not_refused in
-    let counted = second-none (width_refusal past.header (sought_of d (by_clock clock))) _ behind in
-    let few : length (cycles_of d (by_clock clock) past) ≤ most_cycles =
-    few-unrefused (length (cycles_of d (by_clock clock) past)) (first-none (cycle_refusal (length (cycles_of d (by_clock clock) past))) _ counted) in
+    let behind = second-none (scope_refusal (scope_of past.header (sought_of d manner))) _ has.not_refused in
+    let counted = second-none (width_refusal past.header (sought_of d manner)) _ behind in
+    let few : length (cycles_of d manner past) ≤ most_cycles =
+    few-unrefused (length (cycles_of d manner past)) (first-none (cycle_refusal (length (cycles_of d manner past))) _ counted) in
     omega (arith, has.samples.cycles, few)
 
-pub is-read : (text : List ℕ) (d : Design) (clock : Option (List ℕ)) (found : Trace) → HasSamples text d (by_clock clock) found
+pub is-read : (text : List ℕ) (d : Design) (manner : Manner) (found : Trace) → HasSamples text d manner found
     → IsTraceOf d found → IsReadOf d found
-is-read text d clock found has fits = record { fits = fits; few = few-cycles text d clock found has }
+is-read text d manner found has fits = record { fits = fits; few = few-cycles text d manner found has }
 
 -- ---- causes, from what loads and readers say
 pub text-cause : (R : Refusing) (asked : SourcesAsked) (texts : Texts) (text : List ℕ) → IsLoaded (texts asked.texts.design) text
@@ -129,12 +129,12 @@ load-spared texts name P (design.Load load.NoMemory) cause read = inr refl
 load-spared texts name P (design.Text fault) cause read = absurd cause
 
 -- ---- traces
-pub dump-cause : (texts : Texts) (name : List ℕ) (d : Design) (clock : Option (List ℕ)) (text : List ℕ)
+pub dump-cause : (texts : Texts) (name : List ℕ) (d : Design) (manner : Manner) (text : List ℕ)
     → IsLoaded (texts name) text
-    → (why : TraceFault) → RefusesDump text d clock why → TraceCause (texts name) d clock why
-dump-cause texts name d clock text is (trace.Load _) cause = absurd cause
-dump-cause texts name d clock text is (trace.Text fault) cause =
-    of-text (texts name) text (λ t. fault ≢ vcd.NoMemory → IsRefused t d (by_clock clock) fault) is cause
+    → (why : TraceFault) → RefusesDump text d manner why → TraceCause (texts name) d manner why
+dump-cause texts name d manner text is (trace.Load _) cause = absurd cause
+dump-cause texts name d manner text is (trace.Text fault) cause =
+    of-text (texts name) text (λ t. fault ≢ vcd.NoMemory → IsRefused t d manner fault) is cause
 
 pub trace-spared : (texts : Texts) (name : List ℕ) (P : List ℕ → Type 0) (why : TraceFault)
     → LoadsTrace (texts name) (Err why)
@@ -150,27 +150,34 @@ dump-spared fault e = subst (λ (f : VcdErr). TraceSpared (trace.Text f)) (sym e
 
 -- ---- the trace at a place
 -- it is spared where each trace's text means one
-pub next-spared : (texts : Texts) (asked : SourcesAsked) (d : Design) (place : ℕ) (name : List ℕ) (clock : Option (List ℕ))
+pub next-spared : (texts : Texts) (asked : SourcesAsked) (d : Design) (place : ℕ) (name : List ℕ) (manner : Manner)
     (why : TraceFault)
-    → slice_get asked.texts.traces place ≡ Some name → clock ≡ asked.clock
-    → ((t : Trace) → MeansTrace texts clock d name t → TraceSpared why)
+    → slice_get asked.texts.traces place ≡ Some name → manner ≡ manner_asked asked
+    → ((t : Trace) → MeansTrace texts manner d name t → TraceSpared why)
     → All (HasTrace texts asked d) asked.texts.traces → TraceSpared why
-next-spared texts asked d place name clock why at is only all =
+next-spared texts asked d place name manner why at is only all =
     let (found, means) = All-member (HasTrace texts asked d) asked.texts.traces name all
     (Contains-at asked.texts.traces place name at) in
-    only found (subst (λ c. MeansTrace texts c d name found) (sym is) means)
+    only found (subst (λ m. MeansTrace texts m d name found) (sym is) means)
+
+-- how it is read, by the path of the scope that is handed over
+abbrev pub manner_in : SourcesAsked → Option (List ℕ) → Manner
+manner_in asked scope = record { clock = asked.clock; scope = scope; zero_inputs = asked.texts.zero_inputs }
+
+pub manner-is : (asked : SourcesAsked) (scope : Option (List ℕ)) → scope ≡ asked.texts.scope → manner_in asked scope ≡ manner_asked asked
+manner-is asked scope same = ap (manner_in asked) same
 
 -- it is kept, or there is no memory for it
 pub reads-next : {X : Type 0} (texts : Texts) (asked : SourcesAsked) (d : Design) (place : ℕ) (name : List ℕ)
     (old new : List Trace) (found : Trace)
-    (r : Result X TraceFault) → slice_get asked.texts.traces place ≡ Some name → MeansTrace texts asked.clock d name found
+    (r : Result X TraceFault) → slice_get asked.texts.traces place ≡ Some name → MeansTrace texts (manner_asked asked) d name found
     → OnOk r (new ≡ old ++ found ∷ []) → IfErr r (λ why. why ≡ trace.Load load.NoMemory)
     → ReadsNext texts asked d place old new r
 reads-next texts asked d place name old new found (Ok x) at means kept fault = λ before.
-    subst (MeanTraces texts asked.clock d (take (place + 1) asked.texts.traces)) (sym kept)
+    subst (MeanTraces texts (manner_asked asked) d (take (place + 1) asked.texts.traces)) (sym kept)
     (one-more texts asked d place name old found at means before)
 reads-next texts asked d place name old new found (Err why) at means kept fault =
-    (name, at, subst (λ (f : TraceFault). TraceCause (texts name) d asked.clock f) (sym fault) tt)
+    (name, at, subst (λ (f : TraceFault). TraceCause (texts name) d (manner_asked asked) f) (sym fault) tt)
 
 pub fits-next : {X : Type 0} (d : Design) (old new : List Trace) (found : Trace) (r : Result X TraceFault)
     → IsReadOf d found
@@ -194,5 +201,19 @@ keeps-next is_of texts asked place name old new kept (Err why) at is grew = tt
 pub passed_on : {X E : Type 0} (P : E → Type 0) (r : Result X E) (why : E) → IsErrAnd r (λ y. y ≡ why) → P why → IfErr r P
 passed_on P (Ok x) why same fact = tt
 passed_on P (Err y) why same fact = subst P (sym same) fact
+
+-- the one at a place is refused
+pub not-next : {X : Type 0} (texts : Texts) (asked : SourcesAsked) (d : Design) (place : ℕ) (name : List ℕ) (scope : Option (List ℕ))
+    (old new : List Trace) (r : Result X TraceFault) (why : TraceFault)
+    → slice_get asked.texts.traces place ≡ Some name → scope ≡ asked.texts.scope → IsErrAnd r (λ y. y ≡ why)
+    → TraceCause (texts name) d (manner_in asked scope) why
+    → ReadsNext texts asked d place old new r
+not-next texts asked d place name scope old new (Ok x) why at is same cause = absurd same
+not-next texts asked d place name scope old new (Err y) why at is same cause = (
+  name,
+  at,
+  subst (λ (f : TraceFault). TraceCause (texts name) d (manner_asked asked) f) (sym same)
+      (subst (λ (m : Manner). TraceCause (texts name) d m why) (manner-is asked scope is) cause),
+)
 
 pub ruleset load_rules = (load-spared, trace-spared, dump-spared, fits-none, no-trace, none-kept, all-kept, is-read)

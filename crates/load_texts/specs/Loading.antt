@@ -11,6 +11,7 @@ use Rattle.load_texts.specs.declared.faults.DesignFault.TheVariants as design
 use Rattle.load_texts.specs.declared.faults.TraceFault.{TraceFault}
 use Rattle.load_texts.specs.declared.faults.TraceFault.TheVariants as trace
 use Rattle.requests.specs.Asked.{SourcesAsked}
+use Rattle.load_texts.specs.By.{manner_asked}
 use Rattle.load_texts.specs.Causes.{TraceCause}
 use Rattle.load_texts.specs.Means.{MeansTrace, MeanTraces}
 use Rattle.load_texts.specs.Refusals.{design_fault_status, trace_fault_status}
@@ -44,10 +45,10 @@ trace_at asked place = unwrap_or (slice_get asked.texts.traces place) []
 -- the traces before a place are read, and the one there is refused
 pub record StopsAt (texts : Texts) (asked : SourcesAsked) (d : Design) (place : ℕ) (fault : TraceFault) : Type 0 where
   pub before : List Trace
-  pub mean : MeanTraces texts asked.clock d (take place asked.texts.traces) before
+  pub mean : MeanTraces texts (manner_asked asked) d (take place asked.texts.traces) before
   pub name : List ℕ
   pub at : slice_get asked.texts.traces place ≡ Some name
-  pub cause : TraceCause (texts name) d asked.clock fault
+  pub cause : TraceCause (texts name) d (manner_asked asked) fault
 
 -- a refusal that comes although the text means a design, or a trace: a fault of the shelf, or want of memory
 abbrev pub DesignSpared : DesignFault → Type 0
@@ -58,4 +59,4 @@ TraceSpared fault = (trace_fault_status fault ≡ 5) ⊎ (trace_fault_status fau
 
 -- the text under a name means some trace
 abbrev pub HasTrace : Texts → SourcesAsked → Design → List ℕ → Type 0
-HasTrace texts asked d name = (found : Trace) × MeansTrace texts asked.clock d name found
+HasTrace texts asked d name = (found : Trace) × MeansTrace texts (manner_asked asked) d name found

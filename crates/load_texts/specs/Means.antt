@@ -6,9 +6,9 @@ use Rattle.design_core.specs.declared.design.Design.{Design}
 use Rattle.design_core.specs.declared.trace.Trace.{Trace}
 use Rattle.design_core.specs.TraceFits.{IsTraceOf}
 use Rattle.front_end.specs.Means.{Meaning}
-use Rattle.load_texts.specs.By.{by_of}
+use Rattle.load_texts.specs.By.{by_of, manner_asked}
 use Rattle.requests.specs.Asked.{SourcesAsked}
-use Rattle.vcd_traces.specs.Samples.{HasSamples, by_clock}
+use Rattle.vcd_traces.specs.Samples.{HasSamples, Manner}
 
 -- the most bytes that a text may have
 abbrev pub most_bytes : ℕ
@@ -19,13 +19,13 @@ abbrev pub IsReadAnd : Option (List ℕ) → (List ℕ → Type 0) → Type 0
 IsReadAnd text P = IsSomeAnd text (λ bytes. (length bytes ≤ most_bytes) × P bytes)
 
 -- ---- traces
--- the text under a name means a trace
-abbrev pub MeansTrace : Texts → Option (List ℕ) → Design → List ℕ → Trace → Type 0
-MeansTrace texts clock d name trace = IsReadAnd (texts name) (λ text. HasSamples text d (by_clock clock) trace)
+-- the text under a name means a trace, by the manner in which it is read
+abbrev pub MeansTrace : Texts → Manner → Design → List ℕ → Trace → Type 0
+MeansTrace texts manner d name trace = IsReadAnd (texts name) (λ text. HasSamples text d manner trace)
 
 -- the texts under names mean traces, one each
-abbrev pub MeanTraces : Texts → Option (List ℕ) → Design → List (List ℕ) → List Trace → Type 0
-MeanTraces texts clock d names traces = AllZip (MeansTrace texts clock d) names traces
+abbrev pub MeanTraces : Texts → Manner → Design → List (List ℕ) → List Trace → Type 0
+MeanTraces texts manner d names traces = AllZip (MeansTrace texts manner d) names traces
 
 -- the most cycles of a trace that is read
 abbrev pub most_cycles : ℕ
@@ -44,7 +44,7 @@ MeansDesign M asked texts d = IsReadAnd (texts asked.texts.design) (λ text. M t
 -- and those under the traces' names traces of it
 pub record Means (M : Meaning) (asked : SourcesAsked) (texts : Texts) (d : Design) (traces : List Trace) : Type 0 where
   pub design : MeansDesign M asked texts d
-  pub mean : MeanTraces texts asked.clock d asked.texts.traces traces
+  pub mean : MeanTraces texts (manner_asked asked) d asked.texts.traces traces
 
 -- ---- what is kept of texts
 -- something is kept of the text under a name

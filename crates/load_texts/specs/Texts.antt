@@ -5,7 +5,7 @@ use Rattle.command_contract.specs.Contract.{Texts}
 use Rattle.design_core.specs.declared.design.Design.{Design}
 use Rattle.design_core.specs.declared.trace.Trace.{Trace}
 use Rattle.vcd_reading.specs.declared.error.VcdErr.TheVariants as vcd
-use Rattle.vcd_traces.specs.Samples.{IsRefused, by_clock}
+use Rattle.vcd_traces.specs.Samples.{IsRefused, Manner}
 use Rattle.refusal.specs.declared.code.Code.{Code}
 use Rattle.front_end.specs.Means.{Refuses}
 use Rattle.load_texts.specs.declared.faults.LoadFault.{LoadFault}
@@ -15,6 +15,7 @@ use Rattle.load_texts.specs.declared.faults.DesignFault.TheVariants as design
 use Rattle.load_texts.specs.declared.faults.TraceFault.{TraceFault}
 use Rattle.load_texts.specs.declared.faults.TraceFault.TheVariants as trace
 use Rattle.requests.specs.Asked.{SourcesAsked}
+use Rattle.load_texts.specs.By.{manner_asked}
 use Rattle.load_texts.specs.Causes.{LoadCause, TraceCause}
 use Rattle.load_texts.specs.Means.{AreKeptOf, MeanTraces, most_bytes}
 
@@ -44,9 +45,9 @@ abbrev pub RefusesText : (Code → Type 0) → DesignFault → Type 0
 RefusesText R (design.Load _) = ⊥
 RefusesText R (design.Text refusal) = Refuses R refusal
 
-abbrev pub RefusesDump : List ℕ → Design → Option (List ℕ) → TraceFault → Type 0
-RefusesDump text d clock (trace.Load _) = ⊥
-RefusesDump text d clock (trace.Text fault) = fault ≢ vcd.NoMemory → IsRefused text d (by_clock clock) fault
+abbrev pub RefusesDump : List ℕ → Design → Manner → TraceFault → Type 0
+RefusesDump text d manner (trace.Load _) = ⊥
+RefusesDump text d manner (trace.Text fault) = fault ≢ vcd.NoMemory → IsRefused text d manner fault
 
 -- the shelf's faults, after the text under a name was loaded
 abbrev pub LoadCounts : {X : Type 0} → List ℕ → FaultCounts → FaultCounts → Result X LoadFault → Type 0
@@ -59,10 +60,10 @@ LoadCounts name old new (Err load.NoMemory) = new ≡ old
 abbrev pub ReadsNext : {X : Type 0}
     → Texts → SourcesAsked → Design → ℕ → List Trace → List Trace → Result X TraceFault → Type 0
 ReadsNext texts asked d place old new (Ok _) =
-    MeanTraces texts asked.clock d (take place asked.texts.traces) old
-    → MeanTraces texts asked.clock d (take (place + 1) asked.texts.traces) new
+    MeanTraces texts (manner_asked asked) d (take place asked.texts.traces) old
+    → MeanTraces texts (manner_asked asked) d (take (place + 1) asked.texts.traces) new
 ReadsNext texts asked d place old new (Err fault) =
-    (name : List ℕ) × (slice_get asked.texts.traces place ≡ Some name) × TraceCause (texts name) d asked.clock fault
+    (name : List ℕ) × (slice_get asked.texts.traces place ≡ Some name) × TraceCause (texts name) d (manner_asked asked) fault
 
 -- what is kept of the texts before a place, and then of the one there
 abbrev pub KeepsNext : {X K : Type 0}

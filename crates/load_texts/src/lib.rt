@@ -7,6 +7,7 @@ mod faults;
 mod imprint;
 mod lines;
 mod loads;
+mod scopes;
 mod sources;
 mod telling;
 

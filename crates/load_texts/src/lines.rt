@@ -5,6 +5,7 @@ ghost use Rattle.vcd_traces.specs.Ports.{HasPorts};
 ghost use Rattle.front_end.specs.Means.{IsReady};
 ghost use Rattle.refusal.specs.Ends.{CountsOf, HasCause, HasStatus, IsSpared};
 ghost use Rattle.requests.specs.Views.{sources_asked};
+ghost use Rattle.load_texts.specs.By.{manner_asked};
 ghost use Rattle.load_texts.specs.Lines.{DesignRefused, TracesRefused};
 ghost use Rattle.load_texts.specs.Loading.{HasTrace};
 ghost use Rattle.load_texts.specs.Means.{AreKeptOf, IsKeptOf, IsReadOf, MeansDesign, MeanTraces};
@@ -64,7 +65,7 @@ pub fn load_traces<K: Imprint, S: Shelf, N: Notes>(
     ensures counts { CountsOf (S.faults shelf.old) (S.faults shelf.new) result }
     ensures status { IfErr result HasStatus }
     ensures means { S.tells shelf.old ≡ true → IfOk result (λ read. MeanTraces (S.texts shelf.old)
-        (sources_asked sources.now).clock design.now (sources_asked sources.now).texts.traces read.traces.items) }
+        (manner_asked (sources_asked sources.now)) design.now (sources_asked sources.now).texts.traces read.traces.items) }
     ensures kept { S.tells shelf.old ≡ true → IfOk result (λ read. AreKeptOf K.is_of (S.texts shelf.old)
         (sources_asked sources.now).texts.traces read.imprints.items) }
     ensures fits { IfOk result (λ read. All (IsReadOf design.now) read.traces.items) }

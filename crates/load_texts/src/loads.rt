@@ -1,15 +1,15 @@
 //! The texts: loaded from the shelf, and read.
 ghost use Rattle.std.specs.Prelude.{◌≡◌, ◌<◌, ◌≤◌, ◌+◌, ◌++◌, ◌∷◌, [], All, IfOk, IfErr, MatchResult, OnOk, Some, length};
 ghost use Rattle.std.specs.Prelude.{slice_get, true};
-ghost use Rattle.std.specs.Option.{option_copied};
 ghost use Rattle.design_core.specs.declared.design.Design.{Design as SomeDesign};
 ghost use Rattle.design_core.specs.declared.trace.Trace.{Trace as SomeTrace};
 ghost use Rattle.vcd_traces.specs.Ports.{HasPorts};
-ghost use Rattle.vcd_traces.specs.Samples.{HasSamples, by_clock};
+ghost use Rattle.vcd_traces.specs.Manner.{manner_of};
+ghost use Rattle.vcd_traces.specs.Samples.{HasSamples};
 ghost use Rattle.front_end.specs.Means.{IsReady};
 ghost use Rattle.load_texts.specs.declared.faults.LoadFault.TheVariants as load;
 ghost use Rattle.load_texts.specs.declared.faults.TraceFault.TheVariants as why;
-ghost use Rattle.load_texts.specs.By.{by_of};
+ghost use Rattle.load_texts.specs.By.{by_of, manner_asked};
 ghost use Rattle.requests.specs.Views.{sources_asked};
 ghost use Rattle.load_texts.specs.Means.{AreKeptOf, IsKeptOf, IsReadOf, MeansDesign, MeansTrace, MeanTraces, most_bytes};
 ghost use Rattle.load_texts.specs.Causes.{DesignCause, TraceCause};
@@ -19,12 +19,12 @@ ghost use Rattle.load_texts.specs.Texts.{KeepsNext, LoadCounts, Loads, LoadsDesi
 
 use crate::faults::{DesignFault, LoadFault, TraceFault};
 use crate::imprint::Imprint;
-use crate::sources::{name_at, read_by};
-use crate::telling::{tell_design, tell_dump, tell_unread};
+use crate::sources::{name_at, read_by, scope_in};
+use crate::telling::{tell_design, tell_dump, tell_scope, tell_unread};
 use design_core::{Design, Trace};
 use front_end::{FrontEnd, Ordered};
 use io_ports::{LoadErr, Shelf};
-use loc_base::{Bytes, Name};
+use loc_base::Bytes;
 use refusal::Notes;
 use requests::Sources;
 use std::alloc::Global;
@@ -166,12 +166,12 @@ fn load_dump<S: Shelf, N: Notes>(
     }
 }
 
-/// The text of a trace: its name, and the design and the clock by which it is read.
+/// The text of a trace: the trace's place, from 0, the text's name, and what it is read by.
 #[derive(Drop)]
-struct Source<'a> {
-    name: &'a str,
-    design: &'a Design,
-    clock: Option<&'a Name>,
+pub(crate) struct Source<'a> {
+    pub(crate) place: usize,
+    pub(crate) name: &'a str,
+    pub(crate) by: SampleBy<'a>,
 }
 
 /// The trace that a text means.
@@ -182,24 +182,19 @@ fn read_dump<N: Notes>(
     text: &Bytes,
     notes: &mut N,
 ) -> Result<Trace, TraceFault>
-    requires { HasPorts source.now.design.now }
-    ensures means { IfOk result (HasSamples text.now source.now.design.now (by_clock (option_copied source.now.clock))) }
-    ensures fits { IfOk result (IsReadOf source.now.design.now) }
-    ensures refused { IfErr result (RefusesDump text.now source.now.design.now (option_copied source.now.clock)) }
-    ensures only { (t : SomeTrace) → HasSamples text.now source.now.design.now (by_clock (option_copied source.now.clock)) t
+    requires { HasPorts source.now.by.design.now }
+    ensures means { IfOk result (HasSamples text.now source.now.by.design.now (manner_of source.now.by)) }
+    ensures fits { IfOk result (IsReadOf source.now.by.design.now) }
+    ensures refused { IfErr result (RefusesDump text.now source.now.by.design.now (manner_of source.now.by)) }
+    ensures only { (t : SomeTrace) → HasSamples text.now source.now.by.design.now (manner_of source.now.by) t
         → IfErr result TraceSpared }
 {
-    let by = SampleBy {
-        design: source.design,
-        clock: source.clock,
-        scope: None,
-        zero_inputs: false,
-    };
     let bytes = text.as_slice();
-    match samples(alloc, bytes, &by) {
+    tell_scope(alloc, source, bytes, notes);
+    match samples(alloc, bytes, &source.by) {
         Ok(trace) => Ok(trace),
         Err(fault) => {
-            tell_dump(source.name, bytes, fault, notes);
+            tell_dump(source, bytes, fault, notes);
             Err(TraceFault::Text(fault))
         }
     }
@@ -220,20 +215,20 @@ fn load_trace<K: Imprint, S: Shelf, N: Notes>(
     shelf: &mut S,
     notes: &mut N,
 ) -> Result<TraceRead<K>, TraceFault>
-    requires { HasPorts source.now.design.now }
+    requires { HasPorts source.now.by.design.now }
     ensures tells { S.tells shelf.new ≡ S.tells shelf.old }
     ensures texts { S.texts shelf.new ≡ S.texts shelf.old }
     ensures written { S.written shelf.new ≡ S.written shelf.old }
     ensures counts { CountsOfTrace source.now.name.now (S.faults shelf.old) (S.faults shelf.new) result }
     ensures means { S.tells shelf.old ≡ true → IfOk result
-        (λ r. MeansTrace (S.texts shelf.old) (option_copied source.now.clock) source.now.design.now source.now.name.now r.trace) }
+        (λ r. MeansTrace (S.texts shelf.old) (manner_of source.now.by) source.now.by.design.now source.now.name.now r.trace) }
     ensures kept { S.tells shelf.old ≡ true
         → IfOk result (λ r. IsKeptOf K.is_of (S.texts shelf.old) source.now.name.now r.imprint) }
-    ensures fits { IfOk result (λ r. IsReadOf source.now.design.now r.trace) }
+    ensures fits { IfOk result (λ r. IsReadOf source.now.by.design.now r.trace) }
     ensures refused { S.tells shelf.old ≡ true → IfErr result
-        (TraceCause (S.texts shelf.old source.now.name.now) source.now.design.now (option_copied source.now.clock)) }
+        (TraceCause (S.texts shelf.old source.now.name.now) source.now.by.design.now (manner_of source.now.by)) }
     ensures only { S.tells shelf.old ≡ true → (t : SomeTrace)
-        → MeansTrace (S.texts shelf.old) (option_copied source.now.clock) source.now.design.now source.now.name.now t
+        → MeansTrace (S.texts shelf.old) (manner_of source.now.by) source.now.by.design.now source.now.name.now t
         → IfErr result TraceSpared }
 {
     let text = load_dump(alloc, source.name, shelf, notes)?;
@@ -311,9 +306,14 @@ impl<K: Imprint> TracesRead<K> {
     {
         let dumps = reading.dumps;
         let source = Source {
+            place: reading.place,
             name: name_at(dumps.sources, reading.place),
-            design: dumps.design,
-            clock: dumps.sources.clock,
+            by: SampleBy {
+                design: dumps.design,
+                clock: dumps.sources.clock,
+                scope: scope_in(dumps.sources),
+                zero_inputs: dumps.sources.texts.zero_inputs,
+            },
         };
         let next = load_trace(alloc, &source, shelf, notes)?;
         self.keep(next)
@@ -343,7 +343,7 @@ pub(crate) fn fetch_traces<K: Imprint, S: Shelf, N: Notes>(
     ensures counts { MatchResult result (λ _. S.faults shelf.new ≡ S.faults shelf.old)
         (λ r. TraceCounts (trace_at (sources_asked dumps.now.sources.now) r.place) (S.faults shelf.old) (S.faults shelf.new) r.fault) }
     ensures means { S.tells shelf.old ≡ true → IfOk result (λ read. MeanTraces (S.texts shelf.old)
-        (sources_asked dumps.now.sources.now).clock dumps.now.design.now
+        (manner_asked (sources_asked dumps.now.sources.now)) dumps.now.design.now
         (sources_asked dumps.now.sources.now).texts.traces read.traces.items) }
     ensures kept { S.tells shelf.old ≡ true → IfOk result (λ read. AreKeptOf K.is_of (S.texts shelf.old)
         (sources_asked dumps.now.sources.now).texts.traces read.imprints.items) }

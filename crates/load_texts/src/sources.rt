@@ -1,5 +1,6 @@
-//! What the design's text is read by, and what the line of a refused trace names.
+//! What texts are read by, and what the line of a refused trace names.
 ghost use Rattle.std.specs.Prelude.{◌≡◌, ◌+◌, ◌<◌, ◌^◌, Some, length, slice_get};
+ghost use Rattle.std.specs.Option.{option_copied};
 ghost use Rattle.front_end.specs.By.{by_of as view_of};
 ghost use Rattle.requests.specs.Views.{sources_asked};
 ghost use Rattle.load_texts.specs.By.{by_of};
@@ -7,6 +8,7 @@ ghost use Rattle.load_texts.specs.By.{by_of};
 use crate::faults::TraceName;
 use design_core::Design;
 use front_end::ReadBy;
+use loc_base::Name;
 use requests::Sources;
 
 /// What the design's text is read by.
@@ -18,6 +20,13 @@ pub(crate) fn read_by<'a>(sources: &Sources<'a>) -> ReadBy<'a>
         top: &sources.texts.top,
         clock: sources.clock,
     }
+}
+
+/// The path of the scope in which the ports stand in each trace's text, where it is named.
+pub(crate) fn scope_in<'a>(sources: &Sources<'a>) -> Option<&'a Name>
+    ensures { option_copied result ≡ (sources_asked sources.now).texts.scope }
+{
+    sources.texts.scope.as_ref()
 }
 
 /// The name of the text of the trace at a place, from 0.

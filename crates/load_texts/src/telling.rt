@@ -1,13 +1,20 @@
-//! What is told to a person of a text that can't be read, or that is refused. Of want of memory nothing is told.
+//! What is told to a person of a text that can't be read, or that is refused, and of the scope in which a dump is read. Of want of memory
+//! nothing is told.
 ghost use Rattle.std.specs.Prelude.{◌≡◌};
+ghost use Rattle.vcd_traces.specs.Ports.{HasPorts};
 ghost use Rattle.refusal.specs.Codes.{code_status};
 ghost use Rattle.load_texts.specs.Dumps.{dump_status};
 
+use crate::loads::Source;
+use crate::scopes::scope_path;
 use front_end::Format;
 use io_ports::FaultKind;
 use loc_base::Span;
 use refusal::{Code, Note, Notes, Refusal};
 use requests::Sources;
+use std::alloc::Global;
+use std::str;
+use thiserror::Error;
 use vcd_traces::VcdErr;
 
 /// Tells that the text under a name can't be read.
@@ -72,7 +79,36 @@ fn dump_code(fault: VcdErr) -> Code
     }
 }
 
-/// Tells that the dump under a name holds no trace.
-pub(crate) fn tell_dump<N: Notes>(name: &str, text: &[u8], fault: VcdErr, notes: &mut N) {
-    tell_refused(name, text, &Refusal::of(dump_code(fault), &fault), notes);
+/// Why a dump has no scope in which it could be read, where the scope's path is named.
+#[derive(Clone, Copy, Debug, Error)]
+#[error("no scope has that path, or the first that has it lacks a port of the top")]
+struct NoScope;
+
+/// What is told of a dump that holds no trace.
+fn dump_refusal(source: &Source<'_>, fault: VcdErr) -> Refusal {
+    let code = dump_code(fault);
+    match fault {
+        VcdErr::MissingPort if source.by.scope.is_some() => Refusal::of(code, &NoScope),
+        _ => Refusal::of(code, &fault),
+    }
+}
+
+/// Tells that a dump holds no trace.
+pub(crate) fn tell_dump<N: Notes>(source: &Source<'_>, text: &[u8], fault: VcdErr, notes: &mut N) {
+    tell_refused(source.name, text, &dump_refusal(source, fault), notes);
+}
+
+/// Tells the scope of a dump in which the ports are read, if there is one.
+pub(crate) fn tell_scope<N: Notes>(alloc: Global, source: &Source<'_>, text: &[u8], notes: &mut N)
+    requires { HasPorts source.now.by.design.now }
+{
+    let Ok(Some(shown)) = scope_path(alloc, text, &source.by) else {
+        return;
+    };
+    let Ok(trace) = u32::try_from(source.place.saturating_add(1)) else {
+        return;
+    };
+    if let Ok(path) = str::from_utf8(shown.as_slice()) {
+        notes.note(&Note::Scope { trace, path });
+    }
 }

@@ -1,6 +1,7 @@
 use Rattle.std.proofs.Common.{◌≡◌, length, take}
 use Rattle.std.specs.Prelude.{All, true}
 use Rattle.requests.specs.Views.{sources_asked}
+use Rattle.load_texts.specs.By.{manner_asked}
 use Rattle.load_texts.specs.Means.{AreKeptOf, IsReadOf, MeanTraces}
 use Rattle.load_texts.proofs.loads.fetch_traces.Given as goal
 
@@ -14,7 +15,7 @@ invariant-loop-place g l =
       fits : All (IsReadOf l.dumps.design.now) l.read.traces.items;
       count : length l.read.traces.items ≡ l.place;
       mean : g.S.Shelf.tells l.initial.shelf ≡ true
-          → MeanTraces (g.S.Shelf.texts l.initial.shelf) (sources_asked l.dumps.sources.now).clock l.dumps.design.now
+          → MeanTraces (g.S.Shelf.texts l.initial.shelf) (manner_asked (sources_asked l.dumps.sources.now)) l.dumps.design.now
           (take l.place (sources_asked l.dumps.sources.now).texts.traces) l.read.traces.items;
       kept : g.S.Shelf.tells l.initial.shelf ≡ true
           → AreKeptOf g.K.Imprint.is_of (g.S.Shelf.texts l.initial.shelf)
