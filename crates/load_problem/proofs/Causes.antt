@@ -10,6 +10,7 @@ use Rattle.front_end.specs.Means.{Meaning, Refusing}
 use Rattle.debug_core.specs.declared.error.DebugErr.{DebugErr}
 use Rattle.debug_core.specs.declared.error.DebugErr.TheVariants.{Nodes, Vars, Literals, NoMemory}
 use Rattle.debug_core.specs.Problems.{IsRefused, Problem}
+use Rattle.load_texts.specs.By.{manner_asked}
 use Rattle.load_texts.specs.Causes.{TraceCause}
 use Rattle.load_texts.specs.Lines.{DesignRefused, TracesRefused, design_refused, trace_refused}
 use Rattle.load_texts.specs.Means.{MeansDesign}
@@ -70,7 +71,7 @@ traces-refused M R S asked texts d status line means few (trace_refused place na
       before = stops.before;
       mean = stops.mean;
       at = at;
-      cause = subst (λ n. TraceCause (texts n) d asked.sources.clock fault) (some-same (sym stops.at ∙ at)) stops.cause;
+      cause = subst (λ n. TraceCause (texts n) d (manner_asked asked.sources) fault) (some-same (sym stops.at ∙ at)) stops.cause;
     })
 
 pub trace-cause : (M : Meaning) (R : Refusing) (S : Suspecting) (asked : WantedAsked) (texts : Texts) (d : Design) (r : LastLine)

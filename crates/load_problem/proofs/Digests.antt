@@ -6,7 +6,7 @@ use Rattle.hex.specs.Hex.{encode_lower}
 use Rattle.sha2.specs.Sha256.{sha256}
 use Rattle.loc_base.specs.declared.digest.Digest.{Digest}
 use Rattle.command_contract.specs.Contract.{Texts}
-use Rattle.run_digest.specs.Inputs.{joined, line, trace_line}
+use Rattle.run_digest.specs.Inputs.{joined, line, scope_lines, trace_line, zero_lines}
 use Rattle.load_texts.specs.Means.{AreKeptOf, IsKeptOf, IsReadAnd}
 use Rattle.requests.specs.Asked.{WantedAsked}
 use Rattle.load_problem.specs.Within.{digest_text}
@@ -69,15 +69,18 @@ is-digest asked texts design traces digest of_design of_traces is =
     same : (one : TextOf texts asked.sources.texts.design design) (all : TextsOf texts asked.sources.texts.traces traces)
         → digest_text asked design traces ≡ inputs_text asked one.text all.found
     same one all =
+        let texts_asked = asked.sources.texts in
         ap (λ (bytes : List ℕ). codes "localise 1\n"
         ++ (line (codes "top") asked.sources.texts.top
         ++ (line (codes "clock") (option_map_or (λ name. name) asked.sources.clock [])
         ++ (line (codes "kinds") (joined asked.suspects)
         ++ (line (codes "size") (decimal asked.size)
-        ++ (line (codes "design") (encode_lower bytes) ++ flat_map trace_line traces)))))) one.sum
+        ++ (line (codes "design") (encode_lower bytes)
+        ++ (flat_map trace_line traces ++ (scope_lines texts_asked.scope ++ zero_lines texts_asked.zero_inputs)))))))) one.sum
         ∙ ap (λ (more : List ℕ). codes "localise 1\n"
         ++ (line (codes "top") asked.sources.texts.top
         ++ (line (codes "clock") (option_map_or (λ name. name) asked.sources.clock [])
         ++ (line (codes "kinds") (joined asked.suspects)
         ++ (line (codes "size") (decimal asked.size)
-        ++ (hash_line (codes "design") one.text ++ more)))))) all.lines
+        ++ (hash_line (codes "design") one.text
+        ++ (more ++ (scope_lines texts_asked.scope ++ zero_lines texts_asked.zero_inputs)))))))) all.lines

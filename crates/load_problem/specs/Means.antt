@@ -10,9 +10,10 @@ use Rattle.design_core.specs.declared.place.Place.{Place}
 use Rattle.design_core.specs.Order.{IsLeastOrder}
 use Rattle.suspect_map.specs.declared.group.Group.{Group}
 use Rattle.front_end.specs.Means.{Meaning}
+use Rattle.load_texts.specs.By.{manner_asked}
 use Rattle.load_texts.specs.Means.{MeansDesign, MeanTraces}
 use Rattle.debug_core.specs.Problems.{Problem}
-use Rattle.run_digest.specs.Inputs.{joined, line}
+use Rattle.run_digest.specs.Inputs.{joined, line, scope_lines, zero_lines}
 use Rattle.requests.specs.Asked.{WantedAsked}
 
 -- which suspects the kinds of these names make of a design's places, one kind's behind the other's
@@ -29,7 +30,7 @@ pub record Means (M : Meaning) (S : Suspecting) (asked : WantedAsked) (texts : T
   pub order : IsLeastOrder p.design p.order
   pub groups : p.groups ≡ S asked.suspects p.design.places.items
   pub few_groups : length p.groups ≤ most_suspects
-  pub traces : MeanTraces texts asked.sources.clock p.design asked.sources.texts.traces p.traces
+  pub traces : MeanTraces texts (manner_asked asked.sources) p.design asked.sources.texts.traces p.traces
   pub size : p.k ≡ asked.size
 
 -- ---- the digest of the inputs
@@ -37,7 +38,8 @@ pub record Means (M : Meaning) (S : Suspecting) (asked : WantedAsked) (texts : T
 abbrev pub hash_line : List ℕ → List ℕ → List ℕ
 hash_line word text = line word (encode_lower (sha256 text))
 
--- the text that stands for them: the words by which the texts are read, and the SHA-256 of each text
+-- the text that stands for them: the words by which the design's text is read and of which a list is asked, the SHA-256 of each text, and
+-- how the traces' are read, where that isn't by themselves
 abbrev pub inputs_text : WantedAsked → List ℕ → List (List ℕ) → List ℕ
 inputs_text asked design traces =
     codes "localise 1\n"
@@ -45,7 +47,9 @@ inputs_text asked design traces =
     ++ (line (codes "clock") (option_map_or (λ name. name) asked.sources.clock [])
     ++ (line (codes "kinds") (joined asked.suspects)
     ++ (line (codes "size") (decimal asked.size)
-    ++ (hash_line (codes "design") design ++ flat_map (hash_line (codes "trace")) traces)))))
+    ++ (hash_line (codes "design") design
+    ++ (flat_map (hash_line (codes "trace")) traces
+    ++ (scope_lines asked.sources.texts.scope ++ zero_lines asked.sources.texts.zero_inputs)))))))
 
 -- a digest is that of the texts under the names
 pub record IsDigestOf (asked : WantedAsked) (texts : Texts) (digest : Digest) : Type 0 where

@@ -8,6 +8,7 @@ use Rattle.refusal.specs.Lines.{limit_line, memory_line}
 use Rattle.front_end.specs.Means.{Meaning, Refusing}
 use Rattle.load_texts.specs.declared.faults.DesignFault.{DesignFault}
 use Rattle.load_texts.specs.declared.faults.TraceFault.{TraceFault}
+use Rattle.load_texts.specs.By.{manner_asked}
 use Rattle.load_texts.specs.Means.{MeansDesign, MeansTrace}
 use Rattle.load_texts.specs.Refusals.{design_fault_line, design_fault_status, trace_fault_line, trace_fault_status}
 use Rattle.load_texts.specs.Causes.{DesignCause, TraceRefused}
@@ -62,5 +63,5 @@ pub record IsReady (M : Meaning) (S : Suspecting) (asked : WantedAsked) (texts :
   pub means : MeansDesign M asked.sources texts design
   pub suspects : (d : Design) → MeansDesign M asked.sources texts d → HasFewSuspects S asked d
   pub traces : (d : Design) → MeansDesign M asked.sources texts d
-      → All (λ name. (found : Trace) × MeansTrace texts asked.sources.clock d name found) asked.sources.texts.traces
+      → All (λ name. (found : Trace) × MeansTrace texts (manner_asked asked.sources) d name found) asked.sources.texts.traces
   pub no_limit : (p : Problem) (fault : DebugErr) → Means M S asked texts p → IsRefused p fault → fault ≡ NoMemory

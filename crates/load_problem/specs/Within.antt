@@ -4,7 +4,7 @@ use Rattle.std.specs.List.{flat_map}
 use Rattle.std.specs.Option.{option_map_or}
 use Rattle.hex.specs.Hex.{encode_lower}
 use Rattle.loc_base.specs.declared.digest.Digest.{Digest}
-use Rattle.run_digest.specs.Inputs.{joined, line, trace_line}
+use Rattle.run_digest.specs.Inputs.{joined, line, scope_lines, trace_line, zero_lines}
 use Rattle.refusal.specs.Lines.{limit_line}
 use Rattle.refusal.specs.declared.last_line.LastLine.{LastLine}
 use Rattle.refusal.specs.declared.last_line.LastLine.TheVariants.{Line, Memory}
@@ -19,7 +19,9 @@ digest_text asked design traces =
     ++ (line (codes "clock") (option_map_or (λ name. name) asked.sources.clock [])
     ++ (line (codes "kinds") (joined asked.suspects)
     ++ (line (codes "size") (decimal asked.size)
-    ++ (line (codes "design") (encode_lower design.bytes) ++ flat_map trace_line traces)))))
+    ++ (line (codes "design") (encode_lower design.bytes)
+    ++ (flat_map trace_line traces
+    ++ (scope_lines asked.sources.texts.scope ++ zero_lines asked.sources.texts.zero_inputs)))))))
 
 -- there are too many suspects
 abbrev pub HasTooMany : ℕ → LastLine → Type 0

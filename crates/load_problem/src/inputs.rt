@@ -104,6 +104,8 @@ fn digest_of(wanted: &Wanted, design: Digest, traces: &[Digest]) -> Digest
         size: wanted.size,
         design,
         traces,
+        scope: wanted.sources.texts.scope.as_ref(),
+        zero_inputs: wanted.sources.texts.zero_inputs,
     })
 }
 

@@ -1,15 +1,22 @@
 -- What may be asked of `make`, and what the list of the made texts is asked of.
-use Rattle.std.specs.Prelude.{◌≢◌, ◌≤◌, [], ◌∷◌, AllPairs, Some, None, codes}
+use Rattle.std.specs.Prelude.{◌≢◌, ◌≤◌, false, [], ◌∷◌, AllPairs, Some, None, codes}
 use Rattle.front_end.specs.declared.format.Format.TheVariants.{Verilog}
 use Rattle.requests.specs.Asked.{FindAsked, MakeAsked}
 use Rattle.find_cmd.specs.Asked.{IsListing}
 
--- the list of the made design and trace: the design is in Verilog, the top is `made`, the clock is `clk`, it goes on from no session, and no
+-- the list of the made design and trace: the design is in Verilog, the top is `made`, the clock is `clk`, the trace is read by itself, it goes on from no session, and no
 -- waves and no checkpoints are written
 abbrev pub finding_of : MakeAsked → FindAsked
 finding_of asked = record {
   sources = record {
-    texts = record { design = asked.design; format = Verilog; top = codes "made"; traces = asked.trace ∷ [] };
+    texts = record {
+      design = asked.design;
+      format = Verilog;
+      top = codes "made";
+      traces = asked.trace ∷ [];
+      scope = None;
+      zero_inputs = false;
+    };
     clock = Some (codes "clk");
   };
   listing = asked.listing;

@@ -40,6 +40,8 @@ fn read_texts(alloc: Global, request: &MakeRequest) -> Result<Texts, NoMemory>
         format: Format::Verilog,
         top: name_of(alloc, b"made")?,
         traces: one_text(alloc, request.trace.as_str())?,
+        scope: None,
+        zero_inputs: false,
     })
 }
 

@@ -3,6 +3,7 @@ use Rattle.std.proofs.Common.{ℕ, ◌≡◌, List, Some, sym, subst, ◌∙◌}
 use Rattle.command_contract.specs.Contract.{Texts}
 use Rattle.design_core.specs.declared.design.Design.{Design}
 use Rattle.front_end.specs.Means.{Meaning, Refusing}
+use Rattle.load_texts.specs.By.{manner_asked}
 use Rattle.load_texts.specs.Causes.{TraceCause}
 use Rattle.load_texts.specs.Lines.{DesignRefused, TracesRefused, design_refused, trace_refused}
 use Rattle.load_texts.specs.Means.{MeansDesign}
@@ -32,7 +33,7 @@ by-traces M R asked texts d status line means (trace_refused place name fault st
       before = stops.before;
       mean = stops.mean;
       at = at;
-      cause = subst (λ n. TraceCause (texts n) d asked.clock fault) (some-same (sym stops.at ∙ at)) stops.cause;
+      cause = subst (λ n. TraceCause (texts n) d (manner_asked asked) fault) (some-same (sym stops.at ∙ at)) stops.cause;
     })
 
 pub trace-cause : (M : Meaning) (R : Refusing) (asked : SourcesAsked) (texts : Texts) (d : Design) (r : LastLine)

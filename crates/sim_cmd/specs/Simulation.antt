@@ -12,6 +12,7 @@ use Rattle.load_texts.specs.declared.faults.DesignFault.{DesignFault}
 use Rattle.load_texts.specs.declared.faults.TraceFault.{TraceFault}
 use Rattle.requests.specs.Asked.{SimAsked, SourcesAsked}
 use Rattle.load_texts.specs.Causes.{DesignCause, TraceRefused}
+use Rattle.load_texts.specs.By.{manner_asked}
 use Rattle.load_texts.specs.Means.{Means, MeansDesign, MeansTrace}
 use Rattle.load_texts.specs.Refusals.{design_fault_line, design_fault_status, trace_fault_line, trace_fault_status}
 
@@ -86,7 +87,7 @@ pub record IsReady (M : Meaning) (asked : SourcesAsked) (texts : Texts) : Type 0
   pub design : Design
   pub means : MeansDesign M asked texts design
   pub traces : (d : Design) → MeansDesign M asked texts d
-      → All (λ name. (found : Trace) × MeansTrace texts asked.clock d name found) asked.texts.traces
+      → All (λ name. (found : Trace) × MeansTrace texts (manner_asked asked) d name found) asked.texts.traces
 
 -- it may write no text
 abbrev pub simulation : Meaning → Refusing → SimAsked → Case
