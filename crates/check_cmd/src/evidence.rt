@@ -91,7 +91,7 @@ fn ask<F: FrontEnd, R: Threads + Sync, G: Gate + Sync, S: Shelf, N: Notes>(
         → IfErr result IsSpared }
 {
     let report = load_report(alloc, request.report.as_str(), shelf, notes)?;
-    know(alloc, tools.kinds, &report)?;
+    know(alloc, tools.kinds, &report, notes)?;
     Ok(report)
 }
 

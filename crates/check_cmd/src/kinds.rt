@@ -9,10 +9,12 @@ ghost use Rattle.check_cmd.specs.Refusals.{kind_line};
 
 use loc_base::{Name, NoMemory};
 use printed_text::push_bytes;
-use refusal::LastLine;
+use refusal::{Code, LastLine, Note, Notes, Refusal};
 use report_doc::types::Report;
 use std::alloc::Global;
+use std::str;
 use suspect_map::Granularity;
+use thiserror::Error;
 
 fn is_called(kind: &Box<dyn Granularity>, name: &Name) -> bool
     ensures { result ≡ pointwise nat_eq (called kind.now) name.now }
@@ -55,11 +57,27 @@ fn kind_line_text(alloc: Global, name: &Name) -> Result<Vec<u8>, NoMemory>
     Ok(text)
 }
 
-/// Refuses a report with kinds that aren't there, by the first.
-pub(crate) fn know(
+/// Why a report's kinds of suspects can't be looked at.
+#[derive(Clone, Copy, Debug, Error)]
+#[error("no kind of suspects is called {name}")]
+struct NoKind<'a> {
+    name: &'a str,
+}
+
+/// Tells of a kind that isn't there.
+fn tell_unknown<N: Notes>(name: &Name, notes: &mut N) {
+    if let Ok(name) = str::from_utf8(name.as_bytes()) {
+        let refusal = Refusal::of(Code::Bare("U1"), &NoKind { name });
+        notes.note(&Note::Limited { refusal: &refusal });
+    }
+}
+
+/// Refuses a report with kinds that aren't there, by the first, which is told.
+pub(crate) fn know<N: Notes>(
     alloc: Global,
     kinds: &[Box<dyn Granularity>],
     report: &Report,
+    notes: &mut N,
 ) -> Result<(), LastLine>
     ensures known { IfOk result (λ _. unknown (λ kind. called kind) kinds.now report.now.kinds ≡ None) }
     ensures refused { IfErr result (HasCause (KindRefused (unknown (λ kind. called kind) kinds.now report.now.kinds))) }
@@ -67,6 +85,9 @@ pub(crate) fn know(
 {
     match first_unknown(kinds, report.kinds.as_slice()) {
         None => Ok(()),
-        Some(name) => Err(LastLine::of_made(3, kind_line_text(alloc, name))),
+        Some(name) => {
+            tell_unknown(name, notes);
+            Err(LastLine::of_made(3, kind_line_text(alloc, name)))
+        }
     }
 }
