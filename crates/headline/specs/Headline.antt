@@ -9,7 +9,7 @@ use Rattle.design_core.specs.declared.values.SetWithValues.{SetWithValues}
 use Rattle.design_core.specs.Explained.{AreValuesOf, Explains}
 use Rattle.design_core.specs.Listing.{IsFront, IsList}
 use Rattle.suspect_map.specs.declared.group.Group.{Group}
-use Rattle.vcd_traces.specs.Samples.{HasSamples, by_clock}
+use Rattle.vcd_traces.specs.Samples.{HasSamples, Manner}
 use Rattle.report_doc.specs.declared.types.Report.{Report}
 use Rattle.report_doc.specs.declared.types.ReportSet.{ReportSet}
 use Rattle.report_doc.specs.Lines.{set_lines}
@@ -34,11 +34,15 @@ groups_of s = map (λ (group : Group). group.places) s.suspects
 abbrev pub IsTextAnd : Option (List ℕ) → (List ℕ → Type 0) → Type 0
 IsTextAnd text P = IsSomeAnd text (λ bytes. (length bytes ≤ 1073741824) × P bytes)
 
+-- how the traces' texts are read: by the clock, in the scope of the path that is named, and with unknown inputs as 0 where that is asked
+abbrev pub manner_of : SourcesAsked → Manner
+manner_of sources = record { clock = sources.clock; scope = sources.texts.scope; zero_inputs = sources.texts.zero_inputs }
+
 -- the text under the design's name means the design in the format that is asked for, each text under a trace's name holds that trace of
 -- it, in order, and the suspects are those that kinds make of the design's places
 pub record IsMeant (of : WordsRun) (sources : SourcesAsked) (kinds : List (List ℕ)) (s : Subject) : Type 0 where
   pub design : IsTextAnd (of.run.texts sources.texts.design) (λ text. MeansIn sources.texts.format text sources.texts.top sources.clock s.design)
-  pub traces : AllZip (λ name trace. IsTextAnd (of.run.texts name) (λ text. HasSamples text s.design (by_clock sources.clock) trace))
+  pub traces : AllZip (λ name trace. IsTextAnd (of.run.texts name) (λ text. HasSamples text s.design (manner_of sources) trace))
       sources.texts.traces s.traces
   pub suspects : s.suspects ≡ of.suspecting kinds s.design.places.items
 

@@ -26,9 +26,9 @@ use suspect_map::Granularity;
 ///
 /// | words | what is done |
 /// |---|---|
-/// | `find DESIGN TOP TRACE.. [--clock NAME] [--size K] [--budget B] [--sets M] [--suspects A,B] [--workers N] [--log NAME] [--report NAME] [--waves PREFIX] [--resume NAME --resume-log NAME] [--format F]` | lists each minimal set of suspects, with a log and a report, with waves of each set where they are wanted, and from where an earlier list ended where its report and log are given (`find_cmd`) |
-/// | `sim DESIGN TOP TRACE.. [--clock NAME] [--format F] [--exit-code]` | simulates the traces (`sim_cmd`) |
-/// | `check DESIGN TOP REPORT LOG TRACE.. [--workers N] [--format F]` | judges a list by its report and its log (`check_cmd`) |
+/// | `find DESIGN TOP TRACE.. [--clock NAME] [--size K] [--budget B] [--sets M] [--suspects A,B] [--workers N] [--log NAME] [--report NAME] [--waves PREFIX] [--resume NAME --resume-log NAME] [--format F] [--scope S] [--x-inputs 0]` | lists each minimal set of suspects, with a log and a report, with waves of each set where they are wanted, and from where an earlier list ended where its report and log are given (`find_cmd`) |
+/// | `sim DESIGN TOP TRACE.. [--clock NAME] [--format F] [--scope S] [--x-inputs 0] [--exit-code]` | simulates the traces (`sim_cmd`) |
+/// | `check DESIGN TOP REPORT LOG TRACE.. [--workers N] [--format F] [--scope S] [--x-inputs 0]` | judges a list by its report and its log (`check_cmd`) |
 /// | `make NUMBER [--size K] [--budget B] [--sets M] [--suspects A,B] [--workers N] [--log NAME] [--report NAME] [--design NAME] [--trace NAME]` | writes an input that it makes, and lists its sets (`make_cmd`) |
 /// | `help [COMMAND]`, `--help`, `-h`, `--version` | prints a page, or the versions of what is written (`page_text` of `command_words`) |
 ///
