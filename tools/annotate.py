@@ -25,7 +25,7 @@ import sys
 sys.path.insert(0, os.path.dirname(os.path.abspath(__file__)))
 import page  # noqa: E402
 from line_map import LineMap  # noqa: E402
-from report import ReportError, design_lines, misfits, read_report, set_text  # noqa: E402
+from report import ReportError, design_lines, misfits, read_report, reading_lines, set_text  # noqa: E402
 
 
 def members_of(report):
@@ -66,6 +66,8 @@ def asked_of(words):
     parser.add_argument("design", metavar="DESIGN", help="the text of the design that was searched")
     parser.add_argument("--format", choices=list(FORMATS), default="quickfix", help="the form of the lines (quickfix)")
     parser.add_argument("--trace", metavar="DUMP", action="append", default=[], help="a dump of the run; once for each, in order")
+    parser.add_argument("--scope", metavar="PATH", help="the scope that the run was told to read of the dumps")
+    parser.add_argument("--x-inputs", choices=["0"], help="what the run was told to read unknown inputs as")
     parser.add_argument("--html", metavar="OUT", help="the page to write")
     parser.add_argument("--only", metavar="N,N", type=numbers, help="the sets that the page has, counted from 1")
     parser.add_argument("--cycles", metavar="FROM-TO", type=cycles, help="the cycles that the page has values of")
@@ -83,7 +85,7 @@ def write_page(asked, report, lines):
     if beyond:
         raise ReportError("--only: there is no set %d: the report has %d" % (beyond[0], len(report["sets"])))
     wanted = page.Wanted(asked.design, lines, bool(asked.trace), asked.only, asked.cycles)
-    said = page.page_of(report, wanted, misfits(report, asked.design, lines, asked.trace))
+    said = page.page_of(report, wanted, misfits(report, asked.design, lines, asked.trace, reading_lines(asked.scope, asked.x_inputs)))
     try:
         with open(asked.html, "w", encoding="utf-8", newline="\n") as file:
             file.write(said)
@@ -93,7 +95,7 @@ def write_page(asked, report, lines):
 
 def annotate(asked):
     report, lines = read_report(asked.report), design_lines(asked.design)
-    wrong = misfits(report, asked.design, lines, asked.trace)
+    wrong = misfits(report, asked.design, lines, asked.trace, reading_lines(asked.scope, asked.x_inputs))
     if asked.html is not None:
         write_page(asked, report, lines)
     places = LineMap(asked.design, lines)

@@ -1,11 +1,13 @@
 #!/usr/bin/env python3
 """Cuts a dump after a cycle: after its first wrong output, or after so many cycles.
 
-usage: tools/cut_dump.py DESIGN TOP DUMP [--clock C] [--format F] [--cycles N | --after-miss K] [--program PROGRAM] > SHORT
+usage: tools/cut_dump.py DESIGN TOP DUMP [--clock C] [--format F] [--scope PATH] [--x-inputs 0] [--cycles N | --after-miss K]
+                         [--program PROGRAM] > SHORT
 
 The first N cycles of a dump are a dump. With --after-miss K (0 where nothing is said) it ends K cycles after the first cycle in
 which an output isn't what the dump wants; with --cycles N it has N cycles. Which stamps make a cycle is asked of `localise sim`
-itself (PROGRAM, or `localise` on the path), so that design, top, clock and format mean here what they mean there. Of a dump of more than
+itself (PROGRAM, or `localise` on the path), so that design, top, clock, format, scope and x-inputs mean here what they mean there. All
+scopes stay in the short dump. Of a dump of more than
 100,000 cycles, which it doesn't read, the first 100,000 are looked at.
 
 The short dump goes to standard output, and what was cut to standard error. The status is 1 where there is nothing to cut at:
@@ -69,8 +71,8 @@ def simulated(asked, text):
         with open(f"{room}/dump.vcd", "wb") as file:
             file.write(text)
         words = [asked.program, "sim", asked.design, asked.top, f"{room}/dump.vcd"]
-        words += ["--clock", asked.clock] if asked.clock else []
-        words += ["--format", asked.format] if asked.format else []
+        given = {name: getattr(asked, name.replace("-", "_")) for name in ("clock", "format", "scope", "x-inputs")}
+        words += [word for name, value in given.items() if value for word in ("--" + name, value)]
         ran = subprocess.run(words, stdin=subprocess.DEVNULL, capture_output=True)
     if ran.stdout == NO_CYCLE:
         return Simulation(b"", 0)
@@ -118,6 +120,8 @@ def parsed():
         parser.add_argument(name)
     parser.add_argument("--clock")
     parser.add_argument("--format", choices=("verilog", "aiger"))
+    parser.add_argument("--scope", metavar="PATH")
+    parser.add_argument("--x-inputs", choices=["0"])
     parser.add_argument("--program", default="localise")
     where = parser.add_mutually_exclusive_group()
     where.add_argument("--cycles", type=int)

@@ -140,18 +140,25 @@ def set_places(report, found):
     return members if len(kinds) == 1 and places == len(members) else None
 
 
-def inputs_digest(report, design, traces):
-    """The digest of a run's inputs, were these files its design and its dumps, in order."""
+def reading_lines(scope, x_inputs):
+    """The lines of the digest that say how dumps were read: the path of the scope, and what unknown inputs were, where it was said."""
+    return ["%s %s" % pair for pair in (("scope", scope), ("x-inputs", x_inputs)) if pair[1] is not None]
+
+
+def inputs_digest(report, design, traces, reading=()):
+    """The digest of a run's inputs, were these files its design and its dumps, in order; behind them lines that say how dumps were read
+    (`reading_lines`)."""
     lines = ["localise 1", "top " + report["top"], "clock " + report["clock"], "kinds " + ",".join(report["kinds"]), "size %d" % report["size"]]
     lines += ["%s %s" % (word, hashlib.sha256(load(path)).hexdigest()) for word, path in [("design", design)] + [("trace", it) for it in traces]]
+    lines += reading
     return hashlib.sha256("".join(line + "\n" for line in lines).encode()).hexdigest()
 
 
-def misfits(report, design, lines, traces):
+def misfits(report, design, lines, traces, reading=()):
     """What shows that the report is not of this design, in words, one a line."""
     said = []
-    if traces and inputs_digest(report, design, traces) != report["inputs"]:
-        said.append("%s and the dumps are not the inputs of this report (another text, another dump, or another order)" % design)
+    if traces and inputs_digest(report, design, traces, reading) != report["inputs"]:
+        said.append("%s and the dumps are not the inputs of this report (another text, another dump, another order, scope or x-inputs)" % design)
     for number in sorted({it for found in report["sets"] for it in found["members"]}):
         line = report["suspects"][number - 1]["line"]
         if line > len(lines):

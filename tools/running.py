@@ -1,6 +1,7 @@
 """Runs of the program that end when this process is asked to end."""
 
 import os
+import re
 import signal
 import subprocess
 import tempfile
@@ -11,6 +12,7 @@ from report import ReportError
 ENDING = (signal.SIGINT, signal.SIGTERM, signal.SIGHUP)
 
 
+SCOPE = re.compile(r"trace \d+: scope ")
 ANSWERS = (0, 1, 8)     # (the statuses of the program that aren't of a refusal or a fault)
 
 
@@ -52,9 +54,9 @@ class Children:
 
 def of_refusal(status, error):
     """The lines that a run left on standard error, where it ended in a refusal or a fault; none else. (What it tells of an answer, the
-    answer says too, and it counts the dumps of that run alone.)"""
-    text = error.decode(errors="backslashreplace").strip("\n")
-    return text.split("\n") if text and status not in ANSWERS else []
+    answer says too, and it counts the dumps of that run alone. So it does where it tells in which scope it read a dump.)"""
+    lines = error.decode(errors="backslashreplace").strip("\n").split("\n")
+    return [it for it in lines if it and not SCOPE.match(it)] if status not in ANSWERS else []
 
 
 def last_of(child):

@@ -103,6 +103,12 @@ class Cuts(unittest.TestCase):
         self.assertEqual(self.cut(b"#0 1!\n", "--cycles", "2"), (1, b""))
         self.assertEqual(self.said, "d.vcd: it has 1 cycles, and not 2\n")
 
+    def test_how_the_dump_is_read_is_handed_on(self):
+        with open(self.program, "a", encoding="utf-8") as file:
+            file.write("if sys.argv[5:] != ['--scope', 'tb.golden', '--x-inputs', '0']:\n    sys.exit(2)\n")
+        self.assertEqual(self.cut(b"#0 0!\n#1 1!\n#2 0!\n", "--scope", "tb.golden", "--x-inputs", "0"), (0, b"#0 0!\n#1 1!\n"))
+        self.assertEqual(self.cut(b"#0 0!\n#1 1!\n#2 0!\n", "--scope", "tb.golden")[0], 2)
+
     def test_the_format_is_handed_on(self):
         with open(self.program, "a", encoding="utf-8") as file:
             file.write("if sys.argv[5:] != ['--clock', 'c', '--format', 'aiger']:\n    sys.exit(2)\n")
