@@ -19,7 +19,8 @@ A case is a folder `cases/LAYER/NAME/`:
 Every other file is an input: the design, the dumps, a report, a log. The program runs in a folder of its own with copies of
 the inputs. It must leave them as they were, leave each text of `written/` and `writes`, and leave no other. An input that is
 too long to stand there has a file `NAME.rows`: each line is a count and a text in JSON, which stands so many times in the
-input NAME; a `{}` in it is how often it stood there before.
+input NAME; a `{}` in it is how often it stood there before. The program has a stack of 8 megabytes, as systems give it by
+default, whatever stack this script has.
 
 CASE is a folder, or a layer; none: all of them. PROGRAM is crates/localise/out/localise where it isn't given. LOG is the
 output of other checks, whose last line `N passed, M failed` is counted too. The last line is `N passed, M failed`; the status
@@ -31,6 +32,7 @@ import json
 import os
 import pty
 import re
+import resource
 import subprocess
 import sys
 import tempfile
@@ -41,6 +43,7 @@ HERE = os.path.dirname(os.path.abspath(__file__))
 BUILT = os.path.join(HERE, "..", "crates", "localise", "out", "localise")
 ABOUT = {"shows", "args", "stdout", "status", "stderr", "written", "writes", "again", "closed", "screen"}
 SECONDS = 60
+STACK = 8 << 20
 
 
 def read(path, otherwise=b""):
@@ -221,6 +224,12 @@ def counted_in(log):
     return (int(found[1]), int(found[2])) if found else (0, 1)
 
 
+def limit_stack():
+    """Limits the stack of what is run from here on, and of its threads."""
+    _, most = resource.getrlimit(resource.RLIMIT_STACK)
+    resource.setrlimit(resource.RLIMIT_STACK, (STACK if most == resource.RLIM_INFINITY else min(STACK, most), most))
+
+
 def main():
     parser = argparse.ArgumentParser(usage=__doc__.split("\n\n")[1].removeprefix("usage: "))
     parser.add_argument("--program", default=BUILT)
@@ -234,6 +243,7 @@ def main():
         print(f"{asked.program}: no such program, so no case was run")
         print(f"{passed} passed, {failed + 1} failed")
         return 1
+    limit_stack()
     given = [it if os.path.isdir(it) else os.path.join(HERE, it) for it in asked.cases]
     cases = [case for folder in given or [HERE] for case in cases_below(os.path.abspath(folder))]
     with ThreadPoolExecutor(asked.jobs) as pool:
