@@ -61,6 +61,7 @@ fn word(
 }
 
 /// A word of an array, or 0 where the address is none of its words'.
+#[inline(never)]
 #[tactic(auto, using(crate::proofs::ArraySteps::steps), unfolding(crate::specs::Expression::array_made))]
 pub(crate) fn array(
     at: &Scene,

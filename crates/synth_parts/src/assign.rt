@@ -22,6 +22,7 @@ pub(crate) struct Assignment<'a> {
 
 impl Left<'_> {
     /// An assignment: its value, what its place assigns, its indexes, and then the store.
+    #[inline(never)]
     #[tactic(auto, using(crate::proofs::AssignSteps::steps), unfolding(crate::specs::Statement::set_made))]
     pub(crate) fn assign(
         &self,

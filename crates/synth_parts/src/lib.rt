@@ -6,6 +6,7 @@ mod array_parts;
 mod assign;
 mod driver;
 mod merge;
+mod operators;
 mod scene;
 mod statement;
 mod store;

@@ -21,6 +21,7 @@ pub(crate) struct Scene<'a> {
 }
 
 /// A new node, by its number. More than 4,294,967,295 nodes find no memory.
+#[inline(never)]
 #[tactic(auto, unfolding(word_net::specs::Build::pushed))]
 pub fn push(nodes: &mut Nodes, width: u8, operation: Operation) -> Result<u32, NoMemory>
     ensures { IfOk result (λ n. made nodes.new n ≡ pushed nodes.old width operation) }
@@ -44,6 +45,7 @@ pub fn unsigned(node: u32, width: u8) -> Operand
 }
 
 /// The truth value of a word: the OR of its bits.
+#[inline(never)]
 #[tactic(auto, unfolding(crate::specs::Expression::truth_made))]
 pub(crate) fn truth(nodes: &mut Nodes, word: u32, width: u8) -> Result<u32, NoMemory>
     ensures { IfOk result (λ n. made nodes.new n ≡ truth_made nodes.old word width) }
@@ -74,6 +76,7 @@ impl Scene<'_> {
     }
 
     /// Bits of a signal by a variable index.
+    #[inline(never)]
     #[tactic(auto, using(crate::proofs::Scenes::signals_at))]
     pub(crate) fn select(
         &self,

@@ -32,6 +32,7 @@ impl Drop for Arm {
 
 impl Left<'_> {
     /// The node of an expression as a map lets it be read.
+    #[inline(never)]
     pub(crate) fn value(&self, nodes: &mut Nodes, map: &[u32], e: &Typed) -> Result<u32, NoMemory>
         requires few { length self.now.signals.now < 2 ^ 32 }
         requires each { length map.now ≡ length self.now.signals.now }
@@ -84,6 +85,7 @@ impl Left<'_> {
     }
 
     /// Whether it is equal to one of the labels.
+    #[inline(never)]
     #[tactic(auto, using(crate::proofs::StatementSteps::labels_steps), unfolding(crate::specs::Statement::item_test))]
     fn test(
         &self,
@@ -111,6 +113,7 @@ impl Left<'_> {
     }
 
     /// The condition of an `if`: the truth value of its expression.
+    #[inline(never)]
     fn condition(&self, nodes: &mut Nodes, map: &[u32], e: &Typed) -> Result<u32, NoMemory>
         requires few { length self.now.signals.now < 2 ^ 32 }
         requires each { length map.now ≡ length self.now.signals.now }
@@ -122,6 +125,7 @@ impl Left<'_> {
     }
 
     /// An arm that was run is merged into the other.
+    #[inline(never)]
     #[tactic(auto, using(crate::proofs::JoinArms::join_steps))]
     fn join(&self, nodes: &mut Nodes, arm: &Arm, other: &mut Pair) -> Result<(), NoMemory>
         requires few { length self.now.signals.now < 2 ^ 32 }
@@ -141,6 +145,7 @@ impl Left<'_> {
     }
 
     /// The arms of a case become one, the last first.
+    #[inline(never)]
     #[tactic(auto, using(crate::proofs::StatementSteps::close_steps))]
     fn close(&self, nodes: &mut Nodes, arms: Items<Arm>, other: &mut Pair) -> Result<(), NoMemory>
         requires few { length self.now.signals.now < 2 ^ 32 }

@@ -7,6 +7,7 @@ ghost use Rattle.synth_parts.specs.Expression.{is_logical, operand, prepared, ty
 ghost use Rattle.synth_parts.specs.Lists.{all_parts, parts_sum, prepared_in};
 
 use crate::array_parts::{ArrayPart, array};
+use crate::operators::{Both, binary, choose, constant, pick, repeat, resize, slice, unary};
 use crate::scene::{Nodes, Scene, push, truth, unsigned};
 use design_core::{BinaryOp, Node, Typed};
 use loc_base::NoMemory;
@@ -34,6 +35,7 @@ fn is_logical(op: BinaryOp) -> bool
 }
 
 /// An operand of an operator: its truth value where the operator goes by these.
+#[inline(never)]
 #[tactic(auto, unfolding(crate::specs::Expression::prepared))]
 fn prepared(nodes: &mut Nodes, logical: bool, word: Operand) -> Result<Operand, NoMemory>
     ensures { IfOk result (λ o. prepared_in nodes.new o ≡ prepared logical nodes.old word.node word.width word.signed) }
@@ -46,7 +48,8 @@ fn prepared(nodes: &mut Nodes, logical: bool, word: Operand) -> Result<Operand, 
     }
 }
 
-/// The node of an expression: what it computes where the signals are as they are here.
+/// The node of an expression: what it computes where the signals are as they are here. It calls itself as deep as the expression is, up to
+/// 4,096 levels, so what takes room beside that is in functions of its own.
 #[cycle(expression)]
 pub(crate) fn expression(at: &Scene, nodes: &mut Nodes, e: &Typed) -> Result<u32, NoMemory>
     requires few { length at.now.signals.now < 2 ^ 32 }
@@ -55,7 +58,7 @@ pub(crate) fn expression(at: &Scene, nodes: &mut Nodes, e: &Typed) -> Result<u32
     ensures { IfOk result (λ n. made nodes.new n ≡ typed_made at.now.signals.now at.now.nodes_of.now nodes.old e.now) }
 {
     match &e.node {
-        Node::Const(word) => push(nodes, e.width, Operation::Const(word.value())),
+        Node::Const(word) => constant(nodes, e.width, word.value()),
         Node::Whole(signal) => Ok(at.nodes_of[*signal as usize]),
         Node::Slice {
             signal,
@@ -63,7 +66,7 @@ pub(crate) fn expression(at: &Scene, nodes: &mut Nodes, e: &Typed) -> Result<u32
             width,
         } => {
             let word = at.read(*signal);
-            push(nodes, *width, Operation::Slice { word, from: *from })
+            slice(nodes, *width, word, *from)
         }
         Node::Pick {
             signal,
@@ -73,7 +76,7 @@ pub(crate) fn expression(at: &Scene, nodes: &mut Nodes, e: &Typed) -> Result<u32
             let place = expression(at, nodes, index)?;
             let word = at.read(*signal);
             let select = at.select(*signal, operand(place, index), offsets)?;
-            push(nodes, e.width, Operation::Pick { word, select })
+            pick(nodes, e.width, word, select)
         }
         Node::Word {
             first,
@@ -96,7 +99,7 @@ pub(crate) fn expression(at: &Scene, nodes: &mut Nodes, e: &Typed) -> Result<u32
         Node::Unary { op, arg } => {
             let word = expression(at, nodes, arg)?;
             let arg = unsigned(word, arg.width);
-            push(nodes, e.width, Operation::Unary { op: *op, arg })
+            unary(nodes, e.width, *op, arg)
         }
         Node::Binary { op, left, right } => {
             let logical = is_logical(*op);
@@ -104,43 +107,34 @@ pub(crate) fn expression(at: &Scene, nodes: &mut Nodes, e: &Typed) -> Result<u32
             let one = prepared(nodes, logical, operand(one, left))?;
             let other = expression(at, nodes, right)?;
             let other = prepared(nodes, logical, operand(other, right))?;
-            let binary = Operation::Binary {
-                op: *op,
-                left: one,
-                right: other,
-            };
-            push(nodes, e.width, binary)
+            binary(nodes, e.width, *op, Both { one, other })
         }
         Node::Choose { cond, yes, no } => {
             let test = expression(at, nodes, cond)?;
             let test = truth(nodes, test, cond.width)?;
             let one = expression(at, nodes, yes)?;
             let other = expression(at, nodes, no)?;
-            let choose = Operation::Choose {
-                cond: unsigned(test, 1),
-                yes: unsigned(one, yes.width),
-                no: unsigned(other, no.width),
+            let arms = Both {
+                one: unsigned(one, yes.width),
+                other: unsigned(other, no.width),
             };
-            push(nodes, e.width, choose)
+            choose(nodes, e.width, unsigned(test, 1), arms)
         }
         Node::Join(parts) => joined(at, nodes, parts),
         Node::Repeat { times, part } => {
             let word = expression(at, nodes, part)?;
             let part = unsigned(word, part.width);
-            let repeat = Operation::Repeat {
-                times: *times,
-                part,
-            };
-            push(nodes, e.width, repeat)
+            repeat(nodes, e.width, *times, part)
         }
         Node::Resize(arg) => {
             let word = expression(at, nodes, arg)?;
-            push(nodes, e.width, Operation::Resize(operand(word, arg)))
+            resize(nodes, e.width, operand(word, arg))
         }
     }
 }
 
 /// A concatenation of at least one part, the parts from the left.
+#[inline(never)]
 #[cycle(expression)]
 fn joined(at: &Scene, nodes: &mut Nodes, parts: &[Typed]) -> Result<u32, NoMemory>
     requires few { length at.now.signals.now < 2 ^ 32 }

@@ -104,7 +104,7 @@ expression-returns-in-Const t c =
     let w : ℕ = c.args.e.now.width in
     let same : pushed N w (operation.Const c.value.result) ≡ typed_made S M N c.args.e.now =
     ap (λ v. pushed N w (operation.Const v)) c.value.ensures ∙ (rw c.in-Const.is (sym (made_const S M N w c.in-Const.word))) in
-    subst (λ m. IfOk c.push.result (λ n. made c.push.new.nodes n ≡ m)) same c.push.ensures
+    subst (λ m. IfOk c.constant.result (λ n. made c.constant.new.nodes n ≡ m)) same c.constant.ensures
 
 pub expression-returns-in-Whole : goal.expression-returns-in-Whole
 unfolding expression_made
@@ -119,7 +119,7 @@ expression-returns-in-Slice t c =
     let w : ℕ = c.args.e.now.width in
     let same : pushed N c.in-Slice.width (operation.Slice c.read-word.result c.in-Slice.from) ≡ typed_made S M N c.args.e.now =
     ap (λ o. pushed N c.in-Slice.width (operation.Slice o c.in-Slice.from)) c.read-word.ensures ∙ (rw c.in-Slice.is (sym (made_slice S M N w c.in-Slice.signal c.in-Slice.from c.in-Slice.width))) in
-    subst (λ m. IfOk c.push-in-Slice.result (λ n. made c.push-in-Slice.new.nodes n ≡ m)) same c.push-in-Slice.ensures
+    subst (λ m. IfOk c.slice.result (λ n. made c.slice.new.nodes n ≡ m)) same c.slice.ensures
 
 pub expression-returns-in_ok-select-in-Pick : goal.expression-returns-in_ok-select-in-Pick
 unfolding expression_made
@@ -141,7 +141,7 @@ expression-returns-in_ok-select-in-Pick t c =
     ap₂ (λ x y. pushed nodes w (operation.Pick x y)) c.read-word-in-Pick.ensures select
     ∙ ap (λ (m : Made). pushed m.nodes w (operation.Pick (signal_read S M s) (select_of S s (operand m.node index.width index.signed) offsets))) p
     ∙ (rw c.in-Pick.is (sym (made_pick S M N w s index offsets))) in
-    subst (λ m. IfOk c.push-in-Pick.result (λ n. made c.push-in-Pick.new.nodes n ≡ m)) same c.push-in-Pick.ensures
+    subst (λ m. IfOk c.pick.result (λ n. made c.pick.new.nodes n ≡ m)) same c.pick.ensures
 
 pub expression-returns-in_ok-place-in-Word : goal.expression-returns-in_ok-place-in-Word
 unfolding expression_made
@@ -178,7 +178,7 @@ expression-returns-in_ok-word-in-Unary t c =
     ap (λ o. pushed nodes w (operation.Unary c.in-Unary.op o)) (c.unsigned-arg.ensures ∙ ap (λ (e : Typed). unsigned word e.width) c.deref-in-Unary-2.ensures)
     ∙ ap (λ (m : Made). pushed m.nodes w (operation.Unary c.in-Unary.op (unsigned m.node arg.width))) p
     ∙ (rw c.in-Unary.is (sym (made_unary S M N w c.in-Unary.op arg))) in
-    subst (λ m. IfOk c.push-in-Unary.result (λ n. made c.push-in-Unary.new.nodes n ≡ m)) same c.push-in-Unary.ensures
+    subst (λ m. IfOk c.unary.result (λ n. made c.unary.new.nodes n ≡ m)) same c.unary.ensures
 
 pub expression-returns-in_ok-other-in-Binary-2 : goal.expression-returns-in_ok-other-in-Binary-2
 unfolding expression_made
@@ -217,7 +217,7 @@ expression-returns-in_ok-other-in-Binary-2 t c =
     ∙ ap (λ (m : Made). let q = prepared L m.nodes m.node left.width left.signed in mid L q.nodes q.operand) a
     ∙ ap whole c.is_logical-logical.ensures
     ∙ (rw c.in-Binary.is (sym (made_binary S M N w op left right))) in
-    subst (λ m. IfOk c.push-in-Binary.result (λ n. made c.push-in-Binary.new.nodes n ≡ m)) same c.push-in-Binary.ensures
+    subst (λ m. IfOk c.binary.result (λ n. made c.binary.new.nodes n ≡ m)) same c.binary.ensures
 
 pub expression-returns-in_ok-other-in-Choose : goal.expression-returns-in_ok-other-in-Choose
 unfolding expression_made
@@ -244,16 +244,16 @@ expression-returns-in_ok-other-in-Choose t c =
     let op3 : Operand → Operand → Operand → List WordNode → Made = λ x y z ns. pushed ns w (operation.Choose x y z) in
     let last : ℕ → ℕ → List WordNode → Made = λ x y ns. let m = typed_made S M ns no_e in op3 (unsigned x 1) (unsigned y yes_e.width) (unsigned m.node no_e.width) m.nodes in
     let mid : ℕ → List WordNode → Made = λ x ns. let m = typed_made S M ns yes_e in last x m.node m.nodes in
-    let same : pushed nodes4 w (operation.Choose c.unsigned.result c.unsigned-in-Choose.result c.unsigned-in-Choose-2.result) ≡ typed_made S M N c.args.e.now =
-    ap (λ x. op3 x c.unsigned-in-Choose.result c.unsigned-in-Choose-2.result nodes4) c.unsigned.ensures
-    ∙ ap (λ x. op3 (unsigned n2 1) x c.unsigned-in-Choose-2.result nodes4) (c.unsigned-in-Choose.ensures ∙ ap (λ (e : Typed). unsigned n3 e.width) c.deref-in-Choose-5.ensures)
-    ∙ ap (λ x. op3 (unsigned n2 1) (unsigned n3 yes_e.width) x nodes4) (c.unsigned-in-Choose-2.ensures ∙ ap (λ (e : Typed). unsigned n4 e.width) c.deref-in-Choose-6.ensures)
+    let same : pushed nodes4 w (operation.Choose c.unsigned-in-Choose-2.result c.unsigned.result c.unsigned-in-Choose.result) ≡ typed_made S M N c.args.e.now =
+    ap (λ x. op3 x c.unsigned.result c.unsigned-in-Choose.result nodes4) c.unsigned-in-Choose-2.ensures
+    ∙ ap (λ x. op3 (unsigned n2 1) x c.unsigned-in-Choose.result nodes4) (c.unsigned.ensures ∙ ap (λ (e : Typed). unsigned n3 e.width) c.deref-in-Choose-5.ensures)
+    ∙ ap (λ x. op3 (unsigned n2 1) (unsigned n3 yes_e.width) x nodes4) (c.unsigned-in-Choose.ensures ∙ ap (λ (e : Typed). unsigned n4 e.width) c.deref-in-Choose-6.ensures)
     ∙ ap (λ (m : Made). op3 (unsigned n2 1) (unsigned n3 yes_e.width) (unsigned m.node no_e.width) m.nodes) d
     ∙ ap (λ (m : Made). last n2 m.node m.nodes) b
     ∙ ap (λ (m : Made). mid m.node m.nodes) u
     ∙ ap (λ (m : Made). let q = truth_made m.nodes m.node test.width in mid q.node q.nodes) a
     ∙ (rw c.in-Choose.is (sym (made_choose S M N w test yes_e no_e))) in
-    subst (λ m. IfOk c.push-in-Choose.result (λ n. made c.push-in-Choose.new.nodes n ≡ m)) same c.push-in-Choose.ensures
+    subst (λ m. IfOk c.choose.result (λ n. made c.choose.new.nodes n ≡ m)) same c.choose.ensures
 
 pub expression-returns-in-Join : goal.expression-returns-in-Join
 unfolding expression_made
@@ -282,7 +282,7 @@ expression-returns-in_ok-word-in-Repeat t c =
     ap (λ o. pushed nodes w (operation.Repeat c.in-Repeat.times o)) (c.unsigned-part.ensures ∙ ap (λ (e : Typed). unsigned word e.width) c.deref-in-Repeat-2.ensures)
     ∙ ap (λ (m : Made). pushed m.nodes w (operation.Repeat c.in-Repeat.times (unsigned m.node part.width))) p
     ∙ (rw c.in-Repeat.is (sym (made_repeat S M N w c.in-Repeat.times part))) in
-    subst (λ m. IfOk c.push-in-Repeat.result (λ n. made c.push-in-Repeat.new.nodes n ≡ m)) same c.push-in-Repeat.ensures
+    subst (λ m. IfOk c.repeat.result (λ n. made c.repeat.new.nodes n ≡ m)) same c.repeat.ensures
 
 pub expression-returns-in_ok-word-in-Resize : goal.expression-returns-in_ok-word-in-Resize
 unfolding expression_made
@@ -299,7 +299,7 @@ expression-returns-in_ok-word-in-Resize t c =
     ap (λ o. pushed nodes w (operation.Resize o)) (c.operand-in-Resize.ensures ∙ ap (λ (e : Typed). operand word e.width e.signed) c.deref-in-Resize-2.ensures)
     ∙ ap (λ (m : Made). pushed m.nodes w (operation.Resize (operand m.node arg.width arg.signed))) p
     ∙ (rw c.in-Resize.is (sym (made_resize S M N w arg))) in
-    subst (λ m. IfOk c.push-in-Resize.result (λ n. made c.push-in-Resize.new.nodes n ≡ m)) same c.push-in-Resize.ensures
+    subst (λ m. IfOk c.resize.result (λ n. made c.resize.new.nodes n ≡ m)) same c.resize.ensures
 
 pub joined-loop-i-init : goal.joined-loop-i-init
 joined-loop-i-init t c =
