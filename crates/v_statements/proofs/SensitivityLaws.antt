@@ -55,7 +55,7 @@ unfolding edge_event_at
 law_edge_event base t u d a st =
     law_bind base t u d a st (edge_at t a) (edge_at u a) _ _ (λ x b. IsEdge t x a b) _ (taking_edge base t u d a st).law (λ e m q ge st2.
     law_bind base t u d m st2 (name_at t m) (name_at u m) _ _ (λ x b. IsName t x m b) _ (law_name base t u d m st2) (λ x n q2 ge2 st3.
-    law_node base t u d a n st3 (omega (arith, ge, ge2)) (λ z. edge_event z e x)))
+    law_node base t u d m n st3 ge2 (λ z. edge_event z e x)))
 
 law_index : (base : ℕ) (t u : List Lexeme) (d a : ℕ) → Start base t d a → mark_at t a ≡ marks.OpenBracket → Law base t u a (index_at t d a) (index_at u d a) (λ x b. IsIndex t d x a b)
 law_index base t u d a st is = record {

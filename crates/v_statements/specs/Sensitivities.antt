@@ -23,12 +23,12 @@ abbrev pub IsSeparator : List Lexeme → Bool → ℕ → ℕ → Type 0
 IsSeparator tokens is_or a b =
     ((mark_at tokens a ≡ Or) × ((is_or ≡ true) × (b ≡ a + 1))) ⊎ ((mark_at tokens a ≡ Comma) × ((is_or ≡ false) × (b ≡ a + 1)))
 
--- ('posedge' | 'negedge') NAME
+-- ('posedge' | 'negedge') NAME; its site is that of the name
 abbrev pub IsEdgeEvent : List Lexeme → PlainEvent → ℕ → ℕ → Type 0
 IsEdgeEvent tokens event a b =
     (edge : Edge) × (m : ℕ) × IsEdge tokens edge a m
     × ((name : List ℕ) × (n : ℕ) × IsName tokens name m n
-    × ((event ≡ edge_event (site tokens a n) edge name) × (b ≡ n)))
+    × ((event ≡ edge_event (site tokens m n) edge name) × (b ≡ n)))
 
 -- select, whose index is an expression of its own
 pub record IsIndex (tokens : List Lexeme) (nesting_left : ℕ) (select : Selection) (a b : ℕ) : Type 0 where

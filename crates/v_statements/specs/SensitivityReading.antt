@@ -25,7 +25,7 @@ separator_at tokens a =
     if same (mark_at tokens a) mark.Or then Ok (true, a + 1) else if same (mark_at tokens a) mark.Comma then Ok (false, a + 1) else Err (no_place tokens a)
 
 unfoldable pub edge_event_at : List Lexeme → ℕ → Read PlainEvent
-edge_event_at tokens a = edge_at tokens a >>= λ e. name_at tokens e.1 >>= λ x. Ok (edge_event (site tokens a x.1) e.0 x.0, x.1)
+edge_event_at tokens a = edge_at tokens a >>= λ e. name_at tokens e.1 >>= λ x. Ok (edge_event (site tokens e.1 x.1) e.0 x.0, x.1)
 
 abbrev pub index_at : List Lexeme → ℕ → ℕ → Read Selection
 index_at tokens nesting_left a = select_at tokens nesting_left (below tokens nesting_left).whole 4097 a

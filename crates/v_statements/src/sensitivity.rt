@@ -46,7 +46,7 @@ fn separator(tokens: &[Token], at: usize) -> Read<bool>
     Err(Stop::Fault(no_place(tokens, at)))
 }
 
-/// `('posedge' | 'negedge') NAME`
+/// `('posedge' | 'negedge') NAME`, with the site of the name.
 #[tactic(auto, unfolding(crate::specs::SensitivityReading::edge_event_at))]
 fn edge_event(alloc: Global, tokens: &[Token], at: usize) -> Read<Event>
     requires short { length tokens.now < 2 ^ 32 }
@@ -56,7 +56,7 @@ fn edge_event(alloc: Global, tokens: &[Token], at: usize) -> Read<Event>
 {
     let (edge, next) = edge(tokens, at)?;
     let (name, end) = name(alloc, tokens, next)?;
-    let site = site_of(tokens, at, end);
+    let site = site_of(tokens, next, end);
     Ok((Event::Edge { site, edge, name }, end))
 }
 
