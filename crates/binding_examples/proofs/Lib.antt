@@ -1,5 +1,6 @@
 mod BlockExamples
 mod ConnectionExamples
 mod GateExamples
+mod RefusalExamples
 mod RuleExamples
 pub mod Scene

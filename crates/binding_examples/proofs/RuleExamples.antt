@@ -2,7 +2,7 @@
 -- value and where lists lie in memory stand for any.
 use Rattle.std.proofs.Common.{◌≡◌, ◌≤◌, ℕ, ◌+◌, ◌^◌, ◌<◌, List, [], ◌∷◌, length, refl, lit<, lit≤}
 use denote.Hole.Carrier.{hidden}
-use Rattle.std.specs.Prelude.{Bool, true, false, pos, None}
+use Rattle.std.specs.Prelude.{Bool, true, false, pos, Some, None}
 use Rattle.loc_base.specs.declared.span.Span.{Span}
 use Rattle.design_core.specs.declared.signal.Signal.{Signal}
 use Rattle.design_core.specs.declared.signal.SignalKind.TheVariants as kind
@@ -29,6 +29,9 @@ use Rattle.design_rules.specs.DrivenReads.{IsUndriven}
 use Rattle.design_rules.specs.Latches.{driver_holds}
 use Rattle.design_rules.specs.Assignments.{by_equals, clocked_sets, is_misassigned}
 use Rattle.design_rules.specs.Races.{is_used_outside}
+use Rattle.v_binding.specs.Starts.{Initial}
+use Rattle.bind_rules.specs.Beside.{Beside, no_span, clock_fault}
+use Rattle.bind_rules.specs.Rules.{driver_span, is_mixed, mixed_span}
 
 -- ---- a design: the input a of one bit is signal 0, the net y [1:0] is 1, the registers q and r of one bit are 2 and 3, the register
 -- w [1:0] is 4; y is the output
@@ -207,6 +210,51 @@ another_block_may_not any = refl
 pub only_blocking_assignments_race :
     (clocked_sets (by_equals homes 2) (clocked (set (part.Whole 2) 0 false)) ≡ true) × (clocked_sets (by_equals homes 2) (clocked (set (part.Whole 2) 0 true)) ≡ false)
 only_blocking_assignments_race = (refl, refl)
+
+-- ---- where a rule is shown as broken, and initial blocks
+-- the declarations of the five signals stand at 10 to 14
+abbrev declared_at : ℕ → Span
+declared_at place = record { from = place; to = place + 1 }
+
+-- initial SIGNAL = 0; whose name stands at 20
+abbrev started_at : ℕ → Initial
+started_at signal = record { start = record { signal = signal; value = word 1 0 }; span = declared_at 20 }
+
+abbrev told : List Initial → Beside
+told initial = record {
+  homes = homes;
+  spans = declared_at 10 ∷ declared_at 11 ∷ declared_at 12 ∷ declared_at 13 ∷ declared_at 14 ∷ [];
+  initial = initial;
+  clock_fault = None;
+}
+
+-- reg q; initial q = 0;
+pub a_register_may_have_its_start_from_a_block : (any : Any) → is_mixed (each_bit any) (told (started_at 2 ∷ [])) 2 ≡ false
+a_register_may_have_its_start_from_a_block any = refl
+
+-- wire [1:0] y; initial y = 0;
+pub a_net_has_no_start : (any : Any) →
+    let b = told (started_at 1 ∷ []) in (is_mixed (each_bit any) b 1 ≡ true) × (mixed_span (each_bit any) b 1 ≡ declared_at 20)
+a_net_has_no_start any = (refl, refl)
+
+-- always @* q <= a; is shown by the declaration of q
+pub a_signal_that_is_assigned_otherwise_is_shown_by_its_declaration : (any : Any) →
+    mixed_span (combs any (comb (set (part.Whole 2) 0 true))) (told []) 2 ≡ declared_at 12
+a_signal_that_is_assigned_otherwise_is_shown_by_its_declaration any = refl
+
+pub a_latch_is_shown_by_its_block : (any : Any) → driver_span (combs any (comb (set (part.Whole 2) 0 false))) 0 ≡ span
+a_latch_is_shown_by_its_block any = refl
+
+-- ---- the clock: that it is named first, then what waits otherwise, then what reads it
+pub a_misnamed_clock_has_no_place : clock_fault true (Some (declared_at 1)) (Some (declared_at 2)) ≡ Some no_span
+a_misnamed_clock_has_no_place = refl
+
+pub a_block_that_waits_otherwise_comes_before_one_that_reads :
+    (clock_fault false (Some (declared_at 1)) (Some (declared_at 2)) ≡ Some (declared_at 1)) × (clock_fault false None (Some (declared_at 2)) ≡ Some (declared_at 2))
+a_block_that_waits_otherwise_comes_before_one_that_reads = (refl, refl)
+
+pub a_clock_that_is_used_as_one_breaks_nothing : clock_fault false None None ≡ None
+a_clock_that_is_used_as_one_breaks_nothing = refl
 
 -- ---- size
 pub a_small_design_is_not_too_large : (any : Any) → is_too_large (each_bit any) ≡ false
