@@ -33,10 +33,12 @@ class GoOn(unittest.TestCase):
         if time is not None:
             os.utime(self.at(name), (time, time))
 
-    def calls(self):
+    def ran(self):
         env = dict(os.environ, LOCALISE="./localise")
-        done = subprocess.run([SCRIPT, "run", "m.v", "m", "t.vcd"], cwd=self.folder, env=env, capture_output=True, text=True)
-        self.assertEqual(done.returncode, 0)
+        return subprocess.run([SCRIPT, "run", "m.v", "m", "t.vcd"], cwd=self.folder, env=env, capture_output=True, text=True)
+
+    def calls(self):
+        self.assertEqual(self.ran().returncode, 0)
         with open(self.at("calls.txt"), encoding="utf-8") as file:
             return file.read().splitlines()
 
@@ -70,6 +72,23 @@ class GoOn(unittest.TestCase):
     def test_where_all_are_refused_it_begins(self):
         self.pair("1-1", "cut", 10)
         self.assertEqual(self.calls(), [ON % (2, "1-1", "1-1"), BEGIN % 2])
+
+    def test_the_line_that_refuses_a_pair_stands_on_standard_error(self):
+        self.pair("1-1", "cut", 30)
+        self.pair("1-2", "whole", 20)
+        ran = self.ran()
+        self.assertEqual((ran.stdout, ran.stderr, ran.returncode), ("complete 0\n", "input F4 1\n", 0))
+
+    def test_where_a_pair_is_too_long_it_goes_on_from_the_other(self):
+        self.put("localise", STAND_IN.replace("echo input F4 1; exit 3", "echo limit size; exit 4"))
+        self.pair("1-1", "too long", 30)
+        self.pair("1-2", "whole", 20)
+        self.assertEqual(len(self.calls()), 2)
+
+    def test_the_status_of_a_run_that_goes_on_is_its_own(self):
+        self.put("localise", STAND_IN.replace("echo complete 0", "echo front 1 budget; exit 1"))
+        self.pair("1-1", "whole", 10)
+        self.assertEqual((self.ran().stdout, self.ran().returncode), ("front 1 budget\n", 1))
 
 
 if __name__ == "__main__":
