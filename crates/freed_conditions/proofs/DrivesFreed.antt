@@ -30,7 +30,7 @@ pub if_both : {X : Type 0} (P : X → Type 0) (t : Bool) (x y : X) → P x → P
 if_both P true x y one other = one
 if_both P false x y one other = other
 
-or_alike : (a b c d : Bool) → a ≡ b → c ≡ d → (a || c) ≡ (b || d)
+pub or_alike : (a b c d : Bool) → a ≡ b → c ≡ d → (a || c) ≡ (b || d)
 or_alike a b c d one other = ap (λ x. x || c) one ∙ ap (λ x. b || x) other
 
 -- the left side of an assignment that fits
@@ -150,7 +150,7 @@ mutual
       or_alike (some_set test body) false (some_set_in test rest) false (sets-none signals places test none body front.1) (sets_in-none signals places test none width rest fit.1)
 
 -- ---- the bits that a left side drives
-has_bit-more : (signals hidden : List Signal) (signal : ℕ) (index : ℤ) (offsets : List ℤ) (b : ℕ) → signal < length signals
+pub has_bit-more : (signals hidden : List Signal) (signal : ℕ) (index : ℤ) (offsets : List ℤ) (b : ℕ) → signal < length signals
     → has_bit (signals ++ hidden) signal index offsets b ≡ has_bit signals signal index offsets b
 has_bit-more signals hidden signal index [] b below = refl
 has_bit-more signals hidden signal index (offset ∷ offsets) b below =
@@ -158,7 +158,7 @@ has_bit-more signals hidden signal index (offset ∷ offsets) b below =
     (has_bit (signals ++ hidden) signal index offsets b) (has_bit signals signal index offsets b)
     (ap (is_at b) (position_at-more signals hidden signal (index +ℤ offset) below)) (has_bit-more signals hidden signal index offsets b below)
 
-may_pick-more : (signals hidden : List Signal) (signal index_width : ℕ) (signed : Bool) (index : Node) (offsets : List ℤ) (b : ℕ) → signal < length signals
+pub may_pick-more : (signals hidden : List Signal) (signal index_width : ℕ) (signed : Bool) (index : Node) (offsets : List ℤ) (b : ℕ) → signal < length signals
     → may_pick (signals ++ hidden) signal index_width signed index offsets b ≡ may_pick signals signal index_width signed index offsets b
 may_pick-more signals hidden signal index_width signed index offsets b below = at (constant_of index_width index)
   where
@@ -188,7 +188,7 @@ parts_drive-more signals hidden s b (part ∷ parts) below fits =
     (part_drives-more signals hidden s b part below fit.0) (parts_drive-more signals hidden s b parts below fit.1)
 
 -- none of another signal
-another : (s signal : ℕ) (rest : Bool) → (s ≡ signal → ⊥) → (s == signal && rest) ≡ false
+pub another : (s signal : ℕ) (rest : Bool) → (s ≡ signal → ⊥) → (s == signal && rest) ≡ false
 another s signal rest other = and_left (s == signal) rest (ne_eqb s signal other)
 
 part_drives-outside : (signals : List Signal) (s b : ℕ) (part : Part) → length signals ≤ s → part_fits signals part ≡ true → part_drives signals s b part ≡ false

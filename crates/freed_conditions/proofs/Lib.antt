@@ -19,3 +19,7 @@ pub mod TimesFreed
 pub mod WidthsFit
 pub mod WellFreed
 pub mod OnceFreed
+pub mod ReadsFreed
+pub mod PathsFreed
+pub mod ReadsBefore
+pub mod OrderFreed

@@ -69,12 +69,11 @@ pub record TwoStatements : Type 0 where
   pub of : OneStatement
   pub freed : Updates
 
--- a design and the freed one, with an order of the drivers of each
+-- a design and the freed one, and an order of their drivers
 pub record TwoDesigns : Type 0 where
   pub design : Design
   pub freed : Design
   pub order : List ℕ
-  pub freed_order : List ℕ
 
 -- such designs, what a cycle of either begins with, and what it has
 pub record TwoCycles : Type 0 where

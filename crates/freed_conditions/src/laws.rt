@@ -6,6 +6,8 @@ ghost use Rattle.design_core.specs.Cycle.{Cycle};
 ghost use Rattle.design_core.specs.DrivenOnce.{IsDrivenOnce};
 ghost use Rattle.design_core.specs.Listing.{IsFront, IsList};
 ghost use Rattle.design_core.specs.Operator.{is_true};
+ghost use Rattle.design_core.specs.Order.{IsLeastOrder};
+ghost use Rattle.design_core.specs.Reads.{IsOrder};
 ghost use Rattle.design_core.specs.Valuation.{Valuation, width_at};
 ghost use Rattle.design_core.specs.Value.{value};
 ghost use Rattle.design_core.specs.WellFormed.{IsWellFormed, statement_fits, typed_fits};
@@ -80,6 +82,15 @@ pub fn freed_is_driven_once()
     ensures { IsDrivenOnce two.freed }
 {}
 
+/// The drivers of the freed design have the orders that the design's have, and the same least one.
+pub fn same_orders()
+    ghost two: { TwoDesigns }
+    requires well_formed { IsWellFormed two.design }
+    requires freed { IsFreed two.design two.freed }
+    ensures order { IsOrder two.design two.order ↔ IsOrder two.freed two.order }
+    ensures least { IsLeastOrder two.design two.order ↔ IsLeastOrder two.freed two.order }
+{}
+
 /// Where no new place is freed, the design's own bits of a cycle of the freed design are a cycle of the design.
 pub fn cycle_of_freed()
     ghost two: { TwoCycles }
@@ -90,11 +101,10 @@ pub fn cycle_of_freed()
     ensures { Cycle two.of.design two.samples (old_bits two.of.design two.state) two.choice (old_bits two.of.design two.values) (old_bits two.of.design two.next) }
 {}
 
-/// And each cycle of the design is that of one of the freed design, where that can be run.
+/// And each cycle of the design is that of one of the freed design, where the design can be run.
 pub fn cycle_of_design()
     ghost two: { TwoCycles }
     requires runnable { IsRunnable two.of.design two.of.order }
-    requires freed_runnable { IsRunnable two.of.freed two.of.freed_order }
     requires freed { IsFreed two.of.design two.of.freed }
     requires old { FreesOld two.of.design two.choice.frees }
     requires cycle { Cycle two.of.design two.samples (old_bits two.of.design two.state) two.choice two.values two.next }
@@ -112,12 +122,11 @@ pub fn works_of_freed()
     ensures { Works two.of.design two.traces two.groups two.set }
 {}
 
-/// A set of the design's own suspects works in both designs or in none, and both have one list and the same fronts, where the freed design
-/// can be run.
+/// A set of the design's own suspects works in both designs or in none, and both have one list and the same fronts, where the design can be
+/// run.
 pub fn same_lists()
     ghost two: { TwoLists }
     requires runnable { IsRunnable two.of.design two.of.order }
-    requires freed_runnable { IsRunnable two.of.freed two.of.freed_order }
     requires freed { IsFreed two.of.design two.of.freed }
     requires old { AreOld two.of.design two.groups }
     ensures works { Works two.of.design two.traces two.groups two.set ↔ Works two.of.freed two.traces two.groups two.set }
