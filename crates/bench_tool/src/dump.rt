@@ -6,11 +6,14 @@
 //! milliseconds of its writing on standard error.
 mod design;
 
+ghost use Rattle.vcd_traces.specs.Ports.{HasPorts};
+
 use crate::dump::design::{clock_of, design_of};
 use crate::failure::Failure;
 use crate::input::input;
 use design_core::{Design, Trace};
 use loc_base::Name;
+use std::alloc::Global;
 use std::io::{self, BufWriter, Write};
 use std::time::Instant;
 use vcd_traces::{SampleBy, VcdErr, has_ports, samples};
@@ -98,6 +101,24 @@ fn print_answer(
     }
 }
 
+/// The trace of a dump.
+fn sampled<'a>(
+    alloc: Global,
+    text: &[u8],
+    design: &'a Design,
+    clock: Option<&'a Name>,
+) -> Result<Trace, VcdErr>
+    requires { HasPorts design.now }
+{
+    let by = SampleBy {
+        design,
+        clock,
+        scope: None,
+        zero_inputs: false,
+    };
+    samples(alloc, text, &by)
+}
+
 /// Reads, prints, and gives the exit status.
 pub(crate) fn run(rt: &HostRuntime, words: &[String]) -> Result<u8, Failure> {
     let [clock, shown, ports @ ..] = words else {
@@ -111,13 +132,7 @@ pub(crate) fn run(rt: &HostRuntime, words: &[String]) -> Result<u8, Failure> {
         return Err(Failure::Words);
     }
     let begin = Instant::now(rt)?;
-    let by = SampleBy {
-        design: &design,
-        clock,
-        scope: None,
-        zero_inputs: false,
-    };
-    let answer = samples(rt.alloc(), text.as_slice(), &by);
+    let answer = sampled(rt.alloc(), text.as_slice(), &design, clock);
     let end = Instant::now(rt)?;
     if shown == "time" {
         eprintln!(rt; "{}", end.duration_since(begin).as_millis())?;

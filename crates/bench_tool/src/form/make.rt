@@ -60,7 +60,11 @@ fn groups_of(alloc: Global, request: &Request, design: &Design) -> Result<Groups
 }
 
 /// The traces of the dumps.
-fn traces_of(rt: &HostRuntime, request: &Request, design: &Design) -> Result<Vec<Trace>, Failure> {
+fn traces_of<'a>(
+    rt: &HostRuntime,
+    request: &'a Request,
+    design: &'a Design,
+) -> Result<Vec<Trace>, Failure> {
     let alloc = rt.alloc();
     let mut shelf = FileShelf::new(rt, alloc);
     let mut traces = Vec::new(alloc);
