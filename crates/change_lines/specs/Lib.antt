@@ -1,0 +1,4 @@
+pub mod Operands
+pub mod Lines
+pub mod Telling
+pub mod Laws
