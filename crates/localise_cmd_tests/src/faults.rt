@@ -21,7 +21,7 @@ enum Due<'a> {
 }
 
 /// The names of the texts that the commands read or write here.
-const NAMES: [&str; 15] = [
+const NAMES: [&str; 19] = [
     "m.v",
     "t.vcd",
     "u.vcd",
@@ -37,6 +37,10 @@ const NAMES: [&str; 15] = [
     "made.vcd",
     "w-1-1.vcd",
     "w-2-1.vcd",
+    "k-1.log",
+    "k-1.json",
+    "k-2.log",
+    "k-2.json",
 ];
 
 /// No text here has it as a part.
@@ -93,6 +97,33 @@ const WAVED: [Due<'static>; 19] = [
     Due::Put("w-1-1.vcd", END),
     Due::Begin("w-2-1.vcd"),
     Due::Put("w-2-1.vcd", END),
+    Due::Print("complete 2\n"),
+];
+
+const CHECKPOINTED: [Due<'static>; 24] = [
+    Due::Load("m.v"),
+    Due::Load("t.vcd"),
+    Due::Ask(LOG),
+    Due::Ask(REPORT),
+    Due::Ask("k-1.log"),
+    Due::Ask("k-1.json"),
+    Due::Begin(LOG),
+    Due::Put(LOG, OR_NOT_HEAD),
+    Due::Put(LOG, b"\nb -1\n"),
+    Due::Print(FIRST),
+    Due::Begin("k-1.log"),
+    Due::Put("k-1.log", END),
+    Due::Begin("k-1.json"),
+    Due::Put("k-1.json", END),
+    Due::Put(LOG, b"\nb -2\n"),
+    Due::Print(SECOND),
+    Due::Begin("k-2.log"),
+    Due::Put("k-2.log", END),
+    Due::Begin("k-2.json"),
+    Due::Put("k-2.json", END),
+    Due::Put(LOG, END),
+    Due::Begin(REPORT),
+    Due::Put(REPORT, END),
     Due::Print("complete 2\n"),
 ];
 
@@ -172,9 +203,10 @@ const COUNTED: [Due<'static>; 6] = [
 /// Words, the calls that are due, and the status where none fails.
 type Row = (&'static str, &'static [Due<'static>], u8);
 
-const RUNS: [Row; 9] = [
+const RUNS: [Row; 10] = [
     ("find m.v m t.vcd", &LISTED, 0),
     ("find m.v m t.vcd --waves w", &WAVED, 0),
+    ("find m.v m t.vcd --checkpoint k", &CHECKPOINTED, 0),
     ("find m.v m t.vcd --sets 1", &FRONT, 1),
     ("find m.v m t.vcd --resume f --resume-log g", &RESUMED, 0),
     ("make 0", &MADE, 0),
