@@ -71,7 +71,7 @@ def simulated(asked, text):
         with open(f"{room}/dump.vcd", "wb") as file:
             file.write(text)
         words = [asked.program, "sim", asked.design, asked.top, f"{room}/dump.vcd"]
-        given = {name: getattr(asked, name.replace("-", "_")) for name in ("clock", "format", "scope", "x-inputs")}
+        given = {name: getattr(asked, name.replace("-", "_"), None) for name in ("clock", "format", "scope", "x-inputs")}
         words += [word for name, value in given.items() if value for word in ("--" + name, value)]
         ran = subprocess.run(words, stdin=subprocess.DEVNULL, capture_output=True)
     if ran.stdout == NO_CYCLE:

@@ -77,9 +77,9 @@ class Completing(unittest.TestCase):
         self.assertEqual(self.offers("localise", "--v"), ["--version"])
 
     def test_options_are_those_of_the_command(self):
-        self.assertEqual(self.offers("localise", "find", "--s"), ["--size", "--suspects", "--sets"])
-        self.assertEqual(self.offers("localise", "sim", "--s"), [])
-        self.assertEqual(self.offers("localise", "check", "--"), ["--workers", "--format"])
+        self.assertEqual(self.offers("localise", "find", "--s"), ["--scope", "--size", "--suspects", "--sets"])
+        self.assertEqual(self.offers("localise", "sim", "--s"), ["--scope"])
+        self.assertEqual(self.offers("localise", "check", "--"), ["--workers", "--format", "--scope", "--x-inputs"])
 
     def test_kinds_follow_their_option_and_commas(self):
         self.assertEqual(self.offers("localise", "find", "--suspects", "st"), ["stmt"])
