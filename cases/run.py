@@ -13,6 +13,8 @@ A case is a folder `cases/LAYER/NAME/`:
     written/   each text that the run leaves, by its name
     writes     the names, one a line, of texts that the run leaves and that aren't compared
     again      more words, one a line: a second run, with them after those of `args`, does the same
+    then       the words, one a line, of a run behind the first, among what that one left
+    then_stdout  what that run prints; its status is 0
     closed     the numbers, one a line, of standard streams that are closed when the program begins
     screen     what stands at the end on a terminal that is both output and error (then there is no `stdout` and no `stderr`)
 
@@ -41,7 +43,7 @@ from concurrent.futures import ThreadPoolExecutor
 
 HERE = os.path.dirname(os.path.abspath(__file__))
 BUILT = os.path.join(HERE, "..", "crates", "localise", "out", "localise")
-ABOUT = {"shows", "args", "stdout", "status", "stderr", "written", "writes", "again", "closed", "screen"}
+ABOUT = {"shows", "args", "stdout", "status", "stderr", "written", "writes", "again", "then", "then_stdout", "closed", "screen"}
 SECONDS = 60
 STACK = 8 << 20
 
@@ -168,6 +170,16 @@ def run_on_terminal(command, room):
     return subprocess.CompletedProcess(command, status, screen_of(written), b"")
 
 
+def failures_behind(program, case, room):
+    """What is wrong with the run behind the first."""
+    words = words_of(f"{case}/then")
+    if not words:
+        return []
+    ran = subprocess.run([program.encode(), *words], cwd=room, stdin=subprocess.DEVNULL, capture_output=True, timeout=SECONDS)
+    wrong = [f"status: wanted 0, given {ran.returncode}; standard error: {ran.stderr[-200:]!r}"] if ran.returncode else []
+    return [f"then: {line}" for line in wrong + first_difference("stdout", read(f"{case}/then_stdout"), ran.stdout)]
+
+
 def failures_by(program, case, words, inputs):
     """What is wrong with a run of the program on a case by these words."""
     with tempfile.TemporaryDirectory(prefix="case-") as room:
@@ -182,6 +194,7 @@ def failures_by(program, case, words, inputs):
                 ran = run_on_terminal(command, room)
             else:
                 ran = subprocess.run(command, cwd=room, stdin=subprocess.DEVNULL, capture_output=True, timeout=SECONDS)
+            behind = failures_behind(program, case, room)
         except subprocess.TimeoutExpired:
             return [f"it had not ended after {SECONDS} seconds"]
         wrong = []
@@ -192,7 +205,7 @@ def failures_by(program, case, words, inputs):
         wrong += first_difference(printed, read(f"{case}/{printed}"), ran.stdout)
         if os.path.isfile(f"{case}/stderr"):
             wrong += first_difference("stderr", read(f"{case}/stderr"), ran.stderr)
-        return wrong + left_in(case, room, inputs)
+        return wrong + left_in(case, room, inputs) + behind
 
 
 def failures(program, case):
