@@ -25,9 +25,9 @@ OPERATORS = ("+", "-", "*", "&", "|", "^", "~^", "&&", "||", "==", "!=", "<", "<
 UNARY = ("~", "!", "-", "+", "&", "|", "^", "~&", "~|", "~^")
 
 
-def chain(operator, operand="a"):
-    """An expression of 4,096 levels, each of the same operator."""
-    return operand + (" %s %s" % (operator, operand)) * DEEP
+def chain(operator, operand="a", levels=DEEP):
+    """An expression of so many levels, each of the same operator."""
+    return operand + (" %s %s" % (operator, operand)) * levels
 
 
 def module(items, kind="reg"):
@@ -70,7 +70,7 @@ TEXTS |= {
     "if by ==": below("if (%s) y = a;" % chain("=="), 250),
     "case of ==": below("case (%s) default: y = a; endcase" % chain("=="), 250),
     "label of ==": below("case (a) %s: y = a; default: y = 2'd1; endcase" % chain("=="), 250),
-    "index of ==": below("y = {1'b0, a[%s]};" % chain("=="), 248),
+    "index of ==": below("y = {1'b0, a[%s]};" % chain("==", levels=DEEP - 2), 248),
     "index on the left of ==": below("y[%s] = 1'b1;" % chain("=="), 248),
     "assign of ==": nets(chain("==")),
     "assign of +": nets(chain("+")),
@@ -79,7 +79,7 @@ TEXTS |= {
     "parameter of +": nets("a & N", "localparam [1:0] N = %s;" % chain("+", "1'b1")),
     "range to +": nets("w", "wire [%s - 4096:0] w; assign w = a;" % ("1" + " + 1" * (DEEP - 1))),
     "start of ==": module("reg r; initial r = %s; always @(posedge clk) r <= a; always @* y = {1'b0, r};" % chain("==", "1'b1")),
-    "count of +": nets("{(%s - 4095){1'b1}}" % ("1" + " + 1" * (DEEP - 1))),
+    "count of +": nets("{(%s - 4094){1'b1}}" % chain("+", "1", DEEP - 2)),
     "generate if by ==": module("if (%s) assign y = a; else assign y = 2'd0;" % chain("==", "1"), ""),
     "override of +": "module low #(parameter N = 0)(input [1:0] i, output [1:0] o); assign o = i & N; endmodule\n"
     + module("low #(%s) l(a, y);" % chain("+", "1"), ""),
